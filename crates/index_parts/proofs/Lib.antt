@@ -1,0 +1,4 @@
+pub mod Hex
+pub mod Offsets
+pub mod Splits
+pub mod Steps

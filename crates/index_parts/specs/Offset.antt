@@ -1,0 +1,32 @@
+-- An offset number (gitformat-index, version 4: "encoded in the same encoding as the offset for OFS_DELTA pack entries"):
+-- a digit of seven bits a byte, and a mark in each byte but the last.
+use Rattle.std.specs.Prelude.{◌≡◌, ℕ, ◌+◌, ◌*◌, ◌%◌, ◌^◌, ◌<◌, ◌≤◌, List, [], ◌∷◌, ◌++◌, length}
+
+-- bit 7 is set in each byte but the last, and clear in the last; there is a last
+abbrev pub AreMarked : List ℕ → Type 0
+AreMarked [] = ⊥
+AreMarked (b ∷ []) = b < 128
+AreMarked (b ∷ c ∷ bytes) = (128 ≤ b) × AreMarked (c ∷ bytes)
+
+-- the number whose digits in base 128 are the low seven bits of the bytes
+abbrev pub digits_value : List ℕ → ℕ
+digits_value [] = 0
+digits_value (b ∷ bytes) = (b % 128) * 128 ^ length bytes + digits_value bytes
+
+-- 128 + 128 ^ 2 + .., a power for each byte but one
+abbrev pub powers_sum : List ℕ → ℕ
+powers_sum [] = 0
+powers_sum (b ∷ []) = 0
+powers_sum (b ∷ c ∷ bytes) = 128 ^ length (c ∷ bytes) + powers_sum (c ∷ bytes)
+
+-- bytes spell the number n, which has at most 64 bits
+pub record IsOffset (bytes : List ℕ) (n : ℕ) : Type 0 where
+  pub marked : AreMarked bytes
+  pub value : n ≡ digits_value bytes + powers_sum bytes
+  pub fits : n < 2 ^ 64
+
+-- bytes are a spelling of n, and the rest
+pub record StartsWithOffset (bytes : List ℕ) (n : ℕ) (rest : List ℕ) : Type 0 where
+  pub spelling : List ℕ
+  pub parts : bytes ≡ spelling ++ rest
+  pub is_offset : IsOffset spelling n

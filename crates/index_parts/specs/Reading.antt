@@ -1,0 +1,29 @@
+-- What the readers find at the front of bytes, as functions: a value and the rest, or nothing. Public clauses cite none of these.
+use Rattle.std.specs.Prelude.{ℕ, ◌+◌, ◌*◌, ◌%◌, ◌^◌, ◌==◌, nat_lt, List, [], ◌∷◌, length, take, drop, Option, Some, None, if◌then◌else◌, position}
+use Rattle.std.specs.Option.{option_map}
+
+-- the next step's answer, where there is a value
+infixl 10 ◌>>=◌
+abbrev pub ◌>>=◌ : {A B : Type 0} → Option A → (A → Option B) → Option B
+None >>= f = None
+(Some x) >>= f = f x
+
+-- a piece of so many bytes, and the rest
+abbrev pub piece_at : ℕ → List ℕ → Option (List ℕ × List ℕ)
+piece_at size bytes = if nat_lt (length bytes) size then None else Some (take size bytes, drop size bytes)
+
+-- the bytes before the first b, and those after it; there are at least two bytes
+abbrev pub split_at_byte : ℕ → List ℕ → Option (List ℕ × List ℕ)
+split_at_byte b bytes = if nat_lt (length bytes) 2 then None else option_map (λ place. (take place bytes, drop (place + 1) bytes)) (position (λ x. x == b) bytes)
+
+-- the offset number at the front, where the bytes before gave so much, and the rest
+abbrev pub offset_from : ℕ → List ℕ → Option (ℕ × List ℕ)
+offset_from high [] = None
+offset_from high (b ∷ bytes) =
+    if nat_lt (high * 128 + b % 128) (2 ^ 64) then
+    (if nat_lt b 128 then Some (high * 128 + b % 128, bytes)
+    else (if nat_lt (high * 128 + b % 128 + 1) (2 ^ 64) then offset_from (high * 128 + b % 128 + 1) bytes else None))
+    else None
+
+abbrev pub offset_at : List ℕ → Option (ℕ × List ℕ)
+offset_at bytes = offset_from 0 bytes

@@ -1,0 +1,156 @@
+//! Object ids of two kinds.
+
+ghost use Rattle.std.specs.Prelude.{◌≡◌, ◌<◌, ◌∷◌, [], length, slice_index, Some};
+ghost use Rattle.std.specs.Fmt.{WritesOnOk};
+ghost use Rattle.hex.specs.Hex.{encode_lower, lower_digits};
+
+use std::fmt;
+
+/// Which hash function a repository names its objects by (gitformat-index: 160 or 256 bits).
+#[derive(Clone, Copy, Debug, PartialEq, Eq, PartialOrd, Ord, Hash)]
+pub enum Kind {
+    /// SHA-1, with ids of 20 bytes.
+    Sha1,
+    /// SHA-256, with ids of 32 bytes.
+    Sha256,
+}
+
+/// The name of an object: a kind, and that many bytes. Ordered by kind, then by bytes.
+#[derive(Clone, Copy, Debug, PartialEq, Eq, PartialOrd, Ord, Hash)]
+pub enum ObjectId {
+    /// An id of 20 bytes.
+    Sha1([u8; 20]),
+    /// An id of 32 bytes.
+    Sha256([u8; 32]),
+}
+
+impl Kind {
+    ghost use Rattle.index_parts.specs.Id.{id_len, null_id};
+
+    /// How many bytes an id of this kind has: 20 or 32.
+    pub fn len_in_bytes(&self) -> usize
+        ensures { result ≡ id_len self.now }
+    {
+        match self {
+            Kind::Sha1 => 20,
+            Kind::Sha256 => 32,
+        }
+    }
+
+    /// The id whose bytes are all zero.
+    pub fn null(&self) -> ObjectId
+        ensures { result ≡ null_id self.now }
+    {
+        match self {
+            Kind::Sha1 => ObjectId::Sha1([0; 20]),
+            Kind::Sha256 => ObjectId::Sha256([0; 32]),
+        }
+    }
+}
+
+impl ObjectId {
+    ghost use Rattle.std.specs.Prelude.{IsTrue, ◌↔◌};
+    ghost use Rattle.index_parts.specs.Id.{id_bytes, id_kind, id_of, id_len, make_id, null_id};
+
+    /// The id with these bytes; None where there are neither 20 nor 32.
+    pub fn from_bytes(bytes: &[u8]) -> Option<ObjectId>
+        ensures { result ≡ id_of bytes.now }
+    {
+        match bytes.len() {
+            20 => Some(ObjectId::of_kind(Kind::Sha1, bytes)),
+            32 => Some(ObjectId::of_kind(Kind::Sha256, bytes)),
+            _ => None,
+        }
+    }
+
+    /// The id of this kind with these bytes, of which there are as many as the kind has.
+    pub fn of_kind(kind: Kind, bytes: &[u8]) -> ObjectId
+        requires { length bytes.now ≡ id_len kind }
+        ensures { result ≡ make_id kind bytes.now }
+    {
+        match kind {
+            Kind::Sha1 => {
+                let mut id = [0; 20];
+                id.copy_from_slice(bytes);
+                ObjectId::Sha1(id)
+            }
+            Kind::Sha256 => {
+                let mut id = [0; 32];
+                id.copy_from_slice(bytes);
+                ObjectId::Sha256(id)
+            }
+        }
+    }
+
+    /// The id's bytes, 20 or 32.
+    pub fn as_bytes(&self) -> &[u8]
+        ensures bytes { result.now ≡ id_bytes self.now }
+        ensures len { length result.now ≡ id_len (id_kind self.now) }
+    {
+        match self {
+            ObjectId::Sha1(bytes) => bytes,
+            ObjectId::Sha256(bytes) => bytes,
+        }
+    }
+
+    /// The id's kind.
+    pub fn kind(&self) -> Kind
+        ensures { result ≡ id_kind self.now }
+    {
+        match self {
+            ObjectId::Sha1(_) => Kind::Sha1,
+            ObjectId::Sha256(_) => Kind::Sha256,
+        }
+    }
+
+    /// Whether all bytes are zero.
+    pub fn is_null(&self) -> bool
+        ensures { IsTrue result ↔ (self.now ≡ null_id (id_kind self.now)) }
+    {
+        *self == self.kind().null()
+    }
+}
+
+/// A digit of base 16, in lower case.
+fn hex_digit(n: u8) -> char
+    requires { n < 16 }
+    ensures ascii { result < 128 }
+    ensures digit { result ≡ slice_index lower_digits n }
+{
+    if n < 10 {
+        (b'0' + n) as char
+    } else {
+        (b'a' + (n - 10)) as char
+    }
+}
+
+/// Writes one digit of base 16.
+#[tactic(auto, using(std::proofs::lemmas::Str::encode_ascii))]
+fn write_digit<W: fmt::Write>(n: u8, f: &mut fmt::Formatter<W>) -> fmt::Result
+    requires { n < 16 }
+    ensures { WritesOnOk W.write_str_gives f.old result (slice_index lower_digits n ∷ []) f.new }
+{
+    f.write_char(hex_digit(n))
+}
+
+/// Writes two digits of base 16 for each byte.
+fn write_hex<W: fmt::Write>(bytes: &[u8], f: &mut fmt::Formatter<W>) -> fmt::Result
+    ensures { WritesOnOk W.write_str_gives f.old result (encode_lower bytes.now) f.new }
+{
+    for byte in bytes {
+        write_digit(*byte / 16, f)?;
+        write_digit(*byte % 16, f)?;
+    }
+    Ok(())
+}
+
+/// The id in base 16: 40 or 64 digits in lower case.
+impl fmt::Display for ObjectId {
+    ghost use Rattle.index_parts.specs.Id.{id_bytes};
+
+    ghost output = { λ id. Some (encode_lower (id_bytes id)) };
+
+    fn fmt<W: fmt::Write>(&self, f: &mut fmt::Formatter<W>) -> fmt::Result {
+        write_hex(self.as_bytes(), f)
+    }
+}

@@ -1,0 +1,7 @@
+//! The parts of a git index file: object ids, numbers, and what an entry has beside its path.
+#![tactic(auto)]
+
+pub mod entry;
+pub mod ewah;
+pub mod hash;
+pub mod util;
