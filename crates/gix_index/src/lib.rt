@@ -1,0 +1,9 @@
+//! The git index: the file that lists a repository's staged paths, read into memory.
+//!
+//! All that is public stands here under the paths of the Rust crate `gix-index`; a user names this crate alone.
+#![tactic(auto)]
+
+pub mod extension;
+
+pub use index_parts::{entry, ewah, hash, util};
+pub use index_state::{Entry, PathStorage, PathStorageRef, State, Version, decode};

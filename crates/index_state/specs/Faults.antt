@@ -1,0 +1,46 @@
+-- Which fault an error of the code stands for.
+use Rattle.std.specs.Prelude.{ℕ, ◌<◌, List, Option, Result, Ok, Err}
+use Rattle.index_parts.specs.declared.hash.Kind.{Kind}
+use Rattle.index_parts.specs.declared.hash.ObjectId.{ObjectId}
+use Rattle.index_state.specs.declared.Version.{Version}
+use Rattle.index_state.specs.declared.State.{State}
+use Rattle.index_state.specs.declared.decode.Error.{Error}
+use Rattle.index_state.specs.declared.decode.Error.TheVariants as errors
+use Rattle.index_state.specs.declared.decode.header.Error.{Error as HeaderError}
+use Rattle.index_state.specs.declared.decode.header.Error.TheVariants as headers
+use Rattle.index_state.specs.Answer.{Fault, Header, OutOfMemory, NoEntry, TrailerLength, Verify, Answer}
+use Rattle.index_state.specs.Entries.{LacksEntry}
+use Rattle.index_state.specs.Header.{HeaderFault, Corrupt, UnsupportedVersion}
+use Rattle.index_state.specs.Record.{contents}
+
+abbrev pub header_fault : HeaderError → HeaderFault
+header_fault (headers.Corrupt text) = Corrupt text.now
+header_fault (headers.UnsupportedVersion n) = UnsupportedVersion n
+
+-- a fault that is found before any memory is asked for
+abbrev pub IsEarly : Fault → Type 0
+IsEarly (Header fault) = Unit {0}
+IsEarly OutOfMemory = Unit {0}
+IsEarly fault = ⊥
+
+-- What an error says of the answer that P holds of. Want of memory says only that no early fault is it; two variants never come.
+abbrev pub SaysFault : Error → (Answer → Type 0) → Type 0
+SaysFault (errors.Header e) P = P (Err (Header (header_fault e)))
+SaysFault errors.Hasher P = ⊥
+SaysFault errors.OutOfMemory P = P (Err OutOfMemory)
+SaysFault (errors.Entry i) P = P (Err (NoEntry i))
+SaysFault (errors.Extension e) P = ⊥
+SaysFault (errors.UnexpectedTrailerLength expected actual) P = P (Err (TrailerLength expected actual))
+SaysFault (errors.Verify actual expected) P = P (Err (Verify actual expected))
+SaysFault errors.Memory P = (fault : Fault) → IsEarly fault → P (Err fault) → ⊥
+
+-- the result is the answer that P holds of, where memory suffices
+abbrev pub Says : Result (State × Option ObjectId) Error → (Answer → Type 0) → Type 0
+Says (Ok x) P = P (Ok (contents x.0, x.1))
+Says (Err e) P = SaysFault e P
+
+-- what an error of the loop over the entries says: the first place without an entry, or want of memory
+abbrev pub LacksSome : Version → Kind → ℕ → List ℕ → Error → Type 0
+LacksSome version kind count bytes (errors.Entry i) = (i < count) × LacksEntry version kind bytes i
+LacksSome version kind count bytes errors.Memory = Unit {0}
+LacksSome version kind count bytes e = ⊥

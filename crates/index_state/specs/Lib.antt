@@ -1,0 +1,9 @@
+pub mod Answer
+pub mod Entries
+pub mod Entry
+pub mod Faults
+pub mod Header
+pub mod Lent
+pub mod Limits
+pub mod Reading
+pub mod Record

@@ -1,0 +1,88 @@
+-- An index as a value: what it says, apart from how it lies in memory (gitformat-index, "Index entry", "Extensions").
+use Rattle.std.specs.Prelude.{◌≡◌, ℕ, ◌≤◌, ◌==◌, Bool, List, All, Option, None, length, map, slice_range}
+use Rattle.std.specs.List.{list_any}
+use Rattle.index_parts.specs.Id.{id_kind}
+use Rattle.index_parts.specs.Mode.{directory_mode}
+use Rattle.index_parts.specs.declared.hash.Kind.{Kind}
+use Rattle.index_parts.specs.declared.hash.ObjectId.{ObjectId}
+use Rattle.index_parts.specs.declared.entry.stat.FileTime.{FileTime}
+use Rattle.index_parts.specs.declared.entry.stat.Stat.{Stat}
+use Rattle.index_state.specs.declared.Version.{Version}
+use Rattle.index_state.specs.declared.Entry.{Entry}
+use Rattle.index_state.specs.declared.State.{State}
+
+-- an entry with its whole path; its stage is in the flags
+pub record Record : Type 0 where
+  pub path : List ℕ
+  pub stat : Stat
+  pub id : ObjectId
+  pub flags : ℕ
+  pub mode : ℕ
+
+-- the record of an entry whose path lies in this storage
+abbrev pub record_in : List ℕ → Entry → Record
+record_in storage e = record { path = slice_range storage e.path.start e.path.end; stat = e.stat; id = e.id; flags = e.flags.0; mode = e.mode.0 }
+
+abbrev pub records_in : List ℕ → List Entry → List Record
+records_in storage entries = map (record_in storage) entries
+
+-- the entry's path lies inside a storage of so many bytes
+pub record IsPlaced (len : ℕ) (e : Entry) : Type 0 where
+  pub forward : e.path.start ≤ e.path.end
+  pub inside : e.path.end ≤ len
+
+-- the value of an extension that isn't read yet: there is none
+abbrev pub Unread : Type 0
+Unread = ⊥
+
+-- an index as a value
+pub record Contents : Type 0 where
+  pub kind : Kind
+  pub time : FileTime
+  pub version : Version
+  pub records : List Record
+  pub sparse : Bool
+  pub had_end_marker : Bool
+  pub had_offset_table : Bool
+  pub tree : Option Unread
+  pub link : Option Unread
+  pub resolve_undo : Option Unread
+  pub untracked : Option Unread
+  pub fs_monitor : Option Unread
+
+abbrev pub entries_of : State → List Entry
+entries_of s = s.entries.items
+
+abbrev pub storage_of : State → List ℕ
+storage_of s = s.path_backing.items
+
+abbrev pub records : State → List Record
+records s = records_in (storage_of s) (entries_of s)
+
+abbrev pub contents : State → Contents
+contents s = record {
+  kind = s.object_hash;
+  time = s.timestamp;
+  version = s.version;
+  records = records s;
+  sparse = s.is_sparse;
+  had_end_marker = s.had_end_of_index_marker;
+  had_offset_table = s.had_offset_table;
+  tree = None;
+  link = None;
+  resolve_undo = None;
+  untracked = None;
+  fs_monitor = None;
+}
+
+-- each entry's path lies inside the storage
+abbrev pub PathsInStorage : State → Type 0
+PathsInStorage s = All (IsPlaced (length (storage_of s))) (entries_of s)
+
+-- each entry's id is of this kind
+abbrev pub IdsAreOf : Kind → List Entry → Type 0
+IdsAreOf kind entries = All (λ e. id_kind e.id ≡ kind) entries
+
+-- some record stands for a whole directory
+abbrev pub has_directory : List Record → Bool
+has_directory rs = list_any (λ r. r.mode == directory_mode) rs

@@ -1,0 +1,259 @@
+//! Reading an index from the bytes of a file.
+
+pub mod entries;
+mod entry;
+pub mod header;
+
+ghost use Rattle.std.specs.List.{list_all};
+ghost use Rattle.std.specs.Prelude.{◌≡◌, ◌==◌, ◌*◌, ◌||◌, length, IfOk, IfErr, OnOk, All};
+ghost use Rattle.index_parts.specs.Id.{id_len};
+ghost use Rattle.index_state.specs.Answer.{Answer, IsVerified, IsAnswer, IsBody, IsEnding, checksum_of};
+ghost use Rattle.index_state.specs.Faults.{Says, SaysFault};
+ghost use Rattle.index_state.specs.Limits.{passes_limit, is_too_large};
+ghost use Rattle.index_state.specs.Record.{PathsInStorage, IdsAreOf, IsPlaced, entries_of, records_in, has_directory};
+ghost use Rattle.index_state.specs.declared.decode.Error.TheVariants.{Header, Memory};
+
+use crate::{State, Version, extension};
+use index_parts::entry::FileTime;
+use index_parts::hash::{Kind, ObjectId};
+use std::alloc::{AllocError, AllocFailed, Global};
+use thiserror::Error;
+
+/// Why bytes are no index, or that no state could be made of them.
+#[derive(Debug, Drop, Error)]
+pub enum Error {
+    /// The first twelve bytes are at fault, or they declare more entries than the file has room for.
+    #[error("the index's header is at fault: {0}")]
+    Header(header::Error),
+    /// Never given: hashing can't fail here.
+    #[error("the index's digest can't be computed")]
+    Hasher,
+    /// The caller's limit, [`Options::alloc_limit_bytes`], is passed. It is no want of memory.
+    #[error("the index's entries or their paths pass the limit of memory that the caller set")]
+    OutOfMemory,
+    /// No entry stands where this one should.
+    #[error("entry {index} of the index, counted from 0, can't be read")]
+    Entry {
+        /// The entry's place.
+        index: u32,
+    },
+    /// A mandatory extension is at fault.
+    #[error("a mandatory extension of the index is at fault: {0}")]
+    Extension(extension::decode::Error),
+    /// The bytes behind all entries and extensions aren't as many as the trailer has.
+    #[error("{actual} bytes are left for the index's trailer, which has {expected}")]
+    UnexpectedTrailerLength {
+        /// How many bytes an id of the index's kind has.
+        expected: usize,
+        /// How many bytes there are.
+        actual: usize,
+    },
+    /// The trailer differs from [`Options::expected_checksum`].
+    #[error("the index's trailer is {actual}, and {expected} was expected")]
+    Verify {
+        /// The trailer.
+        actual: ObjectId,
+        /// What the caller expected.
+        expected: ObjectId,
+    },
+    /// A growth was refused. It comes in place of no fault that is found before memory is asked for.
+    #[error("out of memory while reading an index")]
+    Memory,
+}
+
+/// How to read.
+#[derive(Clone, Copy, Debug, Default)]
+pub struct Options {
+    /// Changes nothing: an index is read in one thread.
+    pub thread_limit: Option<usize>,
+    /// Changes nothing, as no second thread is started.
+    pub min_extension_block_in_bytes_for_threading: usize,
+    /// The id that the trailer must be, unless the trailer is null.
+    pub expected_checksum: Option<ObjectId>,
+    /// How many bytes the entries, at 96 each, and the estimate of their paths may take, each by itself; no
+    /// limit where it is None. It bounds neither what paths of version 4 really take nor what the allocator
+    /// rounds up.
+    pub alloc_limit_bytes: Option<usize>,
+}
+
+impl From<header::Error> for Error {
+    ghost from_gives = { λ h e. e ≡ Header h };
+
+    fn from(e: header::Error) -> Error {
+        Error::Header(e)
+    }
+}
+
+impl From<AllocError> for Error {
+    ghost from_gives = { λ _ e. e ≡ Memory };
+
+    fn from(_e: AllocError) -> Error {
+        Error::Memory
+    }
+}
+
+impl<T: Drop> From<AllocFailed<T>> for Error {
+    ghost from_gives = { λ _ e. e ≡ Memory };
+
+    fn from(_e: AllocFailed<T>) -> Error {
+        Error::Memory
+    }
+}
+
+/// Whether all bytes are zero.
+fn is_null(bytes: &[u8]) -> bool
+    ensures { result ≡ list_all (λ b. b == 0) bytes.now }
+{
+    bytes.iter().all(|byte| *byte == 0)
+}
+
+/// The id that a trailer is, or None where all its bytes are zero.
+fn checksum_in(kind: Kind, trailer: &[u8]) -> Option<ObjectId>
+    requires { length trailer.now ≡ id_len kind }
+    ensures { result ≡ checksum_of kind trailer.now }
+{
+    if is_null(trailer) {
+        return None;
+    }
+    Some(ObjectId::of_kind(kind, trailer))
+}
+
+/// Whether the ids, if there are two, agree.
+fn verify(expected: Option<ObjectId>, actual: Option<ObjectId>) -> Result<(), Error>
+    ensures ok { OnOk result ((whole : Answer) → IsVerified expected actual whole whole) }
+    ensures err { IfErr result (λ e. (whole : Answer) → SaysFault e (IsVerified expected actual whole)) }
+{
+    let Some(expected) = expected else {
+        return Ok(());
+    };
+    let Some(actual) = actual else {
+        return Ok(());
+    };
+    if actual != expected {
+        return Err(Error::Verify { actual, expected });
+    }
+    Ok(())
+}
+
+/// The state of entries that were read, where a trailer follows them and no more.
+fn state_of(
+    read: entries::Read<'_>,
+    timestamp: FileTime,
+    object_hash: Kind,
+    options: Options,
+    version: Version,
+) -> Result<(State, Option<ObjectId>), Error>
+    requires placed { All (IsPlaced (length read.storage.items)) read.entries.items }
+    requires ids { IdsAreOf object_hash read.entries.items }
+    requires sparse { read.sparse ≡ has_directory (records_in read.storage.items read.entries.items) }
+    ensures ending { Says result (IsEnding object_hash timestamp options version
+        (records_in read.entry.storage.items read.entry.entries.items) read.entry.rest.now) }
+    ensures stored { IfOk result (λ x. PathsInStorage x.0) }
+    ensures ids { IfOk result (λ x. IdsAreOf object_hash (entries_of x.0)) }
+{
+    let expected = object_hash.len_in_bytes();
+    let actual = read.rest.len();
+    if actual != expected {
+        return Err(Error::UnexpectedTrailerLength { expected, actual });
+    }
+    let checksum = checksum_in(object_hash, read.rest);
+    verify(options.expected_checksum, checksum)?;
+    let state = State::of_parts(
+        object_hash,
+        timestamp,
+        version,
+        read.entries,
+        read.storage,
+        read.sparse,
+    );
+    Ok((state, checksum))
+}
+
+fn passes_limit(limit: Option<usize>, size: usize) -> bool
+    ensures { result ≡ passes_limit limit size }
+{
+    match limit {
+        None => false,
+        Some(limit) => limit < size,
+    }
+}
+
+/// Whether entries, or the estimate of their paths, pass the limit.
+fn is_too_large(limit: Option<usize>, count: u32, paths: usize) -> bool
+    ensures { result ≡ (passes_limit limit (96 * count) || passes_limit limit paths) }
+{
+    passes_limit(limit, 96 * count as usize) || passes_limit(limit, paths)
+}
+
+/// The state of so many entries at the front of the bytes, and the end behind them.
+fn body_of(
+    alloc: Global,
+    timestamp: FileTime,
+    object_hash: Kind,
+    options: Options,
+    version: Version,
+    count: u32,
+    paths: usize,
+    bytes: &[u8],
+) -> Result<(State, Option<ObjectId>), Error>
+    ensures body { Says result (IsBody object_hash timestamp options version count bytes.now) }
+    ensures stored { IfOk result (λ x. PathsInStorage x.0) }
+    ensures ids { IfOk result (λ x. IdsAreOf object_hash (entries_of x.0)) }
+{
+    let read = entries::entries_of(alloc, version, object_hash, count, paths, bytes)?;
+    state_of(read, timestamp, object_hash, options, version)
+}
+
+impl State {
+    /// Reads an index from all bytes of its file, and gives it with the trailer's id, or None where the trailer
+    /// is null. The timestamp is kept, and nothing is compared with it.
+    ///
+    /// The faults, in the order in which they are found: [`Error::Header`] for a file that is too short, has
+    /// another signature, a version that can't be read, or a count of entries that its length can't hold;
+    /// [`Error::OutOfMemory`] by the caller's limit; [`Error::Entry`]; [`Error::Extension`];
+    /// [`Error::UnexpectedTrailerLength`]; [`Error::Verify`]. [`Error::Memory`] comes only where a growth
+    /// was refused, and never in place of the first two. The digest isn't computed.
+    ///
+    /// Nothing is copied but the paths, into one storage; room for them and for the entries is asked for once
+    /// (gitformat-index).
+    pub fn from_bytes(
+        alloc: Global,
+        data: &[u8],
+        timestamp: FileTime,
+        object_hash: Kind,
+        options: Options,
+    ) -> Result<(State, Option<ObjectId>), Error>
+        // The state or the first fault that the format gives these bytes.
+        ensures answer { Says result (IsAnswer object_hash timestamp options «data».now) }
+        ensures stored { IfOk result (λ x. PathsInStorage x.0) }
+        ensures ids { IfOk result (λ x. IdsAreOf object_hash (entries_of x.0)) }
+    {
+        let (version, count, rest) = header::decode(data, object_hash)?;
+        let most = entries::max_entries_possible(data.len(), None, object_hash, version);
+        if count as usize > most {
+            return Err(Error::Header(header::Error::Corrupt(
+                "Declared entry count exceeds possible entries for file size",
+            )));
+        }
+        let paths = entries::estimate_path_storage_requirements_in_bytes(
+            count,
+            data.len(),
+            None,
+            object_hash,
+            version,
+        );
+        if is_too_large(options.alloc_limit_bytes, count, paths) {
+            return Err(Error::OutOfMemory);
+        }
+        body_of(
+            alloc,
+            timestamp,
+            object_hash,
+            options,
+            version,
+            count,
+            paths,
+            rest,
+        )
+    }
+}

@@ -1,0 +1,4 @@
+//! The extensions of a state.
+
+pub mod decode;
+pub mod link;
