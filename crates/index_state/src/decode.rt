@@ -3,6 +3,8 @@
 pub mod entries;
 mod entry;
 pub mod header;
+#[cfg(test)]
+mod tests;
 
 ghost use Rattle.std.specs.List.{list_all};
 ghost use Rattle.std.specs.Prelude.{◌≡◌, ◌==◌, ◌*◌, ◌||◌, length, IfOk, IfErr, OnOk, All};

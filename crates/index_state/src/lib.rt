@@ -118,7 +118,7 @@ impl State {
     pub fn entries(&self) -> &[Entry]
         ensures { result.now ≡ entries_of self.now }
     {
-        &self.entries
+        self.entries.as_slice()
     }
 
     /// The entry at a place, counted from 0.
@@ -133,7 +133,7 @@ impl State {
     pub fn path_backing(&self) -> PathStorageRef<'_>
         ensures { result.now ≡ storage_of self.now }
     {
-        &self.path_backing
+        self.path_backing.as_slice()
     }
 
     /// Whether an entry stands for a whole directory, as seen when the file was read.

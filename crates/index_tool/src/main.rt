@@ -1,0 +1,45 @@
+//! `index-tool`: what a git index file holds, on the command line.
+#![tactic(auto)]
+
+pub mod command;
+pub mod listing;
+#[cfg(test)]
+mod tests;
+
+pub use command::run;
+
+use std::alloc::Global;
+use std::process::ExitCode;
+use std::{env, io};
+
+/// The words behind the program's name, or the status of a call without them: 2 where one isn't UTF-8, 1 for
+/// want of memory.
+fn words(rt: &HostRuntime, alloc: Global) -> Result<Vec<String>, u8> {
+    let args = match env::args(rt) {
+        Ok(args) => args,
+        Err(e) if e.kind() == io::ErrorKind::OutOfMemory => return Err(1),
+        Err(_) => return Err(2),
+    };
+    args.skip(1).collect::<Vec<String>>(alloc).map_err(|_| 1)
+}
+
+fn main(rt: HostRuntime) -> ExitCode {
+    let alloc = rt.alloc();
+    match words(&rt, alloc) {
+        Ok(words) => ExitCode::from(run(
+            &rt,
+            alloc,
+            &words,
+            &mut rt.stdout(),
+            &mut rt.stderr(),
+        )),
+        Err(status) => {
+            let _ = if status == 2 {
+                eprintln!(rt; "index-tool: a word of the command isn't UTF-8")
+            } else {
+                eprintln!(rt; "index-tool: out of memory")
+            };
+            ExitCode::from(status)
+        }
+    }
+}
