@@ -36,6 +36,6 @@ extended_flags flags = bit_and (flags / 2 ^ 16) 0x6000
 abbrev pub joined_words : ℕ → ℕ → ℕ
 joined_words word second = bit_or word (second * 2 ^ 16)
 
--- what a file keeps: bits 12 to 15, and bits 29 and 30 only with bit 14
+-- what a file keeps: the stage, the two marks beside it, and with bit 14 also intent-to-add and skip-worktree (29, 30)
 abbrev pub kept_flags : ℕ → ℕ
 kept_flags flags = if is_extended flags then bit_and flags 0x6000f000 else bit_and flags 0xf000

@@ -2,7 +2,7 @@
 -- a digit of seven bits a byte, and a mark in each byte but the last.
 use Rattle.std.specs.Prelude.{◌≡◌, ℕ, ◌+◌, ◌*◌, ◌%◌, ◌^◌, ◌<◌, ◌≤◌, List, [], ◌∷◌, ◌++◌, length}
 
--- bit 7 is set in each byte but the last, and clear in the last; there is a last
+-- the mark is bit 7: each byte but the last has it, the last hasn't, and there is a last
 abbrev pub AreMarked : List ℕ → Type 0
 AreMarked [] = ⊥
 AreMarked (b ∷ []) = b < 128

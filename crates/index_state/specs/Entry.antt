@@ -56,7 +56,7 @@ record_of kind f path = record {
   mode = kept_mode (number f.numbers 6);
 }
 
--- the low 12 bits of the first word
+-- bits 0 to 11 of the first word
 abbrev pub length_field : Front → ℕ
 length_field f = bit_and (be f.word) 0xfff
 

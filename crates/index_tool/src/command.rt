@@ -120,7 +120,7 @@ fn outcome_of<R: Files + Alloc, W: io::Write>(
 /// `list KIND FILE`, with KIND `sha1` or `sha256`, writes a line to `out` for each entry of the index in FILE.
 /// Status 0: the whole listing was written. Status 1: FILE can't be read or is no index of this kind, or `out`
 /// failed; nothing goes to `out` before FILE was read whole. Status 2: the words are no command; no file is
-/// opened. For 1 and 2 one line goes to `faults`, and for 0 none.
+/// opened. A status other than 0 comes with one line on `faults`.
 pub fn run<R: Files + Alloc, O: io::Write, E: io::Write>(
     rt: &R,
     alloc: Global,
