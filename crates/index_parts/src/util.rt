@@ -2,7 +2,7 @@
 //!
 //! All numbers are big-endian (gitformat-index). No call here takes memory.
 
-ghost use Rattle.std.specs.Prelude.{◌≡◌, ◌==◌, ◌<◌,  ℕ, List, length, position, IfSome, IfNone};
+ghost use Rattle.std.specs.Prelude.{◌≡◌, ◌==◌, ◌<◌, ℕ, List, length, position, IfSome, IfNone};
 ghost use Rattle.std.specs.Option.{option_map};
 ghost use Rattle.index_parts.specs.Offset.{StartsWithOffset};
 ghost use Rattle.index_parts.specs.Reading.{split_at_byte, offset_at};
