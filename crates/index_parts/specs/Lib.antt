@@ -1,3 +1,4 @@
+pub mod Digest
 pub mod Flags
 pub mod Front
 pub mod Id
@@ -5,3 +6,4 @@ pub mod Mode
 pub mod Offset
 pub mod Reading
 pub mod Stat
+pub mod Taking

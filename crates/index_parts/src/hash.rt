@@ -1,10 +1,17 @@
-//! Object ids of two kinds.
+//! Object ids of two kinds, and the digests that they are made of.
 
-ghost use Rattle.std.specs.Prelude.{◌≡◌, ◌<◌, ◌∷◌, [], length, slice_index, Some};
+ghost use Rattle.std.specs.Prelude.{◌≡◌, ◌<◌, ◌∷◌, ◌++◌, ℕ, List, [], length, slice_index, Some};
 ghost use Rattle.std.specs.Fmt.{WritesOnOk};
 ghost use Rattle.hex.specs.Hex.{encode_lower, lower_digits};
+ghost use Rattle.index_parts.specs.Digest.{digest, hasher_kind, Holds};
+ghost use Rattle.index_parts.specs.Id.{make_id};
 
+use sha1::Sha1;
+use sha2::{Digest, Sha256};
 use std::fmt;
+
+pub mod io;
+pub mod verify;
 
 /// Which hash function a repository names its objects by (gitformat-index: 160 or 256 bits).
 #[derive(Clone, Copy, Debug, PartialEq, Eq, PartialOrd, Ord, Hash)]
@@ -49,8 +56,8 @@ impl Kind {
 }
 
 impl ObjectId {
-    ghost use Rattle.std.specs.Prelude.{IsTrue, ◌↔◌};
-    ghost use Rattle.index_parts.specs.Id.{id_bytes, id_kind, id_of, id_len, make_id, null_id};
+    ghost use Rattle.std.specs.Prelude.{IsTrue, IsOk, IfErr, ◌↔◌};
+    ghost use Rattle.index_parts.specs.Id.{id_bytes, id_kind, id_of, id_len, null_id};
 
     /// The id with these bytes; None where there are neither 20 nor 32.
     pub fn from_bytes(bytes: &[u8]) -> Option<ObjectId>
@@ -108,6 +115,74 @@ impl ObjectId {
         ensures { IsTrue result ↔ (self.now ≡ null_id (id_kind self.now)) }
     {
         *self == self.kind().null()
+    }
+
+    /// Compares this digest with the one that was expected. An error names both.
+    pub fn verify(&self, expected: &ObjectId) -> Result<(), verify::Error>
+        ensures ok { IsOk result ↔ (self.now ≡ expected.now) }
+        ensures actual { IfErr result (λ error. error.actual ≡ self.now) }
+        ensures expected { IfErr result (λ error. error.expected ≡ expected.now) }
+    {
+        if self != expected {
+            return Err(verify::Error {
+                actual: *self,
+                expected: *expected,
+            });
+        }
+        Ok(())
+    }
+}
+
+/// Takes bytes in pieces, and gives the digest of them joined (FIPS 180-4).
+#[derive(Drop)]
+pub enum Hasher {
+    /// Gives a SHA-1 digest.
+    Sha1(Sha1),
+    /// Gives a SHA-256 digest.
+    Sha256(Sha256),
+}
+
+impl Hasher {
+    /// Makes digests of this kind, and has taken in no byte.
+    pub fn new(kind: Kind) -> Hasher
+        ensures kind { hasher_kind result ≡ kind }
+        ensures empty { Holds result [] }
+    {
+        match kind {
+            Kind::Sha1 => Hasher::Sha1(Sha1::new()),
+            Kind::Sha256 => Hasher::Sha256(Sha256::new()),
+        }
+    }
+
+    /// Takes these bytes in, behind those before.
+    pub fn update(&mut self, piece: &[u8])
+        ensures kind { hasher_kind self.new ≡ hasher_kind self.old }
+        ensures more { (m : List ℕ) → Holds self.old m → Holds self.new (m ++ piece.now) }
+    {
+        match self {
+            Hasher::Sha1(hasher) => hasher.update(piece),
+            Hasher::Sha256(hasher) => hasher.update(piece),
+        }
+    }
+
+    /// The digest of all bytes that were taken in.
+    pub fn finalize(self) -> ObjectId
+        ensures { (m : List ℕ) → Holds self m → result ≡ make_id (hasher_kind self) (digest (hasher_kind self) m) }
+    {
+        match self {
+            Hasher::Sha1(hasher) => ObjectId::Sha1(hasher.finalize()),
+            Hasher::Sha256(hasher) => ObjectId::Sha256(hasher.finalize()),
+        }
+    }
+}
+
+/// The digest of these bytes (FIPS 180-4).
+pub fn digest(kind: Kind, bytes: &[u8]) -> ObjectId
+    ensures { result ≡ make_id kind (digest kind bytes.now) }
+{
+    match kind {
+        Kind::Sha1 => ObjectId::Sha1(Sha1::digest(bytes)),
+        Kind::Sha256 => ObjectId::Sha256(Sha256::digest(bytes)),
     }
 }
 

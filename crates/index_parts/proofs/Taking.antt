@@ -1,0 +1,89 @@
+-- One piece taken after another.
+use Rattle.std.proofs.Common.{◌≡◌, ℕ, suc, ◌+◌, ◌<◌, List, [], ◌∷◌, ◌++◌, Option, None, Some, Result, Ok, Err, sym, ap, subst, ◌∙◌, append_assoc, append-nil, take, drop, length, get_or, drop-cons, take-append-drop}
+use Rattle.std.specs.Prelude.{IsErr}
+use Rattle.std.specs.List.{flat_map}
+use Rattle.std.proofs.lemmas.List.Concat.{flat_map-cons}
+use Rattle.std.proofs.lemmas.Grind.{flat_map-append}
+use Rattle.std.proofs.Math.Seq.{take-add}
+use Rattle.std.specs.Io.KnownBytes.{Appends, Keeps}
+use Rattle.index_parts.specs.declared.hash.Kind.{Kind}
+use Rattle.index_parts.specs.Taking.{AppendsFront, Took, Puts}
+
+pub Appends-nil : (a : Option (List ℕ)) → Appends a a []
+Appends-nil None = tt
+Appends-nil (Some x) = sym (append-nil x)
+
+pub Appends-trans : (a b c : Option (List ℕ)) (bs cs : List ℕ) → Appends a b bs → Appends b c cs → Appends a c (bs ++ cs)
+Appends-trans None b c bs cs p q = tt
+Appends-trans (Some x) None c bs cs p q = absurd p
+Appends-trans (Some x) (Some y) None bs cs p q = absurd q
+Appends-trans (Some x) (Some y) (Some z) bs cs p q = q ∙ ap (λ l. l ++ cs) p ∙ append_assoc x bs cs
+
+pub Appends-kept : (a b c : Option (List ℕ)) (bs : List ℕ) → Appends a b bs → Keeps b c → Appends a c bs
+Appends-kept None b c bs p q = tt
+Appends-kept (Some x) None c bs p q = absurd p
+Appends-kept (Some x) (Some y) None bs p q = absurd q
+Appends-kept (Some x) (Some y) (Some z) bs p q = q ∙ p
+
+pub Appends-taken : (a b c : Option (List ℕ)) (i n : ℕ) (xs rest : List ℕ) → rest ≡ drop i xs → Appends a b (take i xs) → Appends b c (take n rest) → Appends a c (take (i + n) xs)
+Appends-taken a b c i n xs rest e p q = subst (λ (l : List ℕ). Appends a c l) (sym (take-add i n xs)) (Appends-trans a b c _ _ p (rw e at q))
+
+pub front_of_take : (a b : Option (List ℕ)) (n : ℕ) (xs : List ℕ) → Appends a b (take n xs) → AppendsFront a b xs
+front_of_take a b n xs p = record { front = take n xs; rest = drop n xs; parts = sym (take-append-drop n xs); taken = p }
+
+pub front_of_all : {a b : Option (List ℕ)} {xs : List ℕ} → Appends a b xs → AppendsFront a b xs
+front_of_all {a} {b} {xs} p = record { front = xs; rest = []; parts = sym (append-nil xs); taken = p }
+
+-- a front of what follows what was taken
+pub front_after : (a b c : Option (List ℕ)) (xs ys : List ℕ) → Appends a b xs → AppendsFront b c ys → AppendsFront a c (xs ++ ys)
+front_after a b c xs ys p q = record {
+  front = xs ++ q.front;
+  rest = q.rest;
+  parts = ap (λ (l : List ℕ). xs ++ l) q.parts ∙ sym (append_assoc xs q.front q.rest);
+  taken = Appends-trans a b c xs q.front p q.taken;
+}
+
+-- a front of more bytes
+pub front_before : {a b : Option (List ℕ)} {xs : List ℕ} → AppendsFront a b xs → (ys : List ℕ) → AppendsFront a b (xs ++ ys)
+front_before {a} {b} {xs} p ys = record {
+  front = p.front;
+  rest = p.rest ++ ys;
+  parts = ap (λ (l : List ℕ). l ++ ys) p.parts ∙ append_assoc p.front p.rest ys;
+  taken = p.taken;
+}
+
+pub Took-nil : {S : Type 0} (taken : S → Option (List ℕ)) (hashed : S → Kind → List ℕ → Type 0) (a : S) → Took taken hashed a a []
+Took-nil taken hashed a = record { grew = Appends-nil (taken a); into_hash = λ k m h. subst (hashed a k) (sym (append-nil m)) h }
+
+pub Took-trans : {S : Type 0} {taken : S → Option (List ℕ)} {hashed : S → Kind → List ℕ → Type 0} {a b c : S} {xs ys : List ℕ} → Took taken hashed a b xs → Took taken hashed b c ys → Took taken hashed a c (xs ++ ys)
+Took-trans {S} {taken} {hashed} {a} {b} {c} {xs} {ys} p q = record {
+  grew = Appends-trans (taken a) (taken b) (taken c) xs ys p.grew q.grew;
+  into_hash = λ k m h. subst (hashed c k) (append_assoc m xs ys) (q.into_hash k (m ++ xs) (p.into_hash k m h));
+}
+
+-- what was read of a list up to a place, the item there, and the rest
+pub flat_map_at : {X : Type 0} (f : X → List ℕ) (xs : List X) (i : ℕ) (d : X) → i < length xs → flat_map f xs ≡ (flat_map f (take i xs) ++ f (get_or xs i d)) ++ flat_map f (drop (suc i) xs)
+flat_map_at f xs i d h =
+    ap (flat_map f) (sym (take-append-drop i xs) ∙ ap (λ l. take i xs ++ l) (drop-cons xs i d h)) ∙ flat_map-append f (take i xs) (get_or xs i d ∷ drop (suc i) xs) ∙ ap (λ l. flat_map f (take i xs) ++ l) (flat_map-cons f (get_or xs i d) (drop (suc i) xs)) ∙ sym (append_assoc (flat_map f (take i xs)) (f (get_or xs i d)) (flat_map f (drop (suc i) xs)))
+
+-- the items before a place were taken, and a front of the item there
+pub front_at : {X : Type 0} (f : X → List ℕ) (xs : List X) (i : ℕ) (d : X) {a b c : Option (List ℕ)} → i < length xs → Appends a b (flat_map f (take i xs)) → AppendsFront b c (f (get_or xs i d)) → AppendsFront a c (flat_map f xs)
+front_at f xs i d {a} {b} {c} h p q =
+    subst (λ (l : List ℕ). AppendsFront a c l) (sym (flat_map_at f xs i d h)) (front_before (front_after a b c _ _ p q) _)
+
+-- at the exit of a `?`
+pub Puts-err : {S T E : Type 0} (taken : S → Option (List ℕ)) (hashed : S → Kind → List ℕ → Type 0) (old new : S) (r : Result T E) (bytes : List ℕ) → IsErr r → AppendsFront (taken old) (taken new) bytes → Puts taken hashed old new r bytes
+Puts-err taken hashed old new (Ok x) bytes h p = absurd cc
+Puts-err taken hashed old new (Err e) bytes h p = p
+
+-- what was taken whole, and what comes after it
+pub puts_after : {S T E : Type 0} {taken : S → Option (List ℕ)} {hashed : S → Kind → List ℕ → Type 0} {a b : S} {xs : List ℕ} (c : S) (ys : List ℕ) (r : Result T E) → Took taken hashed a b xs → Puts taken hashed b c r ys → Puts taken hashed a c r (xs ++ ys)
+puts_after c ys (Ok x) p q = Took-trans p q
+puts_after {taken = taken} {a = a} {b = b} {xs = xs} c ys (Err e) p q = front_after (taken a) (taken b) (taken c) xs ys p.grew q
+
+pub puts_is : {S T E : Type 0} (taken : S → Option (List ℕ)) (hashed : S → Kind → List ℕ → Type 0) (a b : S) (r : Result T E) {xs ys : List ℕ} → xs ≡ ys → Puts taken hashed a b r xs → Puts taken hashed a b r ys
+puts_is taken hashed a b r e p = subst (λ (l : List ℕ). Puts taken hashed a b r l) e p
+
+-- at the exit of a `?`, after what was taken whole and before the rest
+pub puts_failed : {S T E : Type 0} (taken : S → Option (List ℕ)) (hashed : S → Kind → List ℕ → Type 0) {a b c : S} (r : Result T E) {xs ys all : List ℕ} (rest : List ℕ) → IsErr r → (xs ++ ys) ++ rest ≡ all → Took taken hashed a b xs → AppendsFront (taken b) (taken c) ys → Puts taken hashed a c r all
+puts_failed taken hashed {a} {b} {c} r {xs} {ys} {all} rest h e p q = Puts-err taken hashed a c r all h (subst (λ (l : List ℕ). AppendsFront (taken a) (taken c) l) e (front_before (front_after (taken a) (taken b) (taken c) xs ys p.grew q) rest))

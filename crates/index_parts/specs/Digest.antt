@@ -1,0 +1,24 @@
+-- The digest of a list of bytes (FIPS 180-4), and what a hasher has taken in.
+use Rattle.std.specs.Prelude.{ℕ, List}
+use Rattle.sha1.specs.Sha1 as S1
+use Rattle.sha2.specs.Sha256.{sha256}
+use Rattle.sha2.specs.Hashers.{Holds256}
+use Rattle.index_parts.specs.declared.hash.Kind.{Kind}
+use Rattle.index_parts.specs.declared.hash.Kind.TheVariants as kinds
+use Rattle.index_parts.specs.declared.hash.Hasher.{Hasher}
+use Rattle.index_parts.specs.declared.hash.Hasher.TheVariants as hashers
+
+-- the message digest of FIPS 180-4: SHA-1 of section 6.1, SHA-256 of section 6.2
+abbrev pub digest : Kind → List ℕ → List ℕ
+digest kinds.Sha1 message = S1.sha1 message
+digest kinds.Sha256 message = sha256 message
+
+-- the kind of digest that a hasher makes
+abbrev pub hasher_kind : Hasher → Kind
+hasher_kind (hashers.Sha1 state) = kinds.Sha1
+hasher_kind (hashers.Sha256 state) = kinds.Sha256
+
+-- the hasher has taken in these bytes
+abbrev pub Holds : Hasher → List ℕ → Type 0
+Holds (hashers.Sha1 state) message = S1.Holds state message
+Holds (hashers.Sha256 state) message = Holds256 state message

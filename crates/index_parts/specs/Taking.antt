@@ -1,0 +1,24 @@
+-- What a writer took of what it was given.
+use Rattle.std.specs.Prelude.{◌≡◌, ℕ, List, ◌++◌, MatchResult, Option, Result}
+use Rattle.std.specs.Io.KnownBytes.{Appends}
+use Rattle.index_parts.specs.declared.hash.Kind.{Kind}
+
+-- where the bytes taken are known, they grew by a front of these
+pub record AppendsFront (old new : Option (List ℕ)) (bytes : List ℕ) : Type 0 where
+  pub front : List ℕ
+  pub rest : List ℕ
+  pub parts : bytes ≡ front ++ rest
+  pub taken : Appends old new front
+
+-- what a hasher took in grew by these bytes, whatever it was and of whichever kind
+abbrev pub Hashes : {S : Type 0} → (S → Kind → List ℕ → Type 0) → S → S → List ℕ → Type 0
+Hashes hashed old new bytes = (k : Kind) (m : List ℕ) → hashed old k m → hashed new k (m ++ bytes)
+
+-- these bytes were taken, and went into the hasher
+pub record Took {S : Type 0} (taken : S → Option (List ℕ)) (hashed : S → Kind → List ℕ → Type 0) (old new : S) (bytes : List ℕ) : Type 0 where
+  pub grew : Appends (taken old) (taken new) bytes
+  pub into_hash : Hashes hashed old new bytes
+
+-- an Ok took these bytes whole, and an Err a front of them
+abbrev pub Puts : {S T E : Type 0} → (S → Option (List ℕ)) → (S → Kind → List ℕ → Type 0) → S → S → Result T E → List ℕ → Type 0
+Puts taken hashed old new r bytes = MatchResult r (λ _. Took taken hashed old new bytes) (λ _. AppendsFront (taken old) (taken new) bytes)

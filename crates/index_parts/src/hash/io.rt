@@ -1,0 +1,178 @@
+//! Writers that say how much they took, and hash it.
+
+ghost use Rattle.std.specs.Prelude.{◌≡◌, ℕ, List, [], Option, Bool, false, ⊤, is_err, OnOk, OnErr};
+ghost use Rattle.std.specs.List.{flat_map};
+ghost use Rattle.std.specs.Io.KnownBytes.{Appends};
+ghost use Rattle.index_parts.specs.declared.hash.Kind.{Kind};
+ghost use Rattle.index_parts.specs.Digest.{Holds, hasher_kind};
+ghost use Rattle.index_parts.specs.Taking.{Puts, AppendsFront};
+
+use super::{Hasher, Kind};
+use std::io;
+use std::io::ErrorKind;
+
+/// Takes bytes piece by piece, and bears a mark from the first piece on that it did not take whole.
+pub trait Out {
+    // The bytes taken so far; None where they are not known, as of a file.
+    ghost taken: { Self → Option (List ℕ) };
+
+    // The mark: a piece was not taken whole.
+    ghost failed: { Self → Bool };
+
+    // A hasher of this kind has taken in the pieces that were taken whole, which are these bytes.
+    ghost hashed: { Self → Kind → List ℕ → Type 0 } = { λ _ _ _. ⊤ };
+
+    // The loan through which it writes, where there is one.
+    ghost loan: { Self → ℕ } = { λ _. 0 };
+
+    /// Takes the whole piece. An error took a front of it, maybe none or all, and sets the mark; no piece can
+    /// be put behind it.
+    fn put(&mut self, piece: &[u8]) -> io::Result<()>
+        requires { failed self.old ≡ false }
+        ensures bytes { Puts taken hashed self.old self.new result piece.now }
+        ensures mark { failed self.new ≡ is_err result }
+        ensures loan { loan self.new ≡ loan self.old };
+
+    /// Whether the mark is set: a piece was not taken whole.
+    fn has_failed(&self) -> bool
+        ensures { result ≡ failed self.now };
+
+    /// Takes these pieces in turn. The first error ends it, and took a front of the pieces joined.
+    final fn put_each(&mut self, pieces: &[&[u8]]) -> io::Result<()>
+    where
+        Self: Sized,
+        requires { failed self.old ≡ false }
+        ensures bytes { Puts taken hashed self.old self.new result (flat_map (λ p. p.now) pieces.now) }
+        ensures mark { failed self.new ≡ is_err result }
+        ensures loan { loan self.new ≡ loan self.old }
+    {
+        for piece in pieces {
+            self.put(piece)?;
+        }
+        Ok(())
+    }
+}
+
+impl<W: Out> Out for &mut W {
+    ghost taken = { λ w. W.taken w.now };
+
+    ghost failed = { λ w. W.failed w.now };
+
+    ghost hashed = { λ w k m. W.hashed w.now k m };
+
+    ghost loan = { λ w. w.ghost_name };
+
+    fn put(&mut self, piece: &[u8]) -> io::Result<()> {
+        Out::put(&mut **self, piece)
+    }
+
+    fn has_failed(&self) -> bool {
+        Out::has_failed(&**self)
+    }
+}
+
+/// An [`Out`] over any writer. It hashes nothing.
+#[derive(Drop)]
+pub struct Plain<W> {
+    /// The writer.
+    pub inner: W,
+    failed: bool,
+}
+
+impl<W: io::Write> Plain<W> {
+    /// Over this writer, with the mark unset.
+    pub fn new(inner: W) -> Plain<W>
+        ensures mark { ⟦<Plain<W> as Out>⟧.failed result ≡ false }
+        ensures inner { result.inner ≡ inner }
+    {
+        Plain {
+            inner,
+            failed: false,
+        }
+    }
+
+    /// Writes the piece by as many calls as it takes. An error of any kind ends it, and so does a call that
+    /// takes no byte.
+    fn put_all(&mut self, piece: &[u8]) -> io::Result<()>
+        ensures ok { OnOk result (Appends (W.contents self.old.inner) (W.contents self.new.inner) piece.now) }
+        ensures err { OnErr result (AppendsFront (W.contents self.old.inner) (W.contents self.new.inner) piece.now) }
+    {
+        let mut at = 0;
+        while at < piece.len() {
+            let (_, rest) = piece.split_at(at);
+            let count = self.inner.write(rest)?;
+            if count == 0 {
+                return Err(io::Error::new(ErrorKind::WriteZero, "the writer took no byte"));
+            }
+            at += count;
+        }
+        Ok(())
+    }
+}
+
+/// An error of any kind is a failure, and so is a call of `write` that takes no byte.
+impl<W: io::Write> Out for Plain<W> {
+    ghost taken = { λ p. W.contents p.inner };
+
+    ghost failed = { λ p. p.failed };
+
+    fn put(&mut self, piece: &[u8]) -> io::Result<()> {
+        let result = self.put_all(piece);
+        self.failed = result.is_err();
+        result
+    }
+
+    fn has_failed(&self) -> bool {
+        self.failed
+    }
+}
+
+/// Passes pieces on, and hashes each one that was taken whole. The mark is that of `inner`.
+#[derive(Drop)]
+pub struct Write<W> {
+    /// Where the pieces go.
+    pub inner: W,
+    /// What was hashed so far.
+    pub hash: Hasher,
+}
+
+impl<W: Out> Write<W> {
+    /// Over `inner`, with nothing hashed yet.
+    pub fn new(inner: W, kind: Kind) -> Write<W>
+        ensures inner { result.inner ≡ inner }
+        ensures kind { hasher_kind result.hash ≡ kind }
+        ensures empty { Holds result.hash [] }
+    {
+        Write {
+            inner,
+            hash: Hasher::new(kind),
+        }
+    }
+}
+
+impl<W: Out> Out for Write<W> {
+    ghost taken = { λ w. W.taken w.inner };
+
+    ghost failed = { λ w. W.failed w.inner };
+
+    ghost hashed = { λ w k m. (hasher_kind w.hash ≡ k) × Holds w.hash m };
+
+    ghost loan = { λ w. W.loan w.inner };
+
+    /// Takes the whole piece and hashes it. An error leaves the hasher as it was.
+    fn put(&mut self, piece: &[u8]) -> io::Result<()>
+        requires { W.failed self.old.inner ≡ false }
+        ensures bytes { Puts ⟦<Write<W> as Out>⟧.taken ⟦<Write<W> as Out>⟧.hashed self.old self.new result piece.now }
+        ensures mark { ⟦<Write<W> as Out>⟧.failed self.new ≡ is_err result }
+        ensures loan { ⟦<Write<W> as Out>⟧.loan self.new ≡ ⟦<Write<W> as Out>⟧.loan self.old }
+        ensures unhashed { OnErr result (self.new.hash ≡ self.old.hash) }
+    {
+        self.inner.put(piece)?;
+        self.hash.update(piece);
+        Ok(())
+    }
+
+    fn has_failed(&self) -> bool {
+        self.inner.has_failed()
+    }
+}
