@@ -1,4 +1,9 @@
+pub mod Again
 pub mod Answers
+pub mod Bodies
 pub mod Deltas
+pub mod Lengths
 pub mod Pieces
 pub mod Storing
+pub mod Words
+pub mod Written

@@ -3,7 +3,11 @@ pub mod Entries
 pub mod Entry
 pub mod Faults
 pub mod Header
+pub mod Image
 pub mod Lent
 pub mod Limits
 pub mod Reading
 pub mod Record
+pub mod Storable
+pub mod Stored
+pub mod Writing

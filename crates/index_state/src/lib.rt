@@ -9,6 +9,7 @@ use std::ops::Range;
 
 pub mod decode;
 pub mod extension;
+pub mod write;
 
 /// The version of a file's format (gitformat-index, "The Git index file has the following format").
 /// Ordered by its number.

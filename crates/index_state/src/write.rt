@@ -1,0 +1,202 @@
+//! Writing an index as the bytes of a file.
+
+mod entry;
+#[cfg(test)]
+mod tests;
+
+ghost use Rattle.std.specs.Prelude.{◌≡◌, ◌+◌, ◌≤◌, ◌<◌, ◌^◌, ◌↔◌, ℕ, List, length, count_by, not, false, is_err, IsTrue, IfOk, All};
+ghost use Rattle.std.specs.List.{flat_map, list_any};
+ghost use Rattle.index_parts.specs.Flags.{is_extended};
+ghost use Rattle.index_parts.specs.Taking.{Puts};
+ghost use Rattle.index_state.specs.declared.write.Error.TheVariants.{Io};
+ghost use Rattle.index_state.specs.Image.{entry_bytes, written, needed_version, header_bytes, is_removed, unmarked, body};
+ghost use Rattle.index_state.specs.Record.{PathsInStorage, IsPlaced, contents, records_in};
+ghost use Rattle.index_state.specs.Writing.{Writes};
+
+use crate::{Entry, State, Version};
+use bitflags::Flags as _;
+use index_parts::entry::Flags;
+use index_parts::hash::io::Out;
+use std::io;
+use thiserror::Error;
+
+/// Which of the extensions that a reader can do without are written.
+#[derive(Clone, Copy, Debug, Default, PartialEq, Eq)]
+pub enum Extensions {
+    /// All that the state has.
+    #[default]
+    All,
+    /// Those that are marked here.
+    Given {
+        /// The cached tree, where the state has one.
+        tree_cache: bool,
+        /// The end marker, behind other extensions.
+        end_of_index_entry: bool,
+    },
+    /// None, which gives the smallest file.
+    None,
+}
+
+/// How to write.
+#[derive(Clone, Copy, Debug, Default)]
+pub struct Options {
+    /// Which extensions are written, beside those that a reader needs.
+    pub extensions: Extensions,
+    /// Whether the trailer of a whole file is zeros in place of its digest (git's `index.skipHash`).
+    pub skip_hash: bool,
+}
+
+/// Why an index was not written.
+#[derive(Debug, Drop, Error)]
+pub enum Error {
+    /// There are more than 2^32 - 1 entries, those that would be left out among them. No byte was written.
+    #[error("the index has more entries than the 4294967295 that a file can count")]
+    TooManyEntries,
+    /// There would be more than 2^32 - 1 bytes before the end marker. No byte was written.
+    #[error("the index would take more than the 4294967295 bytes that a file's offsets can reach")]
+    TooLarge,
+    /// The writer failed. What it took is a front of the bytes.
+    #[error("the index was not written whole: {0}")]
+    Io(io::Error),
+}
+
+impl From<io::Error> for Error {
+    ghost from_gives = { λ e error. error ≡ Io e };
+
+    fn from(e: io::Error) -> Error {
+        Error::Io(e)
+    }
+}
+
+/// Whether an entry has a second word of flags, even one that is left out.
+fn has_extended(entries: &[Entry]) -> bool
+    ensures { result ≡ list_any (λ e. is_extended e.flags.0) entries.now }
+{
+    entries
+        .iter()
+        .any(|entry| entry.flags.contains(Flags::EXTENDED))
+}
+
+/// How many of the entries are written.
+fn count_written(entries: &[Entry]) -> usize
+    ensures count { result ≡ count_by (λ e. not (is_removed e.flags.0)) entries.now }
+    ensures bound { result ≤ length entries.now }
+{
+    entries.iter().filter(|entry| !entry.is_removed()).count()
+}
+
+/// The twelve bytes at the front of a file.
+fn header_of(version: Version, count: u32) -> [u8; 12]
+    ensures { result ≡ header_bytes version count }
+{
+    let [a, b, c, d] = (version as u32).to_be_bytes();
+    let [e, f, g, h] = count.to_be_bytes();
+    [b'D', b'I', b'R', b'C', a, b, c, d, e, f, g, h]
+}
+
+/// Writes the entries that are not left out, one after another.
+fn put_entries<W: Out>(entries: &[Entry], storage: &[u8], out: &mut W) -> io::Result<()>
+    requires placed { All (IsPlaced (length storage.now)) entries.now }
+    requires unfailed { W.failed out.old ≡ false }
+    ensures bytes { Puts W.taken W.hashed out.old out.new result (flat_map entry_bytes (written (records_in storage.now entries.now))) }
+    ensures mark { W.failed out.new ≡ is_err result }
+    ensures loan { W.loan out.new ≡ W.loan out.old }
+{
+    for entry in entries {
+        if !entry.is_removed() {
+            entry.put(storage, out)?;
+        }
+    }
+    Ok(())
+}
+
+/// Whether the header and the entries take more bytes than 32 bits can count.
+fn are_too_large(entries: &[Entry], storage: &[u8]) -> bool
+    requires { All (IsPlaced (length storage.now)) entries.now }
+    ensures { IsTrue result ↔ (2 ^ 32 ≤ 12 + length (flat_map entry_bytes (written (records_in storage.now entries.now)))) }
+{
+    let mut total = 12;
+    for entry in entries {
+        if !entry.is_removed() {
+            total += entry.written_len(storage);
+            if total > u64::from(u32::MAX) {
+                return true;
+            }
+        }
+    }
+    false
+}
+
+impl State {
+    /// The version of the format that the entries need.
+    #[tactic(auto, using(crate::proofs::Written::any_record))]
+    fn needed_version(&self) -> Version
+        ensures { result ≡ needed_version (contents self.now).records }
+    {
+        if has_extended(&self.entries) {
+            return Version::V3;
+        }
+        Version::V2
+    }
+
+    /// How many entries are written.
+    #[tactic(auto, using(crate::proofs::Written::count_is))]
+    fn written_count(&self) -> u32
+        requires { length (contents self.now).records < 2 ^ 32 }
+        ensures { result ≡ length (written (contents self.now).records) }
+    {
+        count_written(&self.entries) as u32
+    }
+
+    /// Whether all that stands before the end marker takes more bytes than 32 bits can count.
+    #[tactic(auto, using(crate::proofs::Bodies::length_unmarked))]
+    fn is_too_large(&self, options: Options) -> bool
+        requires { PathsInStorage self.now }
+        ensures { IsTrue result ↔ (2 ^ 32 ≤ length (unmarked (contents self.now) options)) }
+    {
+        are_too_large(&self.entries, &self.path_backing)
+    }
+
+    /// Writes all but the trailer.
+    fn put_body<W: Out>(&self, version: Version, out: &mut W, options: Options) -> io::Result<()>
+        requires few { length (contents self.now).records < 2 ^ 32 }
+        requires version { version ≡ needed_version (contents self.now).records }
+        requires placed { PathsInStorage self.now }
+        requires unfailed { W.failed out.old ≡ false }
+        ensures bytes { Puts W.taken W.hashed out.old out.new result (body (contents self.now) options) }
+        ensures mark { W.failed out.new ≡ is_err result }
+        ensures loan { W.loan out.new ≡ W.loan out.old }
+    {
+        out.put(&header_of(version, self.written_count()))?;
+        put_entries(&self.entries, &self.path_backing, out)
+    }
+
+    /// Writes the index as the bytes of a file, but for the trailer, and gives the version that it has
+    /// (gitformat-index): version 3 where an entry has `EXTENDED`, even one that is left out, else version 2.
+    ///
+    /// Entries marked `REMOVE` are left out, and the header doesn't count them. An entry has its mode's 32 bits, the
+    /// bits of its flags that a file keeps, and its id's own bytes, of whichever kind.
+    ///
+    /// [`Error::TooManyEntries`], then [`Error::TooLarge`] come before any byte and leave the writer as it was;
+    /// [`Error::Io`] comes only where the writer failed. No memory is taken.
+    pub fn write_to<W: Out>(&self, out: &mut W, options: Options) -> Result<Version, Error>
+        requires placed { PathsInStorage self.now }
+        requires unfailed { W.failed out.old ≡ false }
+        ensures version { IfOk result (λ version. version ≡ needed_version (contents self.now).records) }
+        ensures bytes { Writes W.taken W.hashed W.failed out.old out.new result (body (contents self.now) options) }
+        ensures loan { W.loan out.new ≡ W.loan out.old }
+        ensures too_many { (result ≡ Err Error.TooManyEntries) ↔ (2 ^ 32 ≤ length (contents self.now).records) }
+        ensures too_large { (result ≡ Err Error.TooLarge)
+            ↔ ((length (contents self.now).records < 2 ^ 32) × (2 ^ 32 ≤ length (unmarked (contents self.now) options))) }
+    {
+        if self.entries.len() > u32::MAX as usize {
+            return Err(Error::TooManyEntries);
+        }
+        if self.is_too_large(options) {
+            return Err(Error::TooLarge);
+        }
+        let version = self.needed_version();
+        self.put_body(version, out, options)?;
+        Ok(version)
+    }
+}
