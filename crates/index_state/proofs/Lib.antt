@@ -1,4 +1,5 @@
 pub mod Answers
 pub mod Deltas
+pub mod Order
 pub mod Pieces
 pub mod Storing

@@ -1,9 +1,11 @@
 pub mod Answer
+pub mod Edits
 pub mod Entries
 pub mod Entry
 pub mod Faults
 pub mod Header
 pub mod Lent
 pub mod Limits
+pub mod Order
 pub mod Reading
 pub mod Record
