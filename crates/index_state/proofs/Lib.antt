@@ -1,5 +1,9 @@
 pub mod Answers
 pub mod Deltas
+pub mod Digits
+pub mod Halving
+pub mod Insertion
+pub mod Lookup
 pub mod Order
 pub mod Pieces
 pub mod Storing

@@ -1,4 +1,5 @@
 pub mod Answer
+pub mod Digits
 pub mod Edits
 pub mod Entries
 pub mod Entry
@@ -6,6 +7,8 @@ pub mod Faults
 pub mod Header
 pub mod Lent
 pub mod Limits
+pub mod Lookup
 pub mod Order
 pub mod Reading
 pub mod Record
+pub mod Search
