@@ -2,7 +2,12 @@ pub mod Again
 pub mod Answers
 pub mod Bodies
 pub mod Deltas
+pub mod Digits
+pub mod Halving
+pub mod Insertion
 pub mod Lengths
+pub mod Lookup
+pub mod Order
 pub mod Pieces
 pub mod Storing
 pub mod Words

@@ -34,19 +34,25 @@ own_range s path a b start end =
     let len : length (s ++ path) - length s ≡ length path = omega (arith, length-append s path) in
     rw (start, end, len, drop_at s path (length s) refl) (ap (λ (l : List ℕ). take (length path) l) (sym (append-nil path)) ∙ take_at path [] (length path) refl)
 
+-- an entry whose path stands at the end of the storage
+pub own_record : (s path : List ℕ) (e : Entry) → e.path.start ≡ length s → e.path.end ≡ length (s ++ path)
+    → record_in (s ++ path) e ≡ record { path = path; stat = e.stat; id = e.id; flags = e.flags.0; mode = e.mode.0 }
+own_record s path e start end = ap (λ (p : List ℕ). record { path = p; stat = e.stat; id = e.id; flags = e.flags.0; mode = e.mode.0 }) (own_range s path e.path.start e.path.end start end)
+
+pub own_place : (s path : List ℕ) (e : Entry) → e.path.start ≡ length s → e.path.end ≡ length (s ++ path) → IsPlaced (length (s ++ path)) e
+own_place s path e start end = record { forward = omega (arith, length-append s path); inside = omega arith }
+
 -- the storage s grows by the path of e, and e comes last
 pub records_push : (s path : List ℕ) (es : List Entry) (e : Entry) → All (IsPlaced (length s)) es → e.path.start ≡ length s → e.path.end ≡ length (s ++ path)
     → records_in (s ++ path) (es ++ e ∷ []) ≡ records_in s es ++ record { path = path; stat = e.stat; id = e.id; flags = e.flags.0; mode = e.mode.0 } ∷ []
 records_push s path es e h start end =
-    let len : length (s ++ path) - length s ≡ length path = omega (arith, length-append s path) in
-    let own : slice_range (s ++ path) e.path.start e.path.end ≡ path = rw (start, end, len, drop_at s path (length s) refl) (ap (λ (l : List ℕ). take (length path) l) (sym (append-nil path)) ∙ take_at path [] (length path) refl) in
-    map-append (record_in (s ++ path)) es (e ∷ []) ∙ ap (λ (rs : List Record). rs ++ record_in (s ++ path) e ∷ []) (records_grow s path es h) ∙ ap (λ (p : List ℕ). records_in s es ++ record { path = p; stat = e.stat; id = e.id; flags = e.flags.0; mode = e.mode.0 } ∷ []) own
+    map-append (record_in (s ++ path)) es (e ∷ []) ∙ ap (λ (rs : List Record). rs ++ record_in (s ++ path) e ∷ []) (records_grow s path es h) ∙ ap (λ (r : Record). records_in s es ++ r ∷ []) (own_record s path e start end)
 
 pub placed_push : (s path : List ℕ) (es : List Entry) (e : Entry) → All (IsPlaced (length s)) es → e.path.start ≡ length s → e.path.end ≡ length (s ++ path)
     → All (IsPlaced (length (s ++ path))) (es ++ e ∷ [])
 placed_push s path es e h start end =
     let wider : (x : Entry) → IsPlaced (length s) x → IsPlaced (length (s ++ path)) x = λ x p. record { forward = p.forward; inside = omega (arith, p.inside, length-append s path) } in
-    All-push (IsPlaced (length (s ++ path))) es e (All-weaker (IsPlaced (length s)) (IsPlaced (length (s ++ path))) wider es h) (record { forward = omega (arith, length-append s path); inside = omega arith })
+    All-push (IsPlaced (length (s ++ path))) es e (All-weaker (IsPlaced (length s)) (IsPlaced (length (s ++ path))) wider es h) (own_place s path e start end)
 
 -- one more entry behind the others
 pub entries_push : (version : Version) (kind : Kind) (previous : Option (List ℕ)) (bytes : List ℕ) (rs : List Record) (r : Record) (middle rest : List ℕ)

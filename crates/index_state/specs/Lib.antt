@@ -1,4 +1,6 @@
 pub mod Answer
+pub mod Digits
+pub mod Edits
 pub mod Entries
 pub mod Entry
 pub mod Faults
@@ -6,8 +8,11 @@ pub mod Header
 pub mod Image
 pub mod Lent
 pub mod Limits
+pub mod Lookup
+pub mod Order
 pub mod Reading
 pub mod Record
+pub mod Search
 pub mod Storable
 pub mod Stored
 pub mod Writing

@@ -5,10 +5,13 @@ ghost use Rattle.std.specs.Prelude.{◌≡◌, ◌↔◌, ◌<◌, false, length
 
 use index_parts::entry::{FileTime, Flags, Mode, Stage, StageRaw, Stat};
 use index_parts::hash::{Kind, ObjectId};
+use std::cmp::Ordering;
 use std::ops::Range;
 
+mod access;
 pub mod decode;
 pub mod extension;
+mod init;
 pub mod write;
 
 /// The version of a file's format (gitformat-index, "The Git index file has the following format").
@@ -156,6 +159,9 @@ impl State {
 }
 
 impl Entry {
+    ghost use Rattle.std.specs.Cmp.{IsTotalOrder};
+    ghost use Rattle.std.specs.declared.cmp.Ordering.TheVariants.{Equal};
+    ghost use Rattle.index_state.specs.Order.{IsSameKey, path_cmp, record_cmp};
     ghost use Rattle.index_state.specs.Record.{IsPlaced, record_in, storage_of};
     ghost use Rattle.index_parts.specs.Flags.{stage_number, stage_of};
 
@@ -180,6 +186,32 @@ impl Entry {
         ensures { result.now ≡ (record_in backing.now self.now).path }
     {
         &backing[self.path.start..self.path.end]
+    }
+
+    /// Where this entry stands to another of the same state: by path, and at the same path by the number of the
+    /// stage. Equal exactly where both agree.
+    pub fn cmp(&self, other: &Entry, state: &State) -> Ordering
+        requires this_placed { IsPlaced (length (storage_of state.now)) self.now }
+        requires other_placed { IsPlaced (length (storage_of state.now)) other.now }
+        ensures order { result ≡ record_cmp (record_in (storage_of state.now) self.now)
+            (record_in (storage_of state.now) other.now) }
+        ensures equal { (result ≡ Equal) ↔ IsSameKey (record_in (storage_of state.now) self.now)
+            (record_in (storage_of state.now) other.now) }
+        ensures total { IsTotalOrder record_cmp }
+    {
+        Entry::cmp_filepaths(self.path(state), other.path(state)).then(
+            self.stage_raw().cmp(&other.stage_raw()),
+        )
+    }
+
+    /// Where a path stands to another, byte by byte: the first bytes that differ decide, as unsigned numbers, and
+    /// a path stands before those that it begins. Equal exactly where the paths are.
+    pub fn cmp_filepaths(a: &[u8], b: &[u8]) -> Ordering
+        ensures order { result ≡ path_cmp a.now b.now }
+        ensures equal { (result ≡ Equal) ↔ (a.now ≡ b.now) }
+        ensures total { IsTotalOrder path_cmp }
+    {
+        a.cmp(b)
     }
 
     /// Which side of a merge the entry is from.

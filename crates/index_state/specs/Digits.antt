@@ -1,0 +1,12 @@
+-- The number of binary digits of a number.
+use Rattle.std.specs.Prelude.{ℕ, zero, suc, ◌/◌}
+
+-- a digit, and those of the half; n halvings at most
+abbrev pub digits_within : ℕ → ℕ → ℕ
+digits_within zero m = 0
+digits_within (suc n) zero = 0
+digits_within (suc n) (suc m) = suc (digits_within n (suc m / 2))
+
+-- how many binary digits n has, and 0 for 0
+unfoldable pub digits : ℕ → ℕ
+digits n = digits_within n n

@@ -1,0 +1,56 @@
+-- An empty index, and what edits of one leave.
+use Rattle.std.specs.Prelude.{◌≡◌, List, [], ◌∷◌, ◌++◌, length, false, None}
+use Rattle.std.specs.Borrow.{Lends, MutBor, Fml, Array}
+use Rattle.std.specs.Vec.{with_items}
+use Rattle.index_parts.specs.declared.hash.Kind.{Kind}
+use Rattle.index_parts.specs.declared.entry.stat.FileTime.{FileTime}
+use Rattle.index_state.specs.declared.Version.TheVariants.{V2}
+use Rattle.index_state.specs.declared.Entry.{Entry}
+use Rattle.index_state.specs.declared.State.{State}
+use Rattle.index_state.specs.contracts.Entry as entry
+use Rattle.index_state.specs.contracts.State as state
+use Rattle.index_state.specs.Record.{Record, Contents, IsPlaced, contents, entries_of, record_in, records, storage_of}
+
+-- an index of version 2 with no entry and no extension
+abbrev pub empty_contents : Kind → FileTime → Contents
+empty_contents kind time = record {
+  kind = kind;
+  time = time;
+  version = V2;
+  records = [];
+  sparse = false;
+  had_end_marker = false;
+  had_offset_table = false;
+  tree = None;
+  link = None;
+  resolve_undo = None;
+  untracked = None;
+  fs_monitor = None;
+}
+
+-- one more record at the end; all else stays
+abbrev pub with_record : Contents → Record → Contents
+with_record c r = record c { records = c.records ++ r ∷ [] }
+
+-- One more entry stands at the end, with this record, and its path at the end of the storage. All but the entries stays.
+pub record AddsEntry (old new : State) (r : Record) : Type 0 where
+  pub entry : Entry
+  pub entries : entries_of new ≡ entries_of old ++ entry ∷ []
+  pub storage : storage_of new ≡ storage_of old ++ r.path
+  pub placed : IsPlaced (length (storage_of new)) entry
+  pub is : record_in (storage_of new) entry ≡ r
+  pub others : contents new ≡ record (contents old) { records = records new }
+
+-- as values the same entries, the same storage, and all else the same
+pub record IsUnchanged (old new : State) : Type 0 where
+  pub same_entries : entries_of new ≡ entries_of old
+  pub same_storage : storage_of new ≡ storage_of old
+  pub same_contents : contents new ≡ contents old
+
+-- the state with these entries, as many as it has; all else stays
+abbrev pub with_entries : State → List Entry → State
+with_entries s entries = record s { entries = with_items s.entries entries }
+
+-- the state ends with the last entries behind the loan
+abbrev pub LendsEntries : MutBor State → MutBor (List Entry) → Fml
+LendsEntries s r = Lends state.the_row (Array entry.the_row 0) s r (with_entries s.now)
