@@ -1,9 +1,11 @@
-//! The git index: the file that lists a repository's staged paths, read into memory.
+//! The git index: the file that lists a repository's staged paths, read into memory, searched and written again.
 //!
 //! All that is public stands here under the paths of the Rust crate `gix-index`; a user names this crate alone.
 #![tactic(auto)]
 
 pub mod extension;
+pub mod file;
 
+pub use file::File;
 pub use index_parts::{entry, ewah, hash, util};
-pub use index_state::{Entry, PathStorage, PathStorageRef, State, Version, decode};
+pub use index_state::{Entry, PathStorage, PathStorageRef, State, Version, decode, write};

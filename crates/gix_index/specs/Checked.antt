@@ -1,0 +1,57 @@
+-- The digest of a file, compared before its bytes are read (gitformat-index, "Hash checksum over the content of the index file
+-- before this checksum").
+use Rattle.std.specs.Prelude.{◌≡◌, ◌≢◌, ℕ, ◌-◌, ◌==◌, ◌&&◌, ◌⊎◌, not, nat_lt, Bool, List, length, take, drop, Option, Result, Ok, Err, MatchBool}
+use Rattle.std.specs.List.{list_any}
+use Rattle.index_parts.specs.Digest.{digest}
+use Rattle.index_parts.specs.Id.{id_len, make_id}
+use Rattle.index_parts.specs.declared.hash.Kind.{Kind}
+use Rattle.index_parts.specs.declared.hash.ObjectId.{ObjectId}
+use Rattle.index_parts.specs.declared.entry.stat.FileTime.{FileTime}
+use Rattle.index_state.specs.declared.decode.Options.{Options}
+use Rattle.index_state.specs.declared.decode.Error.TheVariants as decoding
+use Rattle.index_state.specs.Answer.{Answer, Fault, Verify, IsAnswer}
+use Rattle.index_state.specs.Faults.{IsEarly, SaysFault}
+use Rattle.index_state.specs.Record.{contents}
+use Rattle.gix_index.specs.declared.file.File.{File}
+use Rattle.gix_index.specs.declared.file.init.Error.{Error}
+use Rattle.gix_index.specs.declared.file.init.Error.TheVariants as errors
+use Rattle.gix_index.specs.File.{state_of, checksum_of}
+
+-- all bytes but the last, of which an id has as many
+abbrev pub checked_part : Kind → List ℕ → List ℕ
+checked_part kind bytes = take (length bytes - id_len kind) bytes
+
+abbrev pub trailer_part : Kind → List ℕ → List ℕ
+trailer_part kind bytes = drop (length bytes - id_len kind) bytes
+
+-- the digest is compared: the caller didn't waive it, there is a trailer, and some byte of it isn't zero
+abbrev pub needs_check : Bool → Kind → List ℕ → Bool
+needs_check skip kind bytes = not skip && not (nat_lt (length bytes) (id_len kind)) && list_any (λ b. not (b == 0)) (trailer_part kind bytes)
+
+-- the digest of the bytes, and the trailer, as ids
+abbrev pub digest_id : Kind → List ℕ → ObjectId
+digest_id kind bytes = make_id kind (digest kind (checked_part kind bytes))
+
+abbrev pub trailer_id : Kind → List ℕ → ObjectId
+trailer_id kind bytes = make_id kind (trailer_part kind bytes)
+
+-- where the digest is compared, it is the trailer
+abbrev pub IsIntact : Bool → Kind → List ℕ → Type 0
+IsIntact skip kind bytes = MatchBool (needs_check skip kind bytes) (digest_id kind bytes ≡ trailer_id kind bytes) (Unit {0})
+
+-- the answer of the bytes where they are intact, else the digest and the trailer
+abbrev pub IsFileAnswer : Bool → Kind → FileTime → Options → List ℕ → Answer → Type 0
+IsFileAnswer skip kind time options bytes a =
+    MatchBool (needs_check skip kind bytes)
+    (((digest_id kind bytes ≡ trailer_id kind bytes) × IsAnswer kind time options bytes a)
+      ⊎ ((digest_id kind bytes ≢ trailer_id kind bytes) × (a ≡ Err (Verify (digest_id kind bytes) (trailer_id kind bytes)))))
+    (IsAnswer kind time options bytes a)
+
+-- What a result says of the answer that P holds of. Want of memory has a variant of its own, and says that no early fault is the answer.
+abbrev pub SaysFile : Result File Error → (Answer → Type 0) → Type 0
+SaysFile (Ok f) P = P (Ok (contents (state_of f), checksum_of f))
+SaysFile (Err (errors.Io e)) P = ⊥
+SaysFile (Err (errors.Decode decoding.Memory)) P = ⊥
+SaysFile (Err (errors.Decode e)) P = SaysFault e P
+SaysFile (Err (errors.LinkExtension e)) P = ⊥
+SaysFile (Err errors.Memory) P = (fault : Fault) → IsEarly fault → P (Err fault) → ⊥

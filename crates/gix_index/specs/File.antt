@@ -1,0 +1,22 @@
+-- A file as a value: the index, the path's text, and the id at its end.
+use Rattle.std.specs.Prelude.{ℕ, List, Option}
+use Rattle.std.specs.Borrow.{Lends, MutBor, Fml}
+use Rattle.std.specs.Path.{path_buf_bytes}
+use Rattle.index_parts.specs.declared.hash.ObjectId.{ObjectId}
+use Rattle.index_state.specs.declared.State.{State}
+use Rattle.index_state.specs.contracts.State as state
+use Rattle.gix_index.specs.declared.file.File.{File}
+use Rattle.gix_index.specs.contracts.file.File as file
+
+abbrev pub state_of : File → State
+state_of f = f.state
+
+abbrev pub path_of : File → List ℕ
+path_of f = path_buf_bytes f.path
+
+abbrev pub checksum_of : File → Option ObjectId
+checksum_of f = f.checksum
+
+-- the file ends with the last state behind the loan; all else stays
+abbrev pub LendsState : MutBor File → MutBor State → Fml
+LendsState f r = Lends file.the_row state.the_row f r (λ s. record f.now { state = s })

@@ -1,0 +1,102 @@
+//! An index with the path of its file and the id at the file's end.
+
+pub mod init;
+// #[cfg(test)]
+// mod tests;
+mod write;
+
+ghost use Rattle.std.specs.Prelude.{◌≡◌, None};
+ghost use Rattle.std.specs.Borrow.{Lends, sem};
+ghost use Rattle.std.specs.Path.{path_bytes, path_buf_bytes};
+ghost use Rattle.gix_index.specs.File.{state_of, path_of, checksum_of, LendsState};
+
+use index_parts::hash::ObjectId;
+use index_state::State;
+use std::ops::{Deref, DerefMut};
+use std::path::{Path, PathBuf};
+
+/// An index that was read from a file or is to be written to one. It lends the [`State`] by `Deref`.
+#[derive(Drop)]
+pub struct File {
+    state: State,
+    path: PathBuf,
+    checksum: Option<ObjectId>,
+}
+
+impl File {
+    /// An index that is to be written to the path. It has no checksum until then.
+    pub fn from_state(state: State, path: PathBuf) -> File
+        ensures state { state_of result ≡ state }
+        ensures path { path_of result ≡ path_buf_bytes path }
+        ensures checksum { checksum_of result ≡ None }
+    {
+        File {
+            state,
+            path,
+            checksum: None,
+        }
+    }
+
+    /// The state and the path.
+    pub fn into_parts(self) -> (State, PathBuf)
+        ensures state { result.0 ≡ state_of self }
+        ensures path { path_buf_bytes result.1 ≡ path_of self }
+    {
+        let File { state, path, checksum: _ } = self;
+        (state, path)
+    }
+
+    /// Where the index was read from, or is to be written.
+    pub fn path(&self) -> Path<'_>
+        ensures { path_bytes result ≡ path_of self.now }
+    {
+        self.path.as_path()
+    }
+
+    /// Sets the path that the index is to be written to. Nothing moves on the disk, and all else stays.
+    pub fn set_path(&mut self, path: PathBuf)
+        ensures path { path_of self.new ≡ path_buf_bytes path }
+        ensures state { state_of self.new ≡ state_of self.old }
+        ensures checksum { checksum_of self.new ≡ checksum_of self.old }
+    {
+        self.path = path;
+    }
+
+    /// The id that stood at the end of the file when it was last read or written: the digest of all bytes before
+    /// it (gitformat-index, "Hash checksum"). None where there was no file yet, or where the id was null.
+    pub fn checksum(&self) -> Option<ObjectId>
+        ensures { result ≡ checksum_of self.now }
+    {
+        self.checksum
+    }
+}
+
+impl Deref for File {
+    type Target = State;
+
+    ghost deref_gives = { λ file state. state ≡ state_of file };
+
+    fn deref(&self) -> &State {
+        &self.state
+    }
+}
+
+/// What is written through the lent state is the file's state; path and checksum stay.
+impl DerefMut for File {
+    ghost deref_mut_gives = { λ file state. state ≡ state_of file };
+
+    fn deref_mut(&mut self) -> &mut State
+        ensures* writes_back { sem 𝓛 (LendsState self.entry result) }
+        ensures shows { result.now ≡ state_of self.old }
+    {
+        &mut self.state
+    }
+}
+
+impl From<File> for State {
+    ghost from_gives = { λ file state. state ≡ state_of file };
+
+    fn from(file: File) -> State {
+        file.into_parts().0
+    }
+}

@@ -1,0 +1,99 @@
+//! Making a `File` of the bytes of an index file.
+
+ghost use Rattle.std.specs.Prelude.{◌≡◌, ◌≢◌, length, IfOk, IfErr, IsOk, IsTrue, ◌↔◌, IsErrOf};
+ghost use Rattle.std.specs.Path.{path_buf_bytes};
+ghost use Rattle.index_state.specs.Record.{PathsInStorage, IdsAreOf, entries_of};
+ghost use Rattle.gix_index.specs.Checked.{needs_check, IsIntact, IsFileAnswer, SaysFile};
+ghost use Rattle.gix_index.specs.File.{state_of, path_of};
+
+use super::File;
+use index_parts::entry::FileTime;
+use index_parts::hash::{Kind, ObjectId, digest};
+use index_state::extension::link;
+use index_state::{State, decode};
+use std::alloc::Global;
+use std::io;
+use std::path::PathBuf;
+use thiserror::Error;
+
+/// Why there is no index in a file, or none could be made of it.
+#[derive(Debug, Drop, Error)]
+pub enum Error {
+    /// The file can't be opened or read.
+    #[error("the index file can't be opened or read: {0}")]
+    Io(io::Error),
+    /// The bytes are no index, or they aren't those that were once written.
+    #[error("{0}")]
+    Decode(decode::Error),
+    /// The shared index that a split index links to can't be used.
+    #[error("the index's link to a shared index is at fault: {0}")]
+    LinkExtension(link::decode::Error),
+    /// A growth was refused.
+    #[error("out of memory while reading an index file")]
+    Memory,
+}
+
+/// Whether the trailer is to be compared with the digest: the caller wants it, and there is a trailer that isn't null.
+fn is_to_be_checked(data: &[u8], object_hash: Kind, skip_hash: bool) -> bool
+    ensures { result ≡ needs_check skip_hash object_hash «data».now }
+{
+    let len = object_hash.len_in_bytes();
+    if skip_hash || data.len() < len {
+        return false;
+    }
+    data[data.len() - len..].iter().any(|byte| *byte != 0)
+}
+
+/// Compares the trailer with the digest of all bytes before it.
+fn check(data: &[u8], object_hash: Kind, skip_hash: bool) -> Result<(), decode::Error> {
+    if !is_to_be_checked(data, object_hash, skip_hash) {
+        return Ok(());
+    }
+    let (body, trailer) = data.split_at(data.len() - object_hash.len_in_bytes());
+    let actual = digest(object_hash, body);
+    let expected = ObjectId::of_kind(object_hash, trailer);
+    if actual != expected {
+        return Err(decode::Error::Verify { actual, expected });
+    }
+    Ok(())
+}
+
+impl File {
+    /// Reads an index from all bytes of its file, which lies or will lie at the path.
+    ///
+    /// First the digest of all bytes but the trailer is compared with the trailer: [`decode::Error::Verify`] names
+    /// the digest as `actual`. That isn't done with `skip_hash`, where the trailer is null, or where there are fewer
+    /// bytes than a trailer has. Then comes what [`State::from_bytes`] answers; its want of memory is
+    /// [`Error::Memory`]. The trailer is kept as the checksum, or None where it is null.
+    ///
+    /// A split index's link to its shared index isn't followed: such a state has only the entries of its own, some
+    /// of them with an empty path, and a file written of it has no link.
+    pub fn decode(
+        alloc: Global,
+        data: &[u8],
+        path: PathBuf,
+        object_hash: Kind,
+        skip_hash: bool,
+        timestamp: FileTime,
+        options: decode::Options,
+    ) -> Result<File, Error>
+        ensures answer { SaysFile result (IsFileAnswer skip_hash object_hash timestamp options «data».now) }
+        ensures intact { IfErr result (λ e. e ≡ Error.Memory → IsIntact skip_hash object_hash «data».now) }
+        ensures path { IfOk result (λ file. path_of file ≡ path_buf_bytes path) }
+        ensures stored { IfOk result (λ file. PathsInStorage (state_of file)) }
+        ensures ids { IfOk result (λ file. IdsAreOf object_hash (entries_of (state_of file))) }
+    {
+        if let Err(e) = check(data, object_hash, skip_hash) {
+            return Err(Error::Decode(e));
+        }
+        match State::from_bytes(alloc, data, timestamp, object_hash, options) {
+            Ok((state, checksum)) => Ok(File {
+                state,
+                path,
+                checksum,
+            }),
+            Err(decode::Error::Memory) => Err(Error::Memory),
+            Err(e) => Err(Error::Decode(e)),
+        }
+    }
+}
