@@ -145,3 +145,6 @@ impl State {
         Ok(())
     }
 }
+
+#[cfg(test)]
+mod tests;
