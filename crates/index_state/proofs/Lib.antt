@@ -4,6 +4,7 @@ pub mod Bodies
 pub mod Deltas
 pub mod Lengths
 pub mod Pieces
+pub mod RoundTrip
 pub mod Storing
 pub mod Words
 pub mod Written
