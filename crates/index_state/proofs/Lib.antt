@@ -6,5 +6,6 @@ pub mod Lengths
 pub mod Pieces
 pub mod RoundTrip
 pub mod Storing
+pub mod Twice
 pub mod Words
 pub mod Written
