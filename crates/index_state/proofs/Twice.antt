@@ -3,7 +3,6 @@ use Rattle.std.proofs.Common.{◌≡◌, ℕ, Bool, true, false, ◌||◌, eqb, 
 use Rattle.std.specs.Prelude.{bit_and}
 use Rattle.std.proofs.lemmas.Nat.{and_assoc, and_comm}
 use Rattle.index_parts.specs.Flags.{is_extended, kept_flags}
-use Rattle.index_parts.specs.Mode.{kept_mode}
 use Rattle.index_state.specs.declared.write.Options.{Options}
 use Rattle.index_state.specs.Image.{is_removed, written}
 use Rattle.index_state.specs.Record.{Record, Contents, has_directory}
