@@ -1,12 +1,11 @@
 -- An entry that was written is read again, as what a file keeps of it.
-use Rattle.std.proofs.Common.{◌≡◌, ℕ, ◌+◌, ◌-◌, ◌*◌, ◌/◌, ◌%◌, ◌^◌, ◌<◌, ◌≤◌, Bool, true, false, cond, eqb, min, List, [], ◌∷◌, ◌++◌, length, map, All, Option, Some, suc, refl, sym, ap, subst, ◌∙◌, append_assoc, arith, inl, inr}
-use Rattle.std.specs.Prelude.{◌≢◌, bit_and, replicate}
+use Rattle.std.proofs.Common.{◌≡◌, ℕ, ◌+◌, ◌-◌, ◌*◌, ◌/◌, ◌%◌, ◌≤◌, Bool, true, false, cond, eqb, min, List, [], ◌∷◌, ◌++◌, length, map, All, Option, Some, suc, refl, sym, ap, subst, ◌∙◌, append_assoc, arith, inl, inr}
+use Rattle.std.specs.Prelude.{◌≢◌, replicate}
 use Rattle.std.specs.List.{flat_map, AllByRecursion}
 use Rattle.std.proofs.lemmas.Bool.{eq-eqb, ne_eqb, cases_lt}
 use Rattle.std.proofs.lemmas.List.{length-append, length-replicate}
 use Rattle.std.proofs.lemmas.List.Concat.{flat_map-cons}
 use Rattle.std.proofs.Math.Nat.{suc-mul}
-use Rattle.index_parts.specs.Front.{be}
 use Rattle.index_parts.specs.Id.{id_len, id_bytes, id_kind, make_id}
 use Rattle.index_parts.specs.Mode.{kept_mode}
 use Rattle.index_parts.specs.declared.hash.Kind.{Kind}
@@ -14,11 +13,10 @@ use Rattle.index_parts.specs.declared.hash.Kind.TheVariants as kinds
 use Rattle.index_parts.specs.declared.hash.ObjectId.{ObjectId}
 use Rattle.index_parts.specs.declared.hash.ObjectId.TheVariants as ids
 use Rattle.index_parts.specs.declared.entry.stat.Stat.{Stat}
-use Rattle.index_state.specs.declared.Version.{Version}
 use Rattle.index_state.specs.declared.Version.TheVariants.{V2, V3}
 use Rattle.index_state.specs.Entry.{Front, front_bytes, IsFront, number, stat_at, record_of, length_field, IsPath, IsEntry23}
 use Rattle.index_state.specs.Entries.{AreEntries}
-use Rattle.index_state.specs.Image.{be32, numbers_of, front_of, unpadded, padding, entry_bytes}
+use Rattle.index_state.specs.Image.{numbers_of, front_of, unpadded, padding, entry_bytes}
 use Rattle.index_state.specs.Limits.{smallest_entry}
 use Rattle.index_state.specs.Record.{Record}
 use Rattle.index_state.specs.Storable.{Fits}

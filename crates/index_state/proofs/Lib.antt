@@ -9,6 +9,8 @@ pub mod Lengths
 pub mod Lookup
 pub mod Order
 pub mod Pieces
+pub mod RoundTrip
 pub mod Storing
+pub mod Twice
 pub mod Words
 pub mod Written

@@ -1,10 +1,10 @@
 -- The numbers and words of an entry that were written are read again.
-use Rattle.std.proofs.Common.{◌≡◌, ℕ, ◌+◌, ◌*◌, ◌/◌, ◌%◌, ◌^◌, ◌<◌, Bool, true, false, cond, eqb, min, List, [], ◌∷◌, length, refl, sym, ap, ◌∙◌, arith}
-use Rattle.std.specs.Prelude.{MatchBool, bit_and, bit_or}
+use Rattle.std.proofs.Common.{◌≡◌, ℕ, ◌+◌, ◌*◌, ◌/◌, ◌%◌, ◌^◌, ◌<◌, Bool, true, false, cond, eqb, min, [], ◌∷◌, length, refl, sym, ap, ◌∙◌, arith}
+use Rattle.std.specs.Prelude.{MatchBool, bit_and}
 use Rattle.std.specs.Int.{w16, w32, from_be_bytes}
 use Rattle.std.proofs.lemmas.Nat.{from_be_bytes-to_be_bytes_4, from_be_bytes-to_be_bytes_2, or_shifted, or_comm, and_block, and_assoc, and_le_r, and_mask, shr_split}
 use Rattle.std.proofs.lemmas.Nat.Bits.{and_high, and_pow}
-use Rattle.index_parts.specs.Flags.{is_extended, rest_flags, extended_flags, joined_words, kept_flags}
+use Rattle.index_parts.specs.Flags.{is_extended, extended_flags, joined_words, kept_flags}
 use Rattle.index_parts.specs.Front.{be}
 use Rattle.index_state.specs.Image.{be16, be32, first_word, second_word}
 use Rattle.index_state.specs.Record.{Record}

@@ -171,14 +171,16 @@ impl State {
         put_entries(&self.entries, &self.path_backing, out)
     }
 
-    /// Writes the index as the bytes of a file, but for the trailer, and gives the version that it has
-    /// (gitformat-index): version 3 where an entry has `EXTENDED`, even one that is left out, else version 2.
+    /// Writes the index as the bytes of a file, but for the trailer, and gives the version that they have: 3 where an
+    /// entry has `EXTENDED`, even one that is left out, else 2 (gitformat-index, "The Git index file has the
+    /// following format").
     ///
-    /// Entries marked `REMOVE` are left out, and the header doesn't count them. An entry has its mode's 32 bits, the
-    /// bits of its flags that a file keeps, and its id's own bytes, of whichever kind.
+    /// Entries marked `REMOVE` are left out, and the header doesn't count them. The others have their place and
+    /// their mode's 32 bits as they are, the bits of their flags that a file keeps, and their id's own bytes, of
+    /// whichever kind. No extension is written, whatever the options say.
     ///
-    /// [`Error::TooManyEntries`], then [`Error::TooLarge`] come before any byte and leave the writer as it was;
-    /// [`Error::Io`] comes only where the writer failed. No memory is taken.
+    /// [`Error::TooManyEntries`], then [`Error::TooLarge`], come before any byte and leave the writer as it was.
+    /// [`Error::Io`] comes only where the writer failed, which then took a front of the bytes. No memory is taken.
     pub fn write_to<W: Out>(&self, out: &mut W, options: Options) -> Result<Version, Error>
         requires placed { PathsInStorage self.now }
         requires unfailed { W.failed out.old ≡ false }

@@ -32,6 +32,7 @@ fn second_of<'a>(flags: Flags, word: &'a [u8; 2]) -> &'a [u8]
     &[]
 }
 
+/// The six pieces of an entry.
 fn six<'a>(
     a: &'a [u8],
     b: &'a [u8],
@@ -110,7 +111,7 @@ impl Entry {
 
     /// Writes the entry up to the end of its path, and these bytes behind it.
     #[tactic(auto, using(crate::proofs::Lengths::pieces_are))]
-    fn put_before<W: Out>(&self, storage: &[u8], end: &[u8], out: &mut W) -> io::Result<()>
+    fn put_with<W: Out>(&self, storage: &[u8], end: &[u8], out: &mut W) -> io::Result<()>
         requires placed { IsPlaced (length storage.now) self.now }
         requires unfailed { W.failed out.old ≡ false }
         ensures bytes { Puts W.taken W.hashed out.old out.new result (unpadded (record_in storage.now self.now) ++ end.now) }
@@ -143,7 +144,7 @@ impl Entry {
         ensures loan { W.loan out.new ≡ W.loan out.old }
     {
         let end = padding_behind(self.unpadded_len(storage));
-        self.put_before(storage, end, out)
+        self.put_with(storage, end, out)
     }
 
     /// Writes the entry as a file of version 2 or 3 has it, with one NUL behind its path and no further padding
@@ -157,6 +158,6 @@ impl Entry {
         ensures mark { W.failed out.new ≡ is_err result }
         ensures loan { W.loan out.new ≡ W.loan out.old }
     {
-        self.put_before(&state.path_backing, b"\0", out)
+        self.put_with(&state.path_backing, b"\0", out)
     }
 }

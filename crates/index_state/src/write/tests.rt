@@ -69,10 +69,8 @@ fn two_words_of_flags(rt: HostRuntime) -> Result<(), Fail> {
         bytes.get(..12),
         Some(b"DIRC\0\0\0\x03\0\0\0\x01".as_slice())
     );
-    assert_eq!(rt;
-        bytes.get(72..76),
-        Some(b"\x40\x01\x40\x00".as_slice())
-    );
+    let words = bytes.get(72..76).ok_or("two words")?;
+    assert_eq!(rt; words, b"\x40\x01\x40\x00".as_slice());
     Ok(())
 }
 
