@@ -1,6 +1,6 @@
 -- The digest of a file, compared before its bytes are read (gitformat-index, "Hash checksum over the content of the index file
 -- before this checksum").
-use Rattle.std.specs.Prelude.{◌≡◌, ◌≢◌, ℕ, ◌-◌, ◌==◌, ◌&&◌, ◌⊎◌, not, nat_lt, Bool, List, length, take, drop, Option, Result, Ok, Err, MatchBool}
+use Rattle.std.specs.Prelude.{◌≡◌, ◌≢◌, ℕ, ◌-◌, ◌==◌, ◌&&◌, ◌⊎◌, not, nat_lt, Bool, true, List, length, take, drop, Option, Result, Ok, Err, MatchBool}
 use Rattle.std.specs.List.{list_any}
 use Rattle.index_parts.specs.Digest.{digest}
 use Rattle.index_parts.specs.Id.{id_len, make_id}
@@ -8,6 +8,7 @@ use Rattle.index_parts.specs.declared.hash.Kind.{Kind}
 use Rattle.index_parts.specs.declared.hash.ObjectId.{ObjectId}
 use Rattle.index_parts.specs.declared.entry.stat.FileTime.{FileTime}
 use Rattle.index_state.specs.declared.decode.Options.{Options}
+use Rattle.index_state.specs.declared.decode.Error.{Error as Decoding}
 use Rattle.index_state.specs.declared.decode.Error.TheVariants as decoding
 use Rattle.index_state.specs.Answer.{Answer, Fault, Verify, IsAnswer}
 use Rattle.index_state.specs.Faults.{IsEarly, SaysFault}
@@ -35,9 +36,17 @@ digest_id kind bytes = make_id kind (digest kind (checked_part kind bytes))
 abbrev pub trailer_id : Kind → List ℕ → ObjectId
 trailer_id kind bytes = make_id kind (trailer_part kind bytes)
 
+-- the error of a digest that isn't the trailer
+abbrev pub digest_fault : Kind → List ℕ → Decoding
+digest_fault kind bytes = decoding.Verify (digest_id kind bytes) (trailer_id kind bytes)
+
 -- where the digest is compared, it is the trailer
 abbrev pub IsIntact : Bool → Kind → List ℕ → Type 0
 IsIntact skip kind bytes = MatchBool (needs_check skip kind bytes) (digest_id kind bytes ≡ trailer_id kind bytes) (Unit {0})
+
+-- the digest is compared, and it isn't the trailer
+abbrev pub IsBroken : Bool → Kind → List ℕ → Type 0
+IsBroken skip kind bytes = (needs_check skip kind bytes ≡ true) × (digest_id kind bytes ≢ trailer_id kind bytes)
 
 -- the answer of the bytes where they are intact, else the digest and the trailer
 abbrev pub IsFileAnswer : Bool → Kind → FileTime → Options → List ℕ → Answer → Type 0
@@ -46,6 +55,11 @@ IsFileAnswer skip kind time options bytes a =
     (((digest_id kind bytes ≡ trailer_id kind bytes) × IsAnswer kind time options bytes a)
       ⊎ ((digest_id kind bytes ≢ trailer_id kind bytes) × (a ≡ Err (Verify (digest_id kind bytes) (trailer_id kind bytes)))))
     (IsAnswer kind time options bytes a)
+
+-- the error that reading's error becomes: want of memory is told by the outer variant
+abbrev pub error_of : Decoding → Error
+error_of decoding.Memory = errors.Memory
+error_of e = errors.Decode e
 
 -- What a result says of the answer that P holds of. Want of memory has a variant of its own, and says that no early fault is the answer.
 abbrev pub SaysFile : Result File Error → (Answer → Type 0) → Type 0

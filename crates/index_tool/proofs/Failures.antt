@@ -15,7 +15,7 @@ keeps_refl (Some xs) = refl
 refuses_file_of : (e : Failure) (kind : Kind) (known : Option (List ℕ)) → IsOfFile e → Refuses e (Some kind) known known
 refuses_file_of failures.Usage kind known h = absurd h
 refuses_file_of (failures.Read e) kind known h = keeps_refl known
-refuses_file_of (failures.Decode e) kind known h = keeps_refl known
+refuses_file_of (failures.Index e) kind known h = keeps_refl known
 refuses_file_of (failures.Write e) kind known h = absurd h
 
 pub refuses_file : (e : Failure) (words : Option Kind) (kind : Kind) (known : Option (List ℕ)) → words ≡ Some kind → IsOfFile e → Refuses e words known known

@@ -4,17 +4,20 @@ ghost use Rattle.std.specs.Prelude.{◌≡◌, ◌≤◌, ◌↔◌, ◌⊎◌, 
 ghost use Rattle.std.specs.Option.{option_map};
 ghost use Rattle.std.specs.Io.KnownBytes.{Keeps};
 ghost use Rattle.index_state.specs.Record.{PathsInStorage, contents};
+ghost use Rattle.gix_index.specs.File.{state_of};
 ghost use Rattle.index_tool.specs.Command.{kind_named, listed_kind, IsReadFrom, Lists, WasRead, IsOfFile, Refuses};
 
 use crate::listing::write_listing;
-use gix_index::State;
+use gix_index::File;
 use gix_index::decode;
 use gix_index::entry::FileTime;
+use gix_index::file;
 use gix_index::hash::Kind;
 use std::alloc::Global;
 use std::fs;
 use std::io;
 use std::io::{Read, Write};
+use std::path::PathBuf;
 use std::rt::Files;
 use thiserror::Error;
 
@@ -26,7 +29,7 @@ enum Failure {
     #[error("the index can't be opened or read: {0}")]
     Read(io::Error),
     #[error("{0}")]
-    Decode(decode::Error),
+    Index(file::init::Error),
     #[error("the listing can't be written: {0}")]
     Write(io::Error),
 }
@@ -76,20 +79,25 @@ fn bytes_of<R: Files + Alloc>(rt: &R, alloc: Global, path: &str) -> io::Result<V
     Ok(bytes)
 }
 
-/// The index that a file holds.
-fn state_of<R: Files + Alloc>(rt: &R, alloc: Global, list: List<'_>) -> Result<State, Failure>
-    ensures read { IfOk result (λ state. IsReadFrom list.entry.kind (contents state)) }
-    ensures stored { IfOk result (λ state. PathsInStorage state) }
+/// The index in a file, with the entries of its own where it is split.
+fn index_of<R: Files + Alloc>(rt: &R, alloc: Global, list: List<'_>) -> Result<File, Failure>
+    ensures read { IfOk result (λ file. IsReadFrom list.entry.kind (contents (state_of file))) }
+    ensures stored { IfOk result (λ file. PathsInStorage (state_of file)) }
     ensures fault { IfErr result IsOfFile }
 {
     let bytes = match bytes_of(rt, alloc, list.path) {
         Ok(bytes) => bytes,
         Err(e) => return Err(Failure::Read(e)),
     };
+    let path = match PathBuf::from_str(alloc, list.path) {
+        Ok(path) => path,
+        Err(e) => return Err(Failure::Read(io::Error::from(e))),
+    };
     let time = FileTime::EPOCH;
-    match State::from_bytes(alloc, &bytes, time, list.kind, decode::Options::default()) {
-        Ok((state, _)) => Ok(state),
-        Err(e) => Err(Failure::Decode(e)),
+    let options = decode::Options::default();
+    match File::decode(alloc, &bytes, path, list.kind, false, time, options) {
+        Ok(file) => Ok(file),
+        Err(e) => Err(Failure::Index(e)),
     }
 }
 
@@ -108,8 +116,8 @@ fn outcome_of<R: Files + Alloc, W: io::Write>(
     let Some(list) = command_of(words) else {
         return Err(Failure::Usage);
     };
-    let state = state_of(rt, alloc, list)?;
-    match write_listing(alloc, &state, out) {
+    let index = index_of(rt, alloc, list)?;
+    match write_listing(alloc, &index, out) {
         Ok(()) => Ok(()),
         Err(e) => Err(Failure::Write(e)),
     }

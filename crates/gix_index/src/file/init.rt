@@ -1,9 +1,10 @@
 //! Making a `File` of the bytes of an index file.
 
-ghost use Rattle.std.specs.Prelude.{◌≡◌, ◌≢◌, length, IfOk, IfErr, IsOk, IsTrue, ◌↔◌, IsErrOf};
+ghost use Rattle.std.specs.Prelude.{◌≡◌, ◌==◌, not, IfOk, IfErr, OnOk, OnErr};
+ghost use Rattle.std.specs.List.{list_any};
 ghost use Rattle.std.specs.Path.{path_buf_bytes};
 ghost use Rattle.index_state.specs.Record.{PathsInStorage, IdsAreOf, entries_of};
-ghost use Rattle.gix_index.specs.Checked.{needs_check, IsIntact, IsFileAnswer, SaysFile};
+ghost use Rattle.gix_index.specs.Checked.{needs_check, digest_fault, IsIntact, IsBroken, IsFileAnswer, error_of, SaysFile};
 ghost use Rattle.gix_index.specs.File.{state_of, path_of};
 
 use super::File;
@@ -33,6 +34,25 @@ pub enum Error {
     Memory,
 }
 
+/// Want of memory is told by the variant of its own.
+impl From<decode::Error> for Error {
+    ghost from_gives = { λ e error. error ≡ error_of e };
+
+    fn from(e: decode::Error) -> Error {
+        match e {
+            decode::Error::Memory => Error::Memory,
+            e => Error::Decode(e),
+        }
+    }
+}
+
+/// Whether some byte isn't zero.
+fn has_nonzero(bytes: &[u8]) -> bool
+    ensures { result ≡ list_any (λ b. not (b == 0)) bytes.now }
+{
+    bytes.iter().any(|byte| *byte != 0)
+}
+
 /// Whether the trailer is to be compared with the digest: the caller wants it, and there is a trailer that isn't null.
 fn is_to_be_checked(data: &[u8], object_hash: Kind, skip_hash: bool) -> bool
     ensures { result ≡ needs_check skip_hash object_hash «data».now }
@@ -41,11 +61,15 @@ fn is_to_be_checked(data: &[u8], object_hash: Kind, skip_hash: bool) -> bool
     if skip_hash || data.len() < len {
         return false;
     }
-    data[data.len() - len..].iter().any(|byte| *byte != 0)
+    has_nonzero(&data[data.len() - len..])
 }
 
 /// Compares the trailer with the digest of all bytes before it.
-fn check(data: &[u8], object_hash: Kind, skip_hash: bool) -> Result<(), decode::Error> {
+fn check(data: &[u8], object_hash: Kind, skip_hash: bool) -> Result<(), decode::Error>
+    ensures ok { OnOk result (IsIntact skip_hash object_hash «data».now) }
+    ensures broken { OnErr result (IsBroken skip_hash object_hash «data».now) }
+    ensures err { IfErr result (λ e. e ≡ digest_fault object_hash «data».now) }
+{
     if !is_to_be_checked(data, object_hash, skip_hash) {
         return Ok(());
     }
@@ -83,17 +107,13 @@ impl File {
         ensures stored { IfOk result (λ file. PathsInStorage (state_of file)) }
         ensures ids { IfOk result (λ file. IdsAreOf object_hash (entries_of (state_of file))) }
     {
-        if let Err(e) = check(data, object_hash, skip_hash) {
-            return Err(Error::Decode(e));
-        }
-        match State::from_bytes(alloc, data, timestamp, object_hash, options) {
-            Ok((state, checksum)) => Ok(File {
-                state,
-                path,
-                checksum,
-            }),
-            Err(decode::Error::Memory) => Err(Error::Memory),
-            Err(e) => Err(Error::Decode(e)),
-        }
+        check(data, object_hash, skip_hash)?;
+        let (state, checksum) =
+            State::from_bytes(alloc, data, timestamp, object_hash, options)?;
+        Ok(File {
+            state,
+            path,
+            checksum,
+        })
     }
 }
