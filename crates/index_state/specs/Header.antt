@@ -5,7 +5,7 @@ use Rattle.index_parts.specs.Front.{be}
 use Rattle.index_parts.specs.Id.{id_len}
 use Rattle.index_parts.specs.declared.hash.Kind.{Kind}
 use Rattle.index_state.specs.declared.Version.{Version}
-use Rattle.index_state.specs.declared.Version.TheVariants.{V2, V3}
+use Rattle.index_state.specs.declared.Version.TheVariants.{V2, V3, V4}
 
 -- what can be wrong with a header, with its text
 pub data HeaderFault : Type 0 where
@@ -14,7 +14,7 @@ pub data HeaderFault : Type 0 where
 
 -- a version that is read
 abbrev pub version_of : ℕ → Option Version
-version_of n = if n == 2 then Some V2 else (if n == 3 then Some V3 else None)
+version_of n = if n == 2 then Some V2 else (if n == 3 then Some V3 else (if n == 4 then Some V4 else None))
 
 abbrev pub version_number : List ℕ → ℕ
 version_number bytes = be (take 4 (drop 4 bytes))

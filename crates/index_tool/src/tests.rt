@@ -68,10 +68,17 @@ fn files(rt: HostRuntime) -> Result<(), Fail> {
     let alloc = rt.alloc();
     fs::write(&rt, "whole.index", ONE)?;
     fs::write(&rt, "cut.index", &ONE[..95])?;
+    // A trailer that isn't null is compared with the digest.
+    let mut sealed = Vec::from_slice(alloc, ONE)?;
+    if let Some(last) = sealed.last_mut() {
+        *last = 1;
+    }
+    fs::write(&rt, "sealed.index", sealed.as_slice())?;
     for (kind, file, status, listed) in [
         ("sha1", "whole.index", 0, LISTED),
         ("sha256", "whole.index", 1, b"".as_slice()),
         ("sha1", "cut.index", 1, b""),
+        ("sha1", "sealed.index", 1, b""),
         ("sha1", "absent.index", 1, b""),
     ] {
         let mut out = Vec::new(alloc);

@@ -37,6 +37,7 @@ pub(crate) fn decode(bytes: &[u8], kind: Kind) -> Result<(Version, u32, &[u8]), 
     let version = match from_be_u32(&bytes[4..8]) {
         2 => Version::V2,
         3 => Version::V3,
+        4 => Version::V4,
         unknown => return Err(Error::UnsupportedVersion(unknown)),
     };
     Ok((version, from_be_u32(&bytes[8..12]), &bytes[12..]))

@@ -3,7 +3,7 @@
 ghost use Rattle.std.specs.Prelude.{IfOk, ◌≤◌};
 ghost use Rattle.index_state.specs.Record.{PathsInStorage};
 
-use super::entries::max_entries_possible;
+use super::entries::{estimate_path_storage_requirements_in_bytes, max_entries_possible};
 use super::*;
 use index_parts::entry::{Flags, Mode, Stage};
 use std::process::Abort;
@@ -139,5 +139,83 @@ fn long_paths(rt: HostRuntime) -> Result<(), Fail> {
     assert_eq!(rt; path_len(rt.alloc(), b"\x0f\xfe", 4094, 4)?, 4094);
     assert_eq!(rt; path_len(rt.alloc(), b"\x0f\xff", 4095, 3)?, 4095);
     assert_eq!(rt; path_len(rt.alloc(), b"\x0f\xff", 4096, 2)?, 4096);
+    Ok(())
+}
+
+/// Two entries of version 4 with these tails behind their flags.
+fn two_deltas(alloc: Global, first: &[u8], second: &[u8]) -> Result<Answer, AllocError> {
+    let header = b"DIRC\0\0\0\x04\0\0\0\x02";
+    read(alloc, &[header, &FIXED, b"\0\0", first, &FIXED, b"\0\0", second, &ZEROS])
+}
+
+#[test]
+fn deltas(rt: HostRuntime) -> Result<(), Fail> {
+    let (state, _) = two_deltas(rt.alloc(), b"\0dir/a\0", b"\x01b\0")??;
+    assert_eq!(rt; state.version(), Version::V4);
+    assert_eq!(rt; state.path_backing(), b"dir/adir/b".as_slice());
+    // How much the first entry takes off isn't looked at.
+    let (state, _) = two_deltas(rt.alloc(), b"\x09a\0", b"\0b\0")??;
+    assert_eq!(rt; state.path_backing(), b"aab".as_slice());
+    // The second may take off no more than there is.
+    let answer = two_deltas(rt.alloc(), b"\0abc\0", b"\x05b\0")?;
+    assert!(rt; matches!(answer, Err(Error::Entry { index: 1 })));
+    Ok(())
+}
+
+#[test]
+fn sizes(rt: HostRuntime) {
+    let most = max_entries_possible;
+    assert_eq!(rt; most(196, None, Kind::Sha256, Version::V4), 2);
+    assert_eq!(rt; most(196, None, Kind::Sha256, Version::V2), 1);
+    let paths = estimate_path_storage_requirements_in_bytes;
+    assert_eq!(rt; paths(2, 160, None, Kind::Sha1, Version::V2), 4);
+    assert_eq!(rt; paths(2, 160, None, Kind::Sha1, Version::V4), 0);
+    assert_eq!(rt; paths(1, 1000, None, Kind::Sha1, Version::V2), 906);
+    assert_eq!(rt; paths(1, 1000, None, Kind::Sha1, Version::V4), 80);
+    assert_eq!(rt; paths(1, 1000, Some(512), Kind::Sha1, Version::V2), 438);
+}
+
+/// The one entry `a` with this trailer, read by these options.
+fn read_one(alloc: Global, trailer: &[u8], options: Options) -> Result<Answer, AllocError> {
+    let bytes = joined(alloc, &[ONE, &FIXED, b"\0\x01a\0", trailer])?;
+    Ok(State::from_bytes(alloc, &bytes, FileTime::EPOCH, Kind::Sha1, options))
+}
+
+/// The trailer and the expected id of a fault.
+fn compared(answer: &Answer) -> Option<(ObjectId, ObjectId)> {
+    match answer {
+        Err(Error::Verify { actual, expected }) => Some((*actual, *expected)),
+        _ => None,
+    }
+}
+
+#[test]
+fn limits(rt: HostRuntime) -> Result<(), Fail> {
+    let options = Options {
+        alloc_limit_bytes: Some(95),
+        ..Options::default()
+    };
+    let answer = read_one(rt.alloc(), &ZEROS, options)?;
+    assert!(rt; matches!(answer, Err(Error::OutOfMemory)));
+    let options = Options {
+        alloc_limit_bytes: Some(96),
+        ..Options::default()
+    };
+    assert!(rt; read_one(rt.alloc(), &ZEROS, options)?.is_ok());
+    Ok(())
+}
+
+#[test]
+fn expected_checksums(rt: HostRuntime) -> Result<(), Fail> {
+    let expected = ObjectId::Sha1([0x33; 20]);
+    let options = Options {
+        expected_checksum: Some(expected),
+        ..Options::default()
+    };
+    let answer = read_one(rt.alloc(), &[0x22; 20], options)?;
+    assert_eq!(rt; compared(&answer), Some((ObjectId::Sha1([0x22; 20]), expected)));
+    assert!(rt; read_one(rt.alloc(), &[0x33; 20], options)?.is_ok());
+    // A null trailer is compared with nothing.
+    assert!(rt; read_one(rt.alloc(), &ZEROS, options)?.is_ok());
     Ok(())
 }
