@@ -8,7 +8,8 @@ use Rattle.index_parts.specs.declared.hash.Kind.TheVariants as kinds
 use Rattle.index_parts.specs.declared.hash.Hasher.{Hasher}
 use Rattle.index_parts.specs.declared.hash.Hasher.TheVariants as hashers
 
--- the message digest of FIPS 180-4: SHA-1 of section 6.1, SHA-256 of section 6.2
+-- the message digest: SHA-1 (section 6.1) or SHA-256 (section 6.2), which are defined below 2 ^ 64 bits;
+-- of a longer message the padding counts the bits modulo 2 ^ 64
 abbrev pub digest : Kind → List ℕ → List ℕ
 digest kinds.Sha1 message = S1.sha1 message
 digest kinds.Sha256 message = sha256 message
