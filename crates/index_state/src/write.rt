@@ -4,10 +4,10 @@ mod entry;
 #[cfg(test)]
 mod tests;
 
-ghost use Rattle.std.specs.Prelude.{◌≡◌, ◌+◌, ◌≤◌, ◌<◌, ◌^◌, ◌↔◌, ℕ, List, length, count_by, not, false, is_err, IsTrue, IfOk, All};
+ghost use Rattle.std.specs.Prelude.{◌≡◌, ◌+◌, ◌≤◌, ◌<◌, ◌^◌, ◌↔◌, ℕ, List, length, count_by, not, false, is_err, IsTrue, IfOk, OnOk, All};
 ghost use Rattle.std.specs.List.{flat_map, list_any};
 ghost use Rattle.index_parts.specs.Flags.{is_extended};
-ghost use Rattle.index_parts.specs.Taking.{Puts};
+ghost use Rattle.index_parts.specs.Taking.{Hashes, Puts};
 ghost use Rattle.index_state.specs.declared.write.Error.TheVariants.{Io};
 ghost use Rattle.index_state.specs.Image.{entry_bytes, written, needed_version, header_bytes, is_removed, unmarked, body};
 ghost use Rattle.index_state.specs.Record.{PathsInStorage, IsPlaced, contents, records_in};
@@ -185,7 +185,8 @@ impl State {
         requires placed { PathsInStorage self.now }
         requires unfailed { W.failed out.old ≡ false }
         ensures version { IfOk result (λ version. version ≡ needed_version (contents self.now).records) }
-        ensures bytes { Writes W.taken W.hashed W.failed out.old out.new result (body (contents self.now) options) }
+        ensures bytes { Writes W.taken W.failed out.old out.new result (body (contents self.now) options) }
+        ensures hashed { OnOk result (Hashes W.hashed out.old out.new (body (contents self.now) options)) }
         ensures loan { W.loan out.new ≡ W.loan out.old }
         ensures too_many { (result ≡ Err Error.TooManyEntries) ↔ (2 ^ 32 ≤ length (contents self.now).records) }
         ensures too_large { (result ≡ Err Error.TooLarge)
