@@ -1,6 +1,7 @@
 pub mod Answers
 pub mod Deltas
 pub mod Digits
+pub mod Edits
 pub mod Halving
 pub mod Insertion
 pub mod Lookup
