@@ -1,5 +1,6 @@
 -- One more binary digit is a doubling.
-use Rattle.std.proofs.Common.{◌≡◌, ℕ, zero, suc, ◌+◌, ◌/◌, ◌<◌, ◌≤◌, refl, ap, arith}
+use Rattle.std.proofs.Common.{◌≡◌, ℕ, zero, suc, ◌+◌, ◌*◌, ◌/◌, ◌^◌, ◌<◌, ◌≤◌, refl, ap, arith, lit<, lit≤}
+use Rattle.std.proofs.Math.Nat.{pow-succ'}
 use Rattle.index_state.specs.Digits.{digits_within, digits}
 
 within_same : (f g n : ℕ) → n ≤ f → n ≤ g → digits_within f n ≡ digits_within g n
@@ -38,3 +39,27 @@ within_small (suc f) (suc n) = omega (arith, within_small f (suc n / 2))
 pub digits_small : (n : ℕ) → digits n ≤ n
 unfolding digits
 digits_small n = within_small n n
+
+-- ---- between which powers of two a number stands
+
+within_below : (f n : ℕ) → n ≤ f → n < 2 ^ digits_within f n
+within_below zero zero h = lit< tt
+within_below zero (suc n) h = absurd (omega arith)
+within_below (suc f) zero h = lit< tt
+within_below (suc f) (suc n) h = omega (arith, within_below f (suc n / 2) (omega arith), pow-succ' 2 (digits_within f (suc n / 2)))
+
+within_above : (f n : ℕ) → n ≤ f → 0 < n → 2 ^ digits_within f n ≤ 2 * n
+within_above f zero h some = absurd (omega arith)
+within_above zero (suc n) h some = absurd (omega arith)
+within_above (suc zero) (suc zero) h some = lit≤ tt
+within_above (suc zero) (suc (suc n)) h some = absurd (omega arith)
+within_above (suc (suc f)) (suc zero) h some = lit≤ tt
+within_above (suc (suc f)) (suc (suc n)) h some = omega (arith, within_above (suc f) (suc (suc n) / 2) (omega arith) (omega arith), pow-succ' 2 (digits_within (suc f) (suc (suc n) / 2)))
+
+pub digits_below : (n : ℕ) → n < 2 ^ digits n
+unfolding digits
+digits_below n = within_below n n (omega arith)
+
+pub digits_above : (n : ℕ) → 0 < n → 2 ^ digits n ≤ 2 * n
+unfolding digits
+digits_above n some = within_above n n (omega arith) some

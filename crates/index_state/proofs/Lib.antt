@@ -3,6 +3,7 @@ pub mod Answers
 pub mod Bodies
 pub mod Deltas
 pub mod Digits
+pub mod Edits
 pub mod Halving
 pub mod Insertion
 pub mod Lengths

@@ -1,7 +1,7 @@
 -- The number of binary digits of a number.
 use Rattle.std.specs.Prelude.{ℕ, zero, suc, ◌/◌}
 
--- a digit, and those of the half; n halvings at most
+-- the digits of m: one, and those of its half; n bounds the halvings
 abbrev pub digits_within : ℕ → ℕ → ℕ
 digits_within zero m = 0
 digits_within (suc n) zero = 0

@@ -20,9 +20,9 @@ use index_parts::hash::ObjectId;
 use std::alloc::AllocError;
 
 impl State {
-    /// The place of the entry at the path and the stage, or None.
+    /// The place of the entry at the path and the stage, counted from 0, or None.
     ///
-    /// Over entries that strictly increase by path and stage it is the one place, and None says that there is
+    /// Over entries that strictly increase by path, then stage, it is the one place, and None says that there is
     /// none. Over other entries a place still has that path and stage, and None says nothing.
     pub fn entry_index_by_path_and_stage(&self, path: &[u8], stage: Stage) -> Option<usize>
         requires { PathsInStorage self.now }
@@ -38,9 +38,11 @@ impl State {
     pub fn entry_by_path_and_stage(&self, path: &[u8], stage: Stage) -> Option<&Entry>
         requires { PathsInStorage self.now }
         ensures found { IfSome result (λ e. Contains (entries_of self.now) e.now) }
-        ensures key { IfSome result (λ e. HasKey path.now (stage_code stage) (record_in (storage_of self.now) e.now)) }
-        ensures answer { IsStrictlyOrdered (records self.now) → option_copied result
-            ≡ option_and_then (slice_get (entries_of self.now)) (place_of path.now (stage_code stage) (records self.now)) }
+        ensures key { IfSome result (λ e. HasKey path.now (stage_code stage)
+            (record_in (storage_of self.now) e.now)) }
+        ensures answer { IsStrictlyOrdered (records self.now)
+            → option_copied result ≡ option_and_then (slice_get (entries_of self.now))
+            (place_of path.now (stage_code stage) (records self.now)) }
     {
         let idx = self.entry_index_by_path_and_stage(path, stage)?;
         Some(&self.entries[idx])
@@ -55,7 +57,8 @@ impl State {
         requires { PathsInStorage self.now }
         ensures found { IfOk result (IsPathAt path.now (records self.now)) }
         ensures in_range { IfErr result (λ i. i ≤ length (records self.now)) }
-        ensures absent { IsOrderedByPath (records self.now) → IfErr result (IsPathGap path.now (records self.now)) }
+        ensures absent { IsOrderedByPath (records self.now)
+            → IfErr result (IsPathGap path.now (records self.now)) }
     {
         self.search_path(path).0
     }
@@ -76,10 +79,10 @@ impl State {
     }
 
     /// The place of the entry at the path and the stage or, as an error, the place where it would be put in: the
-    /// number of entries below both. Beside it how many times the path was compared with that of an entry, as
-    /// [`search_path`](State::search_path) bounds it.
+    /// number of entries that are below it by path, then stage. Beside it how many times the path was compared
+    /// with that of an entry, as [`search_path`](State::search_path) bounds it.
     ///
-    /// It is promised over entries that strictly increase by path and stage. Over other entries a place still
+    /// It is promised over entries that strictly increase by path, then stage. Over other entries a place still
     /// has that path and stage, and an error is at most the number of entries and says no more.
     pub fn search_path_and_stage(&self, path: &[u8], stage: Stage) -> (Result<usize, usize>, usize)
         requires { PathsInStorage self.now }

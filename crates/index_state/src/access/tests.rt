@@ -44,11 +44,22 @@ fn stages_are_told_apart(rt: HostRuntime) -> Result<(), Fail> {
     )?;
     assert!(rt; state.paths_in_storage());
     assert_eq!(rt; state.search_path_and_stage(b"f", Stage::Theirs).0, Ok(2));
-    assert_eq!(rt; state.entry_index_by_path_and_stage(b"f", Stage::Theirs), Some(2));
-    let entry = state.entry_by_path_and_stage(b"f", Stage::Theirs).ok_or("no entry")?;
+    assert_eq!(rt;
+        state.entry_index_by_path_and_stage(b"f", Stage::Theirs),
+        Some(2)
+    );
+    let entry = state
+        .entry_by_path_and_stage(b"f", Stage::Theirs)
+        .ok_or("no entry")?;
     assert_eq!(rt; entry.stage(), Stage::Theirs);
-    assert_eq!(rt; state.entry_index_by_path_and_stage(b"f", Stage::Unconflicted), None);
-    assert_eq!(rt; state.search_path_and_stage(b"f", Stage::Unconflicted).0, Err(0));
+    assert_eq!(rt;
+        state.entry_index_by_path_and_stage(b"f", Stage::Unconflicted),
+        None
+    );
+    assert_eq!(rt;
+        state.search_path_and_stage(b"f", Stage::Unconflicted).0,
+        Err(0)
+    );
     Ok(())
 }
 
@@ -72,7 +83,10 @@ fn entries_are_pushed_compared_and_changed(rt: HostRuntime) -> Result<(), Fail> 
     assert_eq!(rt; state.path_backing(), b"b/cb".as_slice());
     assert_eq!(rt; state.entries().len(), 2);
     assert_eq!(rt; state.entry(0).path(&state), b"b/c".as_slice());
-    assert_eq!(rt; state.entry(0).cmp(state.entry(1), &state), Ordering::Greater);
+    assert_eq!(rt;
+        state.entry(0).cmp(state.entry(1), &state),
+        Ordering::Greater
+    );
     assert_eq!(rt; Entry::cmp_filepaths(b"b\x7f", b"b\x80"), Ordering::Less);
     state.entries_mut()[1].flags = Flags::ASSUME_VALID;
     let flags = state.entries().last().map(|entry| entry.flags);
