@@ -1,11 +1,9 @@
 -- A file as a value: the index, the path's text, and the id at its end.
-use Rattle.std.specs.Prelude.{ℕ, List, Bool, Option, Result, ⊤}
+use Rattle.std.specs.Prelude.{ℕ, List, Option}
 use Rattle.std.specs.Borrow.{Lends, MutBor, Fml}
 use Rattle.std.specs.Path.{path_buf_bytes}
 use Rattle.index_parts.specs.declared.hash.ObjectId.{ObjectId}
 use Rattle.index_state.specs.declared.State.{State}
-use Rattle.index_state.specs.declared.write.Error.{Error}
-use Rattle.index_state.specs.Writing.{Writes}
 use Rattle.index_state.specs.contracts.State as state
 use Rattle.gix_index.specs.declared.file.File.{File}
 use Rattle.gix_index.specs.contracts.file.File as file
@@ -22,7 +20,3 @@ checksum_of f = f.checksum
 -- the file ends with the last state behind the loan; all else stays
 abbrev pub LendsState : MutBor File → MutBor State → Fml
 LendsState f r = Lends file.the_row state.the_row f r (λ s. record f.now { state = s })
-
--- what became of a writer, whatever it hashes beside
-abbrev pub WritesFile : {S T : Type 0} → (S → Option (List ℕ)) → (S → Bool) → S → S → Result T Error → List ℕ → Type 0
-WritesFile taken failed old new r bytes = Writes taken (λ _ _ _. ⊤) failed old new r bytes

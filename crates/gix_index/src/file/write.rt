@@ -4,7 +4,8 @@ ghost use Rattle.std.specs.Prelude.{◌≡◌, ◌↔◌, ◌≤◌, ◌<◌, �
 ghost use Rattle.index_parts.specs.Id.{make_id};
 ghost use Rattle.index_state.specs.Image.{body, image, trailer, unmarked, needed_version};
 ghost use Rattle.index_state.specs.Record.{PathsInStorage, contents};
-ghost use Rattle.gix_index.specs.File.{state_of, WritesFile};
+ghost use Rattle.index_state.specs.Writing.{Writes};
+ghost use Rattle.gix_index.specs.File.{state_of};
 
 use super::File;
 use index_parts::hash::ObjectId;
@@ -23,7 +24,7 @@ fn put_hashed<W: Out>(
     requires hashed { options.skip_hash ≡ false }
     ensures version { IfOk result (λ x. x.0 ≡ needed_version (contents state.now).records) }
     ensures id { IfOk result (λ x. x.1 ≡ make_id (contents state.now).kind (trailer (contents state.now) options)) }
-    ensures bytes { WritesFile W.taken W.failed out.old out.new result (body (contents state.now) options) }
+    ensures bytes { Writes W.taken W.failed out.old out.new result (body (contents state.now) options) }
     ensures too_many { (result ≡ Err Error.TooManyEntries) ↔ (2 ^ 32 ≤ length (contents state.now).records) }
     ensures too_large { (result ≡ Err Error.TooLarge)
         ↔ ((length (contents state.now).records < 2 ^ 32) × (2 ^ 32 ≤ length (unmarked (contents state.now) options))) }
@@ -50,7 +51,7 @@ fn put_unhashed<W: Out>(
     requires unhashed { options.skip_hash ≡ true }
     ensures version { IfOk result (λ x. x.0 ≡ needed_version (contents state.now).records) }
     ensures id { IfOk result (λ x. x.1 ≡ make_id (contents state.now).kind (trailer (contents state.now) options)) }
-    ensures bytes { WritesFile W.taken W.failed out.old out.new result (body (contents state.now) options) }
+    ensures bytes { Writes W.taken W.failed out.old out.new result (body (contents state.now) options) }
     ensures too_many { (result ≡ Err Error.TooManyEntries) ↔ (2 ^ 32 ≤ length (contents state.now).records) }
     ensures too_large { (result ≡ Err Error.TooLarge)
         ↔ ((length (contents state.now).records < 2 ^ 32) × (2 ^ 32 ≤ length (unmarked (contents state.now) options))) }
@@ -71,7 +72,7 @@ fn put_front<W: Out>(
     requires unfailed { W.failed out.old ≡ false }
     ensures version { IfOk result (λ x. x.0 ≡ needed_version (contents state.now).records) }
     ensures id { IfOk result (λ x. x.1 ≡ make_id (contents state.now).kind (trailer (contents state.now) options)) }
-    ensures bytes { WritesFile W.taken W.failed out.old out.new result (body (contents state.now) options) }
+    ensures bytes { Writes W.taken W.failed out.old out.new result (body (contents state.now) options) }
     ensures too_many { (result ≡ Err Error.TooManyEntries) ↔ (2 ^ 32 ≤ length (contents state.now).records) }
     ensures too_large { (result ≡ Err Error.TooLarge)
         ↔ ((length (contents state.now).records < 2 ^ 32) × (2 ^ 32 ≤ length (unmarked (contents state.now) options))) }
@@ -100,7 +101,7 @@ impl File {
         ensures version { IfOk result (λ x. x.0 ≡ needed_version (contents (state_of self.now)).records) }
         ensures id { IfOk result (λ x. x.1 ≡ make_id (contents (state_of self.now)).kind
             (trailer (contents (state_of self.now)) options)) }
-        ensures bytes { WritesFile W.taken W.failed out.old out.new result
+        ensures bytes { Writes W.taken W.failed out.old out.new result
             (image (contents (state_of self.now)) options) }
         ensures too_many { (result ≡ Err Error.TooManyEntries)
             ↔ (2 ^ 32 ≤ length (contents (state_of self.now)).records) }

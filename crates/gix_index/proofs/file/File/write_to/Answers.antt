@@ -15,4 +15,4 @@ returns-in-Err-clause-bytes g c =
 pub returns-in-Err-put-clause-bytes : goal.returns-in-Err-put-clause-bytes
 returns-in-Err-put-clause-bytes g c =
     let v = contents (state_of c.args.self.now) in
-    (front_then g.W.Out.taken c.args.out.now c.put_front.new.out c.put.new.self (body v c.args.options) (trailer v c.args.options) c.as_bytes.result.now (c.as_bytes.ensures.bytes ∙ ap id_bytes c.in-Ok.ensures.id ∙ id_bytes-make_id v.kind (trailer v c.args.options)) c.in-Ok.ensures.bytes.0.grew c.in-Err-put.ensures.bytes, c.in-Err-put.ensures.mark)
+    (front_then g.W.Out.taken c.args.out.now c.put_front.new.out c.put.new.self (body v c.args.options) (trailer v c.args.options) c.as_bytes.result.now (c.as_bytes.ensures.bytes ∙ ap id_bytes c.in-Ok.ensures.id ∙ id_bytes-make_id v.kind (trailer v c.args.options)) c.in-Ok.ensures.bytes.0 c.in-Err-put.ensures.bytes, c.in-Err-put.ensures.mark)

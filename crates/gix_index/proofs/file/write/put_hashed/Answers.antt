@@ -10,5 +10,5 @@ use Rattle.gix_index.proofs.file.write.put_hashed.Goals as goal
 pub returns-in-Ok-clause-id : goal.returns-in-Ok-clause-id
 returns-in-Ok-clause-id g c =
     let v = contents c.args.state.now in
-    let h = c.in-Ok.ensures.bytes.0.into_hash c.object_hash.result [] (c.new-hashing.ensures.kind, c.new-hashing.ensures.empty) in
+    let h = c.in-Ok.ensures.hashed c.object_hash.result [] (c.new-hashing.ensures.kind, c.new-hashing.ensures.empty) in
     hashed_id v c.args.options _ c.requires.hashed (c.finalize.ensures _ h.1 ∙ ap (λ (k : Kind). make_id k (digest k (body v c.args.options))) (h.0 ∙ c.object_hash.ensures))
