@@ -1,5 +1,5 @@
 -- From the parts of an answer to the answer.
-use Rattle.std.proofs.Common.{◌≡◌, ℕ, ◌*◌, Bool, true, false, ltb, eqb, List, length, drop, inl, inr, Option, Some, None, Result, Ok, Err, refl}
+use Rattle.std.proofs.Common.{◌≡◌, ℕ, Bool, true, false, ltb, eqb, List, length, drop, inl, inr, Option, Some, None, Result, Ok, Err, refl}
 use Rattle.std.specs.Prelude.{MatchBool, MatchResult}
 use Rattle.std.proofs.lemmas.Bool.{eq-eqb}
 use Rattle.index_parts.specs.Id.{id_len}

@@ -1,20 +1,16 @@
 -- What was read of an entry of version 4 is spelled so, and what is spelled so is read.
-use Rattle.std.proofs.Common.{◌≡◌, ℕ, ◌+◌, ◌-◌, ◌%◌, ◌≤◌, Bool, true, false, cond, ltb, eqb, List, [], ◌∷◌, ◌++◌, length, take, Option, Some, None, refl, sym, ap, subst, ◌∙◌, append_assoc, arith}
-use Rattle.std.specs.Prelude.{MatchBool, bit_and, unwrap_or}
+use Rattle.std.proofs.Common.{◌≡◌, ℕ, ◌-◌, ◌≤◌, ltb, List, [], ◌++◌, length, take, Option, Some, None, refl, sym, ap, subst, ◌∙◌, arith}
+use Rattle.std.specs.Prelude.{unwrap_or}
 use Rattle.std.specs.Option.{option_map}
-use Rattle.std.proofs.lemmas.Bool.{ltb-false, le-ltb, eqb-true, eq-eqb}
-use Rattle.std.proofs.lemmas.List.{length-append}
+use Rattle.std.proofs.lemmas.Bool.{ltb-false, le-ltb}
 use Rattle.std.proofs.lemmas.Option.{same_Some}
 use Rattle.index_parts.proofs.Offsets.{offset_takes, offset_again}
-use Rattle.index_parts.proofs.Splits.{piece_takes, piece_again, split_takes, split_again}
-use Rattle.index_parts.proofs.Steps.{bind_some, guard_some, test_some}
-use Rattle.index_parts.specs.Flags.{is_extended}
-use Rattle.index_parts.specs.Front.{be, IsUpTo}
-use Rattle.index_parts.specs.Id.{id_len}
-use Rattle.index_parts.specs.Reading.{◌>>=◌, piece_at, split_at_byte, offset_at}
+use Rattle.index_parts.proofs.Splits.{split_takes, split_again}
+use Rattle.index_parts.proofs.Steps.{bind_some, guard_some}
+use Rattle.index_parts.specs.Reading.{◌>>=◌, split_at_byte, offset_at}
 use Rattle.index_parts.specs.declared.hash.Kind.{Kind}
-use Rattle.index_state.specs.Entry.{Front, front_bytes, length_field, IsSecondWord, IsFront, record_of, IsPath, IsEntry23, IsEntry4, joined_path, CanStrip}
-use Rattle.index_state.specs.Reading.{second_at, front_at, path_at, entry23_at, kept_of, entry4_at}
+use Rattle.index_state.specs.Entry.{Front, IsFront, record_of, IsEntry4, joined_path, CanStrip}
+use Rattle.index_state.specs.Reading.{front_at, kept_of, entry4_at}
 use Rattle.index_state.specs.Record.{Record}
 use Rattle.index_state.proofs.Pieces.{front_takes, front_again}
 

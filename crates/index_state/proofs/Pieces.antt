@@ -1,20 +1,17 @@
 -- What was read is spelled so, and what is spelled so is read: piece by piece.
-use Rattle.std.proofs.Common.{◌≡◌, ℕ, ◌+◌, ◌-◌, ◌%◌, ◌≤◌, Bool, true, false, cond, ltb, eqb, List, [], ◌∷◌, ◌++◌, length, take, Option, Some, None, refl, sym, ap, subst, ◌∙◌, append_assoc, arith}
-use Rattle.std.specs.Prelude.{MatchBool, bit_and, unwrap_or}
-use Rattle.std.specs.Option.{option_map}
-use Rattle.std.proofs.lemmas.Bool.{ltb-false, le-ltb, eqb-true, eq-eqb}
+use Rattle.std.proofs.Common.{◌≡◌, ℕ, ◌+◌, ◌-◌, ◌%◌, ◌≤◌, Bool, true, false, cond, eqb, List, [], ◌∷◌, ◌++◌, length, Some, None, refl, sym, ap, subst, ◌∙◌, append_assoc, arith}
+use Rattle.std.specs.Prelude.{MatchBool, bit_and}
+use Rattle.std.proofs.lemmas.Bool.{eqb-true, eq-eqb}
 use Rattle.std.proofs.lemmas.List.{length-append}
-use Rattle.std.proofs.lemmas.Option.{same_Some}
-use Rattle.index_parts.proofs.Offsets.{offset_takes, offset_again}
 use Rattle.index_parts.proofs.Splits.{piece_takes, piece_again, split_takes, split_again}
-use Rattle.index_parts.proofs.Steps.{bind_some, guard_some, test_some}
+use Rattle.index_parts.proofs.Steps.{bind_some, test_some}
 use Rattle.index_parts.specs.Flags.{is_extended}
 use Rattle.index_parts.specs.Front.{be, IsUpTo}
 use Rattle.index_parts.specs.Id.{id_len}
-use Rattle.index_parts.specs.Reading.{◌>>=◌, piece_at, split_at_byte, offset_at}
+use Rattle.index_parts.specs.Reading.{◌>>=◌, piece_at, split_at_byte}
 use Rattle.index_parts.specs.declared.hash.Kind.{Kind}
-use Rattle.index_state.specs.Entry.{Front, front_bytes, length_field, IsSecondWord, IsFront, record_of, IsPath, IsEntry23, IsEntry4, joined_path, CanStrip}
-use Rattle.index_state.specs.Reading.{second_at, front_at, path_at, entry23_at, kept_of, entry4_at}
+use Rattle.index_state.specs.Entry.{Front, front_bytes, length_field, IsSecondWord, IsFront, record_of, IsPath, IsEntry23}
+use Rattle.index_state.specs.Reading.{second_at, front_at, path_at, entry23_at}
 use Rattle.index_state.specs.Record.{Record}
 
 -- ---- the second word

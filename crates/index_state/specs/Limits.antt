@@ -4,7 +4,7 @@ use Rattle.index_parts.specs.Id.{id_len}
 use Rattle.index_parts.specs.declared.hash.Kind.{Kind}
 use Rattle.index_parts.specs.declared.hash.Kind.TheVariants as kinds
 use Rattle.index_state.specs.declared.Version.{Version}
-use Rattle.index_state.specs.declared.Version.TheVariants.{V2, V3, V4}
+use Rattle.index_state.specs.declared.Version.TheVariants.{V4}
 
 -- the bytes behind the header: up to the extensions, where an end marker names their offset, or up to the trailer
 abbrev pub block_len : ℕ → Option ℕ → Kind → ℕ

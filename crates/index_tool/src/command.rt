@@ -8,17 +8,14 @@ ghost use Rattle.gix_index.specs.File.{state_of};
 ghost use Rattle.index_tool.specs.Command.{kind_named, listed_kind, IsReadFrom, Lists, WasRead, IsOfFile, Refuses};
 
 use crate::listing::write_listing;
-use gix_index::File;
-use gix_index::decode;
 use gix_index::entry::FileTime;
-use gix_index::file;
 use gix_index::hash::Kind;
+use gix_index::{File, decode, file};
 use std::alloc::Global;
-use std::fs;
-use std::io;
 use std::io::{Read, Write};
 use std::path::PathBuf;
 use std::rt::Files;
+use std::{fs, io};
 use thiserror::Error;
 
 /// Why a command ended without its result.

@@ -7,7 +7,6 @@ pub mod listing;
 mod tests;
 
 pub use command::run;
-
 use std::alloc::Global;
 use std::process::ExitCode;
 use std::{env, io};
@@ -26,13 +25,7 @@ fn words(rt: &HostRuntime, alloc: Global) -> Result<Vec<String>, u8> {
 fn main(rt: HostRuntime) -> ExitCode {
     let alloc = rt.alloc();
     match words(&rt, alloc) {
-        Ok(words) => ExitCode::from(run(
-            &rt,
-            alloc,
-            &words,
-            &mut rt.stdout(),
-            &mut rt.stderr(),
-        )),
+        Ok(words) => ExitCode::from(run(&rt, alloc, &words, &mut rt.stdout(), &mut rt.stderr())),
         Err(status) => {
             let _ = if status == 2 {
                 eprintln!(rt; "index-tool: a word of the command isn't UTF-8")

@@ -7,7 +7,8 @@ use std::io::{ErrorKind, Write};
 use std::test::Fail;
 
 /// An index of version 2 with the one entry `a`, and a null trailer.
-const ONE: &[u8] = b"DIRC\0\0\0\x02\0\0\0\x01\0\0\0\0\0\0\0\0\0\0\0\0\0\0\0\0\0\0\0\0\0\0\0\0\0\0\x81\xa4\0\0\0\0\0\0\0\0\0\0\0\0\
+const ONE: &[u8] =
+    b"DIRC\0\0\0\x02\0\0\0\x01\0\0\0\0\0\0\0\0\0\0\0\0\0\0\0\0\0\0\0\0\0\0\0\0\0\0\x81\xa4\0\0\0\0\0\0\0\0\0\0\0\0\
 \x11\x11\x11\x11\x11\x11\x11\x11\x11\x11\x11\x11\x11\x11\x11\x11\x11\x11\x11\x11\0\x01a\0\0\0\0\0\0\0\0\0\0\0\0\0\0\0\0\0\0\0\0\0";
 
 const LISTED: &[u8] = b"100644 1111111111111111111111111111111111111111 0\ta\n";
@@ -58,7 +59,11 @@ fn wrong_words(rt: HostRuntime) -> Result<(), Fail> {
         let mut out = Vec::new(alloc);
         let mut faults = Vec::new(alloc);
         let status = run(&rt, alloc, &words_of(alloc, words)?, &mut out, &mut faults);
-        assert_eq!(rt; (status, out.len(), newlines(&faults)), (2, 0, 1), "at {words:?}");
+        assert_eq!(rt;
+            (status, out.len(), newlines(&faults)),
+            (2, 0, 1),
+            "at {words:?}"
+        );
     }
     Ok(())
 }

@@ -11,8 +11,9 @@ use std::test::Fail;
 
 /// The fixed part of an entry but its flags: stat numbers of zero, the mode 0o100644, an id of bytes 0x11.
 const FIXED: [u8; 60] = [
-    0, 0, 0, 0, 0, 0, 0, 0, 0, 0, 0, 0, 0, 0, 0, 0, 0, 0, 0, 0, 0, 0, 0, 0, 0, 0, 0x81, 0xa4, 0, 0, 0, 0, 0, 0, 0,
-    0, 0, 0, 0, 0, 17, 17, 17, 17, 17, 17, 17, 17, 17, 17, 17, 17, 17, 17, 17, 17, 17, 17, 17, 17,
+    0, 0, 0, 0, 0, 0, 0, 0, 0, 0, 0, 0, 0, 0, 0, 0, 0, 0, 0, 0, 0, 0, 0, 0, 0, 0, 0x81, 0xa4, 0, 0,
+    0, 0, 0, 0, 0, 0, 0, 0, 0, 0, 17, 17, 17, 17, 17, 17, 17, 17, 17, 17, 17, 17, 17, 17, 17, 17,
+    17, 17, 17, 17,
 ];
 
 const ONE: &[u8] = b"DIRC\0\0\0\x02\0\0\0\x01";
@@ -64,7 +65,12 @@ const TOO_MANY: &str = "Declared entry count exceeds possible entries for file s
 fn headers(rt: HostRuntime) -> Result<(), Fail> {
     let alloc = rt.alloc();
     assert!(rt; is_corrupt(&read(alloc, &[EMPTY, &ZEROS[..19]])?, TOO_SHORT));
-    assert!(rt; is_corrupt(&read(alloc, &[b"DIRD\0\0\0\x02\0\0\0\0", &ZEROS])?, NO_SIGNATURE));
+    assert!(rt;
+        is_corrupt(
+            &read(alloc, &[b"DIRD\0\0\0\x02\0\0\0\0", &ZEROS])?,
+            NO_SIGNATURE
+        )
+    );
     assert!(rt; is_unsupported(&read(alloc, &[b"DIRC\0\0\0\x05\0\0\0\0", &ZEROS])?, 5));
     let most = b"DIRC\0\0\0\x02\xff\xff\xff\xff";
     assert!(rt; is_corrupt(&read(alloc, &[most, &ZEROS])?, TOO_MANY));
@@ -117,9 +123,25 @@ fn refused_entries(rt: HostRuntime) -> Result<(), Fail> {
         let answer = read(alloc, &[ONE, &FIXED, word, b"a\0", &ZEROS])?;
         assert!(rt; matches!(answer, Err(Error::Entry { index: 0 })));
     }
-    assert!(rt; is_corrupt(&read(alloc, &[ONE, &FIXED, b"\0\x01a\0", &ZEROS[..19]])?, TOO_MANY));
-    let answer = read(alloc, &[ONE, &FIXED, b"\0\x02ab\0\0\0\0\0\0\0\0", &ZEROS[..12]])?;
-    assert!(rt; matches!(answer, Err(Error::UnexpectedTrailerLength { expected: 20, actual: 12 })));
+    assert!(rt;
+        is_corrupt(
+            &read(alloc, &[ONE, &FIXED, b"\0\x01a\0", &ZEROS[..19]])?,
+            TOO_MANY
+        )
+    );
+    let answer = read(
+        alloc,
+        &[ONE, &FIXED, b"\0\x02ab\0\0\0\0\0\0\0\0", &ZEROS[..12]],
+    )?;
+    assert!(rt;
+        matches!(
+            answer,
+            Err(Error::UnexpectedTrailerLength {
+                expected: 20,
+                actual: 12
+            })
+        )
+    );
     Ok(())
 }
 
@@ -129,7 +151,10 @@ fn path_len(alloc: Global, word: &[u8], len: usize, nuls: usize) -> Result<usize
     requires nuls { nuls ≤ 20 }
 {
     let path = [b'x'; 4096];
-    let (state, _) = state(alloc, &[ONE, &FIXED, word, &path[..len], &ZEROS[..nuls], &ZEROS])?;
+    let (state, _) = state(
+        alloc,
+        &[ONE, &FIXED, word, &path[..len], &ZEROS[..nuls], &ZEROS],
+    )?;
     Ok(state.path_backing().len())
 }
 
@@ -145,7 +170,12 @@ fn long_paths(rt: HostRuntime) -> Result<(), Fail> {
 /// Two entries of version 4 with these tails behind their flags.
 fn two_deltas(alloc: Global, first: &[u8], second: &[u8]) -> Result<Answer, AllocError> {
     let header = b"DIRC\0\0\0\x04\0\0\0\x02";
-    read(alloc, &[header, &FIXED, b"\0\0", first, &FIXED, b"\0\0", second, &ZEROS])
+    read(
+        alloc,
+        &[
+            header, &FIXED, b"\0\0", first, &FIXED, b"\0\0", second, &ZEROS,
+        ],
+    )
 }
 
 #[test]
@@ -213,7 +243,10 @@ fn expected_checksums(rt: HostRuntime) -> Result<(), Fail> {
         ..Options::default()
     };
     let answer = read_one(rt.alloc(), &[0x22; 20], options)?;
-    assert_eq!(rt; compared(&answer), Some((ObjectId::Sha1([0x22; 20]), expected)));
+    assert_eq!(rt;
+        compared(&answer),
+        Some((ObjectId::Sha1([0x22; 20]), expected))
+    );
     assert!(rt; read_one(rt.alloc(), &[0x33; 20], options)?.is_ok());
     // A null trailer is compared with nothing.
     assert!(rt; read_one(rt.alloc(), &ZEROS, options)?.is_ok());

@@ -1,4 +1,4 @@
-use Rattle.std.proofs.Common.{rules, ◌≡◌, ◌∙◌, Ok, Err, length}
+use Rattle.std.proofs.Common.{rules, ◌≡◌, Err, length}
 use Rattle.std.proofs.lemmas.Result.{err_from_is_err_and}
 use Rattle.index_parts.specs.Id.{id_len}
 use Rattle.index_state.specs.Answer.{Answer}
