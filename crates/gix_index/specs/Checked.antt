@@ -53,7 +53,7 @@ abbrev pub IsFileAnswer : Bool → Kind → FileTime → Options → List ℕ �
 IsFileAnswer skip kind time options bytes a =
     MatchBool (needs_check skip kind bytes)
     (((digest_id kind bytes ≡ trailer_id kind bytes) × IsAnswer kind time options bytes a)
-      ⊎ ((digest_id kind bytes ≢ trailer_id kind bytes) × (a ≡ Err (Verify (digest_id kind bytes) (trailer_id kind bytes)))))
+    ⊎ ((digest_id kind bytes ≢ trailer_id kind bytes) × (a ≡ Err (Verify (digest_id kind bytes) (trailer_id kind bytes)))))
     (IsAnswer kind time options bytes a)
 
 -- the error that reading's error becomes: want of memory is told by the outer variant
