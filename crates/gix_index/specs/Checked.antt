@@ -1,6 +1,6 @@
 -- The digest of a file, compared before its bytes are read (gitformat-index, "Hash checksum over the content of the index file
 -- before this checksum").
-use Rattle.std.specs.Prelude.{◌≡◌, ◌≢◌, ℕ, ◌-◌, ◌==◌, ◌&&◌, ◌⊎◌, not, nat_lt, Bool, true, List, length, take, drop, Option, Result, Ok, Err, MatchBool}
+use Rattle.std.specs.Prelude.{◌≡◌, ◌≢◌, ℕ, ◌-◌, ◌==◌, ◌&&◌, ◌⊎◌, not, nat_lt, Bool, true, List, length, take, drop, Result, Ok, Err, MatchBool}
 use Rattle.std.specs.List.{list_any}
 use Rattle.index_parts.specs.Digest.{digest}
 use Rattle.index_parts.specs.Id.{id_len, make_id}
