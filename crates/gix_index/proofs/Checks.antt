@@ -1,6 +1,6 @@
 -- From the answer of intact bytes to the file's, and back.
-use Rattle.std.proofs.Common.{◌≡◌, ℕ, Bool, true, false, List, inl, inr, Option, Result, Ok, Err, refl, sym, subst}
-use Rattle.std.specs.Prelude.{◌≢◌, ◌⊎◌, MatchBool}
+use Rattle.std.proofs.Common.{◌≡◌, ℕ, Bool, true, false, List, inl, inr, Err, refl, sym, subst}
+use Rattle.std.specs.Prelude.{◌⊎◌, MatchBool}
 use Rattle.index_parts.specs.declared.hash.Kind.{Kind}
 use Rattle.index_parts.specs.declared.entry.stat.FileTime.{FileTime}
 use Rattle.index_state.specs.declared.decode.Options.{Options}
@@ -8,8 +8,6 @@ use Rattle.index_state.specs.declared.decode.Error.{Error as Decoding}
 use Rattle.index_state.specs.declared.decode.Error.TheVariants as decoding
 use Rattle.index_state.specs.Answer.{Answer, Verify, IsAnswer}
 use Rattle.index_state.specs.Faults.{SaysFault}
-use Rattle.gix_index.specs.declared.file.File.{File}
-use Rattle.gix_index.specs.declared.file.init.Error.{Error}
 use Rattle.gix_index.specs.Checked.{needs_check, digest_id, trailer_id, digest_fault, IsIntact, IsBroken, IsFileAnswer, error_of, SaysFile}
 
 to_by : (t : Bool) (E : Type 0) (P N : Type 0) → MatchBool t E (Unit {0}) → P → MatchBool t ((E × P) ⊎ N) P

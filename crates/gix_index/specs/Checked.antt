@@ -1,6 +1,6 @@
 -- The digest of a file, compared before its bytes are read (gitformat-index, "Hash checksum over the content of the index file
 -- before this checksum").
-use Rattle.std.specs.Prelude.{◌≡◌, ◌≢◌, ℕ, ◌-◌, ◌==◌, ◌&&◌, ◌⊎◌, not, nat_lt, Bool, true, List, length, take, drop, Option, Result, Ok, Err, MatchBool}
+use Rattle.std.specs.Prelude.{◌≡◌, ◌≢◌, ℕ, ◌-◌, ◌==◌, ◌&&◌, ◌⊎◌, not, nat_lt, Bool, true, List, length, take, drop, Result, Ok, Err, MatchBool}
 use Rattle.std.specs.List.{list_any}
 use Rattle.index_parts.specs.Digest.{digest}
 use Rattle.index_parts.specs.Id.{id_len, make_id}
@@ -53,7 +53,7 @@ abbrev pub IsFileAnswer : Bool → Kind → FileTime → Options → List ℕ �
 IsFileAnswer skip kind time options bytes a =
     MatchBool (needs_check skip kind bytes)
     (((digest_id kind bytes ≡ trailer_id kind bytes) × IsAnswer kind time options bytes a)
-      ⊎ ((digest_id kind bytes ≢ trailer_id kind bytes) × (a ≡ Err (Verify (digest_id kind bytes) (trailer_id kind bytes)))))
+    ⊎ ((digest_id kind bytes ≢ trailer_id kind bytes) × (a ≡ Err (Verify (digest_id kind bytes) (trailer_id kind bytes)))))
     (IsAnswer kind time options bytes a)
 
 -- the error that reading's error becomes: want of memory is told by the outer variant

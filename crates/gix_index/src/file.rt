@@ -1,8 +1,8 @@
 //! An index with the path of its file and the id at the file's end.
 
 pub mod init;
-// #[cfg(test)]
-// mod tests;
+#[cfg(test)]
+mod tests;
 mod write;
 
 ghost use Rattle.std.specs.Prelude.{◌≡◌, None};
@@ -42,7 +42,11 @@ impl File {
         ensures state { result.0 ≡ state_of self }
         ensures path { path_buf_bytes result.1 ≡ path_of self }
     {
-        let File { state, path, checksum: _ } = self;
+        let File {
+            state,
+            path,
+            checksum: _,
+        } = self;
         (state, path)
     }
 

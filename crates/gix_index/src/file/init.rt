@@ -108,8 +108,7 @@ impl File {
         ensures ids { IfOk result (λ file. IdsAreOf object_hash (entries_of (state_of file))) }
     {
         check(data, object_hash, skip_hash)?;
-        let (state, checksum) =
-            State::from_bytes(alloc, data, timestamp, object_hash, options)?;
+        let (state, checksum) = State::from_bytes(alloc, data, timestamp, object_hash, options)?;
         Ok(File {
             state,
             path,

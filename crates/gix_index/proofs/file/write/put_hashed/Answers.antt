@@ -1,5 +1,5 @@
-use Rattle.std.proofs.Common.{◌≡◌, ◌∙◌, ap, []}
-use Rattle.index_parts.specs.Digest.{digest, hasher_kind}
+use Rattle.std.proofs.Common.{◌∙◌, ap, []}
+use Rattle.index_parts.specs.Digest.{digest}
 use Rattle.index_parts.specs.Id.{make_id}
 use Rattle.index_parts.specs.declared.hash.Kind.{Kind}
 use Rattle.index_state.specs.Image.{body}
