@@ -50,12 +50,13 @@ pub enum Error {
         /// How many bytes there are.
         actual: usize,
     },
-    /// The trailer differs from [`Options::expected_checksum`].
-    #[error("the index's trailer is {actual}, and {expected} was expected")]
+    /// The trailer differs from [`Options::expected_checksum`]. Where a whole file is checked before it is read, the
+    /// digest of its bytes differs from its trailer: there `actual` is the digest, and `expected` the trailer.
+    #[error("the index's checksum is {actual}, and {expected} was expected: the file may be damaged")]
     Verify {
-        /// The trailer.
+        /// The trailer, or the digest.
         actual: ObjectId,
-        /// What the caller expected.
+        /// What the caller expected, or the trailer.
         expected: ObjectId,
     },
     /// A growth was refused. It comes in place of no fault that is found before memory is asked for.
