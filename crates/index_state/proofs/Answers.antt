@@ -1,62 +1,59 @@
 -- From the parts of an answer to the answer.
-use Rattle.std.proofs.Common.{◌≡◌, ℕ, Bool, true, false, ltb, eqb, List, length, drop, inl, inr, Option, Some, None, Result, Ok, Err, refl}
-use Rattle.std.specs.Prelude.{MatchBool, MatchResult}
-use Rattle.std.proofs.lemmas.Bool.{eq-eqb}
+use Rattle.std.proofs.Common.{◌≡◌, ℕ, ◌+◌, ◌<◌, Bool, true, false, ltb, eqb, List, ◌++◌, length, drop, inl, inr, Option, Some, None, Result, Ok, Err, refl, sym, ap, subst, ◌∙◌, arith}
+use Rattle.std.specs.Prelude.{MatchBool, MatchOption, MatchResult}
+use Rattle.std.proofs.lemmas.Bool.{eqb-true, eqb-false}
+use Rattle.std.proofs.lemmas.Option.{same_Some}
 use Rattle.index_parts.specs.Id.{id_len}
 use Rattle.index_parts.specs.declared.hash.Kind.{Kind}
 use Rattle.index_parts.specs.declared.hash.ObjectId.{ObjectId}
 use Rattle.index_parts.specs.declared.entry.stat.FileTime.{FileTime}
+use Rattle.index_extensions.specs.EndMarker.{IsMarker}
+use Rattle.index_extensions.specs.Walk.{Item, left_of}
+use Rattle.index_extensions.proofs.EndMarks.{one_marker}
 use Rattle.index_state.specs.declared.Version.{Version}
 use Rattle.index_state.specs.declared.State.{State}
 use Rattle.index_state.specs.declared.decode.Options.{Options}
 use Rattle.index_state.specs.declared.decode.Error.{Error}
 use Rattle.index_state.specs.declared.decode.Error.TheVariants as errors
-use Rattle.index_state.specs.Answer.{Fault, Header, OutOfMemory, NoEntry, TrailerLength, Verify, Answer, checksum_of, IsVerified, value_of, IsEnding, IsBody, lacks, has, IsAnswer}
+use Rattle.index_state.specs.declared.extension.decode.Error.TheVariants as extensions
+use Rattle.index_state.specs.Answer.{Fault, Header, OutOfMemory, NoEntry, Extension, TrailerLength, Verify, Answer, checksum_of, IsVerified, value_of, IsClosed, faulty, left, whole, IsEnding, short, walked, IsBody, lacks, has, IsCounted, IsAnswer}
 use Rattle.index_state.specs.Entries.{AreEntries}
-use Rattle.index_state.specs.Faults.{IsEarly, SaysFault, Says, LacksSome}
+use Rattle.index_state.specs.Faults.{IsEarly, SaysFault, Says, LacksSome, extension_fault}
+use Rattle.index_state.specs.Gathered.{IsGathered, HasFault, IsTaken, SaysExtension}
 use Rattle.index_state.specs.Header.{HeaderFault, header_of, count_of}
 use Rattle.index_state.specs.Limits.{most_entries, is_too_large}
+use Rattle.index_state.specs.Outcome.{Outcome, ExtensionFault}
 use Rattle.index_state.specs.Record.{Record, Contents, contents}
 
--- the end of a file is no early fault
+-- ---- what stands behind the limits is no early fault
+
+abbrev pub IsEarlyAnswer : Answer → Type 0
+IsEarlyAnswer (Ok x) = ⊥
+IsEarlyAnswer (Err fault) = IsEarly fault
+
+early_is : (f : Fault) (a : Answer) → IsEarly f → ◌≡◌ {A = Answer} (Err f) a → IsEarlyAnswer a
+early_is f a early e = subst IsEarlyAnswer e early
+
 verified_late : (expected actual : Option ObjectId) (x : Contents × Option ObjectId) (f : Fault) → IsEarly f → IsVerified expected actual (Ok x) (Err f) → ⊥
-verified_late None actual x f early h = cc
-verified_late (Some e) None x f early h = cc
-verified_late (Some e) (Some c) x f early (inl h) = let k = h.1 in cc
-verified_late (Some e) (Some c) x (Header g) early (inr h) = let k = h.1 in cc
-verified_late (Some e) (Some c) x OutOfMemory early (inr h) = let k = h.1 in cc
-verified_late (Some e) (Some c) x (Verify p q) early (inr h) = early
-verified_late (Some e) (Some c) x (NoEntry p) early (inr h) = early
-verified_late (Some e) (Some c) x (TrailerLength p q) early (inr h) = early
+verified_late None actual x f early h = early_is f (Ok x) early h
+verified_late (Some e) None x f early h = early_is f (Ok x) early h
+verified_late (Some e) (Some c) x f early (inl h) = early_is f (Ok x) early h.1
+verified_late (Some e) (Some c) x f early (inr h) = early_is f (Err (Verify c e)) early h.1
 
-late_trailer : (n m : ℕ) (f : Fault) → IsEarly f → ◌≡◌ {A = Answer} (Err f) (Err (TrailerLength n m)) → ⊥
-late_trailer n m (Header g) early e = cc
-late_trailer n m OutOfMemory early e = cc
-late_trailer n m (Verify p q) early e = early
-late_trailer n m (NoEntry p) early e = early
-late_trailer n m (TrailerLength p q) early e = early
+closed_late : (kind : Kind) (time : FileTime) (options : Options) (version : Version) (rs : List Record) (items : List Item) (tail trailer : List ℕ) (f : Fault) → IsEarly f → IsClosed kind time options version rs items tail trailer (Err f) → ⊥
+closed_late kind time options version rs items tail trailer f early (faulty fault h e) = early_is f (Err (Extension fault)) early e
+closed_late kind time options version rs items tail trailer f early (left s n e) = early_is f (Err (TrailerLength (id_len kind) _)) early e
+closed_late kind time options version rs items tail trailer f early (whole o s n h v) = verified_late options.expected_checksum (checksum_of kind trailer) _ f early v
 
-late_entry : (i : ℕ) (f : Fault) → IsEarly f → ◌≡◌ {A = Answer} (Err f) (Err (NoEntry i)) → ⊥
-late_entry i (Header g) early e = cc
-late_entry i OutOfMemory early e = cc
-late_entry i (Verify p q) early e = early
-late_entry i (NoEntry p) early e = early
-late_entry i (TrailerLength p q) early e = early
-
-ending_late : (b : Bool) (expected actual : Option ObjectId) (x : Contents × Option ObjectId) (n m : ℕ) (f : Fault) → IsEarly f → MatchBool b (IsVerified expected actual (Ok x) (Err f)) (◌≡◌ {A = Answer} (Err f) (Err (TrailerLength n m))) → ⊥
-ending_late true expected actual x n m f early h = verified_late expected actual x f early h
-ending_late false expected actual x n m f early h = late_trailer n m f early h
+pub ending_late : (kind : Kind) (time : FileTime) (options : Options) (version : Version) (rs : List Record) (rest : List ℕ) (f : Fault) → IsEarly f → IsEnding kind time options version rs rest (Err f) → ⊥
+ending_late kind time options version rs rest f early (short n e) = early_is f (Err (TrailerLength (id_len kind) (length rest))) early e
+ending_late kind time options version rs rest f early (walked extensions trailer items tail p n w h) = closed_late kind time options version rs items tail trailer f early h
 
 pub body_late : (kind : Kind) (time : FileTime) (options : Options) (version : Version) (count : ℕ) (bytes : List ℕ) (f : Fault) → IsEarly f → IsBody kind time options version count bytes (Err f) → ⊥
-body_late kind time options version count bytes f early (lacks i lt l e) = late_entry i f early e
-body_late kind time options version count bytes f early (has rs rest r n e) = ending_late (eqb (length rest) (id_len kind)) options.expected_checksum _ _ _ _ f early e
+body_late kind time options version count bytes f early (lacks i lt l e) = early_is f (Err (NoEntry i)) early e
+body_late kind time options version count bytes f early (has rs rest r n e) = ending_late kind time options version rs rest f early e
 
--- behind a header that stands, a count that can be, and within the limit, the answer is the body's
-to_by : (r : Result Version HeaderFault) (v : Version) (T U : Version → Bool) (X Y B : Version → Type 0) (F : HeaderFault → Type 0) → r ≡ Ok v → T v ≡ false → U v ≡ false → B v → MatchResult r (λ w. MatchBool (T w) (X w) (MatchBool (U w) (Y w) (B w))) F
-to_by r v T U X Y B F e n m b = rw (e, n, m) b
-
-from_by : (r : Result Version HeaderFault) (v : Version) (T U : Version → Bool) (X Y B : Version → Type 0) (F : HeaderFault → Type 0) → r ≡ Ok v → T v ≡ false → U v ≡ false → MatchResult r (λ w. MatchBool (T w) (X w) (MatchBool (U w) (Y w) (B w))) F → B v
-from_by r v T U X Y B F e n m b = rw m at (rw n at (rw e at b))
+-- ---- what a result says of a relation, it says of a weaker one
 
 pub says_weaker : (r : Result (State × Option ObjectId) Error) (P Q : Answer → Type 0) → ((a : Answer) → P a → Q a) → ((f : Fault) → IsEarly f → Q (Err f) → ⊥) → Says r P → Says r Q
 says_weaker (Ok x) P Q to never h = to (Ok (contents x.0, x.1)) h
@@ -66,7 +63,8 @@ says_weaker (Err errors.OutOfMemory) P Q to never h = to _ h
 says_weaker (Err (errors.Verify p q)) P Q to never h = to _ h
 says_weaker (Err (errors.UnexpectedTrailerLength n m)) P Q to never h = to _ h
 says_weaker (Err errors.Hasher) P Q to never h = h
-says_weaker (Err (errors.Extension e)) P Q to never h = h
+says_weaker (Err (errors.Extension (extensions.MandatoryUnimplemented signature))) P Q to never h = to _ h
+says_weaker (Err (errors.Extension (extensions.Link e))) P Q to never h = h
 says_weaker (Err errors.Memory) P Q to never h = never
 
 pub says_lack : (kind : Kind) (time : FileTime) (options : Options) (version : Version) (count : ℕ) (bytes : List ℕ) (e : Error) → LacksSome version kind count bytes e → SaysFault e (IsBody kind time options version count bytes)
@@ -79,17 +77,33 @@ says_lack kind time options version count bytes (errors.UnexpectedTrailerLength 
 says_lack kind time options version count bytes errors.Hasher h = absurd h
 says_lack kind time options version count bytes (errors.Extension e) h = absurd h
 
+-- ---- behind a header that stands, a count that can be, and within the limit, the answer is the body's
+
+counted_to : (t u : Bool) (X Y B : Type 0) → t ≡ false → u ≡ false → B → MatchBool t X (MatchBool u Y B)
+counted_to t u X Y B n m b = rw (n, m) b
+
+counted_back : (t u : Bool) (X Y B : Type 0) → t ≡ false → u ≡ false → MatchBool t X (MatchBool u Y B) → B
+counted_back t u X Y B n m b = rw m at (rw n at b)
+
+headed_to : (r : Result Version HeaderFault) (v : Version) (C : Version → Type 0) (F : HeaderFault → Type 0) → r ≡ Ok v → C v → MatchResult r C F
+headed_to r v C F e h = rw e h
+
+headed_back : (r : Result Version HeaderFault) (v : Version) (C : Version → Type 0) (F : HeaderFault → Type 0) → r ≡ Ok v → MatchResult r C F → C v
+headed_back r v C F e h = rw e at h
+
 -- what a body says where the header stands
-pub answer_from : (kind : Kind) (time : FileTime) (options : Options) (bytes : List ℕ) (version : Version) (r : Result (State × Option ObjectId) Error) → header_of kind bytes ≡ Ok version
-    → ltb (most_entries (length bytes) None kind version) (count_of bytes) ≡ false → is_too_large options.alloc_limit_bytes (count_of bytes) (length bytes) None kind version ≡ false
+pub answer_from : (kind : Kind) (time : FileTime) (options : Options) (bytes : List ℕ) (version : Version) (offset : Option ℕ) (r : Result (State × Option ObjectId) Error) → header_of kind bytes ≡ Ok version → IsMarker kind bytes offset
+    → ltb (most_entries (length bytes) offset kind version) (count_of bytes) ≡ false → is_too_large options.alloc_limit_bytes (count_of bytes) (length bytes) offset kind version ≡ false
     → Says r (IsBody kind time options version (count_of bytes) (drop 12 bytes)) → Says r (IsAnswer kind time options bytes)
-answer_from kind time options bytes version r h n m =
-    let T = λ (v : Version). ltb (most_entries (length bytes) None kind v) (count_of bytes) in
-    let U = λ (v : Version). is_too_large options.alloc_limit_bytes (count_of bytes) (length bytes) None kind v in
-    let B = λ (a : Answer) (v : Version). IsBody kind time options v (count_of bytes) (drop 12 bytes) a in
+answer_from kind time options bytes version offset r h marked n m =
+    let C = λ (a : Answer) (v : Version). (o : Option ℕ) × IsMarker kind bytes o × IsCounted o kind time options bytes a v in
     says_weaker r (IsBody kind time options version (count_of bytes) (drop 12 bytes)) (IsAnswer kind time options bytes)
-    (λ a b. to_by (header_of kind bytes) version T U _ _ (B a) _ h n m b)
-    (λ f early b. body_late kind time options version (count_of bytes) (drop 12 bytes) f early (from_by (header_of kind bytes) version T U _ _ (B (Err f)) _ h n m b))
+    (λ a b. headed_to (header_of kind bytes) version (C a) _ h (offset, marked, counted_to _ _ _ _ _ n m b))
+    (λ f early q.
+      let c = headed_back (header_of kind bytes) version (C (Err f)) _ h q in
+      let same : c.0 ≡ offset = one_marker kind bytes c.0 offset c.1 marked in
+      let at = subst (λ (o : Option ℕ). IsCounted o kind time options bytes (Err f) version) same c.2 in
+      body_late kind time options version (count_of bytes) (drop 12 bytes) f early (counted_back _ _ _ _ _ n m at))
 
 -- what follows the entries, where they stand
 pub body_from : (kind : Kind) (time : FileTime) (options : Options) (version : Version) (count : ℕ) (bytes : List ℕ) (rs : List Record) (rest : List ℕ) (r : Result (State × Option ObjectId) Error) → AreEntries version kind None bytes rs rest → length rs ≡ count
@@ -97,15 +111,46 @@ pub body_from : (kind : Kind) (time : FileTime) (options : Options) (version : V
 body_from kind time options version count bytes rs rest r read n =
     says_weaker r (IsEnding kind time options version rs rest) (IsBody kind time options version count bytes) (λ a e. has rs rest read n e) (body_late kind time options version count bytes)
 
-pub whole_ending : (kind : Kind) (time : FileTime) (options : Options) (version : Version) (rs : List Record) (rest : List ℕ) → length rest ≡ id_len kind → (a : Answer)
-    → IsVerified options.expected_checksum (checksum_of kind rest) (Ok (value_of kind time version rs, checksum_of kind rest)) a
-    → IsEnding kind time options version rs rest a
-whole_ending kind time options version rs rest n a h = rw (eq-eqb _ _ n) h
+-- ---- what follows the entries
 
--- what the ids say, where the trailer has the length of an id
-pub ending_from : (kind : Kind) (time : FileTime) (options : Options) (version : Version) (rs : List Record) (rest : List ℕ) (r : Result (State × Option ObjectId) Error) → length rest ≡ id_len kind
-    → Says r (IsVerified options.expected_checksum (checksum_of kind rest) (Ok (value_of kind time version rs, checksum_of kind rest))) → Says r (IsEnding kind time options version rs rest)
-ending_from kind time options version rs rest r n =
-    says_weaker r (IsVerified options.expected_checksum (checksum_of kind rest) (Ok (value_of kind time version rs, checksum_of kind rest))) (IsEnding kind time options version rs rest)
-    (whole_ending kind time options version rs rest n)
-    (ending_late (eqb (length rest) (id_len kind)) options.expected_checksum (checksum_of kind rest) (value_of kind time version rs, checksum_of kind rest) (id_len kind) (length rest))
+-- the bytes behind them are extensions and a trailer
+pub ending_from : (kind : Kind) (time : FileTime) (options : Options) (version : Version) (rs : List Record) (rest middle trailer : List ℕ) (o : Outcome) (count : ℕ) (r : Result (State × Option ObjectId) Error) → rest ≡ middle ++ trailer → length trailer ≡ id_len kind
+    → IsGathered kind options.alloc_limit_bytes middle o count → Says r (IsTaken kind time options version rs o count trailer) → Says r (IsEnding kind time options version rs rest)
+ending_from kind time options version rs rest middle trailer o count r parts len g =
+    says_weaker r (IsTaken kind time options version rs o count trailer) (IsEnding kind time options version rs rest)
+    (λ a h. walked middle trailer g.items g.tail parts len g.is_walk (closed_by (eqb count 0) refl a h))
+    (ending_late kind time options version rs rest)
+  where
+    closed_by : (t : Bool) → t ≡ eqb count 0 → (a : Answer) → MatchBool t (IsVerified options.expected_checksum (checksum_of kind trailer) (Ok (value_of kind time version rs o, checksum_of kind trailer)) a) (a ≡ Err (TrailerLength (id_len kind) (count + id_len kind))) → IsClosed kind time options version rs g.items g.tail trailer a
+    closed_by true e a h = whole o g.sound (sym g.counted ∙ eqb-true count 0 (sym e)) g.is_outcome h
+    closed_by false e a h = left g.sound (λ z. eqb-false count 0 (sym e) (g.counted ∙ z)) (h ∙ ap (λ (n : ℕ). Err (TrailerLength (id_len kind) (n + id_len kind))) g.counted)
+
+-- what an error of the loop over the extensions says
+pub says_extension : (kind : Kind) (time : FileTime) (options : Options) (version : Version) (rs : List Record) (rest middle trailer : List ℕ) (e : Error) → rest ≡ middle ++ trailer → length trailer ≡ id_len kind
+    → SaysExtension kind middle e → SaysFault e (IsEnding kind time options version rs rest)
+says_extension kind time options version rs rest middle trailer (errors.Extension e) parts len h = by (extension_fault e) h.1
+  where
+    by : (f : Option ExtensionFault) → f ≡ Some h.0 → MatchOption f ⊥ (λ fault. IsEnding kind time options version rs rest (Err (Extension fault)))
+    by None k = absurd cc
+    by (Some fault) k =
+      let same : fault ≡ h.0 = same_Some _ _ k in
+      walked middle trailer h.2.items h.2.tail parts len h.2.is_walk (faulty h.0 h.2.is_first (ap (λ (x : ExtensionFault). Err (Extension x)) same))
+says_extension kind time options version rs rest middle trailer errors.Memory parts len h = ending_late kind time options version rs rest
+says_extension kind time options version rs rest middle trailer (errors.Header e) parts len h = absurd h
+says_extension kind time options version rs rest middle trailer errors.Hasher parts len h = absurd h
+says_extension kind time options version rs rest middle trailer errors.OutOfMemory parts len h = absurd h
+says_extension kind time options version rs rest middle trailer (errors.Entry i) parts len h = absurd h
+says_extension kind time options version rs rest middle trailer (errors.UnexpectedTrailerLength n m) parts len h = absurd h
+says_extension kind time options version rs rest middle trailer (errors.Verify p q) parts len h = absurd h
+
+-- ---- what the ids say, where no bytes are left before the trailer
+
+taken_late : (kind : Kind) (time : FileTime) (options : Options) (version : Version) (rs : List Record) (o : Outcome) (trailer : List ℕ) (f : Fault) → IsEarly f → IsTaken kind time options version rs o 0 trailer (Err f) → ⊥
+taken_late kind time options version rs o trailer f early h = verified_late options.expected_checksum (checksum_of kind trailer) (value_of kind time version rs o, checksum_of kind trailer) f early h
+
+pub taken_from : (kind : Kind) (time : FileTime) (options : Options) (version : Version) (rs : List Record) (o : Outcome) (count : ℕ) (trailer : List ℕ) (r : Result (State × Option ObjectId) Error) → count ≡ 0
+    → Says r (IsVerified options.expected_checksum (checksum_of kind trailer) (Ok (value_of kind time version rs o, checksum_of kind trailer))) → Says r (IsTaken kind time options version rs o count trailer)
+taken_from kind time options version rs o count trailer r none h =
+    subst (λ (n : ℕ). Says r (IsTaken kind time options version rs o n trailer)) (sym none)
+    (says_weaker r (IsVerified options.expected_checksum (checksum_of kind trailer) (Ok (value_of kind time version rs o, checksum_of kind trailer))) (IsTaken kind time options version rs o 0 trailer)
+    (λ a k. k) (taken_late kind time options version rs o trailer) h)

@@ -4,6 +4,7 @@ pub mod Bodies
 pub mod Deltas
 pub mod Digits
 pub mod Edits
+pub mod Extensions
 pub mod Halving
 pub mod Insertion
 pub mod Lengths

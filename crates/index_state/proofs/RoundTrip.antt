@@ -14,19 +14,23 @@ use Rattle.index_parts.specs.declared.hash.Kind.{Kind}
 use Rattle.index_parts.specs.declared.hash.Kind.TheVariants as kinds
 use Rattle.index_parts.specs.declared.hash.ObjectId.{ObjectId}
 use Rattle.index_parts.specs.declared.entry.stat.FileTime.{FileTime}
+use Rattle.index_extensions.specs.EndMarker.{IsMarker}
+use Rattle.index_extensions.proofs.Walks.{no_empty}
 use Rattle.index_state.specs.declared.Version.{Version}
 use Rattle.index_state.specs.declared.Version.TheVariants.{V2, V3}
 use Rattle.index_state.specs.declared.decode.Options.{Options as ReadOptions}
 use Rattle.index_state.specs.declared.write.Options.{Options}
-use Rattle.index_state.specs.Answer.{Answer, checksum_of, IsVerified, value_of, IsEnding, IsBody, has, IsAnswer}
+use Rattle.index_state.specs.Answer.{Answer, checksum_of, IsVerified, value_of, whole, IsEnding, walked, IsBody, has, IsCounted, IsAnswer}
 use Rattle.index_state.specs.Entries.{AreEntries}
 use Rattle.index_state.specs.Header.{HeaderFault, header_of, count_of}
 use Rattle.index_state.specs.Image.{entry_bytes, is_removed, written, needed_version, header_bytes, unmarked, body, trailer, image}
 use Rattle.index_state.specs.Limits.{most_entries, smallest_entry, is_too_large}
+use Rattle.index_state.specs.Outcome.{no_extension}
 use Rattle.index_state.specs.Record.{Record, Contents, has_directory}
 use Rattle.index_state.specs.Storable.{IsStorable, Fits}
 use Rattle.index_state.specs.Stored.{stored_record, stored_records, stored, expected}
 use Rattle.index_state.proofs.Again.{IsStorableIn, entries_again, smallest_entries}
+use Rattle.index_state.proofs.Extensions.{none_sound, no_outcome}
 use Rattle.index_state.proofs.Words.{be_be32}
 
 -- ---- the records that are written can be read again
@@ -78,17 +82,19 @@ no_limit limit count len kind version e = rw e refl
 unchecked : (expected_id actual : Option ObjectId) (a : Answer) → expected_id ≡ None → IsVerified expected_id actual a a
 unchecked expected_id actual a e = rw e refl
 
-assembled : (r : Result Version HeaderFault) (version : Version) (T U : Version → Bool) (X Y B : Version → Type 0) (F : HeaderFault → Type 0) → r ≡ Ok version → T version ≡ false → U version ≡ false → B version → MatchResult r (λ w. MatchBool (T w) (X w) (MatchBool (U w) (Y w) (B w))) F
-assembled r version T U X Y B F e t u b = rw (e, t, u) b
+-- a trailer alone, behind no extension
+trailer_alone : (kind : Kind) (time : FileTime) (options : ReadOptions) (version : Version) (rs : List Record) (ending : List ℕ) (a : Answer) → length ending ≡ id_len kind → IsVerified options.expected_checksum (checksum_of kind ending) (Ok (value_of kind time version rs no_extension, checksum_of kind ending)) a → IsEnding kind time options version rs ending a
+trailer_alone kind time options version rs ending a len h = walked [] ending [] [] refl len (record { items_are = refl; ended = no_empty }) (whole no_extension (none_sound kind) refl (no_outcome kind options.alloc_limit_bytes) h)
 
--- a header, entries that can be read, and as many bytes as an id has
+-- a header, entries that can be read, and as many bytes as an id has, among which no end marker is found
 pub file_again : (b : Bool) (kind : Kind) (time : FileTime) (options : ReadOptions) (rs : List Record) (ending : List ℕ) → AllByRecursion (IsStorableIn kind) rs → length rs < 2 ^ 32 → length ending ≡ id_len kind → options.alloc_limit_bytes ≡ None → options.expected_checksum ≡ None
-    → IsAnswer kind time options (header_bytes (cond b V3 V2) (length rs) ++ (flat_map entry_bytes rs ++ ending)) (Ok (value_of kind time (cond b V3 V2) (map stored_record rs), checksum_of kind ending))
-file_again b kind time options rs ending h few len limit check =
+    → IsMarker kind (header_bytes (cond b V3 V2) (length rs) ++ (flat_map entry_bytes rs ++ ending)) None
+    → IsAnswer kind time options (header_bytes (cond b V3 V2) (length rs) ++ (flat_map entry_bytes rs ++ ending)) (Ok (value_of kind time (cond b V3 V2) (map stored_record rs) no_extension, checksum_of kind ending))
+file_again b kind time options rs ending h few len limit check unmarked_end =
     let version : Version = cond b V3 V2 in
     let rest : List ℕ = flat_map entry_bytes rs ++ ending in
     let bytes : List ℕ = header_bytes version (length rs) ++ rest in
-    let a : Answer = Ok (value_of kind time version (map stored_record rs), checksum_of kind ending) in
+    let a : Answer = Ok (value_of kind time version (map stored_record rs) no_extension, checksum_of kind ending) in
     let both : length rest ≡ length (flat_map entry_bytes rs) + length ending = length-append (flat_map entry_bytes rs) ending in
     let behind = behind_header b (length rs) rest in
     let total : length bytes ≡ 12 + length rest = behind.1 in
@@ -97,10 +103,11 @@ file_again b kind time options rs ending h few len limit check =
     let wide : length rs ≤ (length bytes - id_len kind - 12) / smallest_entry kind version = le-div (length rs) (length bytes - id_len kind - 12) (smallest_entry kind version) (some_entry b kind) (omega (arith, smallest_entries b kind rs h)) in
     let room : ltb (most_entries (length bytes) None kind version) (count_of bytes) ≡ false = le-ltb _ _ (omega arith) in
     let small = no_limit options.alloc_limit_bytes (count_of bytes) (length bytes) kind version limit in
-    let last : IsEnding kind time options version (map stored_record rs) ending a = rw (eq-eqb _ _ len) (unchecked options.expected_checksum (checksum_of kind ending) a check) in
+    let last : IsEnding kind time options version (map stored_record rs) ending a = trailer_alone kind time options version (map stored_record rs) ending a len (unchecked options.expected_checksum (checksum_of kind ending) a check) in
     let read = subst (λ (l : List ℕ). AreEntries version kind None l (map stored_record rs) ending) (sym behind.0) (entries_again b kind None rs ending h) in
-    let whole : IsBody kind time options version (count_of bytes) (drop 12 bytes) a = has (map stored_record rs) ending read (length-map rs stored_record ∙ sym count) last in
-    assembled (header_of kind bytes) version (λ v. ltb (most_entries (length bytes) None kind v) (count_of bytes)) (λ v. is_too_large options.alloc_limit_bytes (count_of bytes) (length bytes) None kind v) _ _ (λ v. IsBody kind time options v (count_of bytes) (drop 12 bytes) a) _ header room small whole
+    let entries : IsBody kind time options version (count_of bytes) (drop 12 bytes) a = has (map stored_record rs) ending read (length-map rs stored_record ∙ sym count) last in
+    let counted : IsCounted None kind time options bytes a version = rw (room, small) entries in
+    rw header (None, unmarked_end, counted)
 
 -- ---- the image of a value
 
@@ -121,15 +128,16 @@ body_parts v options t = regroup (header_bytes (needed_version v.records) (lengt
 pub image_is : (v : Contents) (options : Options) → image v options ≡ header_bytes (needed_version v.records) (length (written v.records)) ++ (flat_map entry_bytes (written v.records) ++ trailer v options)
 image_is v options = body_parts v options (trailer v options)
 
--- reading the image of a storable value gives what is expected, and the trailer; a mark of a sparse index that no mode shows is not written
+-- reading the image of a storable value gives what is expected, and the trailer, where the image doesn't imitate an end marker; a mark
+-- of a sparse index that no mode shows is not written
 pub written_reads_back : (v : Contents) (options : Options) (time : FileTime) (reading : ReadOptions) → IsStorable v → All Fits v.records → length v.records < 2 ^ 32 → reading.alloc_limit_bytes ≡ None → reading.expected_checksum ≡ None
-    → (stored v options).sparse ≡ has_directory (stored v options).records → IsAnswer v.kind time reading (image v options) (Ok (expected v options time, checksum_of v.kind (trailer v options)))
-written_reads_back v options time reading storable fits few limit check shown =
+    → IsMarker v.kind (image v options) None → (stored v options).sparse ≡ has_directory (stored v options).records → IsAnswer v.kind time reading (image v options) (Ok (expected v options time, checksum_of v.kind (trailer v options)))
+written_reads_back v options time reading storable fits few limit check unmarked_end shown =
     let rs : List Record = written v.records in
     let b : Bool = list_any (λ r. is_extended r.flags) v.records in
     let each : AllByRecursion (IsStorableIn v.kind) rs = storable_from v.kind v.records storable.ids storable.paths fits in
-    let same : expected v options time ≡ value_of v.kind time (needed_version v.records) (stored_records v.records) = ap (λ (s : Bool). record (value_of v.kind time (needed_version v.records) (stored_records v.records)) { sparse = s }) shown in
+    let same : expected v options time ≡ value_of v.kind time (needed_version v.records) (stored_records v.records) no_extension = ap (λ (s : Bool). record (value_of v.kind time (needed_version v.records) (stored_records v.records) no_extension) { sparse = s }) shown in
     let t : List ℕ = trailer v options in
-    let read = file_again b v.kind time reading rs t each (omega (arith, fewer_written v.records)) (length-trailer v options) limit check in
-    let at = subst (λ (l : List ℕ). IsAnswer v.kind time reading l (Ok (value_of v.kind time (needed_version v.records) (stored_records v.records), checksum_of v.kind t))) (sym (image_is v options)) read in
+    let read = file_again b v.kind time reading rs t each (omega (arith, fewer_written v.records)) (length-trailer v options) limit check (subst (λ (l : List ℕ). IsMarker v.kind l None) (image_is v options) unmarked_end) in
+    let at = subst (λ (l : List ℕ). IsAnswer v.kind time reading l (Ok (value_of v.kind time (needed_version v.records) (stored_records v.records) no_extension, checksum_of v.kind t))) (sym (image_is v options)) read in
     subst (λ (c : Contents). IsAnswer v.kind time reading (image v options) (Ok (c, checksum_of v.kind t))) (sym same) at

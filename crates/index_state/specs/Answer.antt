@@ -1,23 +1,27 @@
 -- What reading a file gives: the value and the trailer's id, or the first fault (gitformat-index, as a whole).
-use Rattle.std.specs.Prelude.{◌≡◌, ◌≢◌, ℕ, ◌<◌, ◌==◌, ◌⊎◌, nat_lt, false, List, length, drop, codes, Option, Some, None, Result, Ok, Err, MatchBool, MatchResult, if◌then◌else◌}
+use Rattle.std.specs.Prelude.{◌≡◌, ◌≢◌, ℕ, ◌+◌, ◌<◌, ◌==◌, ◌||◌, ◌⊎◌, nat_lt, List, ◌++◌, length, drop, codes, Option, Some, None, Result, Ok, Err, MatchBool, MatchResult, if◌then◌else◌}
 use Rattle.std.specs.List.{list_all}
 use Rattle.index_parts.specs.Id.{id_len, make_id}
 use Rattle.index_parts.specs.declared.hash.Kind.{Kind}
 use Rattle.index_parts.specs.declared.hash.ObjectId.{ObjectId}
 use Rattle.index_parts.specs.declared.entry.stat.FileTime.{FileTime}
+use Rattle.index_extensions.specs.EndMarker.{IsMarker}
+use Rattle.index_extensions.specs.Walk.{Item, IsWalk, left_of}
 use Rattle.index_state.specs.declared.Version.{Version}
 use Rattle.index_state.specs.declared.decode.Options.{Options}
 use Rattle.index_state.specs.Entries.{AreEntries, LacksEntry}
 use Rattle.index_state.specs.Header.{HeaderFault, Corrupt, header_of, count_of}
 use Rattle.index_state.specs.Limits.{most_entries, is_too_large}
+use Rattle.index_state.specs.Outcome.{Outcome, ExtensionFault, IsFirstFault, AreSound, IsOutcome}
 use Rattle.index_state.specs.Record.{Record, Contents, has_directory}
 
--- why bytes are no index, with what a fault names: the trailer and the expected id; the entry's place; the
--- expected and the actual length of the trailer
+-- why bytes are no index, with what a fault names: the entry's place; the expected and the actual length of the trailer;
+-- the trailer and the expected id
 pub data Fault : Type 0 where
   Header : HeaderFault → Fault
   OutOfMemory : Fault
   NoEntry : ℕ → Fault
+  Extension : ExtensionFault → Fault
   TrailerLength : ℕ → ℕ → Fault
   Verify : ObjectId → ObjectId → Fault
 
@@ -33,42 +37,53 @@ abbrev pub IsVerified : Option ObjectId → Option ObjectId → Answer → Answe
 IsVerified (Some expected) (Some actual) whole a = ((actual ≡ expected) × (a ≡ whole)) ⊎ ((actual ≢ expected) × (a ≡ Err (Verify actual expected)))
 IsVerified expected actual whole a = a ≡ whole
 
--- the value of these records with no extension
-abbrev pub value_of : Kind → FileTime → Version → List Record → Contents
-value_of kind time version rs = record {
+-- the value of these records and of what the extensions come to
+abbrev pub value_of : Kind → FileTime → Version → List Record → Outcome → Contents
+value_of kind time version rs o = record {
   kind = kind;
   time = time;
   version = version;
   records = rs;
-  sparse = has_directory rs;
-  had_end_marker = false;
-  had_offset_table = false;
-  tree = None;
+  sparse = o.sparse || has_directory rs;
+  had_end_marker = o.had_end_marker;
+  had_offset_table = o.had_offset_table;
+  tree = o.tree;
   link = None;
   resolve_undo = None;
   untracked = None;
   fs_monitor = None;
 }
 
--- what follows from the bytes behind the last entry: they are the trailer, and no more
-abbrev pub IsEnding : Kind → FileTime → Options → Version → List Record → List ℕ → Answer → Type 0
-IsEnding kind time options version rs rest a =
-    MatchBool (length rest == id_len kind)
-    (IsVerified options.expected_checksum (checksum_of kind rest) (Ok (value_of kind time version rs, checksum_of kind rest)) a)
-    (a ≡ Err (TrailerLength (id_len kind) (length rest)))
+-- what follows from the extensions, the bytes that their walk leaves, and the trailer: the first fault of an extension, a
+-- trailer that isn't alone, or the value
+pub data IsClosed (kind : Kind) (time : FileTime) (options : Options) (version : Version) (rs : List Record) (items : List Item) (tail trailer : List ℕ) (a : Answer) : Type 0 where
+  faulty : (fault : ExtensionFault) → IsFirstFault kind items fault → a ≡ Err (Extension fault) → IsClosed kind time options version rs items tail trailer a
+  left : AreSound kind items → left_of tail ≢ 0 → a ≡ Err (TrailerLength (id_len kind) (left_of tail + id_len kind)) → IsClosed kind time options version rs items tail trailer a
+  whole : (o : Outcome) → AreSound kind items → left_of tail ≡ 0 → IsOutcome kind options.alloc_limit_bytes items o → IsVerified options.expected_checksum (checksum_of kind trailer) (Ok (value_of kind time version rs o, checksum_of kind trailer)) a → IsClosed kind time options version rs items tail trailer a
+
+-- what follows from the bytes behind the last entry: they are fewer than a trailer has, or extensions, what their walk leaves, and the trailer
+pub data IsEnding (kind : Kind) (time : FileTime) (options : Options) (version : Version) (rs : List Record) (rest : List ℕ) (a : Answer) : Type 0 where
+  short : length rest < id_len kind → a ≡ Err (TrailerLength (id_len kind) (length rest)) → IsEnding kind time options version rs rest a
+  walked : (extensions trailer : List ℕ) (items : List Item) (tail : List ℕ) → rest ≡ extensions ++ trailer → length trailer ≡ id_len kind → IsWalk extensions items tail → IsClosed kind time options version rs items tail trailer a → IsEnding kind time options version rs rest a
 
 -- what follows from the bytes behind the header: all entries stand there, or some i-th is the first that doesn't
 pub data IsBody (kind : Kind) (time : FileTime) (options : Options) (version : Version) (count : ℕ) (bytes : List ℕ) (a : Answer) : Type 0 where
   lacks : (i : ℕ) → i < count → LacksEntry version kind bytes i → a ≡ Err (NoEntry i) → IsBody kind time options version count bytes a
   has : (rs : List Record) (rest : List ℕ) → AreEntries version kind None bytes rs rest → length rs ≡ count → IsEnding kind time options version rs rest a → IsBody kind time options version count bytes a
 
--- The answer to all bytes: the header's fault, a count that no file of this length holds, entries that pass the limit, or the body's.
+-- What follows from all bytes behind a header that stands, with the offset that an end marker names or none: a count that no
+-- such file holds, entries that pass the limit, or what the body says.
+abbrev pub IsCounted : Option ℕ → Kind → FileTime → Options → List ℕ → Answer → Version → Type 0
+IsCounted offset kind time options bytes a version =
+    MatchBool (nat_lt (most_entries (length bytes) offset kind version) (count_of bytes))
+    (a ≡ Err (Header (Corrupt (codes "Declared entry count exceeds possible entries for file size"))))
+    (MatchBool (is_too_large options.alloc_limit_bytes (count_of bytes) (length bytes) offset kind version)
+    (a ≡ Err OutOfMemory)
+    (IsBody kind time options version (count_of bytes) (drop 12 bytes) a))
+
+-- the answer to all bytes: the header's fault, or what follows behind it
 abbrev pub IsAnswer : Kind → FileTime → Options → List ℕ → Answer → Type 0
 IsAnswer kind time options bytes a =
     MatchResult (header_of kind bytes)
-    (λ version. MatchBool (nat_lt (most_entries (length bytes) None kind version) (count_of bytes))
-    (a ≡ Err (Header (Corrupt (codes "Declared entry count exceeds possible entries for file size"))))
-    (MatchBool (is_too_large options.alloc_limit_bytes (count_of bytes) (length bytes) None kind version)
-    (a ≡ Err OutOfMemory)
-    (IsBody kind time options version (count_of bytes) (drop 12 bytes) a)))
+    (λ version. (offset : Option ℕ) × IsMarker kind bytes offset × IsCounted offset kind time options bytes a version)
     (λ fault. a ≡ Err (Header fault))

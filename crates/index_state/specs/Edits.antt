@@ -1,12 +1,14 @@
 -- An empty index, and what edits of one leave.
-use Rattle.std.specs.Prelude.{◌≡◌, List, [], ◌∷◌, ◌++◌, length, false, None}
-use Rattle.std.specs.Borrow.{Lends, MutBor, Fml, Array}
+use Rattle.std.specs.Prelude.{◌≡◌, List, [], ◌∷◌, ◌++◌, length, false, Option, Some, None}
+use Rattle.std.specs.Borrow.{Lends, LendsIf, MutBor, Fml, Array}
 use Rattle.std.specs.Vec.{with_items}
 use Rattle.index_parts.specs.declared.hash.Kind.{Kind}
 use Rattle.index_parts.specs.declared.entry.stat.FileTime.{FileTime}
 use Rattle.index_state.specs.declared.Version.TheVariants.{V2}
 use Rattle.index_state.specs.declared.Entry.{Entry}
 use Rattle.index_state.specs.declared.State.{State}
+use Rattle.index_extensions.specs.declared.extension.tree.Tree.{Tree}
+use Rattle.index_extensions.specs.contracts.extension.tree.Tree as tree
 use Rattle.index_state.specs.contracts.Entry as entry
 use Rattle.index_state.specs.contracts.State as state
 use Rattle.index_state.specs.Record.{Record, Contents, IsPlaced, contents, entries_of, record_in, records, storage_of}
@@ -54,3 +56,7 @@ with_entries s entries = record s { entries = with_items s.entries entries }
 -- the state ends with the last entries behind the loan
 abbrev pub LendsEntries : MutBor State → MutBor (List Entry) → Fml
 LendsEntries s r = Lends state.the_row (Array entry.the_row 0) s r (with_entries s.now)
+
+-- the state ends with the last cached tree behind the loan, if one is lent; all else stays
+abbrev pub LendsTree : MutBor State → Option (MutBor Tree) → Fml
+LendsTree s r = LendsIf state.the_row tree.the_row s r (λ t. record s.now { tree = Some t }) s.now

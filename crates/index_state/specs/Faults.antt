@@ -1,5 +1,5 @@
 -- Which fault an error of the code stands for.
-use Rattle.std.specs.Prelude.{ℕ, ◌<◌, List, Option, Result, Ok, Err}
+use Rattle.std.specs.Prelude.{ℕ, ◌<◌, List, Option, Some, None, Result, Ok, Err, MatchOption}
 use Rattle.index_parts.specs.declared.hash.Kind.{Kind}
 use Rattle.index_parts.specs.declared.hash.ObjectId.{ObjectId}
 use Rattle.index_state.specs.declared.Version.{Version}
@@ -8,14 +8,22 @@ use Rattle.index_state.specs.declared.decode.Error.{Error}
 use Rattle.index_state.specs.declared.decode.Error.TheVariants as errors
 use Rattle.index_state.specs.declared.decode.header.Error.{Error as HeaderError}
 use Rattle.index_state.specs.declared.decode.header.Error.TheVariants as headers
-use Rattle.index_state.specs.Answer.{Fault, Header, OutOfMemory, NoEntry, TrailerLength, Verify, Answer}
+use Rattle.index_state.specs.declared.extension.decode.Error.{Error as ExtensionError}
+use Rattle.index_state.specs.declared.extension.decode.Error.TheVariants as extensions
+use Rattle.index_state.specs.Answer.{Fault, Header, OutOfMemory, NoEntry, Extension, TrailerLength, Verify, Answer}
 use Rattle.index_state.specs.Entries.{LacksEntry}
 use Rattle.index_state.specs.Header.{HeaderFault, Corrupt, UnsupportedVersion}
+use Rattle.index_state.specs.Outcome.{ExtensionFault, Unimplemented}
 use Rattle.index_state.specs.Record.{contents}
 
 abbrev pub header_fault : HeaderError → HeaderFault
 header_fault (headers.Corrupt text) = Corrupt text.now
 header_fault (headers.UnsupportedVersion n) = UnsupportedVersion n
+
+-- the fault of an extension that an error stands for, if any: want of memory stands for none
+abbrev pub extension_fault : ExtensionError → Option ExtensionFault
+extension_fault (extensions.MandatoryUnimplemented signature) = Some (Unimplemented signature)
+extension_fault (extensions.Link e) = None
 
 -- a fault that is found before any memory is asked for
 abbrev pub IsEarly : Fault → Type 0
@@ -23,13 +31,13 @@ IsEarly (Header fault) = Unit {0}
 IsEarly OutOfMemory = Unit {0}
 IsEarly fault = ⊥
 
--- What an error says of the answer that P holds of. Want of memory says only that no early fault is it; two variants never come.
+-- What an error says of the answer that P holds of. Want of memory says only that no early fault is it; a fault of hashing never comes.
 abbrev pub SaysFault : Error → (Answer → Type 0) → Type 0
 SaysFault (errors.Header e) P = P (Err (Header (header_fault e)))
 SaysFault errors.Hasher P = ⊥
 SaysFault errors.OutOfMemory P = P (Err OutOfMemory)
 SaysFault (errors.Entry i) P = P (Err (NoEntry i))
-SaysFault (errors.Extension e) P = ⊥
+SaysFault (errors.Extension e) P = MatchOption (extension_fault e) ⊥ (λ fault. P (Err (Extension fault)))
 SaysFault (errors.UnexpectedTrailerLength expected actual) P = P (Err (TrailerLength expected actual))
 SaysFault (errors.Verify actual expected) P = P (Err (Verify actual expected))
 SaysFault errors.Memory P = (fault : Fault) → IsEarly fault → P (Err fault) → ⊥

@@ -4,12 +4,14 @@ pub mod Edits
 pub mod Entries
 pub mod Entry
 pub mod Faults
+pub mod Gathered
 pub mod Header
 pub mod Image
 pub mod Lent
 pub mod Limits
 pub mod Lookup
 pub mod Order
+pub mod Outcome
 pub mod Reading
 pub mod Record
 pub mod Search

@@ -1,5 +1,6 @@
 -- How many entries a file can hold, and how much memory they are counted as.
-use Rattle.std.specs.Prelude.{ℕ, ◌-◌, ◌*◌, ◌+◌, ◌/◌, nat_lt, ◌||◌, min, Bool, false, Option, Some, None}
+use Rattle.std.specs.Prelude.{ℕ, ◌-◌, ◌*◌, ◌+◌, ◌/◌, ◌||◌, min, Bool, Option, Some, None}
+use Rattle.index_extensions.specs.Limit.{passes_limit}
 use Rattle.index_parts.specs.Id.{id_len}
 use Rattle.index_parts.specs.declared.hash.Kind.{Kind}
 use Rattle.index_parts.specs.declared.hash.Kind.TheVariants as kinds
@@ -30,10 +31,6 @@ fixed_len kinds.Sha256 = 74
 abbrev pub path_estimate : ℕ → ℕ → Option ℕ → Kind → Version → ℕ
 path_estimate count len offset kind V4 = min (block_len len offset kind - count * (fixed_len kind + 2)) (80 * count)
 path_estimate count len offset kind version = block_len len offset kind - count * fixed_len kind
-
-abbrev pub passes_limit : Option ℕ → ℕ → Bool
-passes_limit None n = false
-passes_limit (Some limit) n = nat_lt limit n
 
 -- the entries, counted as 96 bytes each, or the estimate of their paths pass the limit
 abbrev pub is_too_large : Option ℕ → ℕ → ℕ → Option ℕ → Kind → Version → Bool

@@ -1,6 +1,8 @@
 -- An index as a value: what it says, apart from how it lies in memory (gitformat-index, "Index entry", "Extensions").
-use Rattle.std.specs.Prelude.{◌≡◌, ℕ, ◌≤◌, ◌==◌, Bool, List, All, Option, None, length, map, slice_range}
+use Rattle.std.specs.Prelude.{◌≡◌, ℕ, ◌≤◌, ◌==◌, Bool, List, All, Option, None, IfSome, length, map, slice_range}
 use Rattle.std.specs.List.{list_any}
+use Rattle.std.specs.Option.{option_map}
+use Rattle.index_extensions.specs.Tree.{Node, NodeIdsAreOf, node_of}
 use Rattle.index_parts.specs.Id.{id_kind}
 use Rattle.index_parts.specs.Mode.{directory_mode}
 use Rattle.index_parts.specs.declared.hash.Kind.{Kind}
@@ -44,7 +46,7 @@ pub record Contents : Type 0 where
   pub sparse : Bool
   pub had_end_marker : Bool
   pub had_offset_table : Bool
-  pub tree : Option Unread
+  pub tree : Option Node
   pub link : Option Unread
   pub resolve_undo : Option Unread
   pub untracked : Option Unread
@@ -68,7 +70,7 @@ contents s = record {
   sparse = s.is_sparse;
   had_end_marker = s.had_end_of_index_marker;
   had_offset_table = s.had_offset_table;
-  tree = None;
+  tree = option_map node_of s.tree;
   link = None;
   resolve_undo = None;
   untracked = None;
@@ -82,6 +84,10 @@ PathsInStorage s = All (IsPlaced (length (storage_of s))) (entries_of s)
 -- each entry's id is of this kind
 abbrev pub IdsAreOf : Kind → List Entry → Type 0
 IdsAreOf kind entries = All (λ e. id_kind e.id ≡ kind) entries
+
+-- each id of the cached tree, if there is one, is of this kind
+abbrev pub TreeIdsAreOf : Kind → Option Node → Type 0
+TreeIdsAreOf kind tree = IfSome tree (NodeIdsAreOf kind)
 
 -- some record stands for a whole directory
 abbrev pub has_directory : List Record → Bool

@@ -1,5 +1,6 @@
 //! Asking an index for its entries, and editing them.
 
+mod extensions;
 mod search;
 
 ghost use Rattle.std.specs.Borrow.{sem};

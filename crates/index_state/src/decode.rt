@@ -7,15 +7,18 @@ pub mod header;
 mod tests;
 
 ghost use Rattle.std.specs.List.{list_all};
-ghost use Rattle.std.specs.Prelude.{◌≡◌, ◌==◌, ◌*◌, ◌||◌, length, IfOk, IfErr, OnOk, All};
+ghost use Rattle.std.specs.Prelude.{◌≡◌, ◌≤◌, ◌==◌, ◌+◌, ◌*◌, ◌||◌, length, IfOk, IfErr, OnOk, All};
 ghost use Rattle.index_parts.specs.Id.{id_len};
 ghost use Rattle.index_state.specs.Answer.{Answer, IsVerified, IsAnswer, IsBody, IsEnding, checksum_of};
 ghost use Rattle.index_state.specs.Faults.{Says, SaysFault};
-ghost use Rattle.index_state.specs.Limits.{passes_limit, is_too_large};
-ghost use Rattle.index_state.specs.Record.{PathsInStorage, IdsAreOf, IsPlaced, entries_of, records_in, has_directory};
+ghost use Rattle.index_extensions.specs.Limit.{passes_limit};
+ghost use Rattle.index_state.specs.Gathered.{IsTaken, outcome_of};
+ghost use Rattle.index_state.specs.Record.{PathsInStorage, IdsAreOf, TreeIdsAreOf, IsPlaced, contents, entries_of, records_in, has_directory};
 ghost use Rattle.index_state.specs.declared.decode.Error.TheVariants.{Header, Memory};
 
+use crate::extension::decode::Outcome;
 use crate::{State, Version, extension};
+use index_extensions::extension::end_of_index_entry;
 use index_parts::entry::FileTime;
 use index_parts::hash::{Kind, ObjectId};
 use std::alloc::{AllocError, AllocFailed, Global};
@@ -138,8 +141,53 @@ fn verify(expected: Option<ObjectId>, actual: Option<ObjectId>) -> Result<(), Er
     Ok(())
 }
 
-/// The state of entries that were read, where a trailer follows them and no more.
+/// The state of entries and extensions that were read. So many bytes are left before the trailer.
 fn state_of(
+    read: entries::Read<'_>,
+    outcome: Outcome,
+    left: usize,
+    trailer: &[u8],
+    timestamp: FileTime,
+    object_hash: Kind,
+    options: Options,
+    version: Version,
+) -> Result<(State, Option<ObjectId>), Error>
+    requires placed { All (IsPlaced (length read.storage.items)) read.entries.items }
+    requires ids { IdsAreOf object_hash read.entries.items }
+    requires tree_ids { TreeIdsAreOf object_hash (outcome_of outcome).tree }
+    requires sparse { read.sparse ≡ has_directory (records_in read.storage.items read.entries.items) }
+    requires trailer { length trailer.now ≡ id_len object_hash }
+    requires room { left + id_len object_hash ≤ 0xffffffffffffffff }
+    ensures taken { Says result (IsTaken object_hash timestamp options version
+        (records_in read.entry.storage.items read.entry.entries.items) (outcome_of outcome) left trailer.now) }
+    ensures stored { IfOk result (λ x. PathsInStorage x.0) }
+    ensures ids { IfOk result (λ x. IdsAreOf object_hash (entries_of x.0)) }
+    ensures tree_ids { IfOk result (λ x. TreeIdsAreOf object_hash (contents x.0).tree) }
+{
+    if left != 0 {
+        let expected = object_hash.len_in_bytes();
+        let actual = left + expected;
+        return Err(Error::UnexpectedTrailerLength { expected, actual });
+    }
+    let checksum = checksum_in(object_hash, trailer);
+    verify(options.expected_checksum, checksum)?;
+    let state = State::of_parts(
+        object_hash,
+        timestamp,
+        version,
+        read.entries,
+        read.storage,
+        Outcome {
+            is_sparse: outcome.is_sparse || read.sparse,
+            ..outcome
+        },
+    );
+    Ok((state, checksum))
+}
+
+/// The state of entries that were read, with the extensions and the trailer behind them.
+fn ending_of(
+    alloc: Global,
     read: entries::Read<'_>,
     timestamp: FileTime,
     object_hash: Kind,
@@ -153,23 +201,26 @@ fn state_of(
         (records_in read.entry.storage.items read.entry.entries.items) read.entry.rest.now) }
     ensures stored { IfOk result (λ x. PathsInStorage x.0) }
     ensures ids { IfOk result (λ x. IdsAreOf object_hash (entries_of x.0)) }
+    ensures tree_ids { IfOk result (λ x. TreeIdsAreOf object_hash (contents x.0).tree) }
 {
     let expected = object_hash.len_in_bytes();
     let actual = read.rest.len();
-    if actual != expected {
+    if actual < expected {
         return Err(Error::UnexpectedTrailerLength { expected, actual });
     }
-    let checksum = checksum_in(object_hash, read.rest);
-    verify(options.expected_checksum, checksum)?;
-    let state = State::of_parts(
-        object_hash,
+    let (extensions, trailer) = read.rest.split_at(actual - expected);
+    let limit = options.alloc_limit_bytes;
+    let (outcome, left) = extension::decode::all(alloc, extensions, object_hash, limit)?;
+    state_of(
+        read,
+        outcome,
+        left,
+        trailer,
         timestamp,
+        object_hash,
+        options,
         version,
-        read.entries,
-        read.storage,
-        read.sparse,
-    );
-    Ok((state, checksum))
+    )
 }
 
 fn passes_limit(limit: Option<usize>, size: usize) -> bool
@@ -202,9 +253,10 @@ fn body_of(
     ensures body { Says result (IsBody object_hash timestamp options version count bytes.now) }
     ensures stored { IfOk result (λ x. PathsInStorage x.0) }
     ensures ids { IfOk result (λ x. IdsAreOf object_hash (entries_of x.0)) }
+    ensures tree_ids { IfOk result (λ x. TreeIdsAreOf object_hash (contents x.0).tree) }
 {
     let read = entries::entries_of(alloc, version, object_hash, count, paths, bytes)?;
-    state_of(read, timestamp, object_hash, options, version)
+    ending_of(alloc, read, timestamp, object_hash, options, version)
 }
 
 impl State {
@@ -230,9 +282,11 @@ impl State {
         ensures answer { Says result (IsAnswer object_hash timestamp options «data».now) }
         ensures stored { IfOk result (λ x. PathsInStorage x.0) }
         ensures ids { IfOk result (λ x. IdsAreOf object_hash (entries_of x.0)) }
+        ensures tree_ids { IfOk result (λ x. TreeIdsAreOf object_hash (contents x.0).tree) }
     {
         let (version, count, rest) = header::decode(data, object_hash)?;
-        let most = entries::max_entries_possible(data.len(), None, object_hash, version);
+        let offset = end_of_index_entry::decode(data, object_hash);
+        let most = entries::max_entries_possible(data.len(), offset, object_hash, version);
         if count as usize > most {
             return Err(Error::Header(header::Error::Corrupt(
                 "Declared entry count exceeds possible entries for file size",
@@ -241,7 +295,7 @@ impl State {
         let paths = entries::estimate_path_storage_requirements_in_bytes(
             count,
             data.len(),
-            None,
+            offset,
             object_hash,
             version,
         );

@@ -4,6 +4,7 @@ ghost use Rattle.std.specs.Prelude.{◌≡◌, []};
 ghost use Rattle.index_state.specs.Edits.{empty_contents};
 ghost use Rattle.index_state.specs.Record.{PathsInStorage, contents, storage_of};
 
+use crate::extension::decode::Outcome;
 use crate::{State, Version};
 use index_parts::entry::FileTime;
 use index_parts::hash::Kind;
@@ -24,7 +25,7 @@ impl State {
             Version::V2,
             Vec::new(alloc),
             Vec::new(alloc),
-            false,
+            Outcome::none(),
         )
     }
 }

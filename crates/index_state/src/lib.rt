@@ -3,6 +3,8 @@
 
 ghost use Rattle.std.specs.Prelude.{◌≡◌, ◌↔◌, ◌<◌, false, length, slice_get, IsTrue};
 
+use crate::extension::decode::Outcome;
+use index_extensions::extension::Tree;
 use index_parts::entry::{FileTime, Flags, Mode, Stage, StageRaw, Stat};
 use index_parts::hash::{Kind, ObjectId};
 use std::cmp::Ordering;
@@ -60,19 +62,20 @@ pub struct State {
     is_sparse: bool,
     had_end_of_index_marker: bool,
     had_offset_table: bool,
+    tree: Option<Tree>,
 }
 
 impl State {
     ghost use Rattle.index_state.specs.Record.{PathsInStorage, contents, entries_of, storage_of};
 
-    /// The state of these parts, with no extension.
+    /// The state of these parts.
     fn of_parts(
         object_hash: Kind,
         timestamp: FileTime,
         version: Version,
         entries: Vec<Entry>,
         path_backing: PathStorage,
-        is_sparse: bool,
+        extensions: Outcome,
     ) -> State
         ensures { result ≡ record {
           object_hash = object_hash;
@@ -80,9 +83,10 @@ impl State {
           version = version;
           entries = entries;
           path_backing = path_backing;
-          is_sparse = is_sparse;
-          had_end_of_index_marker = false;
-          had_offset_table = false;
+          is_sparse = extensions.is_sparse;
+          had_end_of_index_marker = extensions.had_end_of_index_marker;
+          had_offset_table = extensions.had_offset_table;
+          tree = extensions.tree;
         } }
     {
         State {
@@ -91,9 +95,10 @@ impl State {
             version,
             entries,
             path_backing,
-            is_sparse,
-            had_end_of_index_marker: false,
-            had_offset_table: false,
+            is_sparse: extensions.is_sparse,
+            had_end_of_index_marker: extensions.had_end_of_index_marker,
+            had_offset_table: extensions.had_offset_table,
+            tree: extensions.tree,
         }
     }
 
@@ -140,7 +145,8 @@ impl State {
         self.path_backing.as_slice()
     }
 
-    /// Whether an entry stands for a whole directory, as seen when the file was read.
+    /// Whether an entry stood for a whole directory, or the file was marked so (gitformat-index, "Sparse Directory
+    /// Entries"), when the file was read.
     pub fn is_sparse(&self) -> bool
         ensures { result ≡ (contents self.now).sparse }
     {

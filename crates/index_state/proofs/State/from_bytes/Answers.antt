@@ -1,4 +1,4 @@
-use Rattle.std.proofs.Common.{◌≡◌, ◌∙◌, sym, false, length, ltb, None}
+use Rattle.std.proofs.Common.{◌≡◌, ◌∙◌, sym, false, length, ltb}
 use Rattle.std.proofs.lemmas.Bool.{le-ltb}
 use Rattle.index_state.specs.Header.{count_of}
 use Rattle.index_state.specs.Limits.{most_entries, is_too_large}
@@ -8,6 +8,6 @@ use Rattle.index_state.proofs.State.from_bytes.Goals as goal
 pub returns-clause-answer : goal.returns-clause-answer
 returns-clause-answer c =
     let h = c.in_ok-version.ensures in
-    let few : ltb (most_entries (length c.args.data.now) None c.args.object_hash c.in_ok-version.version) (count_of c.args.data.now) ≡ false = le-ltb _ _ (rw (h.1, c.max_entries_possible-most.ensures) at c.if-count-most.false) in
-    let small : is_too_large c.args.options.alloc_limit_bytes (count_of c.args.data.now) (length c.args.data.now) None c.args.object_hash c.in_ok-version.version ≡ false = rw (c.estimate_path_storage_requirements_in_bytes-paths.ensures, h.1) at (sym c.is_too_large.ensures ∙ c.if-is_too_large.false) in
-    answer_from c.args.object_hash c.args.timestamp c.args.options c.args.data.now c.in_ok-version.version c.body_of.result h.0 few small (rw (h.1, h.2) at c.body_of.ensures.body)
+    let few : ltb (most_entries (length c.args.data.now) c.decode-offset.result c.args.object_hash c.in_ok-version.version) (count_of c.args.data.now) ≡ false = le-ltb _ _ (rw (h.1, c.max_entries_possible-most.ensures) at c.if-count-most.false) in
+    let small : is_too_large c.args.options.alloc_limit_bytes (count_of c.args.data.now) (length c.args.data.now) c.decode-offset.result c.args.object_hash c.in_ok-version.version ≡ false = rw (c.estimate_path_storage_requirements_in_bytes-paths.ensures, h.1) at (sym c.is_too_large.ensures ∙ c.if-is_too_large.false) in
+    answer_from c.args.object_hash c.args.timestamp c.args.options c.args.data.now c.in_ok-version.version c.decode-offset.result c.body_of.result h.0 c.decode-offset.ensures few small (rw (h.1, h.2) at c.body_of.ensures.body)

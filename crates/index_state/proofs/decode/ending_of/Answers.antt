@@ -1,0 +1,28 @@
+use Rattle.std.proofs.Common.{rules, ◌≡◌, ◌++◌, ◌-◌, Err, length, take, drop, sym, ap, ◌∙◌, arith}
+use Rattle.std.proofs.lemmas.List.{length-append, take-append-drop}
+use Rattle.std.proofs.lemmas.Result.{err_from_is_err_and}
+use Rattle.index_parts.specs.Id.{id_len}
+use Rattle.index_state.specs.Gathered.{outcome_of}
+use Rattle.index_state.specs.Record.{records_in}
+use Rattle.index_state.proofs.Answers.{ending_from, says_extension}
+use Rattle.index_state.proofs.decode.ending_of.Goals as goal
+
+pub state_of-requires-clause-room : goal.state_of-requires-clause-room
+state_of-requires-clause-room c = omega (arith, c.in_ok-outcome.ensures.small, c.split_at.ensures.front_len, c.len_in_bytes-expected.ensures)
+
+pub returns-in_err-outcome-clause-ending : goal.returns-in_err-outcome-clause-ending
+returns-in_err-outcome-clause-ending c =
+    let middle = c.split_at.result.0.now in
+    let trailer = c.split_at.result.1.now in
+    let parts : c.args.read.rest.now ≡ middle ++ trailer = search rules in
+    let len : length trailer ≡ id_len c.args.object_hash = search rules in
+    let p = err_from_is_err_and c.from_residual.result c.from_residual.ensures.1 in
+    rw (p.1, p.2) (says_extension c.args.object_hash c.args.timestamp c.args.options c.args.version (records_in c.args.read.storage.items c.args.read.entries.items) c.args.read.rest.now middle trailer c.in_err-outcome.field-0.0 parts len c.in_err-outcome.ensures.err)
+
+pub returns-clause-ending : goal.returns-clause-ending
+returns-clause-ending c =
+    let middle = c.split_at.result.0.now in
+    let trailer = c.split_at.result.1.now in
+    let parts : c.args.read.rest.now ≡ middle ++ trailer = search rules in
+    let len : length trailer ≡ id_len c.args.object_hash = search rules in
+    ending_from c.args.object_hash c.args.timestamp c.args.options c.args.version (records_in c.args.read.storage.items c.args.read.entries.items) c.args.read.rest.now middle trailer (outcome_of c.in_ok-outcome.outcome) c.in_ok-outcome.left c.state_of.result parts len c.in_ok-outcome.ensures.ok c.state_of.ensures.taken

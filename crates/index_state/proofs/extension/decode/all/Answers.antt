@@ -1,0 +1,56 @@
+use Rattle.std.proofs.Common.{rules, ◌≡◌, ℕ, ◌-◌, ◌^◌, ◌<◌, List, [], ◌∷◌, ◌++◌, length, Some, None, sym, refl, ap, arith}
+use Rattle.index_extensions.specs.Walk.{Steps, unread, left_of}
+use Rattle.index_extensions.proofs.Walks.{step_item, step_more, step_counts, step_ends, step_leaves}
+use Rattle.index_state.specs.Gathered.{outcome_of}
+use Rattle.index_state.specs.Outcome.{Unimplemented}
+use Rattle.index_state.proofs.Extensions.{sound_push, none_sound, outcome_push, no_outcome, outcome_ids, fault_found, all_gathered}
+use Rattle.index_state.proofs.extension.decode.all.Goals as goal
+
+pub loop-item-init : goal.loop-item-init
+loop-item-init c = ([], sym c.new-items.ensures.all, none_sound c.args.object_hash, rw c.none-outcome.ensures (no_outcome c.args.object_hash c.args.alloc_limit_bytes), omega (arith, c.new-items.ensures.none_yet, ap length c.new-items.ensures.all))
+
+pub returns-in-Some-fault_of-clause-err : goal.returns-in-Some-fault_of-clause-err
+returns-in-Some-fault_of-clause-err c =
+    let inv = c.loop-item.invariant in
+    let before = unread c.loop-item.items in
+    let after = unread c.next.new.self in
+    let x : List ℕ × List ℕ = (c.in-Some.item.0, c.in-Some.item.1.now) in
+    let h : Steps before c.loop-item.items.consumed (Some x) after c.next.new.self.consumed = c.in-Some.ensures.steps in
+    let found = c.in-Some-fault_of.ensures.found in
+    (Unimplemented x.0, found.1, fault_found c.args.object_hash c.args.extensions.now before after inv.0 (step_item x before c.loop-item.items.consumed after c.next.new.self.consumed h) (Unimplemented x.0) inv.1 inv.2 h.1 (found.0, refl))
+
+pub loop-item-preserved : goal.loop-item-preserved
+loop-item-preserved c =
+    let inv = c.loop-item.invariant in
+    let before = unread c.loop-item.items in
+    let after = unread c.next.new.self in
+    let count = c.loop-item.items.consumed in
+    let counted = c.next.new.self.consumed in
+    let x : List ℕ × List ℕ = (c.in-Some.item.0, c.in-Some.item.1.now) in
+    let h : Steps before count (Some x) after counted = c.in-Some.ensures.steps in
+    let i = step_item x before count after counted h in
+    let lt : length c.args.extensions.now < 2 ^ 64 = search rules in
+    (inv.0 ++ i ∷ [], step_more c.args.extensions.now inv.0 x before count after counted inv.1 h, sound_push c.args.object_hash inv.0 i inv.2 c.in_default-fault_of.ensures.none,
+      outcome_push c.args.object_hash c.args.alloc_limit_bytes inv.0 i c.loop-item.outcome c.add.new.self inv.3 c.in_ok-add.ensures, step_counts (length c.args.extensions.now) x before count after counted lt inv.4 h)
+
+pub overflow_sub-result : goal.overflow_sub-result
+overflow_sub-result c =
+    let lt : length c.args.extensions.now < 2 ^ 64 = search rules in
+    omega (arith, step_leaves (length c.args.extensions.now) (unread c.loop-item.items) c.loop-item.items.consumed (unread c.next.new.self) c.next.new.self.consumed lt c.loop-item.invariant.4 c.in_default.ensures.steps)
+
+pub returns-clause-ok : goal.returns-clause-ok
+returns-clause-ok c =
+    let inv = c.loop-item.invariant in
+    let before = unread c.loop-item.items in
+    let after = unread c.next.new.self in
+    let count = c.loop-item.items.consumed in
+    let counted = c.next.new.self.consumed in
+    let total = length c.args.extensions.now in
+    let lt : total < 2 ^ 64 = search rules in
+    let h : Steps before count None after counted = c.in_default.ensures.steps in
+    let leaves = step_leaves total before count after counted lt inv.4 h in
+    let same : total - counted ≡ left_of before = omega (arith, leaves) in
+    all_gathered c.args.object_hash c.args.alloc_limit_bytes c.args.extensions.now before inv.0 (outcome_of c.loop-item.outcome) (total - counted) inv.1 inv.2 inv.3 (step_ends c.args.extensions.now inv.0 before count after counted inv.1 h).ended same
+
+pub returns-clause-ids : goal.returns-clause-ids
+returns-clause-ids c = outcome_ids c.args.object_hash c.args.alloc_limit_bytes c.loop-item.invariant.0 (outcome_of c.loop-item.outcome) c.loop-item.invariant.3

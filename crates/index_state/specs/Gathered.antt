@@ -1,0 +1,58 @@
+-- What the code's struct of extensions stands for, and what one extension adds to it. Public clauses cite none of these.
+use Rattle.std.specs.Prelude.{◌≡◌, ℕ, ◌+◌, ◌==◌, ◌||◌, nat_eq, List, codes, Some, Option, Ok, Err, MatchBool}
+use Rattle.std.specs.Option.{option_map}
+use Rattle.std.specs.Cmp.Lexicographic.{pointwise}
+use Rattle.index_parts.specs.declared.hash.Kind.{Kind}
+use Rattle.index_extensions.specs.Contents.{IsRead}
+use Rattle.index_extensions.specs.Tree.{IsTree, node_of}
+use Rattle.index_extensions.specs.Walk.{Item, IsWalk, left_of}
+use Rattle.index_parts.specs.Id.{id_len}
+use Rattle.index_parts.specs.declared.entry.stat.FileTime.{FileTime}
+use Rattle.index_state.specs.Answer.{Answer, TrailerLength, IsVerified, checksum_of, value_of}
+use Rattle.index_state.specs.Faults.{extension_fault}
+use Rattle.index_state.specs.Record.{Record}
+use Rattle.index_state.specs.declared.Version.{Version}
+use Rattle.index_state.specs.declared.decode.Options.{Options}
+use Rattle.index_state.specs.Outcome.{Outcome, ExtensionFault, AreSound, IsFirstFault, IsOutcome}
+use Rattle.index_state.specs.declared.decode.Error.{Error}
+use Rattle.index_state.specs.declared.decode.Error.TheVariants as errors
+use Rattle.index_state.specs.declared.extension.decode.Outcome.{Outcome as Kept}
+
+abbrev pub outcome_of : Kept → Outcome
+outcome_of o = record { tree = option_map node_of o.tree; sparse = o.is_sparse; had_end_marker = o.had_end_of_index_marker; had_offset_table = o.had_offset_table }
+
+-- what an extension with this signature and content changes
+pub record Adds (kind : Kind) (limit : Option ℕ) (signature content : List ℕ) (old new : Kept) : Type 0 where
+  pub tree : MatchBool (pointwise nat_eq signature (codes "TREE")) (IsRead (IsTree kind limit) content (option_map node_of new.tree)) (new.tree ≡ old.tree)
+  pub sparse : new.is_sparse ≡ (old.is_sparse || pointwise nat_eq signature (codes "sdir"))
+  pub had_end_marker : new.had_end_of_index_marker ≡ (old.had_end_of_index_marker || pointwise nat_eq signature (codes "EOIE"))
+  pub had_offset_table : new.had_offset_table ≡ (old.had_offset_table || pointwise nat_eq signature (codes "IEOT"))
+
+-- bytes are whole extensions without a fault, which come to this, and a tail of which so many bytes count as left
+pub record IsGathered (kind : Kind) (limit : Option ℕ) (bytes : List ℕ) (o : Outcome) (count : ℕ) : Type 0 where
+  pub items : List Item
+  pub tail : List ℕ
+  pub is_walk : IsWalk bytes items tail
+  pub sound : AreSound kind items
+  pub is_outcome : IsOutcome kind limit items o
+  pub counted : count ≡ left_of tail
+
+-- what follows from an outcome, the count of bytes that are left before the trailer, and the trailer
+abbrev pub IsTaken : Kind → FileTime → Options → Version → List Record → Outcome → ℕ → List ℕ → Answer → Type 0
+IsTaken kind time options version rs o count trailer a =
+    MatchBool (count == 0)
+    (IsVerified options.expected_checksum (checksum_of kind trailer) (Ok (value_of kind time version rs o, checksum_of kind trailer)) a)
+    (a ≡ Err (TrailerLength (id_len kind) (count + id_len kind)))
+
+-- among the extensions of bytes this is the first fault
+pub record HasFault (kind : Kind) (bytes : List ℕ) (fault : ExtensionFault) : Type 0 where
+  pub items : List Item
+  pub tail : List ℕ
+  pub is_walk : IsWalk bytes items tail
+  pub is_first : IsFirstFault kind items fault
+
+-- what an error of the loop over the extensions says: the first fault, or want of memory
+abbrev pub SaysExtension : Kind → List ℕ → Error → Type 0
+SaysExtension kind bytes (errors.Extension e) = (fault : ExtensionFault) × (extension_fault e ≡ Some fault) × HasFault kind bytes fault
+SaysExtension kind bytes errors.Memory = Unit {0}
+SaysExtension kind bytes e = ⊥

@@ -1,0 +1,57 @@
+-- What the extensions of a file come to (gitformat-index, "Extensions").
+use Rattle.std.specs.Prelude.{◌≡◌, ℕ, ◌==◌, nat_eq, nat_le, ◌&&◌, ◌||◌, not, Bool, false, List, [], ◌∷◌, ◌++◌, All, length, codes, Option, None}
+use Rattle.std.specs.List.{list_any}
+use Rattle.std.specs.Cmp.Lexicographic.{pointwise}
+use Rattle.index_parts.specs.declared.hash.Kind.{Kind}
+use Rattle.index_extensions.specs.Contents.{is_named, last_content, IsValue}
+use Rattle.index_extensions.specs.Tree.{Node, IsTree}
+use Rattle.index_extensions.specs.Walk.{Item}
+
+-- what is wrong with an extension: it has to be understood, and isn't
+pub data ExtensionFault : Type 0 where
+  Unimplemented : (signature : List ℕ) → ExtensionFault
+
+-- the first byte is `a` to `z`; an extension with another may be skipped
+abbrev pub is_mandatory : List ℕ → Bool
+is_mandatory [] = false
+is_mandatory (b ∷ signature) = nat_le 97 b && nat_le b 122
+
+-- of the mandatory ones the mark of a sparse index is understood, which has no content
+abbrev pub is_understood : List ℕ → List ℕ → Bool
+is_understood signature content = not (is_mandatory signature) || (pointwise nat_eq signature (codes "sdir") && length content == 0)
+
+-- the item has this fault
+abbrev pub IsFault : Kind → Item → ExtensionFault → Type 0
+IsFault kind i fault = (is_understood i.signature i.content ≡ false) × (fault ≡ Unimplemented i.signature)
+
+-- no item has a fault
+abbrev pub AreSound : Kind → List Item → Type 0
+AreSound kind items = All (λ i. (fault : ExtensionFault) → IsFault kind i fault → ⊥) items
+
+-- some item has this fault, and none before it has one
+pub record IsFirstFault (kind : Kind) (items : List Item) (fault : ExtensionFault) : Type 0 where
+  pub before : List Item
+  pub item : Item
+  pub behind : List Item
+  pub parts : items ≡ before ++ item ∷ behind
+  pub sound : AreSound kind before
+  pub is_fault : IsFault kind item fault
+
+-- what is kept of the extensions
+pub record Outcome : Type 0 where
+  pub tree : Option Node
+  pub sparse : Bool
+  pub had_end_marker : Bool
+  pub had_offset_table : Bool
+
+-- what no extensions come to
+abbrev pub no_extension : Outcome
+no_extension = record { tree = None; sparse = false; had_end_marker = false; had_offset_table = false }
+
+-- Of several extensions with one signature the last counts, also where it is malformed. Resolve-undo, untracked cache and file
+-- system monitor aren't looked at.
+pub record IsOutcome (kind : Kind) (limit : Option ℕ) (items : List Item) (o : Outcome) : Type 0 where
+  pub tree : IsValue (IsTree kind limit) (last_content (codes "TREE") items) o.tree
+  pub sparse : o.sparse ≡ list_any (is_named (codes "sdir")) items
+  pub had_end_marker : o.had_end_marker ≡ list_any (is_named (codes "EOIE")) items
+  pub had_offset_table : o.had_offset_table ≡ list_any (is_named (codes "IEOT")) items
