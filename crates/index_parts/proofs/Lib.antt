@@ -1,7 +1,11 @@
+pub mod BitmapFaults
+pub mod Bitmaps
 pub mod Digests
 pub mod Hex
 pub mod Ids
 pub mod Offsets
+pub mod Places
 pub mod Splits
 pub mod Steps
 pub mod Taking
+pub mod Unpackings

@@ -1,3 +1,6 @@
+pub mod Ascending
+pub mod Bitmap
+pub mod Bits
 pub mod Digest
 pub mod Flags
 pub mod Front
@@ -7,3 +10,4 @@ pub mod Offset
 pub mod Reading
 pub mod Stat
 pub mod Taking
+pub mod Unpacking

@@ -1,3 +1,42 @@
-//! Bitmaps of runs, in git's EWAH form (git's bitmap-format document).
+//! Bitmaps of runs, in git's EWAH form (git's bitmap-format document, "Serialization format for an EWAH bitmap").
+
+ghost use Rattle.std.specs.Prelude.{◌≡◌};
+ghost use Rattle.index_parts.specs.Bitmap.{bitmap};
+ghost use Rattle.index_parts.specs.Bits.{ListPlaces};
+ghost use Rattle.index_parts.specs.Unpacking.{items_left};
+
+use std::vec::Vec as Words;
 
 pub mod decode;
+mod iter;
+#[cfg(test)]
+mod tests;
+
+pub use iter::{Malformed, Positions};
+
+/// A bitmap in its compressed form. [`decode::decode`] makes one.
+#[derive(Clone, Debug, Drop)]
+pub struct Vec {
+    num_bits: u32,
+    words: Words<u64>,
+}
+
+impl Vec {
+    /// How many bits the bitmap declares. Its words may stand for more or fewer.
+    pub fn num_bits(&self) -> u32
+        ensures { result ≡ (bitmap self.now).num_bits }
+    {
+        self.num_bits
+    }
+
+    /// The places of the bits that are set, counted from 0 and ascending; they aren't cut at the number of bits.
+    ///
+    /// Nothing is unpacked before it is asked for. Where a run word lacks some of its literal words, the places of its
+    /// run come, and then [`Malformed`] for all of the literal words. It also comes for a set bit at a place of 2^64 or
+    /// more. It is the last item.
+    pub fn positions(&self) -> Positions<'_>
+        ensures { ListPlaces (items_left result) (bitmap self.now).words }
+    {
+        Positions::new(&self.words)
+    }
+}
