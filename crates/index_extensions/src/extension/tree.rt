@@ -10,8 +10,17 @@ use index_parts::hash::{Kind, ObjectId};
 use smallvec::SmallVec;
 use std::alloc::{AllocError, Global};
 
+mod decimal;
+mod head;
+mod nodes;
+#[cfg(test)]
+mod tests;
+
 /// The signature.
 pub const SIGNATURE: Signature = *b"TREE";
+
+/// How many levels of directories may lie below the root.
+const MAX_LEVELS: u32 = 2048;
 
 /// A directory of the cached tree, with all below it (gitformat-index, "Cache tree").
 ///
@@ -28,6 +37,31 @@ pub struct Tree {
     pub children: Vec<Tree>,
 }
 
+/// The clone has the same nodes. It takes as much memory as its source, and fails where there isn't as much.
+impl Clone for Tree {
+    ghost is_clone = { λ t u. node_of u ≡ node_of t };
+
+    fn clone(&self) -> Result<Tree, AllocError> {
+        copy_of(self)
+    }
+}
+
+fn copy_of(tree: &Tree) -> Result<Tree, AllocError>
+    ensures { IfOk result (λ t. node_of t ≡ node_of tree.now) }
+{
+    let name = tree.name.clone()?;
+    let mut children = Vec::with_capacity(*tree.children.allocator(), tree.children.len())?;
+    for child in &tree.children {
+        children.push(copy_of(child)?)?;
+    }
+    Ok(Tree {
+        name,
+        id: tree.id,
+        num_entries: tree.num_entries,
+        children,
+    })
+}
+
 /// The cached tree that the content of its extension spells, with the children of each node sorted by name.
 ///
 /// None where the bytes spell no tree, where two siblings have one name, where a node lies more than 2048 levels below the
@@ -40,5 +74,13 @@ pub fn decode(
 ) -> Result<Option<Tree>, AllocError>
     ensures read { IfOk result (λ found. IsRead (IsTree object_hash alloc_limit_bytes) «data».now (option_map node_of found)) }
 {
-    Ok(None)
+    let Some((tree, rest)) =
+        nodes::read_node(alloc, object_hash, alloc_limit_bytes, MAX_LEVELS, data)?
+    else {
+        return Ok(None);
+    };
+    if !rest.is_empty() {
+        return Ok(None);
+    }
+    Ok(Some(tree))
 }
