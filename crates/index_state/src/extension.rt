@@ -2,3 +2,5 @@
 
 pub mod decode;
 pub mod link;
+#[cfg(test)]
+mod tests;
