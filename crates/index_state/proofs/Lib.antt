@@ -8,6 +8,7 @@ pub mod Extensions
 pub mod Halving
 pub mod Insertion
 pub mod Lengths
+pub mod Links
 pub mod Lookup
 pub mod Order
 pub mod Pieces

@@ -9,6 +9,7 @@ pub mod Header
 pub mod Image
 pub mod Lent
 pub mod Limits
+pub mod Link
 pub mod Lookup
 pub mod Order
 pub mod Outcome

@@ -1,0 +1,20 @@
+-- What an error of a bitmap says of the link that it is part of.
+use Rattle.std.proofs.Common.{◌≡◌, ℕ, List, [], ◌++◌, length, refl, sym, ap}
+use Rattle.std.specs.Prelude.{◌≢◌, codes}
+use Rattle.index_parts.specs.Bitmap.{Bitmap, IsBitmap}
+use Rattle.index_parts.specs.Id.{id_len, make_id}
+use Rattle.index_parts.specs.declared.hash.Kind.{Kind}
+use Rattle.index_parts.specs.declared.hash.ObjectId.{ObjectId}
+use Rattle.index_state.specs.Link.{LinkFault, Corrupt, BitmapDecode, StartsWithId, IsLinkFault, no_delete, no_replace, SaysLink, SaysBitmap}
+use Rattle.index_state.specs.declared.extension.link.decode.Error.{Error}
+use Rattle.index_state.specs.declared.extension.link.decode.Error.TheVariants as errors
+
+pub says_delete : (kind : Kind) (bytes : List ℕ) (id : ObjectId) (maps : List ℕ) (e : Error) → StartsWithId kind bytes id maps → maps ≢ [] → SaysBitmap (codes "delete") maps e → SaysLink kind bytes e
+says_delete kind bytes id maps (errors.Corrupt text) starts some h = absurd h
+says_delete kind bytes id maps (errors.BitmapDecode error name) starts some h = no_delete id maps error starts some h.0 (ap (λ (n : List ℕ). BitmapDecode error n) h.1)
+says_delete kind bytes id maps errors.Memory starts some h = record { id = id; maps = maps; starts = starts; has_bitmap = h }
+
+pub says_replace : (kind : Kind) (bytes : List ℕ) (id : ObjectId) (maps after : List ℕ) (delete : Bitmap) (e : Error) → StartsWithId kind bytes id maps → IsBitmap maps delete after → SaysBitmap (codes "replace") after e → SaysLink kind bytes e
+says_replace kind bytes id maps after delete (errors.Corrupt text) starts first h = absurd h
+says_replace kind bytes id maps after delete (errors.BitmapDecode error name) starts first h = no_replace id maps after delete error starts first h.0 (ap (λ (n : List ℕ). BitmapDecode error n) h.1)
+says_replace kind bytes id maps after delete errors.Memory starts first h = record { id = id; maps = maps; starts = starts; has_bitmap = record { value = delete; rest = after; is_bitmap = first } }
