@@ -1,0 +1,5 @@
+pub mod Blocks
+pub mod EndMarks
+pub mod FirstContent
+pub mod Items
+pub mod Walks
