@@ -1,6 +1,11 @@
+pub mod Blocks
 pub mod Decimals
+pub mod EndMarks
+pub mod FirstContent
 pub mod Heads
+pub mod Items
 pub mod Rows
 pub mod Sorted
 pub mod Spelled
 pub mod Trees
+pub mod Walks
