@@ -1,6 +1,9 @@
 pub mod Decimals
 pub mod Heads
+pub mod Orders
+pub mod Readings
 pub mod Rows
 pub mod Sorted
 pub mod Spelled
+pub mod TreeReadings
 pub mod Trees
