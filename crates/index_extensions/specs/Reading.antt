@@ -60,19 +60,19 @@ decimal_of [] = None
 decimal_of (b ∷ text) = decimal_from 0 (b ∷ text)
 
 -- the count that a number stands for, without a minus and with one
-abbrev pub positive_count : ℕ → Option (Option ℕ)
-positive_count n = if nat_lt n (2 ^ 31) then Some (Some n) else None
+abbrev pub nonnegative_count : ℕ → Option (Option ℕ)
+nonnegative_count n = if nat_lt n (2 ^ 31) then Some (Some n) else None
 
-abbrev pub negative_count : ℕ → Option (Option ℕ)
-negative_count n = if n == 0 then Some (Some 0) else (if nat_lt (2 ^ 31) n then None else Some None)
+abbrev pub negated_count : ℕ → Option (Option ℕ)
+negated_count n = if n == 0 then Some (Some 0) else (if nat_lt (2 ^ 31) n then None else Some None)
 
 -- the count that a sign or none and digits spell
 abbrev pub count_of : List ℕ → Option (Option ℕ)
 count_of [] = None
 count_of (b ∷ text) =
-    if b == 45 then decimal_of text >>= negative_count
-    else (if b == 43 then decimal_of text >>= positive_count
-    else decimal_of (b ∷ text) >>= positive_count)
+    if b == 45 then decimal_of text >>= negated_count
+    else (if b == 43 then decimal_of text >>= nonnegative_count
+    else decimal_of (b ∷ text) >>= nonnegative_count)
 
 -- the id of a node with this count
 abbrev pub id_at : Kind → Option ℕ → List ℕ → Option (ObjectId × List ℕ)
