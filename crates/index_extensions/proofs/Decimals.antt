@@ -8,7 +8,7 @@ use native.Mathlib.Numerals.{unary_clauses}
 use Rattle.index_parts.proofs.Steps.{bind_some, test_some}
 use Rattle.index_parts.specs.Reading.{◌>>=◌}
 use Rattle.index_extensions.specs.Decimal.{IsDigit, digits_value, IsDecimal, IsCount, plain, plus, minus, minus_zero}
-use Rattle.index_extensions.specs.Reading.{decimal_from, decimal_of, positive_count, negative_count, count_of}
+use Rattle.index_extensions.specs.Reading.{decimal_from, decimal_of, nonnegative_count, negated_count, count_of}
 
 -- ---- digits
 
@@ -76,48 +76,48 @@ decimal_again (b ∷ text) n h =
 
 -- ---- counts
 
-positive_takes : (n : ℕ) (count : Option ℕ) → positive_count n ≡ Some count → (n < 2 ^ 31) × (count ≡ Some n)
-positive_takes n count e =
+nonnegative_takes : (n : ℕ) (count : Option ℕ) → nonnegative_count n ≡ Some count → (n < 2 ^ 31) × (count ≡ Some n)
+nonnegative_takes n count e =
     let g = test_some (ltb n (2 ^ 31)) (Some n) count e in
     (ltb-true _ _ g.0, sym g.1)
 
-positive_again : (n : ℕ) → n < 2 ^ 31 → positive_count n ≡ Some (Some n)
-positive_again n small = let less : ltb n (2 ^ 31) ≡ true = lt-ltb _ _ small in rw less refl
+nonnegative_again : (n : ℕ) → n < 2 ^ 31 → nonnegative_count n ≡ Some (Some n)
+nonnegative_again n small = let less : ltb n (2 ^ 31) ≡ true = lt-ltb _ _ small in rw less refl
 
-negative_by : (digits : List ℕ) (n : ℕ) (count : Option ℕ) (t u : Bool) → eqb n 0 ≡ t → ltb (2 ^ 31) n ≡ u → cond t (Some (Some 0)) (cond u None (Some None)) ≡ Some count → IsDecimal digits n → IsCount (45 ∷ digits) count
-negative_by digits n count true u z o e h = let zero_is : n ≡ 0 = eqb-true n 0 z in minus_zero digits refl (subst (IsDecimal digits) zero_is h) cc
-negative_by digits n count false true z o e h = absurd cc
-negative_by digits n count false false z o e h =
+negated_by : (digits : List ℕ) (n : ℕ) (count : Option ℕ) (t u : Bool) → eqb n 0 ≡ t → ltb (2 ^ 31) n ≡ u → cond t (Some (Some 0)) (cond u None (Some None)) ≡ Some count → IsDecimal digits n → IsCount (45 ∷ digits) count
+negated_by digits n count true u z o e h = let zero_is : n ≡ 0 = eqb-true n 0 z in minus_zero digits refl (subst (IsDecimal digits) zero_is h) cc
+negated_by digits n count false true z o e h = absurd cc
+negated_by digits n count false false z o e h =
     let large : 1 ≤ n = let other = eqb-false n 0 z in omega arith in
     minus digits n refl h large (ltb-false _ _ o) cc
 
-negative_again : (n : ℕ) → 1 ≤ n → n ≤ 2 ^ 31 → negative_count n ≡ Some None
-negative_again n low high =
+negated_again : (n : ℕ) → 1 ≤ n → n ≤ 2 ^ 31 → negated_count n ≡ Some None
+negated_again n low high =
     let some : eqb n 0 ≡ false = ne_eqb n 0 (λ e. omega arith) in
     let small : ltb (2 ^ 31) n ≡ false = le-ltb _ _ high in
     rw (some, small) refl
 
 count_by : (b : ℕ) (text : List ℕ) (count : Option ℕ) (t u : Bool) → eqb b 45 ≡ t → eqb b 43 ≡ u
-    → cond t (decimal_of text >>= negative_count) (cond u (decimal_of text >>= positive_count) (decimal_of (b ∷ text) >>= positive_count)) ≡ Some count → IsCount (b ∷ text) count
+    → cond t (decimal_of text >>= negated_count) (cond u (decimal_of text >>= nonnegative_count) (decimal_of (b ∷ text) >>= nonnegative_count)) ≡ Some count → IsCount (b ∷ text) count
 count_by b text count true u m p e =
-    let d = bind_some (decimal_of text) negative_count count e in
+    let d = bind_some (decimal_of text) negated_count count e in
     let sign : b ≡ 45 = eqb-true b 45 m in
-    subst (λ (s : ℕ). IsCount (s ∷ text) count) (sym sign) (negative_by text d.0 count (eqb d.0 0) (ltb (2 ^ 31) d.0) refl refl d.2 (decimal_takes text d.0 d.1))
+    subst (λ (s : ℕ). IsCount (s ∷ text) count) (sym sign) (negated_by text d.0 count (eqb d.0 0) (ltb (2 ^ 31) d.0) refl refl d.2 (decimal_takes text d.0 d.1))
 count_by b text count false true m p e =
-    let d = bind_some (decimal_of text) positive_count count e in
+    let d = bind_some (decimal_of text) nonnegative_count count e in
     let sign : b ≡ 43 = eqb-true b 43 p in
-    let n = positive_takes d.0 count d.2 in
+    let n = nonnegative_takes d.0 count d.2 in
     plus text d.0 (ap (λ (s : ℕ). s ∷ text) sign) (decimal_takes text d.0 d.1) n.0 n.1
 count_by b text count false false m p e =
-    let d = bind_some (decimal_of (b ∷ text)) positive_count count e in
-    let n = positive_takes d.0 count d.2 in
+    let d = bind_some (decimal_of (b ∷ text)) nonnegative_count count e in
+    let n = nonnegative_takes d.0 count d.2 in
     plain d.0 (decimal_takes (b ∷ text) d.0 d.1) n.0 n.1
 
 pub count_takes : (text : List ℕ) (count : Option ℕ) → count_of text ≡ Some count → IsCount text count
 count_takes [] count e = absurd cc
 count_takes (b ∷ text) count e = count_by b text count (eqb b 45) (eqb b 43) refl refl e
 
-unsigned : (text : List ℕ) (n : ℕ) → IsDecimal text n → count_of text ≡ (decimal_of text >>= positive_count)
+unsigned : (text : List ℕ) (n : ℕ) → IsDecimal text n → count_of text ≡ (decimal_of text >>= nonnegative_count)
 unsigned [] n h = absurd (h.some refl)
 unsigned (b ∷ text) n h =
     let digit = All-head IsDigit b text h.digits in
@@ -126,9 +126,9 @@ unsigned (b ∷ text) n h =
     rw (no_minus, no_plus) refl
 
 pub count_again : (text : List ℕ) (count : Option ℕ) → IsCount text count → count_of text ≡ Some count
-count_again text count (plain n h small is) = unsigned text n h ∙ rw (decimal_again text n h, is) (positive_again n small)
-count_again text count (plus digits n parts h small is) = rw (parts, decimal_again digits n h, is) (positive_again n small)
-count_again text count (minus digits n parts h low high is) = rw (parts, decimal_again digits n h, is) (negative_again n low high)
+count_again text count (plain n h small is) = unsigned text n h ∙ rw (decimal_again text n h, is) (nonnegative_again n small)
+count_again text count (plus digits n parts h small is) = rw (parts, decimal_again digits n h, is) (nonnegative_again n small)
+count_again text count (minus digits n parts h low high is) = rw (parts, decimal_again digits n h, is) (negated_again n low high)
 count_again text count (minus_zero digits parts h is) = rw (parts, decimal_again digits 0 h, is) refl
 
 -- ---- no separator stands in them

@@ -1,6 +1,14 @@
+pub mod Blocks
 pub mod Decimals
+pub mod EndMarks
+pub mod FirstContent
 pub mod Heads
+pub mod Items
+pub mod Orders
+pub mod Readings
 pub mod Rows
 pub mod Sorted
 pub mod Spelled
+pub mod TreeReadings
 pub mod Trees
+pub mod Walks

@@ -1,11 +1,11 @@
--- Bytes are one tree, and the ids in it are of one kind.
-use Rattle.std.proofs.Common.{◌≡◌, ℕ, zero, suc, List, [], ◌∷◌, Option, Some, None, refl, sym, ap, subst, ◌∙◌}
+-- Bytes are one tree, the ids in it are of one kind, and its levels are bounded.
+use Rattle.std.proofs.Common.{◌≡◌, ℕ, zero, suc, ◌+◌, ◌-◌, ◌≤◌, List, [], ◌∷◌, Option, Some, None, refl, sym, ap, subst, ◌∙◌, arith}
 use Rattle.std.specs.List.{AllByRecursion}
 use Rattle.std.specs.List.Sorted.{IsPermutation}
 use Rattle.std.proofs.lemmas.List.Elements.{All-from_recursion, recursion_from_All}
 use Rattle.std.proofs.lemmas.List.Sorted.{IsPermutation-sym, IsPermutation-trans, All-permutation}
 use Rattle.index_parts.specs.declared.hash.Kind.{Kind}
-use Rattle.index_extensions.specs.Tree.{Node, Nodes, node, none, more, nodes_from, Head, IsSpelled, AreSpelled, NodeIdsAreOf, NodesIdsAreOf, NamesRise, Sorts, SortsEach, IsNode, IsTree}
+use Rattle.index_extensions.specs.Tree.{Node, Nodes, node, none, more, nodes_from, Head, IsSpelled, AreSpelled, node_depth, nodes_depth, NodeIdsAreOf, NodesIdsAreOf, NamesRise, Sorts, SortsEach, IsNode, IsTree}
 use Rattle.index_extensions.proofs.Heads.{head_kind}
 use Rattle.index_extensions.proofs.Sorted.{one_order}
 use Rattle.index_extensions.proofs.Spelled.{one_node}
@@ -37,6 +37,9 @@ one_subtree kind limit levels bytes t v rest end p q =
 pub one_tree : (kind : Kind) (limit : Option ℕ) (bytes : List ℕ) (t v : Node) → IsTree kind limit bytes t → IsTree kind limit bytes v → t ≡ v
 one_tree kind limit bytes t v p q = (one_subtree kind limit 2048 bytes t v [] [] p q).0
 
+moved : (P : Node → Type 0) (ts vs : List Node) → IsPermutation ts vs → AllByRecursion P ts → AllByRecursion P vs
+moved P ts vs h a = recursion_from_All P vs (All-permutation P ts vs h (All-from_recursion P ts a))
+
 -- ---- the kind of ids
 
 mutual
@@ -52,13 +55,10 @@ ids_from : (kind : Kind) (ts : List Node) → AllByRecursion (NodeIdsAreOf kind)
 ids_from kind [] h = tt
 ids_from kind (t ∷ ts) h = (h.0, ids_from kind ts h.1)
 
-ids_moved : (kind : Kind) (ts vs : List Node) → IsPermutation ts vs → AllByRecursion (NodeIdsAreOf kind) ts → AllByRecursion (NodeIdsAreOf kind) vs
-ids_moved kind ts vs h a = recursion_from_All (NodeIdsAreOf kind) vs (All-permutation (NodeIdsAreOf kind) ts vs h (All-from_recursion (NodeIdsAreOf kind) ts a))
-
 mutual
   sorted_ids : (kind : Kind) (u t : Node) → Sorts u t → NodeIdsAreOf kind u → NodeIdsAreOf kind t
   sorted_ids kind (node n i c us) t s h =
-      let below = ids_from kind s.2.0 (ids_moved kind s.0 s.2.0 s.2.1 (each_ids kind us s.0 s.1 h.1)) in
+      let below = ids_from kind s.2.0 (moved (NodeIdsAreOf kind) s.0 s.2.0 s.2.1 (each_ids kind us s.0 s.1 h.1)) in
       subst (NodeIdsAreOf kind) (sym s.2.3) (h.0, below)
 
   each_ids : (kind : Kind) (us : Nodes) (ts : List Node) → SortsEach us ts → NodesIdsAreOf kind us → AllByRecursion (NodeIdsAreOf kind) ts
@@ -68,3 +68,25 @@ mutual
 -- all ids of a tree are of the kind that its bytes are read by
 pub ids_of_tree : (kind : Kind) (limit : Option ℕ) (bytes : List ℕ) (t : Node) → IsTree kind limit bytes t → NodeIdsAreOf kind t
 ids_of_tree kind limit bytes t p = sorted_ids kind p.spelled t p.sorts (spelled_ids kind limit p.spelled bytes [] p.spells)
+
+-- ---- levels
+
+depth_from : (n : ℕ) (ts : List Node) → AllByRecursion (λ t. node_depth t + 1 ≤ n) ts → nodes_depth (nodes_from ts) ≤ n
+depth_from n [] h = omega arith
+depth_from n (t ∷ ts) h = omega (arith, h.0, depth_from n ts h.1)
+
+mutual
+  sorted_depth : (n : ℕ) (u t : Node) → Sorts u t → node_depth u ≤ n → node_depth t ≤ n
+  sorted_depth n (node name i c us) t s h =
+      let below = depth_from n s.2.0 (moved (λ t. node_depth t + 1 ≤ n) s.0 s.2.0 s.2.1 (each_depth n us s.0 s.1 h)) in
+      subst (λ (v : Node). node_depth v ≤ n) (sym s.2.3) below
+
+  each_depth : (n : ℕ) (us : Nodes) (ts : List Node) → SortsEach us ts → nodes_depth us ≤ n → AllByRecursion (λ t. node_depth t + 1 ≤ n) ts
+  each_depth n none ts s h = subst (AllByRecursion (λ t. node_depth t + 1 ≤ n)) (sym s) tt
+  each_depth n (more u us) ts s h =
+      let first : node_depth s.0 ≤ n - 1 = sorted_depth (n - 1) u s.0 s.3 (omega (arith, h)) in
+      subst (AllByRecursion (λ t. node_depth t + 1 ≤ n)) (sym s.2) (omega (arith, h, first), each_depth n us s.1 s.4 (omega (arith, h)))
+
+-- a tree has 2048 levels below its root at most
+pub depth_of_tree : (kind : Kind) (limit : Option ℕ) (bytes : List ℕ) (t : Node) → IsTree kind limit bytes t → node_depth t ≤ 2048
+depth_of_tree kind limit bytes t p = sorted_depth 2048 p.spelled t p.sorts p.shallow

@@ -1,14 +1,50 @@
 -- What the readers of extensions find at the front of bytes, as functions: a value and the rest, or nothing. Public clauses
 -- cite none of these.
-use Rattle.std.specs.Prelude.{ℕ, ◌+◌, ◌-◌, ◌*◌, ◌^◌, ◌==◌, nat_lt, List, [], ◌∷◌, Option, Some, None, if◌then◌else◌}
+use Rattle.std.specs.Prelude.{ℕ, ◌+◌, ◌-◌, ◌*◌, ◌^◌, ◌==◌, nat_eq, nat_lt, List, [], ◌∷◌, ◌++◌, length, take, drop, codes, Option, Some, None, if◌then◌else◌}
 use Rattle.std.specs.Char.{is_ascii_digit}
+use Rattle.std.specs.List.{starts_with}
+use Rattle.index_parts.specs.Front.{be}
 use Rattle.index_parts.specs.Id.{id_len, make_id, null_id}
 use Rattle.index_parts.specs.Reading.{◌>>=◌, piece_at, split_at_byte}
 use Rattle.index_parts.specs.declared.hash.Kind.{Kind}
 use Rattle.index_parts.specs.declared.hash.ObjectId.{ObjectId}
 use Rattle.index_extensions.specs.Limit.{passes_limit}
 use Rattle.index_extensions.specs.Tree.{Head}
+use Rattle.index_extensions.specs.Walk.{Item}
 use Rattle.index_extensions.specs.declared.extension.tree.head.Head.{Head as LentHead}
+
+-- ---- the walk
+
+-- the extension at the front, and the rest
+unfoldable pub item_at : List ℕ → Option (Item × List ℕ)
+item_at bytes =
+    piece_at 4 bytes >>= λ signature.
+    piece_at 4 signature.1 >>= λ size.
+    piece_at (be size.0) size.1 >>= λ content.
+    Some (record { signature = signature.0; size = size.0; content = content.0 }, content.1)
+
+-- the last 52 bytes, in which a marker and a trailer of 20 bytes have room
+abbrev pub ending_of : List ℕ → List ℕ
+ending_of bytes = drop (length bytes - 52) bytes
+
+-- the signature of a marker, and its size
+abbrev pub marker_start : List ℕ
+marker_start = codes "EOIE" ++ (0 ∷ 0 ∷ 0 ∷ 24 ∷ [])
+
+abbrev pub offset_in : List ℕ → ℕ
+offset_in ending = be (take 4 (drop 8 ending))
+
+-- a marker's offset, the bytes from there to the marker, and its digest
+unfoldable pub marker_at : List ℕ → Option (ℕ × List ℕ × List ℕ)
+marker_at bytes =
+    if nat_lt (length bytes) 52 then None
+    else (if starts_with nat_eq (take 8 (ending_of bytes)) marker_start then
+    (if nat_lt (offset_in (ending_of bytes)) 12 then None
+    else (piece_at (offset_in (ending_of bytes)) (take (length bytes - 52) bytes) >>= λ front.
+    Some (offset_in (ending_of bytes), front.1, take 20 (drop 4 (drop 8 (ending_of bytes))))))
+    else None)
+
+-- ---- the cached tree
 
 -- the number that digits spell, where the digits before them stand for so much
 abbrev pub decimal_from : ℕ → List ℕ → Option ℕ
@@ -24,19 +60,19 @@ decimal_of [] = None
 decimal_of (b ∷ text) = decimal_from 0 (b ∷ text)
 
 -- the count that a number stands for, without a minus and with one
-abbrev pub positive_count : ℕ → Option (Option ℕ)
-positive_count n = if nat_lt n (2 ^ 31) then Some (Some n) else None
+abbrev pub nonnegative_count : ℕ → Option (Option ℕ)
+nonnegative_count n = if nat_lt n (2 ^ 31) then Some (Some n) else None
 
-abbrev pub negative_count : ℕ → Option (Option ℕ)
-negative_count n = if n == 0 then Some (Some 0) else (if nat_lt (2 ^ 31) n then None else Some None)
+abbrev pub negated_count : ℕ → Option (Option ℕ)
+negated_count n = if n == 0 then Some (Some 0) else (if nat_lt (2 ^ 31) n then None else Some None)
 
 -- the count that a sign or none and digits spell
 abbrev pub count_of : List ℕ → Option (Option ℕ)
 count_of [] = None
 count_of (b ∷ text) =
-    if b == 45 then decimal_of text >>= negative_count
-    else (if b == 43 then decimal_of text >>= positive_count
-    else decimal_of (b ∷ text) >>= positive_count)
+    if b == 45 then decimal_of text >>= negated_count
+    else (if b == 43 then decimal_of text >>= nonnegative_count
+    else decimal_of (b ∷ text) >>= nonnegative_count)
 
 -- the id of a node with this count
 abbrev pub id_at : Kind → Option ℕ → List ℕ → Option (ObjectId × List ℕ)

@@ -7,9 +7,10 @@ use Rattle.index_parts.specs.Id.{id_len}
 use Rattle.index_parts.specs.declared.hash.Kind.{Kind}
 use Rattle.index_parts.specs.declared.hash.ObjectId.{ObjectId}
 use Rattle.index_parts.specs.declared.entry.stat.FileTime.{FileTime}
-use Rattle.index_extensions.specs.EndMarker.{IsMarker}
+use Rattle.index_extensions.specs.EndMarker.{IsMarked, IsMarker}
 use Rattle.index_extensions.specs.Walk.{Item, left_of}
-use Rattle.index_extensions.proofs.EndMarks.{one_marker}
+use Rattle.index_extensions.proofs.EndMarks.{marked_one}
+use Rattle.index_extensions.proofs.Readings.{one_read}
 use Rattle.index_state.specs.declared.Version.{Version}
 use Rattle.index_state.specs.declared.State.{State}
 use Rattle.index_state.specs.declared.decode.Options.{Options}
@@ -90,6 +91,9 @@ headed_to r v C F e h = rw e h
 
 headed_back : (r : Result Version HeaderFault) (v : Version) (C : Version → Type 0) (F : HeaderFault → Type 0) → r ≡ Ok v → MatchResult r C F → C v
 headed_back r v C F e h = rw e at h
+
+pub one_marker : (kind : Kind) (bytes : List ℕ) (o p : Option ℕ) → IsMarker kind bytes o → IsMarker kind bytes p → o ≡ p
+one_marker kind bytes = one_read (IsMarked kind) bytes (marked_one kind bytes)
 
 -- what a body says where the header stands
 pub answer_from : (kind : Kind) (time : FileTime) (options : Options) (bytes : List ℕ) (version : Version) (offset : Option ℕ) (r : Result (State × Option ObjectId) Error) → header_of kind bytes ≡ Ok version → IsMarker kind bytes offset

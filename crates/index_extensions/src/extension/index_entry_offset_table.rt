@@ -1,16 +1,26 @@
 //! The offset table, which names where blocks of entries begin (gitformat-index, "Index Entry Offset Table").
 
-ghost use Rattle.std.specs.Prelude.{◌≡◌, IfOk};
+ghost use Rattle.std.specs.Prelude.{◌<◌, [], length, IfOk, IfSome, IfNone};
 ghost use Rattle.std.specs.Option.{option_map};
 ghost use Rattle.index_extensions.specs.Contents.{IsRead};
-ghost use Rattle.index_extensions.specs.OffsetTable.{IsTable, IsFound};
+ghost use Rattle.index_extensions.specs.OffsetTable.{IsBlock, AreBlocks, IsTable, IsFound};
 
-use super::Signature;
+use super::{Iter, Signature};
 use index_parts::hash::Kind;
+use index_parts::util::read_u32;
 use std::alloc::{AllocError, Global};
+
+#[cfg(test)]
+mod tests;
 
 /// The signature.
 pub const SIGNATURE: Signature = *b"IEOT";
+
+/// The one version that is known.
+const VERSION: u32 = 1;
+
+/// The bytes of a block: its place and its count, of four bytes each.
+const BLOCK_LEN: usize = 8;
 
 /// A block of entries.
 #[derive(Clone, Copy, Debug, PartialEq, Eq)]
@@ -26,7 +36,13 @@ pub struct Offset {
 pub fn decode(alloc: Global, data: &[u8]) -> Result<Option<Vec<Offset>>, AllocError>
     ensures read { IfOk result (λ found. IsRead IsTable «data».now (option_map (λ v. v.items) found)) }
 {
-    Ok(None)
+    let Some((version, rest)) = read_u32(data) else {
+        return Ok(None);
+    };
+    if version != VERSION || rest.is_empty() {
+        return Ok(None);
+    }
+    blocks_of(alloc, rest)
 }
 
 /// The blocks of the first offset table in bytes from the first extension to the end of the file, trailer included. None
@@ -38,5 +54,46 @@ pub fn find(
 ) -> Result<Option<Vec<Offset>>, AllocError>
     ensures found { IfOk result (λ found. IsFound object_hash extensions.now (option_map (λ v. v.items) found)) }
 {
+    let Some(mut walk) = Iter::new_without_checksum(extensions, object_hash) else {
+        return Ok(None);
+    };
+    while let Some(item) = walk.next() {
+        let (signature, content) = item;
+        if signature == SIGNATURE {
+            return decode(alloc, content);
+        }
+    }
     Ok(None)
+}
+
+/// Blocks that are all of the bytes. None where a part of a block is left.
+fn blocks_of(alloc: Global, bytes: &[u8]) -> Result<Option<Vec<Offset>>, AllocError>
+    ensures read { IfOk result (λ found. IsRead (λ all blocks. AreBlocks all blocks []) bytes.now (option_map (λ v. v.items) found)) }
+{
+    if bytes.len() % BLOCK_LEN != 0 {
+        return Ok(None);
+    }
+    let mut offsets = Vec::with_capacity(alloc, bytes.len() / BLOCK_LEN)?;
+    let mut rest = bytes;
+    while let Some((offset, after)) = block_of(rest) {
+        offsets.push(offset)?;
+        rest = after;
+    }
+    Ok(Some(offsets))
+}
+
+/// The block at the front, and the bytes behind it; None where there are fewer than a block has.
+fn block_of(bytes: &[u8]) -> Option<(Offset, &[u8])>
+    ensures found { IfSome result (λ x. IsBlock bytes.now x.0 x.1.now) }
+    ensures none { IfNone result (length bytes.now < 8) }
+{
+    let (from_beginning_of_file, rest) = read_u32(bytes)?;
+    let (num_entries, rest) = read_u32(rest)?;
+    Some((
+        Offset {
+            from_beginning_of_file,
+            num_entries,
+        },
+        rest,
+    ))
 }

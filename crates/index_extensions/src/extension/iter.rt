@@ -4,11 +4,15 @@ ghost use Rattle.std.specs.Prelude.{◌≡◌, ◌<◌, ◌++◌, List, ℕ, len
 ghost use Rattle.std.specs.Iterator.{at_most};
 ghost use Rattle.std.specs.Option.{option_map};
 ghost use Rattle.index_parts.specs.Id.{id_len};
+ghost use Rattle.index_extensions.specs.Reading.{item_at};
 ghost use Rattle.index_extensions.specs.Walk.{Steps, unread};
 
 use super::{MIN_SIZE, Signature};
 use index_parts::hash::Kind;
 use index_parts::util::from_be_u32;
+
+#[cfg(test)]
+mod tests;
 
 /// The extensions that bytes begin with, one after another, as signature and content. Nothing is copied.
 ///
@@ -63,16 +67,31 @@ impl<'a> Iterator for Iter<'a> {
         if self.rest.len() < MIN_SIZE {
             return None;
         }
-        let (head, rest) = self.rest.split_at(MIN_SIZE);
         self.consumed = self.consumed.wrapping_add(MIN_SIZE);
-        let size = from_be_u32(&head[4..]) as usize;
-        if rest.len() < size {
+        let Some((signature, _, content, rest)) = item_of(self.rest) else {
             self.rest = &[];
             return None;
-        }
-        let (content, rest) = rest.split_at(size);
+        };
         self.rest = rest;
-        self.consumed = self.consumed.wrapping_add(size);
-        Some(([head[0], head[1], head[2], head[3]], content))
+        self.consumed = self.consumed.wrapping_add(content.len());
+        Some((signature_of(signature), content))
     }
+}
+
+/// The extension at the front: its signature, its size as it is spelled, its content, and the bytes behind it.
+#[tactic(auto, unfolding(crate::specs::Reading::item_at))]
+pub(super) fn item_of(bytes: &[u8]) -> Option<(&[u8], &[u8], &[u8], &[u8])>
+    ensures { option_map (λ x. (record { signature = x.0.now; size = x.1.now; content = x.2.now }, x.3.now)) result ≡ item_at bytes.now }
+{
+    let (signature, rest) = bytes.split_at_checked(4)?;
+    let (size, rest) = rest.split_at_checked(4)?;
+    let (content, rest) = rest.split_at_checked(from_be_u32(size) as usize)?;
+    Some((signature, size, content, rest))
+}
+
+fn signature_of(bytes: &[u8]) -> Signature
+    requires { length bytes.now ≡ 4 }
+    ensures { result ≡ bytes.now }
+{
+    [bytes[0], bytes[1], bytes[2], bytes[3]]
 }

@@ -7,6 +7,7 @@ ghost use Rattle.index_extensions.specs.Tree.{IsTree, node_of};
 
 use super::Signature;
 use index_parts::hash::{Kind, ObjectId};
+use nodes::push_node;
 use smallvec::SmallVec;
 use std::alloc::{AllocError, Global};
 
@@ -37,7 +38,7 @@ pub struct Tree {
     pub children: Vec<Tree>,
 }
 
-/// The clone has the same nodes. It takes as much memory as its source, and fails where there isn't as much.
+/// A clone has the same name, id and count, and clones of the children. An error is want of memory.
 impl Clone for Tree {
     ghost is_clone = { λ t u. node_of u ≡ node_of t };
 
@@ -46,6 +47,7 @@ impl Clone for Tree {
     }
 }
 
+/// A tree with the same nodes.
 fn copy_of(tree: &Tree) -> Result<Tree, AllocError>
     ensures { IfOk result (λ t. node_of t ≡ node_of tree.now) }
 {
@@ -74,13 +76,20 @@ pub fn decode(
 ) -> Result<Option<Tree>, AllocError>
     ensures read { IfOk result (λ found. IsRead (IsTree object_hash alloc_limit_bytes) «data».now (option_map node_of found)) }
 {
-    let Some((tree, rest)) =
-        nodes::read_node(alloc, object_hash, alloc_limit_bytes, MAX_LEVELS, data)?
+    let mut roots = Vec::new(alloc);
+    let Some(rest) = push_node(
+        alloc,
+        object_hash,
+        alloc_limit_bytes,
+        MAX_LEVELS,
+        data,
+        &mut roots,
+    )?
     else {
         return Ok(None);
     };
     if !rest.is_empty() {
         return Ok(None);
     }
-    Ok(Some(tree))
+    Ok(roots.pop())
 }

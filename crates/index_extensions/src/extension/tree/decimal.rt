@@ -1,7 +1,7 @@
 //! Numbers in decimal digits, as text.
 
 ghost use Rattle.std.specs.Prelude.{◌≡◌};
-ghost use Rattle.index_extensions.specs.Reading.{decimal_of, count_of, positive_count, negative_count};
+ghost use Rattle.index_extensions.specs.Reading.{decimal_of, count_of, nonnegative_count, negated_count};
 
 /// The number of one digit or more; None where another byte stands among them, and where it has more than 64 bits.
 pub(super) fn decimal_of(text: &[u8]) -> Option<u64>
@@ -20,8 +20,9 @@ pub(super) fn decimal_of(text: &[u8]) -> Option<u64>
     Some(value)
 }
 
-fn positive_count(n: u64) -> Option<Option<u32>>
-    ensures { result ≡ positive_count n }
+/// The count that a number without a minus stands for; None where it has more than 31 bits.
+fn nonnegative_count(n: u64) -> Option<Option<u32>>
+    ensures { result ≡ nonnegative_count n }
 {
     if n < 1 << 31 {
         Some(Some(n as u32))
@@ -30,8 +31,9 @@ fn positive_count(n: u64) -> Option<Option<u32>>
     }
 }
 
-fn negative_count(n: u64) -> Option<Option<u32>>
-    ensures { result ≡ negative_count n }
+/// The count that a number behind a minus stands for: none, but zero of zero; None where it is above 2^31.
+fn negated_count(n: u64) -> Option<Option<u32>>
+    ensures { result ≡ negated_count n }
 {
     if n == 0 {
         Some(Some(0))
@@ -50,8 +52,8 @@ pub(super) fn count_of(text: &[u8]) -> Option<Option<u32>>
         return None;
     };
     match *sign {
-        b'-' => negative_count(decimal_of(digits)?),
-        b'+' => positive_count(decimal_of(digits)?),
-        _ => positive_count(decimal_of(text)?),
+        b'-' => negated_count(decimal_of(digits)?),
+        b'+' => nonnegative_count(decimal_of(digits)?),
+        _ => nonnegative_count(decimal_of(text)?),
     }
 }

@@ -22,6 +22,7 @@ pub(super) struct Head<'a> {
 /// How many bytes of the limit a child takes.
 const CHILD_SIZE: u64 = 104;
 
+/// A piece of so many bytes, and those behind it.
 fn piece_of(size: usize, bytes: &[u8]) -> Option<(&[u8], &[u8])>
     ensures { option_map (λ x. (x.0.now, x.1.now)) result ≡ piece_at size bytes.now }
 {
@@ -48,7 +49,7 @@ fn passes_limit(limit: Option<usize>, number: u64) -> bool
     }
 }
 
-/// The id of a node, which only one with a count has.
+/// The id of a node with this count, and the bytes behind it. A node without a count has none, and so the null id.
 fn id_of(kind: Kind, count: Option<u32>, bytes: &[u8]) -> Option<(ObjectId, &[u8])>
     ensures { option_map (λ x. (x.0, x.1.now)) result ≡ id_at kind count bytes.now }
 {
@@ -59,6 +60,7 @@ fn id_of(kind: Kind, count: Option<u32>, bytes: &[u8]) -> Option<(ObjectId, &[u8
     Some((ObjectId::of_kind(kind, id), rest))
 }
 
+/// The same, where so many children are within the limit.
 fn limited_id_of(
     kind: Kind,
     limit: Option<usize>,

@@ -1,11 +1,11 @@
 //! A node and all below it.
 
 ghost use Rattle.std.specs.List.Sorted.{IsPermutation};
-ghost use Rattle.std.specs.Prelude.{◌≡◌, ℕ, false, List, map, IsTrue, IfOk, IfSome, IfNone};
-ghost use Rattle.index_extensions.specs.Tree.{Node, node_of, name_cmp, NamesRise, IsNode};
+ghost use Rattle.std.specs.Prelude.{◌≡◌, ℕ, false, List, [], ◌∷◌, ◌++◌, map, IsTrue, IfOk, IfSome, IfNone};
+ghost use Rattle.index_extensions.specs.Tree.{Node, node, nodes_from, node_of, name_cmp, NamesRise, IsNode};
 
 use super::Tree;
-use super::head::head_of;
+use super::head::{Head, head_of};
 use index_parts::hash::Kind;
 use smallvec::SmallVec;
 use std::alloc::{AllocError, Global};
@@ -34,41 +34,63 @@ fn sort_siblings(siblings: &mut Vec<Tree>) -> bool
     true
 }
 
-/// The node at the front with at most so many levels below it, its siblings sorted, and the bytes behind it.
-pub(super) fn read_node(
+/// Puts a node with this head and these children behind its siblings, its children sorted; false where two of them have
+/// one name.
+fn push_tree(
+    alloc: Global,
+    head: Head<'_>,
+    mut children: Vec<Tree>,
+    siblings: &mut Vec<Tree>,
+) -> Result<bool, AllocError>
+    ensures pushed { IfOk result (λ made. IsTrue made → (ts : List Node) × IsPermutation (map node_of children.items) ts × NamesRise ts
+        × (map node_of siblings.new.items ≡ map node_of siblings.old.items ++ node head.entry.name.now head.entry.id head.entry.count (nodes_from ts) ∷ [])) }
+    ensures refused { IfOk result (λ made. made ≡ false → (ts : List Node) → IsPermutation (map node_of children.items) ts → NamesRise ts → ⊥) }
+{
+    if !sort_siblings(&mut children) {
+        return Ok(false);
+    }
+    let name = SmallVec::from_slice(alloc, head.name)?;
+    siblings.push(Tree {
+        name,
+        id: head.id,
+        num_entries: head.count,
+        children,
+    })?;
+    Ok(true)
+}
+
+/// Puts the node at the front behind its siblings, and gives the bytes behind it; None where no node stands there with at
+/// most so many levels below it.
+///
+/// A child takes memory only once it was read. The call keeps little on the stack, since it is as deep as the tree.
+pub(super) fn push_node<'a>(
     alloc: Global,
     kind: Kind,
     limit: Option<usize>,
     levels: u32,
-    bytes: &[u8],
-) -> Result<Option<(Tree, &[u8])>, AllocError>
-    ensures some { IfOk result (λ found. IfSome found (λ x. IsNode kind limit levels bytes.now (node_of x.0) x.1.now)) }
+    bytes: &'a [u8],
+    siblings: &mut Vec<Tree>,
+) -> Result<Option<&'a [u8]>, AllocError>
+    ensures some { IfOk result (λ found. IfSome found (λ rest. (t : Node) × (map node_of siblings.new.items ≡ map node_of siblings.old.items ++ t ∷ [])
+        × IsNode kind limit levels bytes.now t rest.now)) }
     ensures none { IfOk result (λ found. IfNone found ((t : Node) (rest : List ℕ) → IsNode kind limit levels bytes.now t rest → ⊥)) }
 {
     let Some((head, tail)) = head_of(kind, limit, bytes) else {
         return Ok(None);
     };
-    let name = SmallVec::from_slice(alloc, head.name)?;
     let mut children = Vec::new(alloc);
     let mut rest = tail;
     for _i in 0..head.number {
         if levels == 0 {
             return Ok(None);
         }
-        let Some((child, after)) = read_node(alloc, kind, limit, levels - 1, rest)? else {
+        let Some(after) = push_node(alloc, kind, limit, levels - 1, rest, &mut children)? else {
             return Ok(None);
         };
-        children.push(child)?;
         rest = after;
     }
-    if !sort_siblings(&mut children) {
+    if !push_tree(alloc, head, children, siblings)? {
         return Ok(None);
     }
-    let tree = Tree {
-        name,
-        id: head.id,
-        num_entries: head.count,
-        children,
-    };
-    Ok(Some((tree, rest)))
+    Ok(Some(rest))
 }

@@ -1,7 +1,7 @@
-use Rattle.std.proofs.Common.{◌≡◌, ◌≤◌, ℕ, List, length, map, take, sym, ap, ◌∙◌, arith}
+use Rattle.std.proofs.Common.{◌≡◌, ℕ, map, take, sym, ap, ◌∙◌}
 use Rattle.std.proofs.lemmas.List.{take_all}
 use Rattle.std.proofs.lemmas.List.Elements.{same_from_all_zip}
-use Rattle.index_extensions.specs.Tree.{node, nodes_from, node_of}
+use Rattle.index_extensions.specs.Tree.{node_of}
 use Rattle.index_extensions.specs.declared.extension.tree.Tree.TheViews.{out-Tree}
 use Rattle.index_extensions.proofs.Spelled.{node_of-roll, node_of-out}
 use Rattle.index_extensions.proofs.extension.tree.+copy_of.Goals as goal

@@ -1,10 +1,9 @@
-use Rattle.std.proofs.Common.{arith, ◌≡◌, ◌<◌, ◌-◌, ◌+◌, length, List, map, slice_index_or, rules, true, false, sym, ap, subst, ◌∙◌}
-use Rattle.std.specs.List.{AllAdjacentBelow}
+use Rattle.std.proofs.Common.{arith, ◌≡◌, ◌<◌, ◌-◌, length, List, map, slice_index_or, rules, false, sym, ap, subst, ◌∙◌}
 use Rattle.std.specs.Ordering.{is_lt}
 use Rattle.std.specs.declared.cmp.Ordering.TheVariants.{Less}
 use Rattle.std.proofs.lemmas.List.{length-map}
 use Rattle.std.proofs.lemmas.List.Sorted.{IsPermutation-map, all_adjacent_more}
-use Rattle.index_extensions.specs.Tree.{Node, node_of, name_cmp, NamesRise}
+use Rattle.index_extensions.specs.Tree.{node_of, name_cmp, NamesRise}
 use Rattle.index_extensions.proofs.Sorted.{read_map, less_from, rise_from_adjacent, sorted_at, no_order}
 use Rattle.index_extensions.proofs.extension.tree.nodes.sort_siblings.Goals as goal
 

@@ -1,10 +1,10 @@
-use Rattle.std.proofs.Common.{◌≡◌, ℕ, ◌-◌, List, map}
+use Rattle.std.proofs.Common.{ℕ, ◌-◌, List, map}
 use Rattle.index_extensions.specs.Tree.{Node, node_of}
 use Rattle.index_extensions.proofs.Rows.{IsRow}
-use Rattle.index_extensions.proofs.extension.tree.nodes.+read_node.Given as goal
+use Rattle.index_extensions.proofs.extension.tree.nodes.+push_node.Given as goal
 
-abbrev pub decreases-read_node : goal.decreases-read_node
-decreases-read_node l = l.levels
+abbrev pub decreases-push_node : goal.decreases-push_node
+decreases-push_node l = l.levels
 
 -- the children so far are a row, and each row of all children goes on from here
 abbrev pub invariant-loop-i : goal.invariant-loop-i

@@ -1,0 +1,68 @@
+-- Blocks of the offset table, one after another, and the table that they make.
+use Rattle.std.proofs.Common.{◌≡◌, ℕ, ◌+◌, ◌*◌, ◌%◌, ◌<◌, List, [], ◌∷◌, ◌++◌, length, Option, Some, None, refl, sym, ap, subst, ◌∙◌, arith}
+use Rattle.std.specs.Prelude.{◌≢◌}
+use Rattle.std.proofs.lemmas.List.{length-append, nil_from_length}
+use Rattle.std.proofs.lemmas.Option.{same_Some}
+use Rattle.index_parts.proofs.Splits.{piece_again}
+use Rattle.index_parts.specs.Front.{be, StartsWithNumber}
+use Rattle.index_parts.specs.Reading.{piece_at}
+use Rattle.index_extensions.specs.OffsetTable.{IsBlock, AreBlocks, IsTable}
+use Rattle.index_extensions.specs.declared.extension.index_entry_offset_table.Offset.{Offset}
+
+-- pieces of one length at the front of the same bytes are one
+same_fronts : (a b c d : List ℕ) → a ++ b ≡ c ++ d → length a ≡ length c → ◌≡◌ {A = List ℕ × List ℕ} (a, b) (c, d)
+same_fronts a b c d e len = same_Some _ _ (sym (piece_again (length c) a b len) ∙ ap (piece_at (length c)) e ∙ piece_again (length c) c d refl)
+
+pub same_front : (a b c d : List ℕ) → a ++ b ≡ c ++ d → length a ≡ length c → a ≡ c
+same_front a b c d e len = ap (λ (p : List ℕ × List ℕ). p.0) (same_fronts a b c d e len)
+
+pub same_back : (a b c d : List ℕ) → a ++ b ≡ c ++ d → length a ≡ length c → b ≡ d
+same_back a b c d e len = ap (λ (p : List ℕ × List ℕ). p.1) (same_fronts a b c d e len)
+
+-- ---- blocks
+
+pub block_len : (bytes : List ℕ) (o : Offset) (rest : List ℕ) → IsBlock bytes o rest → length bytes ≡ 8 + length rest
+block_len bytes o rest h = omega (arith, ap length h.parts, length-append h.place (h.count ++ rest), length-append h.count rest, h.place_len, h.count_len)
+
+pub blocks_push : (bytes : List ℕ) (blocks : List Offset) (o : Offset) (middle rest : List ℕ) → AreBlocks bytes blocks middle → IsBlock middle o rest → AreBlocks bytes (blocks ++ o ∷ []) rest
+blocks_push bytes [] o middle rest h e = (rest, subst (λ (l : List ℕ). IsBlock l o rest) (sym h) e, refl)
+blocks_push bytes (x ∷ blocks) o middle rest h e = (h.0, h.1, blocks_push h.0 blocks o middle rest h.2 e)
+
+pub blocks_len : (bytes : List ℕ) (blocks : List Offset) (rest : List ℕ) → AreBlocks bytes blocks rest → length bytes ≡ 8 * length blocks + length rest
+blocks_len bytes [] rest h = omega (arith, ap length h)
+blocks_len bytes (o ∷ blocks) rest h = omega (arith, block_len bytes o h.0 h.1, blocks_len h.0 blocks rest h.2)
+
+-- where the bytes are whole blocks, fewer bytes than a block has are none
+pub blocks_all : (bytes : List ℕ) (blocks : List Offset) (rest : List ℕ) → AreBlocks bytes blocks rest → length bytes % 8 ≡ 0 → length rest < 8 → AreBlocks bytes blocks []
+blocks_all bytes blocks rest h whole lt = subst (λ (r : List ℕ). AreBlocks bytes blocks r) (nil_from_length rest (omega (arith, blocks_len bytes blocks rest h))) h
+
+-- bytes of another number are no blocks
+pub blocks_whole : (bytes : List ℕ) (blocks : List Offset) → AreBlocks bytes blocks [] → length bytes % 8 ≡ 0
+blocks_whole bytes blocks h = omega (arith, blocks_len bytes blocks [] h)
+
+-- ---- the table
+
+-- what a table says of its first four bytes and of the others
+pub table_parts : (bytes : List ℕ) (blocks : List Offset) (n : ℕ) (rest : List ℕ) → IsTable bytes blocks → StartsWithNumber 4 bytes n rest → (n ≡ 1) × AreBlocks rest blocks [] × (length rest ≡ 0 → ⊥)
+table_parts bytes blocks n rest h s =
+    let e : s.spelling ++ rest ≡ h.version ++ h.rest = sym s.parts ∙ h.parts in
+    let len : length s.spelling ≡ length h.version = s.size ∙ sym h.version_len in
+    let version : s.spelling ≡ h.version = same_front s.spelling rest h.version h.rest e len in
+    let after : h.rest ≡ rest = sym (same_back s.spelling rest h.version h.rest e len) in
+    let are : AreBlocks rest blocks [] = subst (λ (r : List ℕ). AreBlocks r blocks []) after h.are_blocks in
+    (s.value ∙ ap be version ∙ h.version_is, are, some_left rest blocks are h.some)
+  where
+    some_left : (rest : List ℕ) (bs : List Offset) → AreBlocks rest bs [] → bs ≢ [] → length rest ≡ 0 → ⊥
+    some_left rest [] k n z = n refl
+    some_left rest (b ∷ bs) k n z = absurd (omega (arith, block_len rest b k.0 k.1))
+
+-- a table has four bytes and more
+pub table_len : (bytes : List ℕ) (blocks : List Offset) → IsTable bytes blocks → length bytes < 4 → ⊥
+table_len bytes blocks h lt = absurd (omega (arith, ap length h.parts, length-append h.version h.rest, h.version_len))
+
+pub table_from : (bytes : List ℕ) (blocks : List Offset) (n : ℕ) (rest : List ℕ) → StartsWithNumber 4 bytes n rest → n ≡ 1 → (length rest ≡ 0 → ⊥) → AreBlocks rest blocks [] → IsTable bytes blocks
+table_from bytes blocks n rest s one left are = record { version = s.spelling; rest = rest; parts = s.parts; version_len = s.size; version_is = sym s.value ∙ one; some = some_blocks blocks are; are_blocks = are }
+  where
+    some_blocks : (bs : List Offset) → AreBlocks rest bs [] → bs ≢ []
+    some_blocks [] k = λ _. left (ap length k)
+    some_blocks (b ∷ bs) k = λ e. absurd cc

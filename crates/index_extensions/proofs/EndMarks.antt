@@ -1,0 +1,160 @@
+-- The marker that is read stands there, and a marker that stands there is read.
+use Rattle.std.proofs.Common.{◌≡◌, ℕ, ◌+◌, ◌-◌, ◌≤◌, Bool, true, false, cond, ltb, eqb, not, List, [], ◌∷◌, ◌++◌, length, take, drop, Some, None, Option, refl, sym, ap, append_assoc, subst, ◌∙◌, arith}
+use Rattle.std.specs.List.{starts_with}
+use Rattle.std.specs.Cmp.Lexicographic.{pointwise}
+use Rattle.std.proofs.lemmas.Bool.{ltb-true, ltb-false, le-ltb, not-true, not-false}
+use Rattle.std.proofs.lemmas.Bool.Decides.{Decides-eqb}
+use Rattle.std.proofs.lemmas.List.{take_at, drop_at, take-append-drop, length-append, length-take, length-drop, append-nil, nil_from_length}
+use Rattle.std.proofs.lemmas.Option.{same_Some}
+use Rattle.std.proofs.lemmas.Slice.Eq.{starts_is, slice_eq-Decides}
+use Rattle.index_parts.proofs.Splits.{piece_takes, piece_again}
+use Rattle.index_parts.proofs.Steps.{bind_some, guard_some, test_some}
+use Rattle.index_parts.specs.Digest.{digest}
+use Rattle.index_parts.specs.Front.{be}
+use Rattle.index_parts.specs.Reading.{◌>>=◌, piece_at}
+use Rattle.index_parts.specs.declared.hash.Kind.{Kind}
+use Rattle.index_parts.specs.declared.hash.Kind.TheVariants.{Sha1}
+use Rattle.index_extensions.specs.EndMarker.{heads, IsMarked}
+use Rattle.index_extensions.specs.Reading.{ending_of, marker_start, offset_in, marker_at}
+use Rattle.index_extensions.specs.Walk.{Item, AreItems, IsWalk}
+use Rattle.index_extensions.proofs.Walks.{walk_one, no_empty}
+
+pub heads_push : (items : List Item) (i : Item) → heads (items ++ i ∷ []) ≡ heads items ++ (i.signature ++ i.size)
+heads_push [] i = append-nil (i.signature ++ i.size)
+heads_push (x ∷ items) i = ap (λ (l : List ℕ). (x.signature ++ x.size) ++ l) (heads_push items i) ∙ sym (append_assoc (x.signature ++ x.size) (heads items) (i.signature ++ i.size))
+
+-- extensions that are all of some bytes are one or more
+pub some_items : (items : List Item) (bytes rest hash : List ℕ) → (length bytes ≡ 0 → ⊥) → length rest ≡ 0 → AreItems bytes items rest → hash ≡ digest Sha1 (heads items)
+    → (first : Item) × (others : List Item) × AreItems bytes (first ∷ others) [] × (hash ≡ digest Sha1 (heads (first ∷ others)))
+some_items [] bytes rest hash some none h e = absurd (some (ap length h ∙ none))
+some_items (i ∷ items) bytes rest hash some none h e = (i, items, subst (λ (r : List ℕ). AreItems bytes (i ∷ items) r) (nil_from_length rest none) h, e)
+
+-- and have one digest
+pub heads_one : (bytes : List ℕ) (xs ys : List Item) → AreItems bytes xs [] → AreItems bytes ys [] → digest Sha1 (heads xs) ≡ digest Sha1 (heads ys)
+heads_one bytes xs ys h k = ap (λ (items : List Item). digest Sha1 (heads items)) (walk_one bytes xs ys [] [] (record { items_are = h; ended = no_empty }) (record { items_are = k; ended = no_empty })).0
+
+-- ---- the pieces of bytes with a marker: its offset, the bytes from there to the marker, and its digest
+
+pub record HasMarker (bytes : List ℕ) (x : ℕ × List ℕ × List ℕ) : Type 0 where
+  pub front : List ℕ
+  pub offset : List ℕ
+  pub trailer : List ℕ
+  pub parts : bytes ≡ front ++ (x.1 ++ (marker_start ++ (offset ++ (x.2 ++ trailer))))
+  pub offset_len : length offset ≡ 4
+  pub hash_len : length x.2 ≡ 20
+  pub trailer_len : length trailer ≡ 20
+  pub is_offset : be offset ≡ length front
+  pub behind_header : 12 ≤ length front
+  pub place_is : x.0 ≡ length front
+
+starts_whole : (l s : List ℕ) → length l ≡ length s → starts_with eqb l s ≡ true → l ≡ s
+starts_whole l s n e =
+    let none : drop (length s) l ≡ [] = nil_from_length (drop (length s) l) (omega (arith, length-drop (length s) l)) in
+    (starts_is Decides-eqb l s (starts_with eqb l s) refl).0 e ∙ ap (λ (t : List ℕ). s ++ t) none ∙ append-nil s
+
+three_guards : {A : Type 0} (s t u : Bool) (o : Option A) (y : A) → cond s None (cond t (cond u None o) None) ≡ Some y → (s ≡ false) × (t ≡ true) × (u ≡ false) × (o ≡ Some y)
+three_guards true t u o y e = absurd cc
+three_guards false false u o y e = absurd cc
+three_guards false true true o y e = absurd cc
+three_guards false true false o y e = (refl, refl, refl, e)
+
+pub marker_takes : (bytes : List ℕ) (x : ℕ × List ℕ × List ℕ) → marker_at bytes ≡ Some x → HasMarker bytes x
+unfolding marker_at
+marker_takes bytes x e =
+    let n = length bytes - 52 in
+    let end = ending_of bytes in
+    let before = take n bytes in
+    let off = offset_in end in
+    let behind = drop 4 (drop 8 end) in
+    let g = three_guards (ltb (length bytes) 52) (starts_with eqb (take 8 end) marker_start) (ltb off 12) (piece_at off before >>= λ front. Some (off, front.1, take 20 behind)) x e in
+    let b = bind_some (piece_at off before) (λ front. Some (off, front.1, take 20 behind)) x g.3 in
+    let p = piece_takes off before b.0 b.1 in
+    let long : 52 ≤ length bytes = ltb-false _ _ g.0 in
+    let header : 12 ≤ off = ltb-false _ _ g.2 in
+    let end_len : length end ≡ 52 = omega (arith, length-drop n bytes) in
+    let start : take 8 end ≡ marker_start = starts_whole (take 8 end) marker_start (omega (arith, length-take 8 end)) g.1 in
+    let ends : end ≡ marker_start ++ (take 4 (drop 8 end) ++ (take 20 behind ++ drop 20 behind)) =
+    sym (take-append-drop 8 end) ∙ ap (λ (l : List ℕ). l ++ drop 8 end) start ∙ ap (λ (l : List ℕ). marker_start ++ l) (sym (take-append-drop 4 (drop 8 end)) ∙ ap (λ (l : List ℕ). take 4 (drop 8 end) ++ l) (sym (take-append-drop 20 behind))) in
+    let whole : bytes ≡ b.0.0 ++ (b.0.1 ++ end) = sym (take-append-drop n bytes) ∙ ap (λ (l : List ℕ). l ++ end) p.0 ∙ append_assoc b.0.0 b.0.1 end in
+    let found : HasMarker bytes (off, b.0.1, take 20 behind) = record {
+      front = b.0.0;
+      offset = take 4 (drop 8 end);
+      trailer = drop 20 behind;
+      parts = whole ∙ ap (λ (l : List ℕ). b.0.0 ++ (b.0.1 ++ l)) ends;
+      offset_len = omega (arith, length-take 4 (drop 8 end), length-drop 8 end);
+      hash_len = omega (arith, length-take 20 behind, length-drop 4 (drop 8 end), length-drop 8 end);
+      trailer_len = omega (arith, length-drop 20 behind, length-drop 4 (drop 8 end), length-drop 8 end);
+      is_offset = sym p.1;
+      behind_header = omega arith;
+      place_is = sym p.1;
+    } in
+    subst (λ (y : ℕ × List ℕ × List ℕ). HasMarker bytes y) (same_Some (off, b.0.1, take 20 behind) x b.2) found
+
+pub marker_again : (bytes : List ℕ) (x : ℕ × List ℕ × List ℕ) → HasMarker bytes x → marker_at bytes ≡ Some x
+unfolding marker_at
+marker_again bytes x h =
+    let between = x.1 in
+    let tail = h.offset ++ (x.2 ++ h.trailer) in
+    let end = marker_start ++ tail in
+    let tail_len : length tail ≡ 44 = omega (arith, length-append h.offset (x.2 ++ h.trailer), length-append x.2 h.trailer, h.offset_len, h.hash_len, h.trailer_len) in
+    let whole : bytes ≡ (h.front ++ between) ++ end = h.parts ∙ sym (append_assoc h.front between end) in
+    let len : length bytes ≡ length (h.front ++ between) + 52 = omega (arith, ap length whole, length-append (h.front ++ between) end, length-append marker_start tail) in
+    let n : length bytes - 52 ≡ length (h.front ++ between) = omega arith in
+    let ends : drop (length bytes - 52) bytes ≡ end = ap (λ (k : ℕ). drop k bytes) n ∙ ap (drop (length (h.front ++ between))) whole ∙ drop_at (h.front ++ between) end (length (h.front ++ between)) refl in
+    let before : take (length bytes - 52) bytes ≡ h.front ++ between = ap (λ (k : ℕ). take k bytes) n ∙ ap (take (length (h.front ++ between))) whole ∙ take_at (h.front ++ between) end (length (h.front ++ between)) refl in
+    let off : be (take 4 tail) ≡ length h.front = ap be (take_at h.offset (x.2 ++ h.trailer) 4 h.offset_len) ∙ h.is_offset in
+    let hash : take 20 (drop 4 tail) ≡ x.2 = ap (take 20) (drop_at h.offset (x.2 ++ h.trailer) 4 h.offset_len) ∙ take_at x.2 h.trailer 20 h.hash_len in
+    let one : ltb (length bytes) 52 ≡ false = le-ltb _ _ (omega arith) in
+    let three : ltb (length h.front) 12 ≡ false = le-ltb _ _ h.behind_header in
+    rw (one, ends, before, off, hash, three, piece_again (length h.front) h.front between refl, h.place_is) refl
+
+-- ---- the marker over the extensions
+
+marked_sha1 : (kind : Kind) (bytes : List ℕ) (place : ℕ) → IsMarked kind bytes place → IsMarked Sha1 bytes place
+marked_sha1 kind bytes place h = subst (λ (t : Kind). IsMarked t bytes place) h.is_sha1 h
+
+pub marked_has : (bytes : List ℕ) (place : ℕ) (h : IsMarked Sha1 bytes place) → HasMarker bytes (place, h.between, h.hash)
+marked_has bytes place h = record { front = h.front; offset = h.offset; trailer = h.trailer; parts = h.parts; offset_len = h.offset_len; hash_len = h.hash_len; trailer_len = h.trailer_len; is_offset = h.is_offset; behind_header = h.behind_header; place_is = h.place_is }
+
+pub marked_from : (bytes : List ℕ) (x : ℕ × List ℕ × List ℕ) → HasMarker bytes x → (first : Item) (others : List Item) → AreItems x.1 (first ∷ others) [] → x.2 ≡ digest Sha1 (heads (first ∷ others)) → IsMarked Sha1 bytes x.0
+marked_from bytes x m first others items e = record { front = m.front; between = x.1; offset = m.offset; hash = x.2; trailer = m.trailer; is_sha1 = refl; parts = m.parts; offset_len = m.offset_len; hash_len = m.hash_len; trailer_len = m.trailer_len; is_offset = m.is_offset; behind_header = m.behind_header; first = first; others = others; items = items; is_digest = e; place_is = m.place_is }
+
+-- what a marker says of the pieces that were read
+pub marked_same : (bytes : List ℕ) (place : ℕ) (x : ℕ × List ℕ × List ℕ) → IsMarked Sha1 bytes place → marker_at bytes ≡ Some x
+    → (first : Item) × (others : List Item) × AreItems x.1 (first ∷ others) [] × (x.2 ≡ digest Sha1 (heads (first ∷ others))) × (x.0 ≡ place)
+marked_same bytes place x h e =
+    let same : ◌≡◌ {A = ℕ × List ℕ × List ℕ} (place, h.between, h.hash) x = same_Some (place, h.between, h.hash) x (sym (marker_again bytes (place, h.between, h.hash) (marked_has bytes place h)) ∙ e) in
+    subst (λ (y : ℕ × List ℕ × List ℕ). (first : Item) × (others : List Item) × AreItems y.1 (first ∷ others) [] × (y.2 ≡ digest Sha1 (heads (first ∷ others))) × (y.0 ≡ place)) same (h.first, h.others, h.items, h.is_digest, refl)
+
+-- bytes have one marker, or none
+pub marked_one : (kind : Kind) (bytes : List ℕ) (p q : ℕ) → IsMarked kind bytes p → IsMarked kind bytes q → p ≡ q
+marked_one kind bytes p q h k =
+    let a = marked_sha1 kind bytes p h in
+    let b = marked_sha1 kind bytes q k in
+    (marked_same bytes q (p, a.between, a.hash) b (marker_again bytes (p, a.between, a.hash) (marked_has bytes p a))).4
+
+-- ---- where there is no marker
+
+pub marked_none : (kind : Kind) (bytes : List ℕ) (place : ℕ) → marker_at bytes ≡ None → IsMarked kind bytes place → ⊥
+marked_none kind bytes place e h =
+    let m = marked_sha1 kind bytes place h in
+    absurd (cc (marker_again bytes (place, m.between, m.hash) (marked_has bytes place m), e))
+
+pub marked_items : (kind : Kind) (bytes : List ℕ) (place : ℕ) (x : ℕ × List ℕ × List ℕ) → marker_at bytes ≡ Some x → ((first : Item) (others : List Item) → AreItems x.1 (first ∷ others) [] → ⊥) → IsMarked kind bytes place → ⊥
+marked_items kind bytes place x e none h = let m = marked_same bytes place x (marked_sha1 kind bytes place h) e in none m.0 m.1 m.2
+
+pub marked_digest : (kind : Kind) (bytes : List ℕ) (place : ℕ) (x : ℕ × List ℕ × List ℕ) (first : Item) (others : List Item) → marker_at bytes ≡ Some x → AreItems x.1 (first ∷ others) [] → (digest Sha1 (heads (first ∷ others)) ≡ x.2 → ⊥) → IsMarked kind bytes place → ⊥
+marked_digest kind bytes place x first others e items other h =
+    let m = marked_same bytes place x (marked_sha1 kind bytes place h) e in
+    other (heads_one x.1 (first ∷ others) (m.0 ∷ m.1) items m.2 ∙ sym m.3)
+
+-- ---- digests compared byte for byte
+
+pub bytes_agree : (xs ys : List ℕ) → not (pointwise eqb xs ys) ≡ false → xs ≡ ys
+bytes_agree xs ys e = (slice_eq-Decides Decides-eqb xs ys (pointwise eqb xs ys) refl).0 (not-false _ e)
+
+pub bytes_differ : (xs ys : List ℕ) → not (pointwise eqb xs ys) ≡ true → xs ≡ ys → ⊥
+bytes_differ xs ys e same =
+    let t : pointwise eqb xs ys ≡ true = (slice_eq-Decides Decides-eqb xs ys (pointwise eqb xs ys) refl).1 same in
+    let f : pointwise eqb xs ys ≡ false = not-true _ e in
+    cc
