@@ -1,6 +1,7 @@
 -- What an error of a bitmap says of the link that it is part of.
-use Rattle.std.proofs.Common.{◌≡◌, ℕ, List, [], ◌++◌, length, refl, sym, ap}
+use Rattle.std.proofs.Common.{◌≡◌, ℕ, true, false, eqb, List, [], ◌∷◌, length, refl, ap, arith}
 use Rattle.std.specs.Prelude.{◌≢◌, codes}
+use Rattle.std.proofs.lemmas.Bool.{eqb-true, eqb-false}
 use Rattle.index_parts.specs.Bitmap.{Bitmap, IsBitmap}
 use Rattle.index_parts.specs.Id.{id_len, make_id}
 use Rattle.index_parts.specs.declared.hash.Kind.{Kind}
@@ -8,6 +9,13 @@ use Rattle.index_parts.specs.declared.hash.ObjectId.{ObjectId}
 use Rattle.index_state.specs.Link.{LinkFault, Corrupt, BitmapDecode, StartsWithId, IsLinkFault, no_delete, no_replace, SaysLink, SaysBitmap}
 use Rattle.index_state.specs.declared.extension.link.decode.Error.{Error}
 use Rattle.index_state.specs.declared.extension.link.decode.Error.TheVariants as errors
+
+pub nil_of : (l : List ℕ) → eqb (length l) 0 ≡ true → l ≡ []
+nil_of [] e = refl
+nil_of (b ∷ l) e = let none : length (b ∷ l) ≡ 0 = eqb-true (length (b ∷ l)) 0 e in absurd (omega (arith, none))
+
+pub some_of : (l : List ℕ) → eqb (length l) 0 ≡ false → l ≢ []
+some_of l e = λ k. eqb-false (length l) 0 e (ap length k)
 
 pub says_delete : (kind : Kind) (bytes : List ℕ) (id : ObjectId) (maps : List ℕ) (e : Error) → StartsWithId kind bytes id maps → maps ≢ [] → SaysBitmap (codes "delete") maps e → SaysLink kind bytes e
 says_delete kind bytes id maps (errors.Corrupt text) starts some h = absurd h

@@ -1,8 +1,9 @@
 //! Reading a link.
 
-ghost use Rattle.std.specs.Prelude.{IfOk, IfErr};
+ghost use Rattle.std.specs.Prelude.{◌<◌, length, IfOk, IfErr, IfSome, IfNone};
 ghost use Rattle.index_parts.specs.Bitmap.{bitmap, IsBitmap};
-ghost use Rattle.index_state.specs.Link.{IsLink, SaysBitmap, SaysLink, link_of};
+ghost use Rattle.index_parts.specs.Id.{id_len};
+ghost use Rattle.index_state.specs.Link.{IsLink, StartsWithId, SaysBitmap, SaysLink, link_of};
 
 use super::{Bitmaps, Link};
 use index_parts::ewah;
@@ -27,6 +28,19 @@ pub enum Error {
     /// A growth was refused.
     #[error("out of memory while reading a link")]
     Memory,
+}
+
+/// The id at the front of bytes, and the bytes behind it.
+fn id_of(bytes: &[u8], kind: Kind) -> Option<(ObjectId, &[u8])>
+    ensures found { IfSome result (λ x. StartsWithId kind bytes.now x.0 x.1.now) }
+    ensures none { IfNone result (length bytes.now < id_len kind) }
+{
+    let len = kind.len_in_bytes();
+    if bytes.len() < len {
+        return None;
+    }
+    let (id, rest) = bytes.split_at(len);
+    Some((ObjectId::of_kind(kind, id), rest))
 }
 
 /// The bitmap with this name at the front of bytes, and the bytes behind it.
@@ -55,12 +69,9 @@ pub fn decode(alloc: Global, data: &[u8], object_hash: Kind) -> Result<Link, Err
     ensures found { IfOk result (λ link. IsLink object_hash «data».now (link_of link)) }
     ensures fault { IfErr result (SaysLink object_hash «data».now) }
 {
-    let len = object_hash.len_in_bytes();
-    if data.len() < len {
+    let Some((shared_index_checksum, maps)) = id_of(data, object_hash) else {
         return Err(Error::Corrupt("link extension too short to read share index checksum"));
-    }
-    let (id, maps) = data.split_at(len);
-    let shared_index_checksum = ObjectId::of_kind(object_hash, id);
+    };
     if maps.is_empty() {
         return Ok(Link {
             shared_index_checksum,
