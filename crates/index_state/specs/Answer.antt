@@ -48,10 +48,10 @@ value_of kind time version rs o = record {
   had_end_marker = o.had_end_marker;
   had_offset_table = o.had_offset_table;
   tree = o.tree;
-  link = None;
-  resolve_undo = None;
-  untracked = None;
-  fs_monitor = None;
+  link = o.link;
+  resolve_undo = o.resolve_undo;
+  untracked = o.untracked;
+  fs_monitor = o.fs_monitor;
 }
 
 -- what follows from the extensions, the bytes that their walk leaves, and the trailer: the first fault of an extension, a

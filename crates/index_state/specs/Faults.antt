@@ -1,5 +1,6 @@
 -- Which fault an error of the code stands for.
 use Rattle.std.specs.Prelude.{ℕ, ◌<◌, List, Option, Some, None, Result, Ok, Err, MatchOption}
+use Rattle.std.specs.Option.{option_map}
 use Rattle.index_parts.specs.declared.hash.Kind.{Kind}
 use Rattle.index_parts.specs.declared.hash.ObjectId.{ObjectId}
 use Rattle.index_state.specs.declared.Version.{Version}
@@ -12,8 +13,9 @@ use Rattle.index_state.specs.declared.extension.decode.Error.{Error as Extension
 use Rattle.index_state.specs.declared.extension.decode.Error.TheVariants as extensions
 use Rattle.index_state.specs.Answer.{Fault, Header, OutOfMemory, NoEntry, Extension, TrailerLength, Verify, Answer}
 use Rattle.index_state.specs.Entries.{LacksEntry}
+use Rattle.index_state.specs.Link.{link_fault}
 use Rattle.index_state.specs.Header.{HeaderFault, Corrupt, UnsupportedVersion}
-use Rattle.index_state.specs.Outcome.{ExtensionFault, Unimplemented}
+use Rattle.index_state.specs.Outcome.{ExtensionFault, Unimplemented, Link}
 use Rattle.index_state.specs.Record.{contents}
 
 abbrev pub header_fault : HeaderError → HeaderFault
@@ -23,7 +25,7 @@ header_fault (headers.UnsupportedVersion n) = UnsupportedVersion n
 -- the fault of an extension that an error stands for, if any: want of memory stands for none
 abbrev pub extension_fault : ExtensionError → Option ExtensionFault
 extension_fault (extensions.MandatoryUnimplemented signature) = Some (Unimplemented signature)
-extension_fault (extensions.Link e) = None
+extension_fault (extensions.Link e) = option_map Link (link_fault e)
 
 -- a fault that is found before any memory is asked for
 abbrev pub IsEarly : Fault → Type 0

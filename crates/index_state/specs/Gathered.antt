@@ -4,7 +4,10 @@ use Rattle.std.specs.Option.{option_map}
 use Rattle.std.specs.Cmp.Lexicographic.{pointwise}
 use Rattle.index_parts.specs.declared.hash.Kind.{Kind}
 use Rattle.index_extensions.specs.Contents.{IsRead}
+use Rattle.index_extensions.specs.FsMonitor.{IsMonitor, monitor_of}
+use Rattle.index_extensions.specs.ResolveUndo.{IsResolveUndo, paths_of}
 use Rattle.index_extensions.specs.Tree.{IsTree, node_of}
+use Rattle.index_extensions.specs.Untracked.{IsCache, cache_of}
 use Rattle.index_extensions.specs.Walk.{Item, IsWalk, left_of}
 use Rattle.index_parts.specs.Id.{id_len}
 use Rattle.index_parts.specs.declared.entry.stat.FileTime.{FileTime}
@@ -13,19 +16,37 @@ use Rattle.index_state.specs.Faults.{extension_fault}
 use Rattle.index_state.specs.Record.{Record}
 use Rattle.index_state.specs.declared.Version.{Version}
 use Rattle.index_state.specs.declared.decode.Options.{Options}
+use Rattle.index_state.specs.Link.{IsLink, link_of}
 use Rattle.index_state.specs.Outcome.{Outcome, ExtensionFault, AreSound, IsFirstFault, IsOutcome}
 use Rattle.index_state.specs.declared.decode.Error.{Error}
 use Rattle.index_state.specs.declared.decode.Error.TheVariants as errors
 use Rattle.index_state.specs.declared.extension.decode.Outcome.{Outcome as Kept}
 
 abbrev pub outcome_of : Kept → Outcome
-outcome_of o = record { tree = option_map node_of o.tree; sparse = o.is_sparse; had_end_marker = o.had_end_of_index_marker; had_offset_table = o.had_offset_table }
+outcome_of o = record {
+  tree = option_map node_of o.tree;
+  link = option_map link_of o.link;
+  resolve_undo = option_map paths_of o.resolve_undo;
+  untracked = option_map cache_of o.untracked;
+  fs_monitor = option_map monitor_of o.fs_monitor;
+  sparse = o.is_sparse;
+  had_end_marker = o.had_end_of_index_marker;
+  had_offset_table = o.had_offset_table;
+}
+
+-- the value of a content with this name; of another the value stays
+abbrev pub Replaces : {A : Type 0} → List ℕ → (List ℕ → A → Type 0) → List ℕ → List ℕ → Option A → Option A → Type 0
+Replaces name Is signature content old new = MatchBool (pointwise nat_eq signature name) (IsRead Is content new) (new ≡ old)
 
 -- what an extension with this signature and content changes
-pub record Adds (kind : Kind) (limit : Option ℕ) (signature content : List ℕ) (old new : Kept) : Type 0 where
-  pub tree : MatchBool (pointwise nat_eq signature (codes "TREE")) (IsRead (IsTree kind limit) content (option_map node_of new.tree)) (new.tree ≡ old.tree)
-  pub sparse : new.is_sparse ≡ (old.is_sparse || pointwise nat_eq signature (codes "sdir"))
-  pub had_end_marker : new.had_end_of_index_marker ≡ (old.had_end_of_index_marker || pointwise nat_eq signature (codes "EOIE"))
+pub record Adds (kind : Kind) (limit : Option ℕ) (signature content : List ℕ) (old new : Outcome) : Type 0 where
+  pub tree : Replaces (codes "TREE") (IsTree kind limit) signature content old.tree new.tree
+  pub link : Replaces (codes "link") (IsLink kind) signature content old.link new.link
+  pub resolve_undo : Replaces (codes "REUC") (IsResolveUndo kind) signature content old.resolve_undo new.resolve_undo
+  pub untracked : Replaces (codes "UNTR") (IsCache kind limit) signature content old.untracked new.untracked
+  pub fs_monitor : Replaces (codes "FSMN") IsMonitor signature content old.fs_monitor new.fs_monitor
+  pub sparse : new.sparse ≡ (old.sparse || pointwise nat_eq signature (codes "sdir"))
+  pub had_end_marker : new.had_end_marker ≡ (old.had_end_marker || pointwise nat_eq signature (codes "EOIE"))
   pub had_offset_table : new.had_offset_table ≡ (old.had_offset_table || pointwise nat_eq signature (codes "IEOT"))
 
 -- bytes are whole extensions without a fault, which come to this, and a tail of which so many bytes count as left

@@ -2,6 +2,8 @@
 use Rattle.std.specs.Prelude.{◌≡◌, ℕ, ◌≤◌, ◌==◌, Bool, List, All, Option, None, IfSome, length, map, slice_range}
 use Rattle.std.specs.List.{list_any}
 use Rattle.std.specs.Option.{option_map}
+use Rattle.index_extensions.specs.FsMonitor.{Monitor, monitor_of}
+use Rattle.index_extensions.specs.ResolveUndo.{PathStages, PathIdsAreOf, paths_of}
 use Rattle.index_extensions.specs.Tree.{Node, NodeIdsAreOf, node_of}
 use Rattle.index_parts.specs.Id.{id_kind}
 use Rattle.index_parts.specs.Mode.{directory_mode}
@@ -9,6 +11,8 @@ use Rattle.index_parts.specs.declared.hash.Kind.{Kind}
 use Rattle.index_parts.specs.declared.hash.ObjectId.{ObjectId}
 use Rattle.index_parts.specs.declared.entry.stat.FileTime.{FileTime}
 use Rattle.index_parts.specs.declared.entry.stat.Stat.{Stat}
+use Rattle.index_extensions.specs.Untracked.{Cache, CacheIdsAreOf, cache_of}
+use Rattle.index_state.specs.Link.{LinkValue, link_of}
 use Rattle.index_state.specs.declared.Version.{Version}
 use Rattle.index_state.specs.declared.Entry.{Entry}
 use Rattle.index_state.specs.declared.State.{State}
@@ -33,10 +37,6 @@ pub record IsPlaced (len : ℕ) (e : Entry) : Type 0 where
   pub forward : e.path.start ≤ e.path.end
   pub inside : e.path.end ≤ len
 
--- the value of an extension that isn't read yet: there is none
-abbrev pub Unread : Type 0
-Unread = ⊥
-
 -- an index as a value
 pub record Contents : Type 0 where
   pub kind : Kind
@@ -47,10 +47,10 @@ pub record Contents : Type 0 where
   pub had_end_marker : Bool
   pub had_offset_table : Bool
   pub tree : Option Node
-  pub link : Option Unread
-  pub resolve_undo : Option Unread
-  pub untracked : Option Unread
-  pub fs_monitor : Option Unread
+  pub link : Option LinkValue
+  pub resolve_undo : Option (List PathStages)
+  pub untracked : Option Cache
+  pub fs_monitor : Option Monitor
 
 abbrev pub entries_of : State → List Entry
 entries_of s = s.entries.items
@@ -71,10 +71,10 @@ contents s = record {
   had_end_marker = s.had_end_of_index_marker;
   had_offset_table = s.had_offset_table;
   tree = option_map node_of s.tree;
-  link = None;
-  resolve_undo = None;
-  untracked = None;
-  fs_monitor = None;
+  link = option_map link_of s.link;
+  resolve_undo = option_map paths_of s.resolve_undo;
+  untracked = option_map cache_of s.untracked;
+  fs_monitor = option_map monitor_of s.fs_monitor;
 }
 
 -- each entry's path lies inside the storage
@@ -85,9 +85,12 @@ PathsInStorage s = All (IsPlaced (length (storage_of s))) (entries_of s)
 abbrev pub IdsAreOf : Kind → List Entry → Type 0
 IdsAreOf kind entries = All (λ e. id_kind e.id ≡ kind) entries
 
--- each id of the cached tree, if there is one, is of this kind
-abbrev pub TreeIdsAreOf : Kind → Option Node → Type 0
-TreeIdsAreOf kind tree = IfSome tree (NodeIdsAreOf kind)
+-- each id in the extensions of a value is of this kind
+pub record ExtensionIdsAreOf (kind : Kind) (c : Contents) : Type 0 where
+  pub tree : IfSome c.tree (NodeIdsAreOf kind)
+  pub link : IfSome c.link (λ l. id_kind l.shared ≡ kind)
+  pub resolve_undo : IfSome c.resolve_undo (PathIdsAreOf kind)
+  pub untracked : IfSome c.untracked (CacheIdsAreOf kind)
 
 -- some record stands for a whole directory
 abbrev pub has_directory : List Record → Bool
