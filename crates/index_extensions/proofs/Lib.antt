@@ -1,5 +1,9 @@
 pub mod Decimals
 pub mod Heads
+pub mod Monitors
+pub mod Octals
+pub mod Paths
+pub mod ResolveUndo
 pub mod Rows
 pub mod Sorted
 pub mod Spelled
