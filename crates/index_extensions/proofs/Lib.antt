@@ -4,8 +4,12 @@ pub mod EndMarks
 pub mod FirstContent
 pub mod Heads
 pub mod Items
+pub mod Monitors
+pub mod Octals
 pub mod Orders
+pub mod Paths
 pub mod Readings
+pub mod ResolveUndo
 pub mod Rows
 pub mod Sorted
 pub mod Spelled

@@ -1,8 +1,13 @@
 pub mod Contents
 pub mod Decimal
 pub mod EndMarker
+pub mod FsMonitor
 pub mod Limit
 pub mod OffsetTable
+pub mod Octal
 pub mod Reading
+pub mod ReadingMonitor
+pub mod ReadingPaths
+pub mod ResolveUndo
 pub mod Tree
 pub mod Walk

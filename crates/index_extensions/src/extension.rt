@@ -1,11 +1,15 @@
 //! What all extensions have in common, and those of them that stand for themselves (gitformat-index, "Extensions").
 
 pub mod end_of_index_entry;
+pub mod fs_monitor;
 pub mod index_entry_offset_table;
 mod iter;
+mod pieces;
+pub mod resolve_undo;
 pub mod sparse;
 pub mod tree;
 
+pub use fs_monitor::FsMonitor;
 pub use iter::Iter;
 pub use tree::Tree;
 

@@ -2,13 +2,12 @@
 
 ghost use Rattle.std.specs.Prelude.{◌≡◌, ◌*◌};
 ghost use Rattle.std.specs.Option.{option_map};
-ghost use Rattle.index_parts.specs.Reading.{piece_at, split_at_byte};
 ghost use Rattle.index_extensions.specs.Limit.{passes_limit};
 ghost use Rattle.index_extensions.specs.Reading.{id_at, limited_id_at, head_at, lent_head};
 
+use super::super::pieces::{piece_of, split_of};
 use super::decimal::{count_of, decimal_of};
 use index_parts::hash::{Kind, ObjectId};
-use index_parts::util::split_at_byte_exclusive;
 
 /// What a node says of itself, and how many children it declares.
 #[derive(Clone, Copy)]
@@ -21,23 +20,6 @@ pub(super) struct Head<'a> {
 
 /// How many bytes of the limit a child takes.
 const CHILD_SIZE: u64 = 104;
-
-/// A piece of so many bytes, and those behind it.
-fn piece_of(size: usize, bytes: &[u8]) -> Option<(&[u8], &[u8])>
-    ensures { option_map (λ x. (x.0.now, x.1.now)) result ≡ piece_at size bytes.now }
-{
-    if bytes.len() < size {
-        return None;
-    }
-    Some(bytes.split_at(size))
-}
-
-/// The bytes up to the first one of this value, and those behind it.
-fn split_of(bytes: &[u8], byte: u8) -> Option<(&[u8], &[u8])>
-    ensures { option_map (λ x. (x.0.now, x.1.now)) result ≡ split_at_byte byte bytes.now }
-{
-    split_at_byte_exclusive(bytes, byte)
-}
 
 /// Whether so many children pass the limit.
 fn passes_limit(limit: Option<usize>, number: u64) -> bool

@@ -1,0 +1,44 @@
+-- Bytes are one list of paths, or none, and the ids in it are of one kind.
+use Rattle.std.proofs.Common.{◌≡◌, ℕ, ◌<◌, List, [], ◌∷◌, ◌++◌, length, Option, Some, None, All, refl, sym, ap, subst, ◌∙◌, arith}
+use Rattle.std.specs.Prelude.{IfSome}
+use Rattle.std.proofs.lemmas.List.Elements.{All-nil, All-cons}
+use Rattle.index_parts.specs.Id.{id_kind}
+use Rattle.index_parts.specs.declared.hash.Kind.{Kind}
+use Rattle.index_extensions.specs.ReadingPaths.{path_at}
+use Rattle.index_extensions.specs.ResolveUndo.{PathStages, IsPath, ArePaths, IsResolveUndo, PathIdsAreOf}
+use Rattle.index_extensions.proofs.Paths.{path_again, one_path, path_fewer, path_kind}
+
+-- no path begins where nothing is left
+no_path : (kind : Kind) (bytes : List ℕ) (p : PathStages) (rest : List ℕ) → bytes ≡ [] → IsPath kind bytes p rest → ⊥
+no_path kind bytes p rest none h = omega (arith, path_fewer kind bytes p rest h, ap length none)
+
+-- one more path behind paths
+pub paths_push : (kind : Kind) (bytes : List ℕ) (paths : List PathStages) (p : PathStages) (middle rest : List ℕ) → ArePaths kind bytes paths middle → IsPath kind middle p rest → ArePaths kind bytes (paths ++ p ∷ []) rest
+paths_push kind bytes [] p middle rest h k = (rest, subst (λ (b : List ℕ). IsPath kind b p rest) (sym h) k, refl)
+paths_push kind bytes (q ∷ paths) p middle rest h k = (h.0, h.1, paths_push kind h.0 paths p middle rest h.2 k)
+
+-- where some bytes behind paths begin no path, the bytes are no paths
+pub no_paths : (kind : Kind) (bytes : List ℕ) (paths all : List PathStages) (rest : List ℕ) → ArePaths kind bytes paths rest → (rest ≡ [] → ⊥) → path_at kind rest ≡ None → IsResolveUndo kind bytes all → ⊥
+no_paths kind bytes [] [] rest h some e k = some (sym h ∙ k)
+no_paths kind bytes [] (q ∷ all) rest h some e k =
+    let f : path_at kind rest ≡ Some (q, k.0) = path_again kind rest q k.0 (subst (λ (b : List ℕ). IsPath kind b q k.0) h k.1) in
+    cc
+no_paths kind bytes (p ∷ paths) [] rest h some e k = no_path kind bytes p h.0 k h.1
+no_paths kind bytes (p ∷ paths) (q ∷ all) rest h some e k =
+    let same = one_path kind bytes q p k.0 h.0 k.1 h.1 in
+    no_paths kind h.0 paths all rest h.2 some e (subst (λ (b : List ℕ). ArePaths kind b all []) same.1 k.2)
+
+-- bytes are one list of paths
+pub one_resolve_undo : (kind : Kind) (bytes : List ℕ) (a b : List PathStages) → IsResolveUndo kind bytes a → IsResolveUndo kind bytes b → a ≡ b
+one_resolve_undo kind bytes [] [] h k = refl
+one_resolve_undo kind bytes [] (q ∷ b) h k = absurd (no_path kind bytes q k.0 h k.1)
+one_resolve_undo kind bytes (p ∷ a) [] h k = absurd (no_path kind bytes p h.0 k h.1)
+one_resolve_undo kind bytes (p ∷ a) (q ∷ b) h k =
+    let same = one_path kind bytes p q h.0 k.0 h.1 k.1 in
+    let others = one_resolve_undo kind h.0 a b h.2 (subst (λ (l : List ℕ). ArePaths kind l b []) (sym same.1) k.2) in
+    ap (λ (x : PathStages). x ∷ a) same.0 ∙ ap (λ (l : List PathStages). q ∷ l) others
+
+-- all ids of paths are of the kind that their bytes are read by
+pub ids_of_paths : (kind : Kind) (bytes : List ℕ) (paths : List PathStages) (rest : List ℕ) → ArePaths kind bytes paths rest → PathIdsAreOf kind paths
+ids_of_paths kind bytes [] rest h = All-nil (λ p. All (λ stage. IfSome stage (λ s. id_kind s.id ≡ kind)) p.stages)
+ids_of_paths kind bytes (p ∷ paths) rest h = All-cons (λ q. All (λ stage. IfSome stage (λ s. id_kind s.id ≡ kind)) q.stages) p paths (path_kind kind bytes p h.0 h.1) (ids_of_paths kind h.0 paths rest h.2)

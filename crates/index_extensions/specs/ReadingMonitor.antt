@@ -1,0 +1,37 @@
+-- What the readers of the file system monitor find at the front of bytes, as functions: a value and the rest, or nothing.
+-- Public clauses cite none of these.
+use Rattle.std.specs.Prelude.{◌≡◌, ℕ, ◌==◌, List, [], length, Option, Some, None, if◌then◌else◌}
+use Rattle.index_parts.specs.Bitmap.{Bitmap, IsBitmap}
+use Rattle.index_parts.specs.Front.{be}
+use Rattle.index_parts.specs.Reading.{◌>>=◌, piece_at, split_at_byte}
+use Rattle.index_extensions.specs.FsMonitor.{Asked, at_time, by_text}
+use Rattle.index_extensions.specs.declared.extension.fs_monitor.parts.LentToken.{LentToken}
+use Rattle.index_extensions.specs.declared.extension.fs_monitor.parts.LentToken.TheVariants as lent
+
+-- a number of so many bytes
+abbrev pub number_at : ℕ → List ℕ → Option (ℕ × List ℕ)
+number_at size bytes = piece_at size bytes >>= λ piece. Some (be piece.0, piece.1)
+
+-- the token of a version
+unfoldable pub token_at : ℕ → List ℕ → Option (Asked × List ℕ)
+token_at version bytes =
+    if version == 1 then (number_at 8 bytes >>= λ time. Some (at_time time.0, time.1))
+    else (if version == 2 then (split_at_byte 0 bytes >>= λ text. Some (by_text text.0, text.1)) else None)
+
+-- the token, the size of the bitmap, and the rest
+unfoldable pub parts_at : List ℕ → Option (Asked × ℕ × List ℕ)
+parts_at bytes = do
+  version ← number_at 4 bytes
+  token ← token_at version.0 version.1
+  size ← number_at 4 token.1
+  Some (token.0, size.0, size.1)
+
+-- what a token that lends its text stands for
+abbrev pub lent_token : LentToken → Asked
+lent_token (lent.V1 nanos) = at_time nanos
+lent_token (lent.V2 text) = by_text text.now
+
+-- bytes are a bitmap of this size, and nothing behind it
+pub record IsSized (size : ℕ) (bytes : List ℕ) (b : Bitmap) : Type 0 where
+  pub len : length bytes ≡ size
+  pub is_bitmap : IsBitmap bytes b []

@@ -1,0 +1,59 @@
+-- What the readers of resolve-undo find at the front of bytes, as functions: a value and the rest, or nothing. Public clauses
+-- cite none of these.
+use Rattle.std.specs.Prelude.{ℕ, ◌+◌, ◌-◌, ◌*◌, ◌^◌, ◌==◌, ◌&&◌, nat_le, nat_lt, List, [], ◌∷◌, Option, Some, None, Bool, if◌then◌else◌}
+use Rattle.index_parts.specs.Id.{id_len, make_id}
+use Rattle.index_parts.specs.Reading.{◌>>=◌, piece_at, split_at_byte}
+use Rattle.index_parts.specs.declared.hash.Kind.{Kind}
+use Rattle.index_extensions.specs.ResolveUndo.{PathStages}
+use Rattle.index_extensions.specs.declared.extension.resolve_undo.Stage.{Stage}
+use Rattle.index_extensions.specs.declared.extension.resolve_undo.path.LentPath.{LentPath}
+
+abbrev pub is_octal_digit : ℕ → Bool
+is_octal_digit b = nat_le 48 b && nat_le b 55
+
+-- the number that octal digits spell, where the digits before them stand for so much
+abbrev pub octal_from : ℕ → List ℕ → Option ℕ
+octal_from high [] = Some high
+octal_from high (b ∷ text) =
+    if is_octal_digit b then
+    (if nat_lt (high * 8 + (b - 48)) (2 ^ 32) then octal_from (high * 8 + (b - 48)) text else None)
+    else None
+
+-- the number of one octal digit or more
+abbrev pub octal_of : List ℕ → Option ℕ
+octal_of [] = None
+octal_of (b ∷ text) = octal_from 0 (b ∷ text)
+
+-- the mode that a plus or nothing and octal digits spell
+abbrev pub mode_of : List ℕ → Option ℕ
+mode_of [] = None
+mode_of (b ∷ text) = if b == 43 then octal_of text else octal_of (b ∷ text)
+
+-- a mode up to a NUL
+unfoldable pub mode_at : List ℕ → Option (ℕ × List ℕ)
+mode_at bytes = do
+  text ← split_at_byte 0 bytes
+  mode ← mode_of text.0
+  Some (mode, text.1)
+
+-- the stage with this mode
+unfoldable pub stage_at : Kind → ℕ → List ℕ → Option (Option Stage × List ℕ)
+stage_at kind mode bytes =
+    if mode == 0 then Some (None, bytes)
+    else (piece_at (id_len kind) bytes >>= λ id. Some (Some (record { mode = mode; id = make_id kind id.0 }), id.1))
+
+-- a path and its stages
+unfoldable pub path_at : Kind → List ℕ → Option (PathStages × List ℕ)
+path_at kind bytes = do
+  name ← split_at_byte 0 bytes
+  base ← mode_at name.1
+  ours ← mode_at base.1
+  theirs ← mode_at ours.1
+  one ← stage_at kind base.0 theirs.1
+  two ← stage_at kind ours.0 one.1
+  three ← stage_at kind theirs.0 two.1
+  Some (record { name = name.0; stages = one.0 ∷ two.0 ∷ three.0 ∷ [] }, three.1)
+
+-- what a path that lends its name stands for
+abbrev pub lent_path : LentPath → PathStages
+lent_path p = record { name = p.name.now; stages = p.stages }

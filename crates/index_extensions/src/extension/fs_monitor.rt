@@ -1,0 +1,116 @@
+//! What a file system monitor said (gitformat-index, "File System Monitor cache").
+
+ghost use Rattle.std.specs.Prelude.{◌≡◌, IfOk};
+ghost use Rattle.std.specs.Option.{option_map};
+ghost use Rattle.index_parts.specs.Bitmap.{bitmap};
+ghost use Rattle.index_parts.specs.declared.ewah.decode.Error.TheVariants.{Memory};
+ghost use Rattle.index_extensions.specs.Contents.{IsRead};
+ghost use Rattle.index_extensions.specs.FsMonitor.{asked_of, monitor_of, IsMonitor};
+ghost use Rattle.index_extensions.specs.ReadingMonitor.{lent_token, IsSized};
+
+use super::Signature;
+use bstr::BString;
+use index_parts::ewah;
+use index_parts::ewah::decode::Error;
+use parts::{LentToken, parts_of};
+use std::alloc::{AllocError, Global};
+
+mod parts;
+#[cfg(test)]
+mod tests;
+
+/// The signature.
+pub const SIGNATURE: Signature = *b"FSMN";
+
+/// When the monitor was asked last: it can be asked what has changed since.
+#[derive(Clone, Debug, Drop, PartialEq, Eq)]
+pub enum Token {
+    /// Version 1: a time.
+    V1 {
+        /// Nanoseconds since the begin of 1970 (UTC).
+        nanos_since_1970: u64,
+    },
+    /// Version 2: a text that the monitor made, and that says something to it alone.
+    V2 {
+        /// The text, which has no NUL.
+        token: BString,
+    },
+}
+
+/// The answer of a file system monitor: which entries it can't vouch for, and when it was asked.
+#[derive(Clone, Debug, Drop)]
+pub struct FsMonitor {
+    token: Token,
+    entry_dirty: ewah::Vec,
+}
+
+impl FsMonitor {
+    /// When the monitor was asked.
+    pub fn token(&self) -> &Token
+        ensures { result.now ≡ self.now.token }
+    {
+        &self.token
+    }
+
+    /// The places of the entries that may have changed since. Nothing says that there is an entry at each place.
+    pub fn entry_dirty(&self) -> &ewah::Vec
+        ensures { result.now ≡ self.now.entry_dirty }
+    {
+        &self.entry_dirty
+    }
+}
+
+/// Lets each fault of the bytes pass; want of memory is none.
+fn check_memory(error: Error) -> Result<(), AllocError>
+    ensures { IfOk result (λ _. error ≡ Memory → ⊥) }
+{
+    match error {
+        Error::Memory => Err(AllocError),
+        _ => Ok(()),
+    }
+}
+
+/// The bitmap that the bytes are, if they have this size.
+fn bitmap_of(alloc: Global, size: u32, bytes: &[u8]) -> Result<Option<ewah::Vec>, AllocError>
+    ensures { IfOk result (λ found. IsRead (IsSized size) bytes.now (option_map bitmap found)) }
+{
+    if bytes.len() != size as usize {
+        return Ok(None);
+    }
+    match ewah::decode::decode(alloc, bytes) {
+        Ok((bitmap, [])) => Ok(Some(bitmap)),
+        Ok((_, [_, ..])) => Ok(None),
+        Err(error) => {
+            check_memory(error)?;
+            Ok(None)
+        }
+    }
+}
+
+fn own(alloc: Global, token: LentToken<'_>) -> Result<Token, AllocError>
+    ensures { IfOk result (λ owned. asked_of owned ≡ lent_token token.entry) }
+{
+    match token {
+        LentToken::V1(nanos_since_1970) => Ok(Token::V1 { nanos_since_1970 }),
+        LentToken::V2(text) => Ok(Token::V2 {
+            token: BString::from_slice(alloc, text)?,
+        }),
+    }
+}
+
+/// What the content of the extension spells: a version, a token, and a bitmap with its size.
+///
+/// None where the version is neither 1 nor 2, where the bytes end within a part, where they are no bitmap, and where the
+/// bitmap has another size than the declared one or bytes stand behind it. All memory is bounded by the bytes.
+pub fn decode(alloc: Global, data: &[u8]) -> Result<Option<FsMonitor>, AllocError>
+    ensures read { IfOk result (λ found. IsRead IsMonitor «data».now (option_map monitor_of found)) }
+{
+    let Some(parts) = parts_of(data) else {
+        return Ok(None);
+    };
+    let Some(entry_dirty) = bitmap_of(alloc, parts.size, parts.rest)? else {
+        return Ok(None);
+    };
+    let token = own(alloc, parts.token)?;
+    Ok(Some(FsMonitor { token, entry_dirty }))
+}

@@ -1,0 +1,62 @@
+use super::*;
+use std::process::Abort;
+use std::test::Fail;
+
+/// A head, the size of a bitmap, and so many zeros.
+fn content(alloc: Global, head: &[u8], size: u8, zeros: usize) -> Result<Vec<u8>, AllocError> {
+    let mut bytes = Vec::new(alloc);
+    bytes.extend_from_slice(head)?;
+    bytes.extend_from_slice(&[0, 0, 0, size])?;
+    bytes.extend_from_slice(&[0u8; 13][..zeros])?;
+    Ok(bytes)
+}
+
+/// The content has this token and a bitmap of no bits.
+fn assert_token(rt: &impl Abort, alloc: Global, head: &[u8], token: &Token) -> Result<(), Fail> {
+    let bytes = content(alloc, head, 12, 12)?;
+    let Some(monitor) = decode(alloc, &bytes)? else {
+        return Err(Fail::from("a monitor is refused"));
+    };
+    let copy = monitor.clone()?;
+    assert_eq!(rt; copy.token(), token);
+    assert_eq!(rt; copy.entry_dirty().num_bits(), 0);
+    assert_eq!(rt; copy.entry_dirty().positions().next(), None);
+    Ok(())
+}
+
+fn assert_malformed(
+    rt: &impl Abort,
+    alloc: Global,
+    head: &[u8],
+    size: u8,
+    zeros: usize,
+) -> Result<(), Fail> {
+    let bytes = content(alloc, head, size, zeros)?;
+    assert!(rt; decode(alloc, &bytes)?.is_none(), "{bytes:?}");
+    Ok(())
+}
+
+const TIME: &[u8] = b"\0\0\0\x01\0\0\0\0\0\0\0\0";
+
+#[test]
+fn both_versions_are_read(rt: HostRuntime) -> Result<(), Fail> {
+    let alloc = rt.alloc();
+    let text = Token::V2 {
+        token: BString::from_slice(alloc, b"t".as_slice())?,
+    };
+    assert_token(&rt, alloc, b"\0\0\0\x02t\0", &text)?;
+    let time = Token::V1 {
+        nanos_since_1970: 0,
+    };
+    assert_token(&rt, alloc, TIME, &time)
+}
+
+#[test]
+fn all_else_is_refused(rt: HostRuntime) -> Result<(), Fail> {
+    let alloc = rt.alloc();
+    assert_malformed(&rt, alloc, TIME, 13, 13)?;
+    assert_malformed(&rt, alloc, TIME, 12, 13)?;
+    assert_malformed(&rt, alloc, TIME, 12, 11)?;
+    assert_malformed(&rt, alloc, b"\0\0\0\x02t", 12, 12)?;
+    assert_malformed(&rt, alloc, b"\0\0\0\x03\0\0\0\0\0\0\0\0", 12, 12)
+}
