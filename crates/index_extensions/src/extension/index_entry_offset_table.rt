@@ -33,6 +33,8 @@ pub struct Offset {
 
 /// The blocks that the content of the extension names. None where its version isn't 1, or where it isn't one or more whole
 /// blocks.
+///
+/// Memory is asked for once, for the blocks that the bytes hold, and only where they are whole; an error is the want of it.
 pub fn decode(alloc: Global, data: &[u8]) -> Result<Option<Vec<Offset>>, AllocError>
     ensures read { IfOk result (λ found. IsRead IsTable «data».now (option_map (λ v. v.items) found)) }
 {

@@ -89,6 +89,7 @@ pub(super) fn item_of(bytes: &[u8]) -> Option<(&[u8], &[u8], &[u8], &[u8])>
     Some((signature, size, content, rest))
 }
 
+/// Four bytes as a signature.
 fn signature_of(bytes: &[u8]) -> Signature
     requires { length bytes.now ≡ 4 }
     ensures { result ≡ bytes.now }

@@ -41,8 +41,10 @@ fn a_marker_names_its_place(rt: HostRuntime) -> Result<(), Fail> {
 fn markers_that_fit_nothing(rt: HostRuntime) -> Result<(), Fail> {
     let alloc = rt.alloc();
     let id = digest(Kind::Sha1, SPARSE);
-    let mut turned = file(alloc, SPARSE, 24, 12, &id)?;
-    turned[51] ^= 1;
+    let mut hash = [0; 20];
+    hash.copy_from_slice(id.as_bytes());
+    hash[19] ^= 1;
+    let turned = file(alloc, SPARSE, 24, 12, &ObjectId::Sha1(hash))?;
     assert_eq!(rt; decode(&turned, Kind::Sha1), None);
     let early = file(alloc, SPARSE, 24, 11, &id)?;
     assert_eq!(rt; decode(&early, Kind::Sha1), None);

@@ -1,4 +1,5 @@
 use super::*;
+use std::test::Fail;
 
 #[test]
 fn whole_extensions_and_a_tail(rt: HostRuntime) {
@@ -20,11 +21,12 @@ fn a_size_past_the_end(rt: HostRuntime) {
 }
 
 #[test]
-fn without_a_trailer(rt: HostRuntime) {
+fn without_a_trailer(rt: HostRuntime) -> Result<(), Fail> {
     let zeros = [0; 20];
     assert!(rt; Iter::new_without_checksum(&zeros[..19], Kind::Sha1).is_none());
     assert!(rt; Iter::new_without_checksum(&zeros, Kind::Sha256).is_none());
-    let mut walk = Iter::new_without_checksum(&zeros, Kind::Sha1);
-    let items = walk.as_mut().map(|walk| (walk.next(), walk.consumed));
-    assert_eq!(rt; items, Some((None, 0)));
+    let mut walk = Iter::new_without_checksum(&zeros, Kind::Sha1).ok_or("no walk")?;
+    assert_eq!(rt; walk.next(), None);
+    assert_eq!(rt; walk.consumed, 0);
+    Ok(())
 }
