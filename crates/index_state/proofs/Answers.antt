@@ -17,6 +17,7 @@ use Rattle.index_state.specs.declared.decode.Options.{Options}
 use Rattle.index_state.specs.declared.decode.Error.{Error}
 use Rattle.index_state.specs.declared.decode.Error.TheVariants as errors
 use Rattle.index_state.specs.declared.extension.decode.Error.TheVariants as extensions
+use Rattle.index_state.specs.declared.extension.link.decode.Error.TheVariants as links
 use Rattle.index_state.specs.Answer.{Fault, Header, OutOfMemory, NoEntry, Extension, TrailerLength, Verify, Answer, checksum_of, IsVerified, value_of, IsClosed, faulty, left, whole, IsEnding, short, walked, IsBody, lacks, has, IsCounted, IsAnswer}
 use Rattle.index_state.specs.Entries.{AreEntries}
 use Rattle.index_state.specs.Faults.{IsEarly, SaysFault, Says, LacksSome, extension_fault}
@@ -65,7 +66,9 @@ says_weaker (Err (errors.Verify p q)) P Q to never h = to _ h
 says_weaker (Err (errors.UnexpectedTrailerLength n m)) P Q to never h = to _ h
 says_weaker (Err errors.Hasher) P Q to never h = h
 says_weaker (Err (errors.Extension (extensions.MandatoryUnimplemented signature))) P Q to never h = to _ h
-says_weaker (Err (errors.Extension (extensions.Link e))) P Q to never h = h
+says_weaker (Err (errors.Extension (extensions.Link (links.Corrupt text)))) P Q to never h = to _ h
+says_weaker (Err (errors.Extension (extensions.Link (links.BitmapDecode e name)))) P Q to never h = to _ h
+says_weaker (Err (errors.Extension (extensions.Link links.Memory))) P Q to never h = h
 says_weaker (Err errors.Memory) P Q to never h = never
 
 pub says_lack : (kind : Kind) (time : FileTime) (options : Options) (version : Version) (count : ℕ) (bytes : List ℕ) (e : Error) → LacksSome version kind count bytes e → SaysFault e (IsBody kind time options version count bytes)

@@ -2,30 +2,39 @@
 use Rattle.std.proofs.Common.{◌≡◌, ℕ, Bool, true, false, cond, List, [], ◌∷◌, ◌++◌, All, Option, Some, None, refl, sym, ap, subst, ◌∙◌}
 use Rattle.std.specs.Prelude.{◌||◌, codes, MatchBool, IfSome}
 use Rattle.std.specs.List.{list_any}
-use Rattle.std.specs.Option.{option_map}
 use Rattle.std.proofs.lemmas.List.Elements.{All-nil, All-push}
 use Rattle.std.proofs.lemmas.List.Folds.{list_any-append}
 use Rattle.index_parts.specs.declared.hash.Kind.{Kind}
 use Rattle.index_extensions.specs.Contents.{is_named, or_else, content_named, last_content, IsRead, IsValue}
-use Rattle.index_extensions.specs.Tree.{Node, NodeIdsAreOf, IsTree, node_of}
+use Rattle.index_extensions.specs.FsMonitor.{IsMonitor}
+use Rattle.index_extensions.specs.ResolveUndo.{IsResolveUndo, PathIdsAreOf}
+use Rattle.index_extensions.specs.Tree.{NodeIdsAreOf, IsTree}
 use Rattle.index_extensions.specs.Walk.{Item, IsItem, AreItems, NoItem, IsWalk, left_of}
+use Rattle.index_parts.proofs.Ids.{id_kind-make_id}
+use Rattle.index_parts.specs.Id.{id_kind}
+use Rattle.index_extensions.proofs.ResolveUndo.{ids_of_paths}
 use Rattle.index_extensions.proofs.Trees.{ids_of_tree}
 use Rattle.index_extensions.proofs.Walks.{walk_of, more_items}
-use Rattle.index_state.specs.Gathered.{outcome_of, Adds, IsGathered, HasFault}
-use Rattle.index_state.specs.Outcome.{Outcome, ExtensionFault, is_understood, IsFault, AreSound, IsFirstFault, IsOutcome, no_extension}
-use Rattle.index_state.specs.Record.{TreeIdsAreOf}
-use Rattle.index_state.specs.declared.extension.decode.Outcome.{Outcome as Kept}
+use Rattle.index_state.specs.Gathered.{Adds, IsGathered, HasFault, Replaces, SaysExtension, SaysItem}
+use Rattle.index_state.specs.Link.{LinkValue, IsLink, alone, split}
+use Rattle.index_state.specs.Outcome.{Outcome, ExtensionFault, is_understood, IsFault, unknown, broken_link, AreSound, IsFirstFault, IsOutcome, no_extension}
+use Rattle.index_state.specs.Record.{ExtensionIdsAreOf}
+use Rattle.index_state.specs.declared.decode.Error.{Error}
+use Rattle.index_state.specs.declared.decode.Error.TheVariants as errors
+use Rattle.index_state.proofs.Links.{no_link_fault}
 
 -- ---- faults
 
 abbrev IsSound : Kind → Item → Type 0
 IsSound kind i = (fault : ExtensionFault) → IsFault kind i fault → ⊥
 
-understood_sound : (kind : Kind) (i : Item) → is_understood i.signature i.content ≡ true → IsSound kind i
-understood_sound kind i e fault h = let n = h.0 in absurd cc
+-- an extension that was added has none, where it is understood
+item_sound : (kind : Kind) (limit : Option ℕ) (i : Item) (old new : Outcome) → is_understood i.signature i.content ≡ true → Adds kind limit i.signature i.content old new → IsSound kind i
+item_sound kind limit i old new e a fault (unknown n f) = absurd cc
+item_sound kind limit i old new e a fault (broken_link l named h f) = let link = a.whole_link named in no_link_fault kind i.content link.value l link.is_link h
 
-pub sound_push : (kind : Kind) (items : List Item) (i : Item) → AreSound kind items → is_understood i.signature i.content ≡ true → AreSound kind (items ++ i ∷ [])
-sound_push kind items i h e = All-push (IsSound kind) items i h (understood_sound kind i e)
+pub sound_push : (kind : Kind) (limit : Option ℕ) (items : List Item) (i : Item) (old new : Outcome) → AreSound kind items → is_understood i.signature i.content ≡ true → Adds kind limit i.signature i.content old new → AreSound kind (items ++ i ∷ [])
+sound_push kind limit items i old new h e a = All-push (IsSound kind) items i h (item_sound kind limit i old new e a)
 
 pub none_sound : (kind : Kind) → AreSound kind []
 none_sound kind = All-nil (IsSound kind)
@@ -55,28 +64,39 @@ value_by : {A : Type 0} (Is : List ℕ → A → Type 0) (t : Bool) (content : L
 value_by Is true content before old new h k = k
 value_by Is false content before old new h k = subst (λ o. IsValue Is before o) (sym k) h
 
-kept_by : (t : Bool) (P : Type 0) (old new : Kept) → MatchBool t P (new.tree ≡ old.tree) → MatchBool t P (option_map node_of new.tree ≡ option_map node_of old.tree)
-kept_by true P old new h = h
-kept_by false P old new h = ap (option_map node_of) h
+value_push : {A : Type 0} (Is : List ℕ → A → Type 0) (name : List ℕ) (items : List Item) (i : Item) (old new : Option A) → IsValue Is (last_content name items) old → Replaces name Is i.signature i.content old new → IsValue Is (last_content name (items ++ i ∷ [])) new
+value_push Is name items i old new h k = rw content_push (value_by Is (is_named name i) i.content (last_content name items) old new h k)
 
-pub outcome_push : (kind : Kind) (limit : Option ℕ) (items : List Item) (i : Item) (old new : Kept) → IsOutcome kind limit items (outcome_of old) → Adds kind limit i.signature i.content old new → IsOutcome kind limit (items ++ i ∷ []) (outcome_of new)
+pub outcome_push : (kind : Kind) (limit : Option ℕ) (items : List Item) (i : Item) (old new : Outcome) → IsOutcome kind limit items old → Adds kind limit i.signature i.content old new → IsOutcome kind limit (items ++ i ∷ []) new
 outcome_push kind limit items i old new h a = record {
-  tree = rw content_push (value_by (IsTree kind limit) (is_named (codes "TREE") i) i.content (last_content (codes "TREE") items) (option_map node_of old.tree) (option_map node_of new.tree) h.tree (kept_by (is_named (codes "TREE") i) _ old new a.tree));
-  sparse = any_push (codes "sdir") items i old.is_sparse new.is_sparse h.sparse a.sparse;
-  had_end_marker = any_push (codes "EOIE") items i old.had_end_of_index_marker new.had_end_of_index_marker h.had_end_marker a.had_end_marker;
+  tree = value_push (IsTree kind limit) (codes "TREE") items i old.tree new.tree h.tree a.tree;
+  link = value_push (IsLink kind) (codes "link") items i old.link new.link h.link a.link;
+  resolve_undo = value_push (IsResolveUndo kind) (codes "REUC") items i old.resolve_undo new.resolve_undo h.resolve_undo a.resolve_undo;
+  fs_monitor = value_push IsMonitor (codes "FSMN") items i old.fs_monitor new.fs_monitor h.fs_monitor a.fs_monitor;
+  sparse = any_push (codes "sdir") items i old.sparse new.sparse h.sparse a.sparse;
+  had_end_marker = any_push (codes "EOIE") items i old.had_end_marker new.had_end_marker h.had_end_marker a.had_end_marker;
   had_offset_table = any_push (codes "IEOT") items i old.had_offset_table new.had_offset_table h.had_offset_table a.had_offset_table;
 }
 
 pub no_outcome : (kind : Kind) (limit : Option ℕ) → IsOutcome kind limit [] no_extension
-no_outcome kind limit = record { tree = refl; sparse = refl; had_end_marker = refl; had_offset_table = refl }
+no_outcome kind limit = record { tree = refl; link = refl; resolve_undo = refl; fs_monitor = refl; sparse = refl; had_end_marker = refl; had_offset_table = refl }
 
-value_ids : (kind : Kind) (limit : Option ℕ) (content : Option (List ℕ)) (tree : Option Node) → IsValue (IsTree kind limit) content tree → TreeIdsAreOf kind tree
-value_ids kind limit content None h = tt
-value_ids kind limit None (Some t) h = absurd cc
-value_ids kind limit (Some bytes) (Some t) h = ids_of_tree kind limit bytes t h
+-- ---- the ids in it
 
-pub outcome_ids : (kind : Kind) (limit : Option ℕ) (items : List Item) (o : Outcome) → IsOutcome kind limit items o → TreeIdsAreOf kind o.tree
-outcome_ids kind limit items o h = value_ids kind limit _ o.tree h.tree
+value_has : {A : Type 0} (Is : List ℕ → A → Type 0) (P : A → Type 0) → ((bytes : List ℕ) (x : A) → Is bytes x → P x) → (content : Option (List ℕ)) (value : Option A) → IsValue Is content value → IfSome value P
+value_has Is P each content None h = tt
+value_has Is P each None (Some x) h = absurd cc
+value_has Is P each (Some bytes) (Some x) h = each bytes x h
+
+link_ids : (kind : Kind) (bytes : List ℕ) (l : LinkValue) → IsLink kind bytes l → id_kind l.shared ≡ kind
+link_ids kind bytes l (alone id s e) = ap (λ (x : LinkValue). id_kind x.shared) e ∙ ap id_kind s.value ∙ id_kind-make_id kind s.spelling
+link_ids kind bytes l (split id maps after b s m n e) = ap (λ (x : LinkValue). id_kind x.shared) e ∙ ap id_kind s.value ∙ id_kind-make_id kind s.spelling
+
+pub outcome_ids : (kind : Kind) (limit : Option ℕ) (items : List Item) (o : Outcome) → IsOutcome kind limit items o → ExtensionIdsAreOf kind o.tree o.link o.resolve_undo
+outcome_ids kind limit items o h =
+    (value_has (IsTree kind limit) (NodeIdsAreOf kind) (λ bytes t. ids_of_tree kind limit bytes t) _ o.tree h.tree,
+      value_has (IsLink kind) (λ l. id_kind l.shared ≡ kind) (link_ids kind) _ o.link h.link,
+      value_has (IsResolveUndo kind) (PathIdsAreOf kind) (λ bytes paths. ids_of_paths kind bytes paths []) _ o.resolve_undo h.resolve_undo)
 
 -- ---- all items
 
@@ -93,3 +113,14 @@ fault_found kind bytes rest after items i fault h s k e =
 
 pub all_gathered : (kind : Kind) (limit : Option ℕ) (bytes rest : List ℕ) (items : List Item) (o : Outcome) (count : ℕ) → AreItems bytes items rest → AreSound kind items → IsOutcome kind limit items o → NoItem rest → count ≡ left_of rest → IsGathered kind limit bytes o count
 all_gathered kind limit bytes rest items o count h s out none e = record { items = items; tail = rest; is_walk = record { items_are = h; ended = none }; sound = s; is_outcome = out; counted = e }
+
+-- what an error of one extension says of all, where those before it have no fault
+pub says_found : (kind : Kind) (bytes rest after : List ℕ) (items : List Item) (i : Item) (e : Error) → AreItems bytes items rest → AreSound kind items → IsItem rest i after → SaysItem kind i e → SaysExtension kind bytes e
+says_found kind bytes rest after items i (errors.Extension e) h s k said = (said.0, said.1, fault_found kind bytes rest after items i said.0 h s k said.2)
+says_found kind bytes rest after items i errors.Memory h s k said = tt
+says_found kind bytes rest after items i (errors.Header e) h s k said = absurd said
+says_found kind bytes rest after items i errors.Hasher h s k said = absurd said
+says_found kind bytes rest after items i errors.OutOfMemory h s k said = absurd said
+says_found kind bytes rest after items i (errors.Entry n) h s k said = absurd said
+says_found kind bytes rest after items i (errors.UnexpectedTrailerLength n m) h s k said = absurd said
+says_found kind bytes rest after items i (errors.Verify p q) h s k said = absurd said

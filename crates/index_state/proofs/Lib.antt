@@ -17,3 +17,4 @@ pub mod Storing
 pub mod Twice
 pub mod Words
 pub mod Written
+pub mod LinkErrors

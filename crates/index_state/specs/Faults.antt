@@ -9,6 +9,8 @@ use Rattle.index_state.specs.declared.decode.Error.{Error}
 use Rattle.index_state.specs.declared.decode.Error.TheVariants as errors
 use Rattle.index_state.specs.declared.decode.header.Error.{Error as HeaderError}
 use Rattle.index_state.specs.declared.decode.header.Error.TheVariants as headers
+use Rattle.index_state.specs.declared.extension.link.decode.Error.{Error as LinkError}
+use Rattle.index_state.specs.declared.extension.link.decode.Error.TheVariants as links
 use Rattle.index_state.specs.declared.extension.decode.Error.{Error as ExtensionError}
 use Rattle.index_state.specs.declared.extension.decode.Error.TheVariants as extensions
 use Rattle.index_state.specs.Answer.{Fault, Header, OutOfMemory, NoEntry, Extension, TrailerLength, Verify, Answer}
@@ -26,6 +28,11 @@ header_fault (headers.UnsupportedVersion n) = UnsupportedVersion n
 abbrev pub extension_fault : ExtensionError → Option ExtensionFault
 extension_fault (extensions.MandatoryUnimplemented signature) = Some (Unimplemented signature)
 extension_fault (extensions.Link e) = option_map Link (link_fault e)
+
+-- the error that a link's error becomes
+abbrev pub link_error : LinkError → Error
+link_error links.Memory = errors.Memory
+link_error e = errors.Extension (extensions.Link e)
 
 -- a fault that is found before any memory is asked for
 abbrev pub IsEarly : Fault → Type 0

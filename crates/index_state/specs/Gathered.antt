@@ -1,13 +1,12 @@
 -- What the code's struct of extensions stands for, and what one extension adds to it. Public clauses cite none of these.
-use Rattle.std.specs.Prelude.{◌≡◌, ℕ, ◌+◌, ◌==◌, ◌||◌, nat_eq, List, codes, Some, Option, Ok, Err, MatchBool}
+use Rattle.std.specs.Prelude.{◌≡◌, ℕ, ◌+◌, ◌==◌, ◌||◌, true, nat_eq, List, codes, map, Some, Option, Ok, Err, MatchBool}
 use Rattle.std.specs.Option.{option_map}
 use Rattle.std.specs.Cmp.Lexicographic.{pointwise}
 use Rattle.index_parts.specs.declared.hash.Kind.{Kind}
 use Rattle.index_extensions.specs.Contents.{IsRead}
 use Rattle.index_extensions.specs.FsMonitor.{IsMonitor, monitor_of}
-use Rattle.index_extensions.specs.ResolveUndo.{IsResolveUndo, paths_of}
+use Rattle.index_extensions.specs.ResolveUndo.{IsResolveUndo, path_stages}
 use Rattle.index_extensions.specs.Tree.{IsTree, node_of}
-use Rattle.index_extensions.specs.Untracked.{IsCache, cache_of}
 use Rattle.index_extensions.specs.Walk.{Item, IsWalk, left_of}
 use Rattle.index_parts.specs.Id.{id_len}
 use Rattle.index_parts.specs.declared.entry.stat.FileTime.{FileTime}
@@ -16,8 +15,8 @@ use Rattle.index_state.specs.Faults.{extension_fault}
 use Rattle.index_state.specs.Record.{Record}
 use Rattle.index_state.specs.declared.Version.{Version}
 use Rattle.index_state.specs.declared.decode.Options.{Options}
-use Rattle.index_state.specs.Link.{IsLink, link_of}
-use Rattle.index_state.specs.Outcome.{Outcome, ExtensionFault, AreSound, IsFirstFault, IsOutcome}
+use Rattle.index_state.specs.Link.{HasLink, IsLink, link_of}
+use Rattle.index_state.specs.Outcome.{Outcome, ExtensionFault, IsFault, AreSound, IsFirstFault, IsOutcome}
 use Rattle.index_state.specs.declared.decode.Error.{Error}
 use Rattle.index_state.specs.declared.decode.Error.TheVariants as errors
 use Rattle.index_state.specs.declared.extension.decode.Outcome.{Outcome as Kept}
@@ -26,8 +25,7 @@ abbrev pub outcome_of : Kept → Outcome
 outcome_of o = record {
   tree = option_map node_of o.tree;
   link = option_map link_of o.link;
-  resolve_undo = option_map paths_of o.resolve_undo;
-  untracked = option_map cache_of o.untracked;
+  resolve_undo = option_map (λ paths. map path_stages paths.items) o.resolve_undo;
   fs_monitor = option_map monitor_of o.fs_monitor;
   sparse = o.is_sparse;
   had_end_marker = o.had_end_of_index_marker;
@@ -42,8 +40,8 @@ Replaces name Is signature content old new = MatchBool (pointwise nat_eq signatu
 pub record Adds (kind : Kind) (limit : Option ℕ) (signature content : List ℕ) (old new : Outcome) : Type 0 where
   pub tree : Replaces (codes "TREE") (IsTree kind limit) signature content old.tree new.tree
   pub link : Replaces (codes "link") (IsLink kind) signature content old.link new.link
+  pub whole_link : pointwise nat_eq signature (codes "link") ≡ true → HasLink kind content
   pub resolve_undo : Replaces (codes "REUC") (IsResolveUndo kind) signature content old.resolve_undo new.resolve_undo
-  pub untracked : Replaces (codes "UNTR") (IsCache kind limit) signature content old.untracked new.untracked
   pub fs_monitor : Replaces (codes "FSMN") IsMonitor signature content old.fs_monitor new.fs_monitor
   pub sparse : new.sparse ≡ (old.sparse || pointwise nat_eq signature (codes "sdir"))
   pub had_end_marker : new.had_end_marker ≡ (old.had_end_marker || pointwise nat_eq signature (codes "EOIE"))
@@ -71,6 +69,12 @@ pub record HasFault (kind : Kind) (bytes : List ℕ) (fault : ExtensionFault) : 
   pub tail : List ℕ
   pub is_walk : IsWalk bytes items tail
   pub is_first : IsFirstFault kind items fault
+
+-- what an error of one extension says: its fault, or want of memory
+abbrev pub SaysItem : Kind → Item → Error → Type 0
+SaysItem kind i (errors.Extension e) = (fault : ExtensionFault) × (extension_fault e ≡ Some fault) × IsFault kind i fault
+SaysItem kind i errors.Memory = Unit {0}
+SaysItem kind i e = ⊥
 
 -- what an error of the loop over the extensions says: the first fault, or want of memory
 abbrev pub SaysExtension : Kind → List ℕ → Error → Type 0

@@ -51,6 +51,10 @@ pub data IsLinkFault (kind : Kind) (bytes : List ℕ) (fault : LinkFault) : Type
   no_replace : (id : ObjectId) (maps after : List ℕ) (delete : Bitmap) (error : BitmapError) → StartsWithId kind bytes id maps → IsBitmap maps delete after → Lacks error after → fault ≡ BitmapDecode error (codes "replace") → IsLinkFault kind bytes fault
   garbage : (id : ObjectId) (maps after rest : List ℕ) (b : BitmapPair) → StartsWithId kind bytes id maps → IsBitmap maps b.delete after → IsBitmap after b.replace rest → rest ≢ [] → fault ≡ Corrupt (codes "garbage trailing link extension") → IsLinkFault kind bytes fault
 
+pub record HasLink (kind : Kind) (bytes : List ℕ) : Type 0 where
+  pub value : LinkValue
+  pub is_link : IsLink kind bytes value
+
 -- the fault that an error stands for; want of memory stands for none
 abbrev pub link_fault : Error → Option LinkFault
 link_fault (errors.Corrupt text) = Some (Corrupt text.now)

@@ -3,7 +3,7 @@ use Rattle.std.specs.Prelude.{◌≡◌, ℕ, ◌≤◌, ◌==◌, Bool, List, A
 use Rattle.std.specs.List.{list_any}
 use Rattle.std.specs.Option.{option_map}
 use Rattle.index_extensions.specs.FsMonitor.{Monitor, monitor_of}
-use Rattle.index_extensions.specs.ResolveUndo.{PathStages, PathIdsAreOf, paths_of}
+use Rattle.index_extensions.specs.ResolveUndo.{PathStages, PathIdsAreOf, path_stages}
 use Rattle.index_extensions.specs.Tree.{Node, NodeIdsAreOf, node_of}
 use Rattle.index_parts.specs.Id.{id_kind}
 use Rattle.index_parts.specs.Mode.{directory_mode}
@@ -11,7 +11,6 @@ use Rattle.index_parts.specs.declared.hash.Kind.{Kind}
 use Rattle.index_parts.specs.declared.hash.ObjectId.{ObjectId}
 use Rattle.index_parts.specs.declared.entry.stat.FileTime.{FileTime}
 use Rattle.index_parts.specs.declared.entry.stat.Stat.{Stat}
-use Rattle.index_extensions.specs.Untracked.{Cache, CacheIdsAreOf, cache_of}
 use Rattle.index_state.specs.Link.{LinkValue, link_of}
 use Rattle.index_state.specs.declared.Version.{Version}
 use Rattle.index_state.specs.declared.Entry.{Entry}
@@ -49,7 +48,7 @@ pub record Contents : Type 0 where
   pub tree : Option Node
   pub link : Option LinkValue
   pub resolve_undo : Option (List PathStages)
-  pub untracked : Option Cache
+  pub untracked : Option ⊥
   pub fs_monitor : Option Monitor
 
 abbrev pub entries_of : State → List Entry
@@ -72,8 +71,8 @@ contents s = record {
   had_offset_table = s.had_offset_table;
   tree = option_map node_of s.tree;
   link = option_map link_of s.link;
-  resolve_undo = option_map paths_of s.resolve_undo;
-  untracked = option_map cache_of s.untracked;
+  resolve_undo = option_map (λ paths. map path_stages paths.items) s.resolve_undo;
+  untracked = None;
   fs_monitor = option_map monitor_of s.fs_monitor;
 }
 
@@ -85,12 +84,10 @@ PathsInStorage s = All (IsPlaced (length (storage_of s))) (entries_of s)
 abbrev pub IdsAreOf : Kind → List Entry → Type 0
 IdsAreOf kind entries = All (λ e. id_kind e.id ≡ kind) entries
 
--- each id in the extensions of a value is of this kind
-pub record ExtensionIdsAreOf (kind : Kind) (c : Contents) : Type 0 where
-  pub tree : IfSome c.tree (NodeIdsAreOf kind)
-  pub link : IfSome c.link (λ l. id_kind l.shared ≡ kind)
-  pub resolve_undo : IfSome c.resolve_undo (PathIdsAreOf kind)
-  pub untracked : IfSome c.untracked (CacheIdsAreOf kind)
+-- each id in these extensions, as far as they are there, is of this kind
+abbrev pub ExtensionIdsAreOf : Kind → Option Node → Option LinkValue → Option (List PathStages) → Type 0
+ExtensionIdsAreOf kind tree link resolve_undo =
+    IfSome tree (NodeIdsAreOf kind) × IfSome link (λ l. id_kind l.shared ≡ kind) × IfSome resolve_undo (PathIdsAreOf kind)
 
 -- some record stands for a whole directory
 abbrev pub has_directory : List Record → Bool

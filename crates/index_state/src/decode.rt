@@ -10,13 +10,14 @@ ghost use Rattle.std.specs.List.{list_all};
 ghost use Rattle.std.specs.Prelude.{◌≡◌, ◌≤◌, ◌==◌, ◌+◌, ◌*◌, ◌||◌, length, IfOk, IfErr, OnOk, All};
 ghost use Rattle.index_parts.specs.Id.{id_len};
 ghost use Rattle.index_state.specs.Answer.{Answer, IsVerified, IsAnswer, IsBody, IsEnding, checksum_of};
-ghost use Rattle.index_state.specs.Faults.{Says, SaysFault};
+ghost use Rattle.index_state.specs.Faults.{Says, SaysFault, link_error};
 ghost use Rattle.index_extensions.specs.Limit.{passes_limit};
 ghost use Rattle.index_state.specs.Gathered.{IsTaken, outcome_of};
-ghost use Rattle.index_state.specs.Record.{PathsInStorage, IdsAreOf, TreeIdsAreOf, IsPlaced, contents, entries_of, records_in, has_directory};
+ghost use Rattle.index_state.specs.Record.{PathsInStorage, IdsAreOf, ExtensionIdsAreOf, IsPlaced, contents, entries_of, records_in, has_directory};
 ghost use Rattle.index_state.specs.declared.decode.Error.TheVariants.{Header, Memory};
 
 use crate::extension::decode::Outcome;
+use crate::extension::link;
 use crate::{State, Version, extension};
 use index_extensions::extension::end_of_index_entry;
 use index_parts::entry::FileTime;
@@ -90,6 +91,18 @@ impl From<header::Error> for Error {
     }
 }
 
+/// Want of memory is told by the variant of its own.
+impl From<link::decode::Error> for Error {
+    ghost from_gives = { λ link e. e ≡ link_error link };
+
+    fn from(e: link::decode::Error) -> Error {
+        match e {
+            link::decode::Error::Memory => Error::Memory,
+            e => Error::Extension(extension::decode::Error::Link(e)),
+        }
+    }
+}
+
 impl From<AllocError> for Error {
     ghost from_gives = { λ _ e. e ≡ Memory };
 
@@ -154,7 +167,7 @@ fn state_of(
 ) -> Result<(State, Option<ObjectId>), Error>
     requires placed { All (IsPlaced (length read.storage.items)) read.entries.items }
     requires ids { IdsAreOf object_hash read.entries.items }
-    requires tree_ids { TreeIdsAreOf object_hash (outcome_of outcome).tree }
+    requires extension_ids { ExtensionIdsAreOf object_hash (outcome_of outcome).tree (outcome_of outcome).link (outcome_of outcome).resolve_undo }
     requires sparse { read.sparse ≡ has_directory (records_in read.storage.items read.entries.items) }
     requires trailer { length trailer.now ≡ id_len object_hash }
     requires room { left + id_len object_hash ≤ 0xffffffffffffffff }
@@ -162,7 +175,7 @@ fn state_of(
         (records_in read.entry.storage.items read.entry.entries.items) (outcome_of outcome) left trailer.now) }
     ensures stored { IfOk result (λ x. PathsInStorage x.0) }
     ensures ids { IfOk result (λ x. IdsAreOf object_hash (entries_of x.0)) }
-    ensures tree_ids { IfOk result (λ x. TreeIdsAreOf object_hash (contents x.0).tree) }
+    ensures extension_ids { IfOk result (λ x. ExtensionIdsAreOf object_hash (contents x.0).tree (contents x.0).link (contents x.0).resolve_undo) }
 {
     if left != 0 {
         let expected = object_hash.len_in_bytes();
@@ -201,7 +214,7 @@ fn ending_of(
         (records_in read.entry.storage.items read.entry.entries.items) read.entry.rest.now) }
     ensures stored { IfOk result (λ x. PathsInStorage x.0) }
     ensures ids { IfOk result (λ x. IdsAreOf object_hash (entries_of x.0)) }
-    ensures tree_ids { IfOk result (λ x. TreeIdsAreOf object_hash (contents x.0).tree) }
+    ensures extension_ids { IfOk result (λ x. ExtensionIdsAreOf object_hash (contents x.0).tree (contents x.0).link (contents x.0).resolve_undo) }
 {
     let expected = object_hash.len_in_bytes();
     let actual = read.rest.len();
@@ -253,7 +266,7 @@ fn body_of(
     ensures body { Says result (IsBody object_hash timestamp options version count bytes.now) }
     ensures stored { IfOk result (λ x. PathsInStorage x.0) }
     ensures ids { IfOk result (λ x. IdsAreOf object_hash (entries_of x.0)) }
-    ensures tree_ids { IfOk result (λ x. TreeIdsAreOf object_hash (contents x.0).tree) }
+    ensures extension_ids { IfOk result (λ x. ExtensionIdsAreOf object_hash (contents x.0).tree (contents x.0).link (contents x.0).resolve_undo) }
 {
     let read = entries::entries_of(alloc, version, object_hash, count, paths, bytes)?;
     ending_of(alloc, read, timestamp, object_hash, options, version)
@@ -282,7 +295,7 @@ impl State {
         ensures answer { Says result (IsAnswer object_hash timestamp options «data».now) }
         ensures stored { IfOk result (λ x. PathsInStorage x.0) }
         ensures ids { IfOk result (λ x. IdsAreOf object_hash (entries_of x.0)) }
-        ensures tree_ids { IfOk result (λ x. TreeIdsAreOf object_hash (contents x.0).tree) }
+        ensures extension_ids { IfOk result (λ x. ExtensionIdsAreOf object_hash (contents x.0).tree (contents x.0).link (contents x.0).resolve_undo) }
     {
         let (version, count, rest) = header::decode(data, object_hash)?;
         let offset = end_of_index_entry::decode(data, object_hash);

@@ -4,7 +4,8 @@
 ghost use Rattle.std.specs.Prelude.{◌≡◌, ◌↔◌, ◌<◌, false, length, slice_get, IsTrue};
 
 use crate::extension::decode::Outcome;
-use index_extensions::extension::Tree;
+use crate::extension::link::Link;
+use index_extensions::extension::{FsMonitor, Tree, resolve_undo};
 use index_parts::entry::{FileTime, Flags, Mode, Stage, StageRaw, Stat};
 use index_parts::hash::{Kind, ObjectId};
 use std::cmp::Ordering;
@@ -63,6 +64,9 @@ pub struct State {
     had_end_of_index_marker: bool,
     had_offset_table: bool,
     tree: Option<Tree>,
+    link: Option<Link>,
+    resolve_undo: Option<resolve_undo::Paths>,
+    fs_monitor: Option<FsMonitor>,
 }
 
 impl State {
@@ -87,6 +91,9 @@ impl State {
           had_end_of_index_marker = extensions.had_end_of_index_marker;
           had_offset_table = extensions.had_offset_table;
           tree = extensions.tree;
+          link = extensions.link;
+          resolve_undo = extensions.resolve_undo;
+          fs_monitor = extensions.fs_monitor;
         } }
     {
         State {
@@ -99,6 +106,9 @@ impl State {
             had_end_of_index_marker: extensions.had_end_of_index_marker,
             had_offset_table: extensions.had_offset_table,
             tree: extensions.tree,
+            link: extensions.link,
+            resolve_undo: extensions.resolve_undo,
+            fs_monitor: extensions.fs_monitor,
         }
     }
 

@@ -1,15 +1,21 @@
 //! Reading the extensions behind the last entry.
 
-ghost use Rattle.std.specs.Prelude.{◌≡◌, ◌≤◌, length, false, true, Some, IfOk, IfErr, IfSome, IfNone, OnOk};
-ghost use Rattle.index_state.specs.Faults.{extension_fault};
-ghost use Rattle.index_state.specs.Gathered.{Adds, IsGathered, SaysExtension, outcome_of};
-ghost use Rattle.index_state.specs.Outcome.{Unimplemented, is_mandatory, is_understood, no_extension};
-ghost use Rattle.index_state.specs.Record.{TreeIdsAreOf};
+ghost use Rattle.std.specs.Cmp.Lexicographic.{pointwise};
+ghost use Rattle.std.specs.Option.{option_map};
+ghost use Rattle.std.specs.Prelude.{◌≡◌, ◌≤◌, ℕ, true, List, length, map, nat_eq, codes, IfOk, IfErr, OnOk, OnErr};
+ghost use Rattle.index_extensions.specs.FsMonitor.{IsMonitor, monitor_of};
+ghost use Rattle.index_extensions.specs.ResolveUndo.{IsResolveUndo, path_stages};
+ghost use Rattle.index_extensions.specs.Tree.{IsTree, node_of};
+ghost use Rattle.index_state.specs.Gathered.{Adds, IsGathered, Replaces, SaysExtension, SaysItem, outcome_of};
+ghost use Rattle.index_state.specs.Link.{HasLink, IsLink, SaysLink, link_of};
+ghost use Rattle.index_state.specs.Outcome.{is_mandatory, is_understood, no_extension};
+ghost use Rattle.index_state.specs.Record.{ExtensionIdsAreOf};
 
 use crate::decode;
-use crate::extension::link;
+use crate::extension::link::{self, Link};
 use index_extensions::extension::{
-    Iter, Signature, Tree, end_of_index_entry, index_entry_offset_table, sparse, tree,
+    FsMonitor, Iter, Signature, Tree, end_of_index_entry, fs_monitor, index_entry_offset_table,
+    resolve_undo, sparse, tree,
 };
 use index_parts::hash::Kind;
 use std::alloc::{AllocError, Global};
@@ -33,6 +39,9 @@ pub enum Error {
 #[derive(Drop)]
 pub(crate) struct Outcome {
     pub(crate) tree: Option<Tree>,
+    pub(crate) link: Option<Link>,
+    pub(crate) resolve_undo: Option<resolve_undo::Paths>,
+    pub(crate) fs_monitor: Option<FsMonitor>,
     pub(crate) is_sparse: bool,
     pub(crate) had_end_of_index_marker: bool,
     pub(crate) had_offset_table: bool,
@@ -45,16 +54,81 @@ fn is_mandatory(signature: Signature) -> bool
     signature[0] >= b'a' && signature[0] <= b'z'
 }
 
-/// What is wrong with an extension by itself.
-fn fault_of(signature: Signature, content: &[u8]) -> Option<Error>
-    ensures found { IfSome result (λ e. (is_understood signature content.now ≡ false) × (extension_fault e ≡ Some (Unimplemented signature))) }
-    ensures none { IfNone result (is_understood signature content.now ≡ true) }
+/// Whether this reader understands the extension, or may skip it.
+fn is_understood(signature: Signature, content: &[u8]) -> bool
+    ensures { result ≡ is_understood signature content.now }
 {
-    let is_understood = signature == sparse::SIGNATURE && content.is_empty();
-    if is_mandatory(signature) && !is_understood {
-        return Some(Error::MandatoryUnimplemented { signature });
+    !is_mandatory(signature)
+        || signature == link::SIGNATURE
+        || (signature == sparse::SIGNATURE && content.is_empty())
+}
+
+/// Puts a link in the place of an earlier one.
+fn later_link(
+    slot: &mut Option<Link>,
+    alloc: Global,
+    object_hash: Kind,
+    signature: Signature,
+    content: &[u8],
+) -> Result<(), link::decode::Error>
+    ensures ok { OnOk result (Replaces (codes "link") (IsLink object_hash) signature content.now (option_map link_of slot.old) (option_map link_of slot.new)) }
+    ensures whole { OnOk result (pointwise nat_eq signature (codes "link") ≡ true → HasLink object_hash content.now) }
+    ensures err { IfErr result (SaysLink object_hash content.now) }
+    ensures named { OnErr result (pointwise nat_eq signature (codes "link") ≡ true) }
+{
+    if signature != link::SIGNATURE {
+        return Ok(());
     }
-    None
+    *slot = Some(link::decode::decode(alloc, content, object_hash)?);
+    Ok(())
+}
+
+/// Puts a cached tree, or None where it is malformed, in the place of an earlier one.
+fn later_tree(
+    slot: &mut Option<Tree>,
+    alloc: Global,
+    object_hash: Kind,
+    alloc_limit_bytes: Option<usize>,
+    signature: Signature,
+    content: &[u8],
+) -> Result<(), AllocError>
+    ensures { OnOk result (Replaces (codes "TREE") (IsTree object_hash alloc_limit_bytes) signature content.now (option_map node_of slot.old) (option_map node_of slot.new)) }
+{
+    if signature == tree::SIGNATURE {
+        *slot = tree::decode(alloc, content, object_hash, alloc_limit_bytes)?;
+    }
+    Ok(())
+}
+
+/// The same of resolve-undo.
+fn later_paths(
+    slot: &mut Option<resolve_undo::Paths>,
+    alloc: Global,
+    object_hash: Kind,
+    signature: Signature,
+    content: &[u8],
+) -> Result<(), AllocError>
+    ensures { OnOk result (Replaces (codes "REUC") (IsResolveUndo object_hash) signature content.now (option_map (λ paths. map path_stages paths.items) slot.old) (option_map (λ paths. map path_stages paths.items) slot.new)) }
+{
+    if signature == resolve_undo::SIGNATURE {
+        *slot = resolve_undo::decode(alloc, content, object_hash)?;
+    }
+    Ok(())
+}
+
+/// The same of the file system monitor.
+fn later_monitor(
+    slot: &mut Option<FsMonitor>,
+    alloc: Global,
+    signature: Signature,
+    content: &[u8],
+) -> Result<(), AllocError>
+    ensures { OnOk result (Replaces (codes "FSMN") IsMonitor signature content.now (option_map monitor_of slot.old) (option_map monitor_of slot.new)) }
+{
+    if signature == fs_monitor::SIGNATURE {
+        *slot = fs_monitor::decode(alloc, content)?;
+    }
+    Ok(())
 }
 
 impl Outcome {
@@ -64,6 +138,9 @@ impl Outcome {
     {
         Outcome {
             tree: None,
+            link: None,
+            resolve_undo: None,
+            fs_monitor: None,
             is_sparse: false,
             had_end_of_index_marker: false,
             had_offset_table: false,
@@ -78,12 +155,15 @@ impl Outcome {
         alloc_limit_bytes: Option<usize>,
         signature: Signature,
         content: &[u8],
-    ) -> Result<(), AllocError>
-        ensures { OnOk result (Adds object_hash alloc_limit_bytes signature content.now self.old self.new) }
+    ) -> Result<(), decode::Error>
+        ensures ok { OnOk result (Adds object_hash alloc_limit_bytes signature content.now (outcome_of self.old) (outcome_of self.new)) }
+        ensures err { IfErr result (λ e. (size : List ℕ) → SaysItem object_hash (record { signature = signature; size = size; content = content.now }) e) }
     {
-        if signature == tree::SIGNATURE {
-            self.tree = tree::decode(alloc, content, object_hash, alloc_limit_bytes)?;
-        }
+        later_link(&mut self.link, alloc, object_hash, signature, content)?;
+        let limit = alloc_limit_bytes;
+        later_tree(&mut self.tree, alloc, object_hash, limit, signature, content)?;
+        later_paths(&mut self.resolve_undo, alloc, object_hash, signature, content)?;
+        later_monitor(&mut self.fs_monitor, alloc, signature, content)?;
         self.is_sparse = self.is_sparse || signature == sparse::SIGNATURE;
         self.had_end_of_index_marker =
             self.had_end_of_index_marker || signature == end_of_index_entry::SIGNATURE;
@@ -101,7 +181,7 @@ pub(crate) fn all(
     alloc_limit_bytes: Option<usize>,
 ) -> Result<(Outcome, usize), decode::Error>
     ensures ok { IfOk result (λ x. IsGathered object_hash alloc_limit_bytes extensions.now (outcome_of x.0) x.1) }
-    ensures ids { IfOk result (λ x. TreeIdsAreOf object_hash (outcome_of x.0).tree) }
+    ensures ids { IfOk result (λ x. ExtensionIdsAreOf object_hash (outcome_of x.0).tree (outcome_of x.0).link (outcome_of x.0).resolve_undo) }
     ensures small { IfOk result (λ x. x.1 ≤ length extensions.now) }
     ensures err { IfErr result (SaysExtension object_hash extensions.now) }
 {
@@ -109,7 +189,8 @@ pub(crate) fn all(
     let mut items = Iter::new(extensions);
     while let Some(item) = items.next() {
         let (signature, content) = item;
-        if let Some(fault) = fault_of(signature, content) {
+        if !is_understood(signature, content) {
+            let fault = Error::MandatoryUnimplemented { signature };
             return Err(decode::Error::Extension(fault));
         }
         outcome.add(alloc, object_hash, alloc_limit_bytes, signature, content)?;

@@ -1,23 +1,34 @@
 use Rattle.std.proofs.Common.{rules, ◌≡◌, ℕ, ◌-◌, ◌^◌, ◌<◌, List, [], ◌∷◌, ◌++◌, length, Some, None, sym, refl, ap, arith}
+use Rattle.std.proofs.lemmas.Result.{err_from_is_err_and}
 use Rattle.index_extensions.specs.Walk.{Steps, unread, left_of}
 use Rattle.index_extensions.proofs.Walks.{step_item, step_more, step_counts, step_ends, step_leaves}
 use Rattle.index_state.specs.Gathered.{outcome_of}
-use Rattle.index_state.specs.Outcome.{Unimplemented}
-use Rattle.index_state.proofs.Extensions.{sound_push, none_sound, outcome_push, no_outcome, outcome_ids, fault_found, all_gathered}
+use Rattle.index_state.specs.Outcome.{Unimplemented, unknown}
+use Rattle.index_state.proofs.Extensions.{sound_push, none_sound, outcome_push, no_outcome, outcome_ids, fault_found, says_found, all_gathered}
 use Rattle.index_state.proofs.extension.decode.all.Goals as goal
 
 pub loop-item-init : goal.loop-item-init
 loop-item-init c = ([], sym c.new-items.ensures.all, none_sound c.args.object_hash, rw c.none-outcome.ensures (no_outcome c.args.object_hash c.args.alloc_limit_bytes), omega (arith, c.new-items.ensures.none_yet, ap length c.new-items.ensures.all))
 
-pub returns-in-Some-fault_of-clause-err : goal.returns-in-Some-fault_of-clause-err
-returns-in-Some-fault_of-clause-err c =
+pub returns-then-not-is_understood-clause-err : goal.returns-then-not-is_understood-clause-err
+returns-then-not-is_understood-clause-err c =
     let inv = c.loop-item.invariant in
     let before = unread c.loop-item.items in
     let after = unread c.next.new.self in
     let x : List ℕ × List ℕ = (c.in-Some.item.0, c.in-Some.item.1.now) in
     let h : Steps before c.loop-item.items.consumed (Some x) after c.next.new.self.consumed = c.in-Some.ensures.steps in
-    let found = c.in-Some-fault_of.ensures.found in
-    (Unimplemented x.0, found.1, fault_found c.args.object_hash c.args.extensions.now before after inv.0 (step_item x before c.loop-item.items.consumed after c.next.new.self.consumed h) (Unimplemented x.0) inv.1 inv.2 h.1 (found.0, refl))
+    (Unimplemented x.0, refl, fault_found c.args.object_hash c.args.extensions.now before after inv.0 (step_item x before c.loop-item.items.consumed after c.next.new.self.consumed h) (Unimplemented x.0) inv.1 inv.2 h.1 (unknown (sym c.if-not-is_understood.ensures) refl))
+
+pub returns-in_err-add-clause-err : goal.returns-in_err-add-clause-err
+returns-in_err-add-clause-err c =
+    let inv = c.loop-item.invariant in
+    let before = unread c.loop-item.items in
+    let after = unread c.next.new.self in
+    let x : List ℕ × List ℕ = (c.in-Some.item.0, c.in-Some.item.1.now) in
+    let h : Steps before c.loop-item.items.consumed (Some x) after c.next.new.self.consumed = c.in-Some.ensures.steps in
+    let i = step_item x before c.loop-item.items.consumed after c.next.new.self.consumed h in
+    let p = err_from_is_err_and c.from_residual.result c.from_residual.ensures.1 in
+    rw (p.1, p.2) (says_found c.args.object_hash c.args.extensions.now before after inv.0 i c.in_err-add.field-0.0 inv.1 inv.2 h.1 (c.in_err-add.ensures.err i.size))
 
 pub loop-item-preserved : goal.loop-item-preserved
 loop-item-preserved c =
@@ -30,8 +41,8 @@ loop-item-preserved c =
     let h : Steps before count (Some x) after counted = c.in-Some.ensures.steps in
     let i = step_item x before count after counted h in
     let lt : length c.args.extensions.now < 2 ^ 64 = search rules in
-    (inv.0 ++ i ∷ [], step_more c.args.extensions.now inv.0 x before count after counted inv.1 h, sound_push c.args.object_hash inv.0 i inv.2 c.in_default-fault_of.ensures.none,
-      outcome_push c.args.object_hash c.args.alloc_limit_bytes inv.0 i c.loop-item.outcome c.add.new.self inv.3 c.in_ok-add.ensures, step_counts (length c.args.extensions.now) x before count after counted lt inv.4 h)
+    (inv.0 ++ i ∷ [], step_more c.args.extensions.now inv.0 x before count after counted inv.1 h, sound_push c.args.object_hash c.args.alloc_limit_bytes inv.0 i (outcome_of c.loop-item.outcome) (outcome_of c.add.new.self) inv.2 (sym c.if-not-is_understood.ensures) c.in_ok-add.ensures.ok,
+      outcome_push c.args.object_hash c.args.alloc_limit_bytes inv.0 i (outcome_of c.loop-item.outcome) (outcome_of c.add.new.self) inv.3 c.in_ok-add.ensures.ok, step_counts (length c.args.extensions.now) x before count after counted lt inv.4 h)
 
 pub overflow_sub-result : goal.overflow_sub-result
 overflow_sub-result c =

@@ -3,7 +3,7 @@ use Rattle.std.specs.Prelude.{◌≢◌}
 use Rattle.std.proofs.lemmas.Bool.{eqb-true, eqb-false}
 use Rattle.std.proofs.lemmas.Result.{err_from_is_err_and}
 use Rattle.index_state.specs.Link.{StartsWithId, alone, split, garbage}
-use Rattle.index_state.proofs.Links.{nil_of, some_of, says_delete, says_replace}
+use Rattle.index_state.proofs.LinkErrors.{nil_of, some_of, says_delete, says_replace}
 use Rattle.index_state.proofs.extension.link.decode.decode.Goals as goal
 
 pub returns-then-is_empty-clause-found : goal.returns-then-is_empty-clause-found
