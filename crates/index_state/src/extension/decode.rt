@@ -85,10 +85,10 @@ impl Outcome {
             self.tree = tree::decode(alloc, content, object_hash, alloc_limit_bytes)?;
         }
         self.is_sparse = self.is_sparse || signature == sparse::SIGNATURE;
-        self.had_end_of_index_marker =
-            self.had_end_of_index_marker || signature == end_of_index_entry::SIGNATURE;
-        self.had_offset_table =
-            self.had_offset_table || signature == index_entry_offset_table::SIGNATURE;
+        self.had_end_of_index_marker = self.had_end_of_index_marker
+            || signature == end_of_index_entry::SIGNATURE;
+        self.had_offset_table = self.had_offset_table
+            || signature == index_entry_offset_table::SIGNATURE;
         Ok(())
     }
 }
