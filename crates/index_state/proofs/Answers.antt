@@ -107,10 +107,10 @@ answer_from kind time options bytes version offset r h marked n m =
     says_weaker r (IsBody kind time options version (count_of bytes) (drop 12 bytes)) (IsAnswer kind time options bytes)
     (λ a b. headed_to (header_of kind bytes) version (C a) _ h (offset, marked, counted_to _ _ _ _ _ n m b))
     (λ f early q.
-      let c = headed_back (header_of kind bytes) version (C (Err f)) _ h q in
-      let same : c.0 ≡ offset = one_marker kind bytes c.0 offset c.1 marked in
-      let at = subst (λ (o : Option ℕ). IsCounted o kind time options bytes (Err f) version) same c.2 in
-      body_late kind time options version (count_of bytes) (drop 12 bytes) f early (counted_back _ _ _ _ _ n m at))
+    let c = headed_back (header_of kind bytes) version (C (Err f)) _ h q in
+    let same : c.0 ≡ offset = one_marker kind bytes c.0 offset c.1 marked in
+    let at = subst (λ (o : Option ℕ). IsCounted o kind time options bytes (Err f) version) same c.2 in
+    body_late kind time options version (count_of bytes) (drop 12 bytes) f early (counted_back _ _ _ _ _ n m at))
 
 -- what follows the entries, where they stand
 pub body_from : (kind : Kind) (time : FileTime) (options : Options) (version : Version) (count : ℕ) (bytes : List ℕ) (rs : List Record) (rest : List ℕ) (r : Result (State × Option ObjectId) Error) → AreEntries version kind None bytes rs rest → length rs ≡ count
@@ -140,8 +140,8 @@ says_extension kind time options version rs rest middle trailer (errors.Extensio
     by : (f : Option ExtensionFault) → f ≡ Some h.0 → MatchOption f ⊥ (λ fault. IsEnding kind time options version rs rest (Err (Extension fault)))
     by None k = absurd cc
     by (Some fault) k =
-      let same : fault ≡ h.0 = same_Some _ _ k in
-      walked middle trailer h.2.items h.2.tail parts len h.2.is_walk (faulty h.0 h.2.is_first (ap (λ (x : ExtensionFault). Err (Extension x)) same))
+        let same : fault ≡ h.0 = same_Some _ _ k in
+        walked middle trailer h.2.items h.2.tail parts len h.2.is_walk (faulty h.0 h.2.is_first (ap (λ (x : ExtensionFault). Err (Extension x)) same))
 says_extension kind time options version rs rest middle trailer errors.Memory parts len h = ending_late kind time options version rs rest
 says_extension kind time options version rs rest middle trailer (errors.Header e) parts len h = absurd h
 says_extension kind time options version rs rest middle trailer errors.Hasher parts len h = absurd h

@@ -165,10 +165,10 @@ impl Outcome {
         later_paths(&mut self.resolve_undo, alloc, object_hash, signature, content)?;
         later_monitor(&mut self.fs_monitor, alloc, signature, content)?;
         self.is_sparse = self.is_sparse || signature == sparse::SIGNATURE;
-        self.had_end_of_index_marker =
-            self.had_end_of_index_marker || signature == end_of_index_entry::SIGNATURE;
-        self.had_offset_table =
-            self.had_offset_table || signature == index_entry_offset_table::SIGNATURE;
+        self.had_end_of_index_marker = self.had_end_of_index_marker
+            || signature == end_of_index_entry::SIGNATURE;
+        self.had_offset_table = self.had_offset_table
+            || signature == index_entry_offset_table::SIGNATURE;
         Ok(())
     }
 }

@@ -48,10 +48,12 @@ fn state(alloc: Global, extensions: &[u8]) -> Result<State, Fail>
 /// The actual length of a trailer that has another.
 fn trailer_len(answer: &Answer) -> Option<usize> {
     match answer {
-        Err(Fault::UnexpectedTrailerLength {
-            expected: 20,
-            actual,
-        }) => Some(*actual),
+        Err(
+            Fault::UnexpectedTrailerLength {
+                expected: 20,
+                actual,
+            },
+        ) => Some(*actual),
         _ => None,
     }
 }
@@ -70,7 +72,10 @@ fn sizes_past_the_end(rt: HostRuntime) -> Result<(), Fail> {
     // A head that declares too much ends the walk, whatever its signature, and counts with its eight bytes.
     assert!(rt; read(rt.alloc(), b"link\0\0\0\x05")?.is_ok());
     assert!(rt; read(rt.alloc(), b"abcd\0\0\0\x05")?.is_ok());
-    assert_eq!(rt; trailer_len(&read(rt.alloc(), b"link\0\0\0\x05\0")?), Some(21));
+    assert_eq!(rt;
+        trailer_len(&read(rt.alloc(), b"link\0\0\0\x05\0")?),
+        Some(21)
+    );
     assert_eq!(rt; trailer_len(&read(rt.alloc(), b"sdir\0\0\0")?), Some(27));
     Ok(())
 }
@@ -90,7 +95,9 @@ fn mandatory(rt: HostRuntime) -> Result<(), Fail> {
 fn marks(rt: HostRuntime) -> Result<(), Fail> {
     let alloc = rt.alloc();
     let plain = state(alloc, b"")?;
-    assert!(rt; !plain.is_sparse() && !plain.had_end_of_index_marker() && !plain.had_offset_table());
+    assert!(rt;
+        !plain.is_sparse() && !plain.had_end_of_index_marker() && !plain.had_offset_table()
+    );
     assert!(rt; state(alloc, b"sdir\0\0\0\0")?.is_sparse());
     assert!(rt; state(alloc, b"EOIE\0\0\0\0")?.had_end_of_index_marker());
     assert!(rt; state(alloc, b"IEOT\0\0\0\0")?.had_offset_table());

@@ -1,4 +1,5 @@
 use super::{Extensions, Options};
+use crate::extension::decode::Outcome;
 use crate::{Entry, State, Version};
 use bitflags::Flags as _;
 use index_parts::entry::{FileTime, Flags, Mode, Stat};
@@ -29,7 +30,7 @@ fn state_of(alloc: Global, parts: &[(&[u8], Flags, ObjectId)]) -> Result<State, 
         Version::V2,
         entries,
         paths,
-        false,
+        Outcome::none(),
     ))
 }
 
