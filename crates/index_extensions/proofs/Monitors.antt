@@ -1,10 +1,10 @@
--- What is read of a file system monitor is spelled so, and what is spelled so is read; and bytes are one monitor.
-use Rattle.std.proofs.Common.{◌≡◌, ℕ, ◌+◌, ◌<◌, ◌≤◌, Bool, true, false, cond, ltb, eqb, List, [], ◌∷◌, ◌++◌, length, Option, Some, None, refl, sym, ap, subst, ◌∙◌, append_assoc, arith}
+-- What is read of a file system monitor is spelled so, and what is spelled so is read; and bytes are one monitor, or none.
+use Rattle.std.proofs.Common.{◌≡◌, ℕ, ◌+◌, ◌<◌, ◌≤◌, Bool, true, false, cond, ltb, eqb, List, [], ◌∷◌, ◌++◌, length, Option, Some, None, inl, inr, refl, sym, ap, subst, ◌∙◌, append_assoc, arith}
 use Rattle.std.specs.Prelude.{IfSome, IfNone}
 use Rattle.std.specs.Option.{option_map}
 use Rattle.std.proofs.lemmas.Bool.{eqb-true, eqb-false, lt-ltb}
 use Rattle.std.proofs.lemmas.List.{length-append}
-use Rattle.index_parts.proofs.BitmapFaults.{no_fault}
+use Rattle.index_parts.proofs.BitmapFaults.{no_fault, bitmap_or_fault}
 use Rattle.index_parts.proofs.Bitmaps.{one_bitmap}
 use Rattle.index_parts.proofs.Splits.{piece_takes, piece_again, split_takes, split_again}
 use Rattle.index_parts.proofs.Steps.{bind_some}
@@ -13,7 +13,8 @@ use Rattle.index_parts.specs.Front.{be, StartsWithNumber}
 use Rattle.index_parts.specs.Reading.{◌>>=◌, piece_at, split_at_byte}
 use Rattle.index_parts.specs.declared.ewah.decode.Error.{Error}
 use Rattle.index_parts.specs.declared.ewah.decode.Error.TheVariants as errors
-use Rattle.index_extensions.specs.FsMonitor.{Asked, at_time, by_text, Monitor, IsToken, timed, named, IsMonitor}
+use Rattle.index_extensions.specs.Contents.{IsRead}
+use Rattle.index_extensions.specs.FsMonitor.{TokenValue, nanoseconds, opaque, Monitor, IsToken, version_1, version_2, IsMonitor}
 use Rattle.index_extensions.specs.ReadingMonitor.{number_at, token_at, parts_at, IsSized}
 
 -- ---- numbers
@@ -40,45 +41,45 @@ number_exact f size bytes (Some x) found few =
 -- ---- a token
 
 -- bytes are a token of the version, and the rest
-record StartsWithToken (version : ℕ) (bytes : List ℕ) (token : Asked) (rest : List ℕ) : Type 0 where
+record StartsWithToken (version : ℕ) (bytes : List ℕ) (token : TokenValue) (rest : List ℕ) : Type 0 where
   spelling : List ℕ
   parts : bytes ≡ spelling ++ rest
   is_token : IsToken version spelling token
 
-time_takes : (version : ℕ) (bytes : List ℕ) (x : Asked × List ℕ) → version ≡ 1 → (number_at 8 bytes >>= λ time. Some (at_time time.0, time.1)) ≡ Some x → StartsWithToken version bytes x.0 x.1
+time_takes : (version : ℕ) (bytes : List ℕ) (x : TokenValue × List ℕ) → version ≡ 1 → (number_at 8 bytes >>= λ time. Some (nanoseconds time.0, time.1)) ≡ Some x → StartsWithToken version bytes x.0 x.1
 time_takes version bytes x v e =
-    let n = bind_some (number_at 8 bytes) (λ time. Some (at_time time.0, time.1)) x e in
+    let n = bind_some (number_at 8 bytes) (λ time. Some (nanoseconds time.0, time.1)) x e in
     let s = number_takes 8 bytes n.0 n.1 in
-    let made : Asked × List ℕ = (at_time n.0.0, n.0.1) in
+    let made : TokenValue × List ℕ = (nanoseconds n.0.0, n.0.1) in
     let is : made ≡ x = cc (n.2) in
-    subst (λ (y : Asked × List ℕ). StartsWithToken version bytes y.0 y.1) is (record { spelling = s.spelling; parts = s.parts; is_token = timed v s.size (ap at_time s.value) })
+    subst (λ (y : TokenValue × List ℕ). StartsWithToken version bytes y.0 y.1) is (record { spelling = s.spelling; parts = s.parts; is_token = version_1 v s.size (ap nanoseconds s.value) })
 
-text_takes : (version : ℕ) (bytes : List ℕ) (x : Asked × List ℕ) → version ≡ 2 → (split_at_byte 0 bytes >>= λ text. Some (by_text text.0, text.1)) ≡ Some x → StartsWithToken version bytes x.0 x.1
+text_takes : (version : ℕ) (bytes : List ℕ) (x : TokenValue × List ℕ) → version ≡ 2 → (split_at_byte 0 bytes >>= λ text. Some (opaque text.0, text.1)) ≡ Some x → StartsWithToken version bytes x.0 x.1
 text_takes version bytes x v e =
-    let t = bind_some (split_at_byte 0 bytes) (λ text. Some (by_text text.0, text.1)) x e in
+    let t = bind_some (split_at_byte 0 bytes) (λ text. Some (opaque text.0, text.1)) x e in
     let up = split_takes 0 bytes t.0 t.1 in
-    let made : Asked × List ℕ = (by_text t.0.0, t.0.1) in
+    let made : TokenValue × List ℕ = (opaque t.0.0, t.0.1) in
     let is : made ≡ x = cc (t.2) in
-    subst (λ (y : Asked × List ℕ). StartsWithToken version bytes y.0 y.1) is (record {
+    subst (λ (y : TokenValue × List ℕ). StartsWithToken version bytes y.0 y.1) is (record {
       spelling = t.0.0 ++ 0 ∷ [];
       parts = up.parts ∙ sym (append_assoc t.0.0 (0 ∷ []) t.0.1);
-      is_token = named t.0.0 v refl up.apart refl;
+      is_token = version_2 t.0.0 v refl up.apart refl;
     })
 
-token_by : (version : ℕ) (bytes : List ℕ) (x : Asked × List ℕ) (t u : Bool) → eqb version 1 ≡ t → eqb version 2 ≡ u
-    → cond t (number_at 8 bytes >>= λ time. Some (at_time time.0, time.1)) (cond u (split_at_byte 0 bytes >>= λ text. Some (by_text text.0, text.1)) None) ≡ Some x → StartsWithToken version bytes x.0 x.1
+token_by : (version : ℕ) (bytes : List ℕ) (x : TokenValue × List ℕ) (t u : Bool) → eqb version 1 ≡ t → eqb version 2 ≡ u
+    → cond t (number_at 8 bytes >>= λ time. Some (nanoseconds time.0, time.1)) (cond u (split_at_byte 0 bytes >>= λ text. Some (opaque text.0, text.1)) None) ≡ Some x → StartsWithToken version bytes x.0 x.1
 token_by version bytes x true u f g e = time_takes version bytes x (eqb-true version 1 f) e
 token_by version bytes x false true f g e = text_takes version bytes x (eqb-true version 2 g) e
 token_by version bytes x false false f g e = absurd cc
 
-token_takes : (version : ℕ) (bytes : List ℕ) (x : Asked × List ℕ) → token_at version bytes ≡ Some x → StartsWithToken version bytes x.0 x.1
+token_takes : (version : ℕ) (bytes : List ℕ) (x : TokenValue × List ℕ) → token_at version bytes ≡ Some x → StartsWithToken version bytes x.0 x.1
 unfolding token_at
 token_takes version bytes x e = token_by version bytes x (eqb version 1) (eqb version 2) refl refl e
 
-token_again : (version : ℕ) (spelling rest : List ℕ) (token : Asked) → 1 ≤ length rest → IsToken version spelling token → token_at version (spelling ++ rest) ≡ Some (token, rest)
+token_again : (version : ℕ) (spelling rest : List ℕ) (token : TokenValue) → 1 ≤ length rest → IsToken version spelling token → token_at version (spelling ++ rest) ≡ Some (token, rest)
 unfolding token_at
-token_again version spelling rest token more (timed v len is) = rw (v, is, number_again 8 spelling rest len) refl
-token_again version spelling rest token more (named text v parts apart is) =
+token_again version spelling rest token more (version_1 v len is) = rw (v, is, number_again 8 spelling rest len) refl
+token_again version spelling rest token more (version_2 text v parts apart is) =
     let regrouped : spelling ++ rest ≡ text ++ 0 ∷ rest = ap (λ (l : List ℕ). l ++ rest) parts ∙ append_assoc text (0 ∷ []) rest in
     let len : length (text ++ 0 ∷ rest) ≡ length text + length (0 ∷ rest) = length-append text (0 ∷ rest) in
     let up = split_again 0 (text ++ 0 ∷ rest) text rest (record { parts = refl; apart = apart; two = omega arith }) in
@@ -87,20 +88,20 @@ token_again version spelling rest token more (named text v parts apart is) =
 -- ---- what stands before the bitmap
 
 -- bytes are a version, a token, the size of a bitmap, and the rest
-pub record IsFront (bytes : List ℕ) (asked : Asked) (count : ℕ) (rest : List ℕ) : Type 0 where
+pub record IsFront (bytes : List ℕ) (value : TokenValue) (count : ℕ) (rest : List ℕ) : Type 0 where
   pub version : List ℕ
   pub token : List ℕ
   pub size : List ℕ
   pub parts : bytes ≡ version ++ (token ++ (size ++ rest))
   pub version_len : length version ≡ 4
-  pub is_token : IsToken (be version) token asked
+  pub is_token : IsToken (be version) token value
   pub size_len : length size ≡ 4
   pub count_is : count ≡ be size
 
 joined : (bytes version rest1 token rest2 size rest : List ℕ) → bytes ≡ version ++ rest1 → rest1 ≡ token ++ rest2 → rest2 ≡ size ++ rest → bytes ≡ version ++ (token ++ (size ++ rest))
 joined bytes version rest1 token rest2 size rest e f g = rw (e, f, g) refl
 
-pub parts_takes : (bytes : List ℕ) (x : Asked × ℕ × List ℕ) → parts_at bytes ≡ Some x → IsFront bytes x.0 x.1 x.2
+pub parts_takes : (bytes : List ℕ) (x : TokenValue × ℕ × List ℕ) → parts_at bytes ≡ Some x → IsFront bytes x.0 x.1 x.2
 unfolding parts_at
 parts_takes bytes x e =
     let v = bind_some (number_at 4 bytes) _ x e in
@@ -109,9 +110,9 @@ parts_takes bytes x e =
     let version = number_takes 4 bytes v.0 v.1 in
     let token = token_takes v.0.0 v.0.1 t.0 t.1 in
     let size = number_takes 4 t.0.1 s.0 s.1 in
-    let made : Asked × ℕ × List ℕ = (t.0.0, s.0.0, s.0.1) in
+    let made : TokenValue × ℕ × List ℕ = (t.0.0, s.0.0, s.0.1) in
     let is : made ≡ x = cc (s.2) in
-    subst (λ (y : Asked × ℕ × List ℕ). IsFront bytes y.0 y.1 y.2) is (record {
+    subst (λ (y : TokenValue × ℕ × List ℕ). IsFront bytes y.0 y.1 y.2) is (record {
       version = version.spelling;
       token = token.spelling;
       size = size.spelling;
@@ -122,14 +123,14 @@ parts_takes bytes x e =
       count_is = size.value;
     })
 
-pub parts_again : (bytes : List ℕ) (asked : Asked) (count : ℕ) (rest : List ℕ) → IsFront bytes asked count rest → parts_at bytes ≡ Some (asked, count, rest)
+pub parts_again : (bytes : List ℕ) (token : TokenValue) (count : ℕ) (rest : List ℕ) → IsFront bytes token count rest → parts_at bytes ≡ Some (token, count, rest)
 unfolding parts_at
-parts_again bytes asked count rest h =
+parts_again bytes token count rest h =
     let sized : List ℕ = h.size ++ rest in
     let len : length sized ≡ length h.size + length rest = length-append h.size rest in
     let more : 1 ≤ length sized = omega (arith, h.size_len) in
     let one = number_again 4 h.version (h.token ++ sized) h.version_len in
-    let two = token_again (be h.version) h.token sized asked more h.is_token in
+    let two = token_again (be h.version) h.token sized token more h.is_token in
     let three = number_again 4 h.size rest h.size_len in
     rw (h.parts, one, two, three, h.count_is) refl
 
@@ -155,25 +156,25 @@ nothing_behind size bytes a b rest h some s = omega (arith, some, ap length (one
 pub front_of : (bytes : List ℕ) (m : Monitor) (h : IsMonitor bytes m) → IsFront bytes m.token (be h.size) h.dirty
 front_of bytes m h = record { version = h.version; token = h.token; size = h.size; parts = h.parts; version_len = h.version_len; is_token = h.is_token; size_len = h.size_len; count_is = refl }
 
-pub monitor_from : (bytes : List ℕ) (asked : Asked) (count : ℕ) (rest : List ℕ) (dirty : Bitmap) → parts_at bytes ≡ Some (asked, count, rest) → IsSized count rest dirty → IsMonitor bytes (record { token = asked; dirty = dirty })
-monitor_from bytes asked count rest dirty e s =
-    let f = parts_takes bytes (asked, count, rest) e in
+pub monitor_from : (bytes : List ℕ) (token : TokenValue) (count : ℕ) (rest : List ℕ) (dirty : Bitmap) → parts_at bytes ≡ Some (token, count, rest) → IsSized count rest dirty → IsMonitor bytes (record { token = token; dirty = dirty })
+monitor_from bytes token count rest dirty e s =
+    let f = parts_takes bytes (token, count, rest) e in
     record { version = f.version; token = f.token; size = f.size; dirty = rest; parts = f.parts; version_len = f.version_len; is_token = f.is_token; size_len = f.size_len; dirty_len = s.len ∙ f.count_is; is_dirty = s.is_bitmap }
 
 -- the parts that are read are a monitor's own
-pub monitor_parts : (bytes : List ℕ) (asked : Asked) (count : ℕ) (rest : List ℕ) (m : Monitor) → parts_at bytes ≡ Some (asked, count, rest) → IsMonitor bytes m → (m.token ≡ asked) × IsSized count rest m.dirty
-monitor_parts bytes asked count rest m e h =
+pub monitor_parts : (bytes : List ℕ) (token : TokenValue) (count : ℕ) (rest : List ℕ) (m : Monitor) → parts_at bytes ≡ Some (token, count, rest) → IsMonitor bytes m → (m.token ≡ token) × IsSized count rest m.dirty
+monitor_parts bytes token count rest m e h =
     let f = parts_again bytes m.token (be h.size) h.dirty (front_of bytes m h) in
-    let same : ◌≡◌ {A = Asked × ℕ × List ℕ} (m.token, be h.size, h.dirty) (asked, count, rest) = cc in
+    let same : ◌≡◌ {A = TokenValue × ℕ × List ℕ} (m.token, be h.size, h.dirty) (token, count, rest) = cc in
     let sized : IsSized (be h.size) h.dirty m.dirty = record { len = h.dirty_len; is_bitmap = h.is_dirty } in
-    (ap (λ (x : Asked × ℕ × List ℕ). x.0) same, subst (λ (x : Asked × ℕ × List ℕ). IsSized x.1 x.2 m.dirty) same sized)
+    (ap (λ (x : TokenValue × ℕ × List ℕ). x.0) same, subst (λ (x : TokenValue × ℕ × List ℕ). IsSized x.1 x.2 m.dirty) same sized)
 
 pub no_monitor : (bytes : List ℕ) (m : Monitor) → parts_at bytes ≡ None → IsMonitor bytes m → ⊥
 no_monitor bytes m e h = let f = parts_again bytes m.token (be h.size) h.dirty (front_of bytes m h) in cc
 
 same_monitor : (a b : Monitor) → a.token ≡ b.token → a.dirty ≡ b.dirty → a ≡ b
 same_monitor a b p q =
-    let with_token : Asked → Monitor = λ t. record { token = t; dirty = a.dirty } in
+    let with_token : TokenValue → Monitor = λ t. record { token = t; dirty = a.dirty } in
     let with_dirty : Bitmap → Monitor = λ d. record { token = b.token; dirty = d } in
     ap with_token p ∙ ap with_dirty q
 
@@ -182,3 +183,29 @@ pub one_monitor : (bytes : List ℕ) (a b : Monitor) → IsMonitor bytes a → I
 one_monitor bytes a b h k =
     let p = monitor_parts bytes b.token (be k.size) k.dirty a (parts_again bytes b.token (be k.size) k.dirty (front_of bytes b k)) h in
     same_monitor a b p.0 (one_bitmap k.dirty a.dirty b.dirty [] [] p.1.is_bitmap k.is_dirty).0
+
+-- ---- bytes are a monitor or none
+
+sized_by : (size : ℕ) (bytes : List ℕ) (b : Bitmap) (rest : List ℕ) → length bytes ≡ size → IsBitmap bytes b rest → (v : Option Bitmap) × IsRead (IsSized size) bytes v
+sized_by size bytes b [] len h = (Some b, record { len = len; is_bitmap = h })
+sized_by size bytes b (x ∷ rest) len h = (None, λ a s. nothing_behind size bytes b a (x ∷ rest) h (omega arith) s)
+
+sized_reading : (size : ℕ) (bytes : List ℕ) → (v : Option Bitmap) × IsRead (IsSized size) bytes v
+sized_reading size bytes = elim (eqb (length bytes) size) as (λ t. eqb (length bytes) size ≡ t → (v : Option Bitmap) × IsRead (IsSized size) bytes v) [
+  | false ↦ λ e. (None, λ b s. eqb-false _ _ e s.len)
+  | true ↦ λ e. elim (bitmap_or_fault bytes) [
+    | inl has ↦ sized_by size bytes has.value has.rest (eqb-true _ _ e) has.is_bitmap
+    | inr lacks ↦ (None, λ b s. no_fault bytes lacks.0 (record { value = b; rest = []; is_bitmap = s.is_bitmap }) lacks.1)
+  ]
+] refl
+
+monitor_by : (bytes : List ℕ) (token : TokenValue) (count : ℕ) (rest : List ℕ) (v : Option Bitmap) → parts_at bytes ≡ Some (token, count, rest) → IsRead (IsSized count) rest v → (m : Option Monitor) × IsRead IsMonitor bytes m
+monitor_by bytes token count rest None e none = (None, λ m h. none m.dirty (monitor_parts bytes token count rest m e h).1)
+monitor_by bytes token count rest (Some dirty) e s = (Some (record { token = token; dirty = dirty }), monitor_from bytes token count rest dirty e s)
+
+parts_by : (bytes : List ℕ) (o : Option (TokenValue × ℕ × List ℕ)) → parts_at bytes ≡ o → (m : Option Monitor) × IsRead IsMonitor bytes m
+parts_by bytes None e = (None, λ m h. no_monitor bytes m e h)
+parts_by bytes (Some x) e = let v = sized_reading x.1 x.2 in monitor_by bytes x.0 x.1 x.2 v.0 e v.1
+
+pub monitor_reading : (bytes : List ℕ) → (m : Option Monitor) × IsRead IsMonitor bytes m
+monitor_reading bytes = parts_by bytes (parts_at bytes) refl

@@ -1,12 +1,13 @@
 -- Bytes are one list of paths, or none, and the ids in it are of one kind.
-use Rattle.std.proofs.Common.{◌≡◌, ℕ, ◌<◌, List, [], ◌∷◌, ◌++◌, length, Option, Some, None, All, refl, sym, ap, subst, ◌∙◌, arith}
+use Rattle.std.proofs.Common.{◌≡◌, ℕ, zero, suc, ◌<◌, ◌≤◌, List, [], ◌∷◌, ◌++◌, length, Option, Some, None, All, refl, sym, ap, subst, ◌∙◌, arith}
 use Rattle.std.specs.Prelude.{IfSome}
 use Rattle.std.proofs.lemmas.List.Elements.{All-nil, All-cons}
 use Rattle.index_parts.specs.Id.{id_kind}
 use Rattle.index_parts.specs.declared.hash.Kind.{Kind}
+use Rattle.index_extensions.specs.Contents.{IsRead}
 use Rattle.index_extensions.specs.ReadingPaths.{path_at}
 use Rattle.index_extensions.specs.ResolveUndo.{PathStages, IsPath, ArePaths, IsResolveUndo, PathIdsAreOf}
-use Rattle.index_extensions.proofs.Paths.{path_again, one_path, path_fewer, path_kind}
+use Rattle.index_extensions.proofs.Paths.{path_takes, path_again, one_path, path_fewer, path_kind}
 
 -- no path begins where nothing is left
 no_path : (kind : Kind) (bytes : List ℕ) (p : PathStages) (rest : List ℕ) → bytes ≡ [] → IsPath kind bytes p rest → ⊥
@@ -42,3 +43,38 @@ one_resolve_undo kind bytes (p ∷ a) (q ∷ b) h k =
 pub ids_of_paths : (kind : Kind) (bytes : List ℕ) (paths : List PathStages) (rest : List ℕ) → ArePaths kind bytes paths rest → PathIdsAreOf kind paths
 ids_of_paths kind bytes [] rest h = All-nil (λ p. All (λ stage. IfSome stage (λ s. id_kind s.id ≡ kind)) p.stages)
 ids_of_paths kind bytes (p ∷ paths) rest h = All-cons (λ q. All (λ stage. IfSome stage (λ s. id_kind s.id ≡ kind)) q.stages) p paths (path_kind kind bytes p h.0 h.1) (ids_of_paths kind h.0 paths rest h.2)
+
+-- ---- bytes are paths or none
+
+abbrev Reading : Kind → List ℕ → Type 0
+Reading kind bytes = (v : Option (List PathStages)) × IsRead (IsResolveUndo kind) bytes v
+
+abbrev NoPaths : Kind → List ℕ → Type 0
+NoPaths kind bytes = (paths : List PathStages) → IsResolveUndo kind bytes paths → ⊥
+
+no_others : (kind : Kind) (bytes : List ℕ) (p : PathStages) (rest : List ℕ) (all : List PathStages) → IsPath kind bytes p rest → NoPaths kind rest → IsResolveUndo kind bytes all → ⊥
+no_others kind bytes p rest [] h none k = no_path kind bytes p rest k h
+no_others kind bytes p rest (q ∷ all) h none k =
+    let same = one_path kind bytes q p k.0 rest k.1 h in
+    none all (subst (λ (b : List ℕ). ArePaths kind b all []) same.1 k.2)
+
+more_paths : (kind : Kind) (bytes : List ℕ) (p : PathStages) (rest : List ℕ) (v : Option (List PathStages)) → IsPath kind bytes p rest → IsRead (IsResolveUndo kind) rest v → Reading kind bytes
+more_paths kind bytes p rest (Some paths) h others = (Some (p ∷ paths), (rest, h, others))
+more_paths kind bytes p rest None h none = (None, λ all k. no_others kind bytes p rest all h none k)
+
+-- by the path that begins bytes, where one does, and a reading of the fewer bytes behind it
+path_by : (kind : Kind) (bytes : List ℕ) (o : Option (PathStages × List ℕ)) → (bytes ≡ [] → ⊥) → path_at kind bytes ≡ o → ((rest : List ℕ) → length rest < length bytes → Reading kind rest) → Reading kind bytes
+path_by kind bytes None some e behind = (None, λ all k. no_paths kind bytes [] all bytes refl some e k)
+path_by kind bytes (Some x) some e behind =
+    let h = path_takes kind bytes x e in
+    let r = behind x.1 (path_fewer kind bytes x.0 x.1 h) in
+    more_paths kind bytes x.0 x.1 r.0 h r.1
+
+paths_within : (most : ℕ) (kind : Kind) (bytes : List ℕ) → length bytes ≤ most → Reading kind bytes
+paths_within most kind [] few = (Some [], refl)
+paths_within zero kind (b ∷ bytes) few = absurd (omega arith)
+paths_within (suc most) kind (b ∷ bytes) few =
+    path_by kind (b ∷ bytes) (path_at kind (b ∷ bytes)) (λ none. absurd cc) refl (λ rest fewer. paths_within most kind rest (omega arith))
+
+pub resolve_undo_reading : (kind : Kind) (bytes : List ℕ) → (v : Option (List PathStages)) × IsRead (IsResolveUndo kind) bytes v
+resolve_undo_reading kind bytes = paths_within (length bytes) kind bytes (omega arith)

@@ -1,5 +1,5 @@
--- The file system monitor (gitformat-index, "File System Monitor cache"): what it was asked last, and which entries it can't
--- vouch for.
+-- The file system monitor (gitformat-index, "File System Monitor cache"): how far its answer reaches, and which entries may
+-- have changed.
 use Rattle.std.specs.Prelude.{◌≡◌, ◌≢◌, ℕ, List, [], ◌∷◌, ◌++◌, All, length}
 use Rattle.bstr.specs.Owned.{bstring_bytes}
 use Rattle.index_parts.specs.Bitmap.{Bitmap, bitmap, IsBitmap}
@@ -8,28 +8,28 @@ use Rattle.index_extensions.specs.declared.extension.fs_monitor.FsMonitor.{FsMon
 use Rattle.index_extensions.specs.declared.extension.fs_monitor.Token.{Token}
 use Rattle.index_extensions.specs.declared.extension.fs_monitor.Token.TheVariants as tokens
 
--- when the monitor was asked: a time in nanoseconds, or a text of the monitor's own
-pub data Asked : Type 0 where
-  at_time : ℕ → Asked
-  by_text : List ℕ → Asked
+-- a token: nanoseconds since 1970, or a text that the monitor alone understands
+pub data TokenValue : Type 0 where
+  nanoseconds : ℕ → TokenValue
+  opaque : List ℕ → TokenValue
 
--- a token as plain data
-abbrev pub asked_of : Token → Asked
-asked_of (tokens.V1 nanos) = at_time nanos
-asked_of (tokens.V2 text) = by_text (bstring_bytes text)
+-- the code's token as plain data
+abbrev pub token_value : Token → TokenValue
+token_value (tokens.V1 nanos) = nanoseconds nanos
+token_value (tokens.V2 text) = opaque (bstring_bytes text)
 
 pub record Monitor : Type 0 where
-  pub token : Asked
+  pub token : TokenValue
   pub dirty : Bitmap
 
--- an extension as plain data
+-- the code's extension as plain data
 abbrev pub monitor_of : FsMonitor → Monitor
-monitor_of m = record { token = asked_of m.token; dirty = bitmap m.entry_dirty }
+monitor_of m = record { token = token_value m.token; dirty = bitmap m.entry_dirty }
 
--- bytes are a token of the version: in 1 the time in eight bytes, in 2 the text up to a NUL
-pub data IsToken (version : ℕ) (bytes : List ℕ) (token : Asked) : Type 0 where
-  timed : version ≡ 1 → length bytes ≡ 8 → token ≡ at_time (be bytes) → IsToken version bytes token
-  named : (text : List ℕ) → version ≡ 2 → bytes ≡ text ++ 0 ∷ [] → All (λ b. b ≢ 0) text → token ≡ by_text text → IsToken version bytes token
+-- bytes are a token of the version: in 1 the nanoseconds in eight bytes, in 2 the text up to a NUL
+pub data IsToken (version : ℕ) (bytes : List ℕ) (token : TokenValue) : Type 0 where
+  version_1 : version ≡ 1 → length bytes ≡ 8 → token ≡ nanoseconds (be bytes) → IsToken version bytes token
+  version_2 : (text : List ℕ) → version ≡ 2 → bytes ≡ text ++ 0 ∷ [] → All (λ b. b ≢ 0) text → token ≡ opaque text → IsToken version bytes token
 
 -- bytes are the version in four bytes, a token, the size of a bitmap in four, and the bitmap, which has just that size
 pub record IsMonitor (bytes : List ℕ) (m : Monitor) : Type 0 where

@@ -4,7 +4,7 @@ use Rattle.std.specs.Prelude.{◌≡◌, ℕ, ◌==◌, List, [], length, Option
 use Rattle.index_parts.specs.Bitmap.{Bitmap, IsBitmap}
 use Rattle.index_parts.specs.Front.{be}
 use Rattle.index_parts.specs.Reading.{◌>>=◌, piece_at, split_at_byte}
-use Rattle.index_extensions.specs.FsMonitor.{Asked, at_time, by_text}
+use Rattle.index_extensions.specs.FsMonitor.{TokenValue, nanoseconds, opaque}
 use Rattle.index_extensions.specs.declared.extension.fs_monitor.parts.LentToken.{LentToken}
 use Rattle.index_extensions.specs.declared.extension.fs_monitor.parts.LentToken.TheVariants as lent
 
@@ -13,13 +13,13 @@ abbrev pub number_at : ℕ → List ℕ → Option (ℕ × List ℕ)
 number_at size bytes = piece_at size bytes >>= λ piece. Some (be piece.0, piece.1)
 
 -- the token of a version
-unfoldable pub token_at : ℕ → List ℕ → Option (Asked × List ℕ)
+unfoldable pub token_at : ℕ → List ℕ → Option (TokenValue × List ℕ)
 token_at version bytes =
-    if version == 1 then (number_at 8 bytes >>= λ time. Some (at_time time.0, time.1))
-    else (if version == 2 then (split_at_byte 0 bytes >>= λ text. Some (by_text text.0, text.1)) else None)
+    if version == 1 then (number_at 8 bytes >>= λ time. Some (nanoseconds time.0, time.1))
+    else (if version == 2 then (split_at_byte 0 bytes >>= λ text. Some (opaque text.0, text.1)) else None)
 
 -- the token, the size of the bitmap, and the rest
-unfoldable pub parts_at : List ℕ → Option (Asked × ℕ × List ℕ)
+unfoldable pub parts_at : List ℕ → Option (TokenValue × ℕ × List ℕ)
 parts_at bytes = do
   version ← number_at 4 bytes
   token ← token_at version.0 version.1
@@ -27,9 +27,9 @@ parts_at bytes = do
   Some (token.0, size.0, size.1)
 
 -- what a token that lends its text stands for
-abbrev pub lent_token : LentToken → Asked
-lent_token (lent.V1 nanos) = at_time nanos
-lent_token (lent.V2 text) = by_text text.now
+abbrev pub lent_token : LentToken → TokenValue
+lent_token (lent.V1 nanos) = nanoseconds nanos
+lent_token (lent.V2 text) = opaque text.now
 
 -- bytes are a bitmap of this size, and nothing behind it
 pub record IsSized (size : ℕ) (bytes : List ℕ) (b : Bitmap) : Type 0 where

@@ -5,7 +5,7 @@ ghost use Rattle.std.specs.Option.{option_map};
 ghost use Rattle.index_parts.specs.Bitmap.{bitmap};
 ghost use Rattle.index_parts.specs.declared.ewah.decode.Error.TheVariants.{Memory};
 ghost use Rattle.index_extensions.specs.Contents.{IsRead};
-ghost use Rattle.index_extensions.specs.FsMonitor.{asked_of, monitor_of, IsMonitor};
+ghost use Rattle.index_extensions.specs.FsMonitor.{token_value, monitor_of, IsMonitor};
 ghost use Rattle.index_extensions.specs.ReadingMonitor.{lent_token, IsSized};
 
 use super::Signature;
@@ -88,7 +88,7 @@ fn bitmap_of(alloc: Global, size: u32, bytes: &[u8]) -> Result<Option<ewah::Vec>
 }
 
 fn own(alloc: Global, token: LentToken<'_>) -> Result<Token, AllocError>
-    ensures { IfOk result (λ owned. asked_of owned ≡ lent_token token.entry) }
+    ensures { IfOk result (λ owned. token_value owned ≡ lent_token token.entry) }
 {
     match token {
         LentToken::V1(nanos_since_1970) => Ok(Token::V1 { nanos_since_1970 }),

@@ -2,18 +2,18 @@ use super::*;
 use std::process::Abort;
 use std::test::Fail;
 
-/// A head, the size of a bitmap, and so many zeros.
-fn content(alloc: Global, head: &[u8], size: u8, zeros: usize) -> Result<Vec<u8>, AllocError> {
+/// A version and a token, the size of a bitmap, and its bytes.
+fn content(alloc: Global, front: &[u8], size: u8, bitmap: &[u8]) -> Result<Vec<u8>, AllocError> {
     let mut bytes = Vec::new(alloc);
-    bytes.extend_from_slice(head)?;
+    bytes.extend_from_slice(front)?;
     bytes.extend_from_slice(&[0, 0, 0, size])?;
-    bytes.extend_from_slice(&[0u8; 13][..zeros])?;
+    bytes.extend_from_slice(bitmap)?;
     Ok(bytes)
 }
 
 /// The content has this token and a bitmap of no bits.
-fn assert_token(rt: &impl Abort, alloc: Global, head: &[u8], token: &Token) -> Result<(), Fail> {
-    let bytes = content(alloc, head, 12, 12)?;
+fn assert_token(rt: &impl Abort, alloc: Global, front: &[u8], token: &Token) -> Result<(), Fail> {
+    let bytes = content(alloc, front, 12, &[0; 12])?;
     let Some(monitor) = decode(alloc, &bytes)? else {
         return Err(Fail::from("a monitor is refused"));
     };
@@ -27,11 +27,11 @@ fn assert_token(rt: &impl Abort, alloc: Global, head: &[u8], token: &Token) -> R
 fn assert_malformed(
     rt: &impl Abort,
     alloc: Global,
-    head: &[u8],
+    front: &[u8],
     size: u8,
-    zeros: usize,
+    bitmap: &[u8],
 ) -> Result<(), Fail> {
-    let bytes = content(alloc, head, size, zeros)?;
+    let bytes = content(alloc, front, size, bitmap)?;
     assert!(rt; decode(alloc, &bytes)?.is_none(), "{bytes:?}");
     Ok(())
 }
@@ -54,9 +54,9 @@ fn both_versions_are_read(rt: HostRuntime) -> Result<(), Fail> {
 #[test]
 fn all_else_is_refused(rt: HostRuntime) -> Result<(), Fail> {
     let alloc = rt.alloc();
-    assert_malformed(&rt, alloc, TIME, 13, 13)?;
-    assert_malformed(&rt, alloc, TIME, 12, 13)?;
-    assert_malformed(&rt, alloc, TIME, 12, 11)?;
-    assert_malformed(&rt, alloc, b"\0\0\0\x02t", 12, 12)?;
-    assert_malformed(&rt, alloc, b"\0\0\0\x03\0\0\0\0\0\0\0\0", 12, 12)
+    assert_malformed(&rt, alloc, TIME, 13, &[0; 13])?;
+    assert_malformed(&rt, alloc, TIME, 12, &[0; 13])?;
+    assert_malformed(&rt, alloc, TIME, 12, &[0; 11])?;
+    assert_malformed(&rt, alloc, b"\0\0\0\x02t", 12, &[0; 12])?;
+    assert_malformed(&rt, alloc, b"\0\0\0\x03\0\0\0\0\0\0\0\0", 12, &[0; 12])
 }

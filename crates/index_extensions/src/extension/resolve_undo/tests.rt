@@ -2,13 +2,17 @@ use super::*;
 use std::process::Abort;
 use std::test::Fail;
 
-/// A path `a` with this first mode and none else, and an id of elevens of so many bytes.
-fn one_path(alloc: Global, mode: &[u8], id_len: usize) -> Result<Vec<u8>, AllocError> {
+/// The bytes of an id.
+const ID: [u8; 32] = [0x11; 32];
+
+/// A path `a` with this first mode and no other, and an id.
+fn one_path(alloc: Global, mode: &[u8], kind: Kind) -> Result<Vec<u8>, AllocError> {
+    let len = kind.len_in_bytes();
     let mut bytes = Vec::new(alloc);
     bytes.extend_from_slice(b"a\0".as_slice())?;
     bytes.extend_from_slice(mode)?;
     bytes.extend_from_slice(b"\x000\x000\0".as_slice())?;
-    bytes.extend_from_slice(&[0x11u8; 32][..id_len])?;
+    bytes.extend_from_slice(&ID[..len])?;
     Ok(bytes)
 }
 
@@ -20,8 +24,7 @@ fn assert_mode(
     kind: Kind,
     mode: u32,
 ) -> Result<(), Fail> {
-    let len = kind.len_in_bytes();
-    let bytes = one_path(alloc, text, len)?;
+    let bytes = one_path(alloc, text, kind)?;
     let Some(paths) = decode(alloc, &bytes, kind)? else {
         return Err(Fail::from("a path is refused"));
     };
@@ -31,18 +34,13 @@ fn assert_mode(
         return Err(Fail::from("a stage is missing or too many"));
     };
     assert_eq!(rt; base.mode(), mode);
-    assert_eq!(rt; base.id().as_bytes(), &[0x11; 32][..len]);
+    assert_eq!(rt; base.id().as_bytes(), &ID[..kind.len_in_bytes()]);
     assert_eq!(rt; paths.clone()?, paths);
     Ok(())
 }
 
-fn assert_malformed(
-    rt: &impl Abort,
-    alloc: Global,
-    mode: &[u8],
-    id_len: usize,
-) -> Result<(), Fail> {
-    let bytes = one_path(alloc, mode, id_len)?;
+fn assert_malformed(rt: &impl Abort, alloc: Global, mode: &[u8]) -> Result<(), Fail> {
+    let bytes = one_path(alloc, mode, Kind::Sha1)?;
     assert!(rt; decode(alloc, &bytes, Kind::Sha1)?.is_none(), "{bytes:?}");
     Ok(())
 }
@@ -54,10 +52,10 @@ fn modes_are_octal_and_have_32_bits(rt: HostRuntime) -> Result<(), Fail> {
     assert_mode(&rt, alloc, b"100644", Kind::Sha256, 0o100644)?;
     assert_mode(&rt, alloc, b"+7", Kind::Sha1, 7)?;
     assert_mode(&rt, alloc, b"37777777777", Kind::Sha1, u32::MAX)?;
-    assert_malformed(&rt, alloc, b"40000000000", 20)?;
-    assert_malformed(&rt, alloc, b"8", 20)?;
-    assert_malformed(&rt, alloc, b"+", 20)?;
-    assert_malformed(&rt, alloc, b"", 20)
+    assert_malformed(&rt, alloc, b"40000000000")?;
+    assert_malformed(&rt, alloc, b"8")?;
+    assert_malformed(&rt, alloc, b"+")?;
+    assert_malformed(&rt, alloc, b"")
 }
 
 #[test]
@@ -65,6 +63,8 @@ fn nothing_may_be_cut(rt: HostRuntime) -> Result<(), Fail> {
     let alloc = rt.alloc();
     let none = decode(alloc, b"", Kind::Sha1)?;
     assert!(rt; none.is_some_and(|paths| paths.is_empty()));
-    assert_malformed(&rt, alloc, b"100644", 19)?;
-    assert_malformed(&rt, alloc, b"0", 20)
+    let mut bytes = one_path(alloc, b"100644", Kind::Sha1)?;
+    bytes.pop();
+    assert!(rt; decode(alloc, &bytes, Kind::Sha1)?.is_none());
+    assert_malformed(&rt, alloc, b"0")
 }

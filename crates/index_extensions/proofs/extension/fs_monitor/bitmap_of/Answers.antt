@@ -1,4 +1,3 @@
-use Rattle.std.proofs.Common.{◌≡◌}
 use Rattle.index_parts.specs.Bitmap.{bitmap}
 use Rattle.index_extensions.proofs.Monitors.{no_bitmap, nothing_behind}
 use Rattle.index_extensions.proofs.extension.fs_monitor.bitmap_of.Goals as goal

@@ -1,6 +1,6 @@
-use Rattle.std.proofs.Common.{◌≡◌, sym, subst}
+use Rattle.std.proofs.Common.{sym, subst}
 use Rattle.index_parts.specs.Bitmap.{bitmap}
-use Rattle.index_extensions.specs.FsMonitor.{Asked, IsMonitor}
+use Rattle.index_extensions.specs.FsMonitor.{TokenValue, IsMonitor}
 use Rattle.index_extensions.specs.ReadingMonitor.{lent_token}
 use Rattle.index_extensions.proofs.Monitors.{no_monitor, monitor_parts, monitor_from}
 use Rattle.index_extensions.proofs.extension.fs_monitor.decode.Goals as goal
@@ -23,4 +23,4 @@ returns c =
     let dirty = bitmap c.in-Some-2.entry_dirty in
     let sized = rw c.in-Some-2.is at c.in_ok-entry_dirty.ensures in
     let found = monitor_from c.args.data.now (lent_token parts.token) parts.size parts.rest.now dirty (sym c.in-Some.ensures) sized in
-    record { read = subst (λ (t : Asked). IsMonitor c.args.data.now (record { token = t; dirty = dirty })) (sym c.in_ok-token.ensures) found }
+    record { read = subst (λ (t : TokenValue). IsMonitor c.args.data.now (record { token = t; dirty = dirty })) (sym c.in_ok-token.ensures) found }
