@@ -1,4 +1,4 @@
-//! Reading a bitmap.
+//! Reading a bitmap (git's bitmap-format document, "Serialization format for an EWAH bitmap").
 
 ghost use Rattle.std.specs.Prelude.{◌≡◌, ◌*◌, ℕ, List, length, IfOk, IfErr, MatchResult};
 ghost use Rattle.index_parts.specs.Bitmap.{bitmap, AreWords, IsBitmap, Lacks, Says};
@@ -99,9 +99,9 @@ fn words_of(alloc: Global, len: u32, bytes: &[u8]) -> Result<Words<u64>, AllocEr
 
 /// The bitmap at the front of bytes, and the bytes behind it.
 ///
-/// It is the number of bits (4 bytes), the number of words (4 bytes), the words (8 bytes each), and the position of the
-/// last run word (4 bytes), which may be any; all numbers are big-endian. The first of these that isn't there whole is
-/// the fault. Memory is asked for only where all are there, and then for the words.
+/// A bitmap is the number of its bits (4 bytes), the number of its words (4 bytes), the words (8 bytes each), and the
+/// position of the last run word (4 bytes), which may be any; all numbers are big-endian. The first part that isn't there
+/// whole is the fault. Memory is asked for only where all parts are there, and then for the words alone.
 pub fn decode(alloc: Global, data: &[u8]) -> Result<(Vec, &[u8]), Error>
     ensures found { IfOk result (λ x. IsBitmap «data».now (bitmap x.0) x.1.now) }
     ensures fault { IfErr result (λ e. Says e «data».now) }
