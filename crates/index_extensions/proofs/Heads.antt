@@ -1,15 +1,14 @@
 -- What is read as a node's head is spelled so, and what is spelled so is read.
-use Rattle.std.proofs.Common.{◌≡◌, ℕ, ◌+◌, ◌*◌, ◌<◌, ◌≤◌, Bool, true, false, cond, List, [], ◌∷◌, ◌++◌, length, Option, Some, None, refl, sym, ap, subst, ◌∙◌, arith}
+use Rattle.std.proofs.Common.{◌≡◌, ℕ, ◌+◌, ◌*◌, ◌≤◌, Bool, true, false, cond, List, [], ◌∷◌, ◌++◌, length, Option, Some, None, refl, ap, subst, ◌∙◌, arith}
 use Rattle.std.specs.Prelude.{MatchOption}
 use Rattle.std.proofs.lemmas.List.{length-append}
 use Rattle.index_parts.proofs.Ids.{id_kind-make_id}
 use Rattle.index_parts.proofs.Splits.{piece_takes, piece_again, split_takes, split_again}
-use Rattle.index_parts.proofs.Steps.{bind_some, guard_some}
+use Rattle.index_parts.proofs.Steps.{bind_some}
 use Rattle.index_parts.specs.Id.{id_len, id_kind, make_id, null_id}
-use Rattle.index_parts.specs.Reading.{◌>>=◌, piece_at, split_at_byte}
+use Rattle.index_parts.specs.Reading.{piece_at, split_at_byte}
 use Rattle.index_parts.specs.declared.hash.Kind.{Kind}
 use Rattle.index_parts.specs.declared.hash.ObjectId.{ObjectId}
-use Rattle.index_extensions.specs.Decimal.{IsDecimal, IsCount}
 use Rattle.index_extensions.specs.Limit.{passes_limit}
 use Rattle.index_extensions.specs.Reading.{decimal_of, count_of, id_at, limited_id_at, head_at}
 use Rattle.index_extensions.specs.Tree.{Head, IsHead}

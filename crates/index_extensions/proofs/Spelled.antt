@@ -1,9 +1,8 @@
 -- Bytes spell one node, and one row of nodes.
-use Rattle.std.proofs.Common.{◌≡◌, ℕ, zero, suc, ◌+◌, ◌-◌, ◌<◌, ◌≤◌, max, List, [], ◌∷◌, ◌++◌, Option, Some, None, refl, sym, ap, subst, ◌∙◌, arith, map}
+use Rattle.std.proofs.Common.{◌≡◌, ℕ, zero, suc, ◌+◌, max, List, [], ◌∷◌, ◌++◌, Option, None, refl, sym, ap, ◌∙◌, arith, map}
 use Rattle.index_parts.specs.declared.hash.Kind.{Kind}
-use Rattle.index_parts.specs.declared.hash.ObjectId.{ObjectId}
 use Rattle.index_extensions.specs.Reading.{head_at}
-use Rattle.index_extensions.specs.Tree.{Node, Nodes, node, none, more, nodes_from, Head, IsHead, IsSpelled, AreSpelled, node_depth, nodes_depth, node_of, node_step}
+use Rattle.index_extensions.specs.Tree.{Node, Nodes, node, none, more, nodes_from, Head, IsSpelled, AreSpelled, node_depth, nodes_depth, node_of, node_step}
 use Rattle.index_extensions.specs.declared.extension.tree.Tree.{Tree}
 use Rattle.index_extensions.specs.declared.extension.tree.Tree.TheOpen.{Tree-F}
 use Rattle.index_extensions.specs.declared.extension.tree.Tree.TheViews.{roll-Tree, out-Tree}

@@ -1,11 +1,11 @@
 -- Bytes are one tree, the ids in it are of one kind, and its levels are bounded.
-use Rattle.std.proofs.Common.{◌≡◌, ℕ, zero, suc, ◌+◌, ◌-◌, ◌≤◌, List, [], ◌∷◌, Option, Some, None, refl, sym, ap, subst, ◌∙◌, arith}
+use Rattle.std.proofs.Common.{◌≡◌, ℕ, zero, suc, ◌+◌, ◌-◌, ◌≤◌, List, [], ◌∷◌, Option, sym, ap, subst, ◌∙◌, arith}
 use Rattle.std.specs.List.{AllByRecursion}
 use Rattle.std.specs.List.Sorted.{IsPermutation}
 use Rattle.std.proofs.lemmas.List.Elements.{All-from_recursion, recursion_from_All}
 use Rattle.std.proofs.lemmas.List.Sorted.{IsPermutation-sym, IsPermutation-trans, All-permutation}
 use Rattle.index_parts.specs.declared.hash.Kind.{Kind}
-use Rattle.index_extensions.specs.Tree.{Node, Nodes, node, none, more, nodes_from, Head, IsSpelled, AreSpelled, node_depth, nodes_depth, NodeIdsAreOf, NodesIdsAreOf, NamesRise, Sorts, SortsEach, IsNode, IsTree}
+use Rattle.index_extensions.specs.Tree.{Node, Nodes, node, none, more, nodes_from, IsSpelled, AreSpelled, node_depth, nodes_depth, NodeIdsAreOf, NodesIdsAreOf, Sorts, SortsEach, IsNode, IsTree}
 use Rattle.index_extensions.proofs.Heads.{head_kind}
 use Rattle.index_extensions.proofs.Sorted.{one_order}
 use Rattle.index_extensions.proofs.Spelled.{one_node}

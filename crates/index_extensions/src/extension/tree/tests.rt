@@ -39,13 +39,8 @@ fn assert_leaf(rt: &impl Abort, leaf: &Tree, name: &[u8], id: &[u8]) {
     assert!(rt; leaf.children.is_empty());
 }
 
-fn assert_family(rt: &impl Abort, alloc: Global, kind: Kind, size: usize) -> Result<(), Fail> {
-    let bytes = family(alloc, kind, b"b", b"a")?;
+fn assert_family(rt: &impl Abort, tree: &Tree, kind: Kind) -> Result<(), Fail> {
     let len = kind.len_in_bytes();
-    assert_eq!(rt; bytes.len(), size);
-    let Some(tree) = decode(alloc, &bytes, kind, Some(208))? else {
-        return Err(Fail::from("a tree within the limit is refused"));
-    };
     assert!(rt; tree.name.is_empty());
     assert_eq!(rt; tree.num_entries, Some(2));
     assert_eq!(rt; tree.id.as_bytes(), &IDS[0][..len]);
@@ -54,17 +49,28 @@ fn assert_family(rt: &impl Abort, alloc: Global, kind: Kind, size: usize) -> Res
     };
     assert_leaf(rt, a, b"a", &IDS[2][..len]);
     assert_leaf(rt, b, b"b", &IDS[1][..len]);
-    assert_eq!(rt; decode(alloc, &bytes, kind, None)?, Some(tree));
+    Ok(())
+}
+
+fn assert_sorted(rt: &impl Abort, alloc: Global, kind: Kind, size: usize) -> Result<(), Fail> {
+    let bytes = family(alloc, kind, b"b", b"a")?;
+    assert_eq!(rt; bytes.len(), size);
+    let Some(tree) = decode(alloc, &bytes, kind, Some(208))? else {
+        return Err(Fail::from("a tree within the limit is refused"));
+    };
+    assert_family(rt, &tree, kind)?;
+    assert!(rt; decode(alloc, &bytes, kind, None)? == Some(tree));
     assert!(rt; decode(alloc, &bytes, kind, Some(207))?.is_none());
-    let twins = family(alloc, kind, b"a", b"a")?;
-    assert!(rt; decode(alloc, &twins, kind, None)?.is_none());
     Ok(())
 }
 
 #[test]
 fn children_are_sorted(rt: HostRuntime) -> Result<(), Fail> {
-    assert_family(&rt, rt.alloc(), Kind::Sha1, 77)?;
-    assert_family(&rt, rt.alloc(), Kind::Sha256, 113)
+    assert_sorted(&rt, rt.alloc(), Kind::Sha1, 77)?;
+    assert_sorted(&rt, rt.alloc(), Kind::Sha256, 113)?;
+    let twins = family(rt.alloc(), Kind::Sha1, b"a", b"a")?;
+    assert!(rt; decode(rt.alloc(), &twins, Kind::Sha1, None)?.is_none());
+    Ok(())
 }
 
 /// The count and the id of a root of these pieces.
