@@ -4,6 +4,7 @@ pub mod EndMarks
 pub mod FirstContent
 pub mod Heads
 pub mod Items
+pub mod MarkerReadings
 pub mod Orders
 pub mod Readings
 pub mod Rows
