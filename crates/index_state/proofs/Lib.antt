@@ -9,9 +9,11 @@ pub mod Halving
 pub mod Insertion
 pub mod Lengths
 pub mod Lookup
+pub mod OnceEntries
 pub mod Order
 pub mod Pieces
 pub mod RoundTrip
+pub mod SomeEntries
 pub mod Storing
 pub mod Twice
 pub mod Words
