@@ -9,8 +9,10 @@ pub mod Halving
 pub mod Insertion
 pub mod Lengths
 pub mod Lookup
+pub mod OnceAnswers
 pub mod OnceEntries
 pub mod Order
+pub mod Outcomes
 pub mod Pieces
 pub mod RoundTrip
 pub mod SomeEntries
