@@ -15,6 +15,7 @@ pub mod Order
 pub mod Outcomes
 pub mod Pieces
 pub mod RoundTrip
+pub mod SomeAnswers
 pub mod SomeEntries
 pub mod Storing
 pub mod Twice
