@@ -30,8 +30,7 @@ one_fault kind i f g h k = h.1 ∙ sym k.1
 
 pub outcome_reading : (kind : Kind) (limit : Option ℕ) (items : List Item) → (o : Outcome) × IsOutcome kind limit items o
 outcome_reading kind limit items =
-    let tree = value_reading (IsTree kind limit) (tree_reading kind limit) (last_content (codes "TREE") items) in
-    (
+    let tree = value_reading (IsTree kind limit) (tree_reading kind limit) (last_content (codes "TREE") items) in (
       record {
         tree = tree.0;
         sparse = list_any (is_named (codes "sdir")) items;

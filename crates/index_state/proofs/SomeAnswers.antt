@@ -33,14 +33,17 @@ abbrev FaultIn : Kind → List Item → Type 0
 FaultIn kind items = ((fault : ExtensionFault) × IsFirstFault kind items fault) ⊎ AreSound kind items
 
 fault_behind : (kind : Kind) (i : Item) (items : List Item) → IsSound kind i → FaultIn kind items → FaultIn kind (i ∷ items)
-fault_behind kind i items s (inl f) = inl (f.0, record {
-  before = i ∷ f.1.before;
-  item = f.1.item;
-  behind = f.1.behind;
-  parts = ap (λ (l : List Item). i ∷ l) f.1.parts;
-  sound = All-cons (IsSound kind) i f.1.before s f.1.sound;
-  is_fault = f.1.is_fault;
-})
+fault_behind kind i items s (inl f) = inl (
+  f.0,
+  record {
+    before = i ∷ f.1.before;
+    item = f.1.item;
+    behind = f.1.behind;
+    parts = ap (λ (l : List Item). i ∷ l) f.1.parts;
+    sound = All-cons (IsSound kind) i f.1.before s f.1.sound;
+    is_fault = f.1.is_fault;
+  },
+)
 fault_behind kind i items s (inr others) = inr (All-cons (IsSound kind) i items s others)
 
 fault_by : (kind : Kind) (i : Item) (items : List Item) → Decided (IsFault kind i) → FaultIn kind items → FaultIn kind (i ∷ items)
