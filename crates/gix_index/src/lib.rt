@@ -5,6 +5,7 @@
 
 pub mod extension;
 pub mod file;
+pub mod laws;
 
 pub use file::File;
 pub use index_parts::{entry, ewah, hash, util};

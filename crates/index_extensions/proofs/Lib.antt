@@ -4,6 +4,7 @@ pub mod EndMarks
 pub mod FirstContent
 pub mod Heads
 pub mod Items
+pub mod MarkerReadings
 pub mod Monitors
 pub mod Octals
 pub mod Orders

@@ -1,6 +1,6 @@
 -- What is read of bytes, decided: a value, or that there is none.
-use Rattle.std.proofs.Common.{◌≡◌, ℕ, ◌⊎◌, inl, inr, List, Option, Some, None, refl, ap}
-use Rattle.index_extensions.specs.Contents.{IsRead}
+use Rattle.std.proofs.Common.{◌≡◌, ℕ, ◌⊎◌, inl, inr, List, Option, Some, None, refl, sym, ap, ◌∙◌}
+use Rattle.index_extensions.specs.Contents.{IsRead, IsValue}
 
 -- a value that is so, or that no value is
 abbrev pub Decided : {A : Type 0} → (A → Type 0) → Type 0
@@ -16,3 +16,13 @@ one_read Is bytes one None None p q = refl
 one_read Is bytes one None (Some y) p q = absurd (p y q)
 one_read Is bytes one (Some x) None p q = absurd (q x p)
 one_read Is bytes one (Some x) (Some y) p q = ap Some (one x y p q)
+
+-- what a content spells is decided where it is for all bytes
+pub value_reading : {A : Type 0} (Is : List ℕ → A → Type 0) → ((bytes : List ℕ) → (v : Option A) × IsRead Is bytes v) → (content : Option (List ℕ)) → (v : Option A) × IsValue Is content v
+value_reading Is reading None = (None, refl)
+value_reading Is reading (Some bytes) = reading bytes
+
+-- and is one value
+pub one_value : {A : Type 0} (Is : List ℕ → A → Type 0) → ((bytes : List ℕ) (v w : Option A) → IsRead Is bytes v → IsRead Is bytes w → v ≡ w) → (content : Option (List ℕ)) (v w : Option A) → IsValue Is content v → IsValue Is content w → v ≡ w
+one_value Is one None v w h k = h ∙ sym k
+one_value Is one (Some bytes) v w h k = one bytes v w h k
