@@ -13,6 +13,8 @@ pub mod Links
 pub mod Lookup
 pub mod OnceAnswers
 pub mod OnceEntries
+pub mod OnceLinkFaults
+pub mod OnceLinks
 pub mod Order
 pub mod Outcomes
 pub mod Pieces

@@ -25,17 +25,20 @@ one_id kind bytes id id' rest rest' h k =
     let same : ◌≡◌ {A = List ℕ × List ℕ} (h.spelling, rest) (k.spelling, rest') = same_Some _ _ (sym a ∙ b) in
     (h.value ∙ ap (λ (x : List ℕ × List ℕ). make_id kind x.0) same ∙ sym k.value, ap (λ (x : List ℕ × List ℕ). x.1) same)
 
-long_enough : (kind : Kind) (bytes : List ℕ) (id : ObjectId) (rest : List ℕ) → StartsWithId kind bytes id rest → length bytes < id_len kind → ⊥
+pub long_enough : (kind : Kind) (bytes : List ℕ) (id : ObjectId) (rest : List ℕ) → StartsWithId kind bytes id rest → length bytes < id_len kind → ⊥
 long_enough kind bytes id rest h lt = omega (arith, ap length h.parts, length-append h.spelling rest, h.size)
 
-no_bitmap : (rest : List ℕ) (b : Bitmap) → IsBitmap [] b rest → ⊥
+pub no_bitmap : (rest : List ℕ) (b : Bitmap) → IsBitmap [] b rest → ⊥
 no_bitmap rest b h = no_fault [] bitmaps.NumBits (record { value = b; rest = rest; is_bitmap = h }) (omega arith)
 
 -- a bitmap in the place of bytes that are equal
-moved : (a c : List ℕ) (b : Bitmap) (rest : List ℕ) → a ≡ c → IsBitmap a b rest → IsBitmap c b rest
+pub moved : (a c : List ℕ) (b : Bitmap) (rest : List ℕ) → a ≡ c → IsBitmap a b rest → IsBitmap c b rest
 moved a c b rest e h = subst (λ (l : List ℕ). IsBitmap l b rest) e h
 
-lacking : (a c rest : List ℕ) (b : Bitmap) (error : BitmapError) → a ≡ c → IsBitmap a b rest → Lacks error c → ⊥
+pub lacks_moved : (a c : List ℕ) (error : BitmapError) → a ≡ c → Lacks error a → Lacks error c
+lacks_moved a c error e h = subst (λ (l : List ℕ). Lacks error l) e h
+
+pub lacking : (a c rest : List ℕ) (b : Bitmap) (error : BitmapError) → a ≡ c → IsBitmap a b rest → Lacks error c → ⊥
 lacking a c rest b error e h k = no_fault c error (record { value = b; rest = rest; is_bitmap = moved a c b rest e h }) k
 
 -- ---- a link has no fault
