@@ -1,6 +1,13 @@
+pub mod BitmapPlaces
+pub mod BlockHeads
 pub mod Decimals
+pub mod EqualPieces
 pub mod Heads
+pub mod Marking
+pub mod Nests
+pub mod NullIds
 pub mod Rows
 pub mod Sorted
 pub mod Spelled
+pub mod Tails
 pub mod Trees

@@ -1,8 +1,14 @@
+pub mod Blocks
 pub mod Contents
 pub mod Decimal
 pub mod EndMarker
 pub mod Limit
+pub mod Marking
+pub mod Marks
 pub mod OffsetTable
 pub mod Reading
+pub mod StatNumbers
 pub mod Tree
+pub mod Untracked
+pub mod UntrackedReading
 pub mod Walk

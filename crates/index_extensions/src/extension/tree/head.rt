@@ -1,14 +1,12 @@
 //! What stands before a node's children.
 
-ghost use Rattle.std.specs.Prelude.{◌≡◌, ◌*◌};
+ghost use Rattle.std.specs.Prelude.{◌≡◌};
 ghost use Rattle.std.specs.Option.{option_map};
-ghost use Rattle.index_parts.specs.Reading.{piece_at, split_at_byte};
-ghost use Rattle.index_extensions.specs.Limit.{passes_limit};
 ghost use Rattle.index_extensions.specs.Reading.{id_at, limited_id_at, head_at, lent_head};
 
 use super::decimal::{count_of, decimal_of};
 use index_parts::hash::{Kind, ObjectId};
-use index_parts::util::split_at_byte_exclusive;
+use crate::extension::pieces::{passes_limit, piece_of, split_of};
 
 /// What a node says of itself, and how many children it declares.
 #[derive(Clone, Copy)]
@@ -21,32 +19,6 @@ pub(super) struct Head<'a> {
 
 /// How many bytes of the limit a child takes.
 const CHILD_SIZE: u64 = 104;
-
-fn piece_of(size: usize, bytes: &[u8]) -> Option<(&[u8], &[u8])>
-    ensures { option_map (λ x. (x.0.now, x.1.now)) result ≡ piece_at size bytes.now }
-{
-    if bytes.len() < size {
-        return None;
-    }
-    Some(bytes.split_at(size))
-}
-
-/// The bytes up to the first one of this value, and those behind it.
-fn split_of(bytes: &[u8], byte: u8) -> Option<(&[u8], &[u8])>
-    ensures { option_map (λ x. (x.0.now, x.1.now)) result ≡ split_at_byte byte bytes.now }
-{
-    split_at_byte_exclusive(bytes, byte)
-}
-
-/// Whether so many children pass the limit.
-fn passes_limit(limit: Option<usize>, number: u64) -> bool
-    ensures { result ≡ passes_limit limit (104 * number) }
-{
-    match limit {
-        None => false,
-        Some(limit) => number > limit as u64 / CHILD_SIZE,
-    }
-}
 
 /// The id of a node, which only one with a count has.
 fn id_of(kind: Kind, count: Option<u32>, bytes: &[u8]) -> Option<(ObjectId, &[u8])>
@@ -68,7 +40,7 @@ fn limited_id_of(
 ) -> Option<(ObjectId, &[u8])>
     ensures { option_map (λ x. (x.0, x.1.now)) result ≡ limited_id_at kind limit number count bytes.now }
 {
-    if passes_limit(limit, number) {
+    if passes_limit(limit, CHILD_SIZE, number) {
         return None;
     }
     id_of(kind, count, bytes)
