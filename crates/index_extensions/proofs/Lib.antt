@@ -1,5 +1,7 @@
 pub mod BitmapPlaces
 pub mod BlockHeads
+pub mod Caches
+pub mod Clones
 pub mod Decimals
 pub mod EqualPieces
 pub mod Heads
