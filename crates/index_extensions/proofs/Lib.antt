@@ -1,11 +1,19 @@
+pub mod BitmapPlaces
+pub mod BlockHeads
 pub mod Blocks
+pub mod Caches
+pub mod Clones
 pub mod Decimals
 pub mod EndMarks
+pub mod EqualPieces
 pub mod FirstContent
 pub mod Heads
 pub mod Items
 pub mod MarkerReadings
+pub mod Marking
 pub mod Monitors
+pub mod Nests
+pub mod NullIds
 pub mod Octals
 pub mod Orders
 pub mod Paths
@@ -14,6 +22,7 @@ pub mod ResolveUndo
 pub mod Rows
 pub mod Sorted
 pub mod Spelled
+pub mod Tails
 pub mod TreeReadings
 pub mod Trees
 pub mod Walks

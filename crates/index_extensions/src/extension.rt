@@ -8,10 +8,12 @@ mod pieces;
 pub mod resolve_undo;
 pub mod sparse;
 pub mod tree;
+pub mod untracked_cache;
 
 pub use fs_monitor::FsMonitor;
 pub use iter::Iter;
 pub use tree::Tree;
+pub use untracked_cache::UntrackedCache;
 
 /// The four bytes by which an extension begins, as `TREE`. A reader that doesn't know a signature may skip
 /// the extension where the first byte isn't a lower-case letter.

@@ -1,12 +1,11 @@
 //! What stands before a node's children.
 
-ghost use Rattle.std.specs.Prelude.{◌≡◌, ◌*◌};
+ghost use Rattle.std.specs.Prelude.{◌≡◌};
 ghost use Rattle.std.specs.Option.{option_map};
-ghost use Rattle.index_extensions.specs.Limit.{passes_limit};
 ghost use Rattle.index_extensions.specs.Reading.{id_at, limited_id_at, head_at, lent_head};
 
-use super::super::pieces::{piece_of, split_of};
 use super::decimal::{count_of, decimal_of};
+use crate::extension::pieces::{passes_limit, piece_of, split_of};
 use index_parts::hash::{Kind, ObjectId};
 
 /// What a node says of itself, and how many children it declares.
@@ -20,16 +19,6 @@ pub(super) struct Head<'a> {
 
 /// How many bytes of the limit a child takes.
 const CHILD_SIZE: u64 = 104;
-
-/// Whether so many children pass the limit.
-fn passes_limit(limit: Option<usize>, number: u64) -> bool
-    ensures { result ≡ passes_limit limit (104 * number) }
-{
-    match limit {
-        None => false,
-        Some(limit) => number > limit as u64 / CHILD_SIZE,
-    }
-}
 
 /// The id of a node with this count, and the bytes behind it. A node without a count has none, and so the null id.
 fn id_of(kind: Kind, count: Option<u32>, bytes: &[u8]) -> Option<(ObjectId, &[u8])>
@@ -52,7 +41,7 @@ fn limited_id_of(
 ) -> Option<(ObjectId, &[u8])>
     ensures { option_map (λ x. (x.0, x.1.now)) result ≡ limited_id_at kind limit number count bytes.now }
 {
-    if passes_limit(limit, number) {
+    if passes_limit(limit, CHILD_SIZE, number) {
         return None;
     }
     id_of(kind, count, bytes)
