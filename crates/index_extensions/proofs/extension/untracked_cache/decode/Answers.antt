@@ -1,6 +1,6 @@
-use Rattle.std.proofs.Common.{rules, ◌≡◌, true, None, map, sym}
+use Rattle.std.proofs.Common.{rules, ◌≡◌, true, map, sym}
 use Rattle.index_extensions.specs.Blocks.{value_of}
-use Rattle.index_extensions.specs.UntrackedReading.{ends_with_nul, front_at, lent_front}
+use Rattle.index_extensions.specs.UntrackedReading.{ends_with_nul, lent_front}
 use Rattle.index_extensions.proofs.Caches.{front_read, agrees, no_count, nul_again, cache_from}
 use Rattle.index_extensions.proofs.extension.untracked_cache.decode.Goals as goal
 
