@@ -1,6 +1,7 @@
 //! The git index: the file that lists a repository's staged paths, read into memory, searched and written again.
 //!
-//! All that is public stands here under the paths of the Rust crate `gix-index`; a user names this crate alone.
+//! All that is public stands here under the paths of the Rust crate `gix-index`, but for `laws`, which it lacks; a user
+//! names this crate alone.
 #![tactic(auto)]
 
 pub mod extension;
