@@ -9,9 +9,11 @@ use Rattle.index_extensions.specs.Contents.{is_named, or_else, content_named, la
 use Rattle.index_extensions.specs.FsMonitor.{IsMonitor}
 use Rattle.index_extensions.specs.ResolveUndo.{IsResolveUndo, PathIdsAreOf}
 use Rattle.index_extensions.specs.Tree.{NodeIdsAreOf, IsTree}
+use Rattle.index_extensions.specs.Untracked.{CacheIdsAreOf, IsCache}
 use Rattle.index_extensions.specs.Walk.{Item, IsItem, AreItems, NoItem, IsWalk, left_of}
 use Rattle.index_parts.proofs.Ids.{id_kind-make_id}
 use Rattle.index_parts.specs.Id.{id_kind}
+use Rattle.index_extensions.proofs.Caches.{ids_of_cache}
 use Rattle.index_extensions.proofs.ResolveUndo.{ids_of_paths}
 use Rattle.index_extensions.proofs.Trees.{ids_of_tree}
 use Rattle.index_extensions.proofs.Walks.{walk_of, more_items}
@@ -72,6 +74,7 @@ outcome_push kind limit items i old new h a = record {
   tree = value_push (IsTree kind limit) (codes "TREE") items i old.tree new.tree h.tree a.tree;
   link = value_push (IsLink kind) (codes "link") items i old.link new.link h.link a.link;
   resolve_undo = value_push (IsResolveUndo kind) (codes "REUC") items i old.resolve_undo new.resolve_undo h.resolve_undo a.resolve_undo;
+  untracked = value_push (IsCache kind limit) (codes "UNTR") items i old.untracked new.untracked h.untracked a.untracked;
   fs_monitor = value_push IsMonitor (codes "FSMN") items i old.fs_monitor new.fs_monitor h.fs_monitor a.fs_monitor;
   sparse = any_push (codes "sdir") items i old.sparse new.sparse h.sparse a.sparse;
   had_end_marker = any_push (codes "EOIE") items i old.had_end_marker new.had_end_marker h.had_end_marker a.had_end_marker;
@@ -79,7 +82,7 @@ outcome_push kind limit items i old new h a = record {
 }
 
 pub no_outcome : (kind : Kind) (limit : Option ℕ) → IsOutcome kind limit [] no_extension
-no_outcome kind limit = record { tree = refl; link = refl; resolve_undo = refl; fs_monitor = refl; sparse = refl; had_end_marker = refl; had_offset_table = refl }
+no_outcome kind limit = record { tree = refl; link = refl; resolve_undo = refl; untracked = refl; fs_monitor = refl; sparse = refl; had_end_marker = refl; had_offset_table = refl }
 
 -- ---- the ids in it
 
@@ -92,11 +95,13 @@ link_ids : (kind : Kind) (bytes : List ℕ) (l : LinkValue) → IsLink kind byte
 link_ids kind bytes l (alone id s e) = ap (λ (x : LinkValue). id_kind x.shared) e ∙ ap id_kind s.value ∙ id_kind-make_id kind s.spelling
 link_ids kind bytes l (split id maps after b s m n e) = ap (λ (x : LinkValue). id_kind x.shared) e ∙ ap id_kind s.value ∙ id_kind-make_id kind s.spelling
 
-pub outcome_ids : (kind : Kind) (limit : Option ℕ) (items : List Item) (o : Outcome) → IsOutcome kind limit items o → ExtensionIdsAreOf kind o.tree o.link o.resolve_undo
-outcome_ids kind limit items o h =
-    (value_has (IsTree kind limit) (NodeIdsAreOf kind) (λ bytes t. ids_of_tree kind limit bytes t) _ o.tree h.tree,
-      value_has (IsLink kind) (λ l. id_kind l.shared ≡ kind) (link_ids kind) _ o.link h.link,
-      value_has (IsResolveUndo kind) (PathIdsAreOf kind) (λ bytes paths. ids_of_paths kind bytes paths []) _ o.resolve_undo h.resolve_undo)
+pub outcome_ids : (kind : Kind) (limit : Option ℕ) (items : List Item) (o : Outcome) → IsOutcome kind limit items o → ExtensionIdsAreOf kind o.tree o.link o.resolve_undo o.untracked
+outcome_ids kind limit items o h = (
+  value_has (IsTree kind limit) (NodeIdsAreOf kind) (λ bytes t. ids_of_tree kind limit bytes t) _ o.tree h.tree,
+  value_has (IsLink kind) (λ l. id_kind l.shared ≡ kind) (link_ids kind) _ o.link h.link,
+  value_has (IsResolveUndo kind) (PathIdsAreOf kind) (λ bytes paths. ids_of_paths kind bytes paths []) _ o.resolve_undo h.resolve_undo,
+  value_has (IsCache kind limit) (CacheIdsAreOf kind) (λ bytes cache. ids_of_cache kind limit bytes cache) _ o.untracked h.untracked,
+)
 
 -- ---- all items
 

@@ -8,9 +8,12 @@ use Rattle.index_extensions.specs.Contents.{is_named, last_content}
 use Rattle.index_extensions.specs.FsMonitor.{IsMonitor}
 use Rattle.index_extensions.specs.ResolveUndo.{IsResolveUndo}
 use Rattle.index_extensions.specs.Tree.{IsTree}
+use Rattle.index_extensions.specs.Untracked.{IsCache}
 use Rattle.index_extensions.specs.Walk.{Item}
 use Rattle.index_extensions.proofs.Readings.{Decided, one_read, value_reading, one_value}
 use Rattle.index_extensions.proofs.TreeReadings.{tree_reading, tree_reading_one}
+use Rattle.index_extensions.proofs.CacheReadings.{cache_reading}
+use Rattle.index_extensions.proofs.Caches.{one_cache}
 use Rattle.index_extensions.proofs.Monitors.{one_monitor, monitor_reading}
 use Rattle.index_extensions.proofs.ResolveUndo.{one_resolve_undo, resolve_undo_reading}
 use Rattle.index_state.specs.Link.{LinkFault, IsLink, IsLinkFault, HasLink}
@@ -75,17 +78,19 @@ outcome_reading kind limit items =
     let tree = value_reading (IsTree kind limit) (tree_reading kind limit) (last_content (codes "TREE") items) in
     let link = value_reading (IsLink kind) (link_reading kind) (last_content (codes "link") items) in
     let paths = value_reading (IsResolveUndo kind) (resolve_undo_reading kind) (last_content (codes "REUC") items) in
+    let cache = value_reading (IsCache kind limit) (cache_reading kind limit) (last_content (codes "UNTR") items) in
     let monitor = value_reading IsMonitor monitor_reading (last_content (codes "FSMN") items) in (
       record {
         tree = tree.0;
         link = link.0;
         resolve_undo = paths.0;
+        untracked = cache.0;
         fs_monitor = monitor.0;
         sparse = list_any (is_named (codes "sdir")) items;
         had_end_marker = list_any (is_named (codes "EOIE")) items;
         had_offset_table = list_any (is_named (codes "IEOT")) items;
       },
-      record { tree = tree.1; link = link.1; resolve_undo = paths.1; fs_monitor = monitor.1; sparse = refl; had_end_marker = refl; had_offset_table = refl },
+      record { tree = tree.1; link = link.1; resolve_undo = paths.1; untracked = cache.1; fs_monitor = monitor.1; sparse = refl; had_end_marker = refl; had_offset_table = refl },
     )
 
 -- outcomes that agree in each part are equal
@@ -93,19 +98,21 @@ pub record Agree (o p : Outcome) : Type 0 where
   pub tree : o.tree ≡ p.tree
   pub link : o.link ≡ p.link
   pub resolve_undo : o.resolve_undo ≡ p.resolve_undo
+  pub untracked : o.untracked ≡ p.untracked
   pub fs_monitor : o.fs_monitor ≡ p.fs_monitor
   pub sparse : o.sparse ≡ p.sparse
   pub had_end_marker : o.had_end_marker ≡ p.had_end_marker
   pub had_offset_table : o.had_offset_table ≡ p.had_offset_table
 
 same_outcome : (o p : Outcome) → Agree o p → o ≡ p
-same_outcome o p a = rw (a.tree, a.link, a.resolve_undo, a.fs_monitor, a.sparse, a.had_end_marker, a.had_offset_table) refl
+same_outcome o p a = rw (a.tree, a.link, a.resolve_undo, a.untracked, a.fs_monitor, a.sparse, a.had_end_marker, a.had_offset_table) refl
 
 pub one_outcome : (kind : Kind) (limit : Option ℕ) (items : List Item) (o p : Outcome) → IsOutcome kind limit items o → IsOutcome kind limit items p → o ≡ p
 one_outcome kind limit items o p h k = same_outcome o p (record {
   tree = one_value (IsTree kind limit) (tree_reading_one kind limit) (last_content (codes "TREE") items) o.tree p.tree h.tree k.tree;
   link = one_value (IsLink kind) (λ bytes. one_read (IsLink kind) bytes (one_link kind bytes)) (last_content (codes "link") items) o.link p.link h.link k.link;
   resolve_undo = one_value (IsResolveUndo kind) (λ bytes. one_read (IsResolveUndo kind) bytes (one_resolve_undo kind bytes)) (last_content (codes "REUC") items) o.resolve_undo p.resolve_undo h.resolve_undo k.resolve_undo;
+  untracked = one_value (IsCache kind limit) (λ bytes. one_read (IsCache kind limit) bytes (one_cache kind limit bytes)) (last_content (codes "UNTR") items) o.untracked p.untracked h.untracked k.untracked;
   fs_monitor = one_value IsMonitor (λ bytes. one_read IsMonitor bytes (one_monitor bytes)) (last_content (codes "FSMN") items) o.fs_monitor p.fs_monitor h.fs_monitor k.fs_monitor;
   sparse = h.sparse ∙ sym k.sparse;
   had_end_marker = h.had_end_marker ∙ sym k.had_end_marker;

@@ -50,7 +50,7 @@ value_of kind time version rs o = record {
   tree = o.tree;
   link = o.link;
   resolve_undo = o.resolve_undo;
-  untracked = None;
+  untracked = o.untracked;
   fs_monitor = o.fs_monitor;
 }
 

@@ -10,6 +10,7 @@ use Rattle.index_extensions.specs.Tree.{IsTree, node_of}
 use Rattle.index_extensions.specs.Walk.{Item, IsWalk, left_of}
 use Rattle.index_parts.specs.Id.{id_len}
 use Rattle.index_parts.specs.declared.entry.stat.FileTime.{FileTime}
+use Rattle.index_extensions.specs.Untracked.{IsCache, cache_of}
 use Rattle.index_state.specs.Answer.{Answer, TrailerLength, IsVerified, checksum_of, value_of}
 use Rattle.index_state.specs.Faults.{extension_fault}
 use Rattle.index_state.specs.Record.{Record}
@@ -26,6 +27,7 @@ outcome_of o = record {
   tree = option_map node_of o.tree;
   link = option_map link_of o.link;
   resolve_undo = option_map (λ paths. map path_stages paths.items) o.resolve_undo;
+  untracked = option_map cache_of o.untracked;
   fs_monitor = option_map monitor_of o.fs_monitor;
   sparse = o.is_sparse;
   had_end_marker = o.had_end_of_index_marker;
@@ -42,6 +44,7 @@ pub record Adds (kind : Kind) (limit : Option ℕ) (signature content : List ℕ
   pub link : Replaces (codes "link") (IsLink kind) signature content old.link new.link
   pub whole_link : pointwise nat_eq signature (codes "link") ≡ true → HasLink kind content
   pub resolve_undo : Replaces (codes "REUC") (IsResolveUndo kind) signature content old.resolve_undo new.resolve_undo
+  pub untracked : Replaces (codes "UNTR") (IsCache kind limit) signature content old.untracked new.untracked
   pub fs_monitor : Replaces (codes "FSMN") IsMonitor signature content old.fs_monitor new.fs_monitor
   pub sparse : new.sparse ≡ (old.sparse || pointwise nat_eq signature (codes "sdir"))
   pub had_end_marker : new.had_end_marker ≡ (old.had_end_marker || pointwise nat_eq signature (codes "EOIE"))

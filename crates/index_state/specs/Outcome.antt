@@ -7,6 +7,7 @@ use Rattle.index_extensions.specs.Contents.{is_named, last_content, IsValue}
 use Rattle.index_extensions.specs.FsMonitor.{Monitor, IsMonitor}
 use Rattle.index_extensions.specs.ResolveUndo.{PathStages, IsResolveUndo}
 use Rattle.index_extensions.specs.Tree.{Node, IsTree}
+use Rattle.index_extensions.specs.Untracked.{Cache, IsCache}
 use Rattle.index_extensions.specs.Walk.{Item}
 use Rattle.index_state.specs.Link.{LinkFault, LinkValue, IsLink, IsLinkFault}
 
@@ -48,6 +49,7 @@ pub record Outcome : Type 0 where
   pub tree : Option Node
   pub link : Option LinkValue
   pub resolve_undo : Option (List PathStages)
+  pub untracked : Option Cache
   pub fs_monitor : Option Monitor
   pub sparse : Bool
   pub had_end_marker : Bool
@@ -55,13 +57,14 @@ pub record Outcome : Type 0 where
 
 -- what no extensions come to
 abbrev pub no_extension : Outcome
-no_extension = record { tree = None; link = None; resolve_undo = None; fs_monitor = None; sparse = false; had_end_marker = false; had_offset_table = false }
+no_extension = record { tree = None; link = None; resolve_undo = None; untracked = None; fs_monitor = None; sparse = false; had_end_marker = false; had_offset_table = false }
 
 -- of several extensions with one signature the last counts, also where it is malformed
 pub record IsOutcome (kind : Kind) (limit : Option ℕ) (items : List Item) (o : Outcome) : Type 0 where
   pub tree : IsValue (IsTree kind limit) (last_content (codes "TREE") items) o.tree
   pub link : IsValue (IsLink kind) (last_content (codes "link") items) o.link
   pub resolve_undo : IsValue (IsResolveUndo kind) (last_content (codes "REUC") items) o.resolve_undo
+  pub untracked : IsValue (IsCache kind limit) (last_content (codes "UNTR") items) o.untracked
   pub fs_monitor : IsValue IsMonitor (last_content (codes "FSMN") items) o.fs_monitor
   pub sparse : o.sparse ≡ list_any (is_named (codes "sdir")) items
   pub had_end_marker : o.had_end_marker ≡ list_any (is_named (codes "EOIE")) items

@@ -11,6 +11,7 @@ use Rattle.index_parts.specs.declared.hash.Kind.{Kind}
 use Rattle.index_parts.specs.declared.hash.ObjectId.{ObjectId}
 use Rattle.index_parts.specs.declared.entry.stat.FileTime.{FileTime}
 use Rattle.index_parts.specs.declared.entry.stat.Stat.{Stat}
+use Rattle.index_extensions.specs.Untracked.{Cache, CacheIdsAreOf, cache_of}
 use Rattle.index_state.specs.Link.{LinkValue, link_of}
 use Rattle.index_state.specs.declared.Version.{Version}
 use Rattle.index_state.specs.declared.Entry.{Entry}
@@ -48,7 +49,7 @@ pub record Contents : Type 0 where
   pub tree : Option Node
   pub link : Option LinkValue
   pub resolve_undo : Option (List PathStages)
-  pub untracked : Option ⊥
+  pub untracked : Option Cache
   pub fs_monitor : Option Monitor
 
 abbrev pub entries_of : State → List Entry
@@ -72,7 +73,7 @@ contents s = record {
   tree = option_map node_of s.tree;
   link = option_map link_of s.link;
   resolve_undo = option_map (λ paths. map path_stages paths.items) s.resolve_undo;
-  untracked = None;
+  untracked = option_map cache_of s.untracked;
   fs_monitor = option_map monitor_of s.fs_monitor;
 }
 
@@ -85,9 +86,9 @@ abbrev pub IdsAreOf : Kind → List Entry → Type 0
 IdsAreOf kind entries = All (λ e. id_kind e.id ≡ kind) entries
 
 -- each id in these extensions, as far as they are there, is of this kind
-abbrev pub ExtensionIdsAreOf : Kind → Option Node → Option LinkValue → Option (List PathStages) → Type 0
-ExtensionIdsAreOf kind tree link resolve_undo =
-    IfSome tree (NodeIdsAreOf kind) × IfSome link (λ l. id_kind l.shared ≡ kind) × IfSome resolve_undo (PathIdsAreOf kind)
+abbrev pub ExtensionIdsAreOf : Kind → Option Node → Option LinkValue → Option (List PathStages) → Option Cache → Type 0
+ExtensionIdsAreOf kind tree link resolve_undo untracked =
+    IfSome tree (NodeIdsAreOf kind) × IfSome link (λ l. id_kind l.shared ≡ kind) × IfSome resolve_undo (PathIdsAreOf kind) × IfSome untracked (CacheIdsAreOf kind)
 
 -- some record stands for a whole directory
 abbrev pub has_directory : List Record → Bool

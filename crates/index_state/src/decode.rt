@@ -167,7 +167,7 @@ fn state_of(
 ) -> Result<(State, Option<ObjectId>), Error>
     requires placed { All (IsPlaced (length read.storage.items)) read.entries.items }
     requires ids { IdsAreOf object_hash read.entries.items }
-    requires extension_ids { ExtensionIdsAreOf object_hash (outcome_of outcome).tree (outcome_of outcome).link (outcome_of outcome).resolve_undo }
+    requires extension_ids { ExtensionIdsAreOf object_hash (outcome_of outcome).tree (outcome_of outcome).link (outcome_of outcome).resolve_undo (outcome_of outcome).untracked }
     requires sparse { read.sparse ≡ has_directory (records_in read.storage.items read.entries.items) }
     requires trailer { length trailer.now ≡ id_len object_hash }
     requires room { left + id_len object_hash ≤ 0xffffffffffffffff }
@@ -175,7 +175,7 @@ fn state_of(
         (records_in read.entry.storage.items read.entry.entries.items) (outcome_of outcome) left trailer.now) }
     ensures stored { IfOk result (λ x. PathsInStorage x.0) }
     ensures ids { IfOk result (λ x. IdsAreOf object_hash (entries_of x.0)) }
-    ensures extension_ids { IfOk result (λ x. ExtensionIdsAreOf object_hash (contents x.0).tree (contents x.0).link (contents x.0).resolve_undo) }
+    ensures extension_ids { IfOk result (λ x. ExtensionIdsAreOf object_hash (contents x.0).tree (contents x.0).link (contents x.0).resolve_undo (contents x.0).untracked) }
 {
     if left != 0 {
         let expected = object_hash.len_in_bytes();
@@ -214,7 +214,7 @@ fn ending_of(
         (records_in read.entry.storage.items read.entry.entries.items) read.entry.rest.now) }
     ensures stored { IfOk result (λ x. PathsInStorage x.0) }
     ensures ids { IfOk result (λ x. IdsAreOf object_hash (entries_of x.0)) }
-    ensures extension_ids { IfOk result (λ x. ExtensionIdsAreOf object_hash (contents x.0).tree (contents x.0).link (contents x.0).resolve_undo) }
+    ensures extension_ids { IfOk result (λ x. ExtensionIdsAreOf object_hash (contents x.0).tree (contents x.0).link (contents x.0).resolve_undo (contents x.0).untracked) }
 {
     let expected = object_hash.len_in_bytes();
     let actual = read.rest.len();
@@ -266,7 +266,7 @@ fn body_of(
     ensures body { Says result (IsBody object_hash timestamp options version count bytes.now) }
     ensures stored { IfOk result (λ x. PathsInStorage x.0) }
     ensures ids { IfOk result (λ x. IdsAreOf object_hash (entries_of x.0)) }
-    ensures extension_ids { IfOk result (λ x. ExtensionIdsAreOf object_hash (contents x.0).tree (contents x.0).link (contents x.0).resolve_undo) }
+    ensures extension_ids { IfOk result (λ x. ExtensionIdsAreOf object_hash (contents x.0).tree (contents x.0).link (contents x.0).resolve_undo (contents x.0).untracked) }
 {
     let read = entries::entries_of(alloc, version, object_hash, count, paths, bytes)?;
     ending_of(alloc, read, timestamp, object_hash, options, version)
@@ -295,7 +295,7 @@ impl State {
         ensures answer { Says result (IsAnswer object_hash timestamp options «data».now) }
         ensures stored { IfOk result (λ x. PathsInStorage x.0) }
         ensures ids { IfOk result (λ x. IdsAreOf object_hash (entries_of x.0)) }
-        ensures extension_ids { IfOk result (λ x. ExtensionIdsAreOf object_hash (contents x.0).tree (contents x.0).link (contents x.0).resolve_undo) }
+        ensures extension_ids { IfOk result (λ x. ExtensionIdsAreOf object_hash (contents x.0).tree (contents x.0).link (contents x.0).resolve_undo (contents x.0).untracked) }
     {
         let (version, count, rest) = header::decode(data, object_hash)?;
         let offset = end_of_index_entry::decode(data, object_hash);

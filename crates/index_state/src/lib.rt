@@ -5,7 +5,7 @@ ghost use Rattle.std.specs.Prelude.{◌≡◌, ◌↔◌, ◌<◌, false, length
 
 use crate::extension::decode::Outcome;
 use crate::extension::link::Link;
-use index_extensions::extension::{FsMonitor, Tree, resolve_undo};
+use index_extensions::extension::{FsMonitor, Tree, UntrackedCache, resolve_undo};
 use index_parts::entry::{FileTime, Flags, Mode, Stage, StageRaw, Stat};
 use index_parts::hash::{Kind, ObjectId};
 use std::cmp::Ordering;
@@ -66,6 +66,7 @@ pub struct State {
     tree: Option<Tree>,
     link: Option<Link>,
     resolve_undo: Option<resolve_undo::Paths>,
+    untracked: Option<UntrackedCache>,
     fs_monitor: Option<FsMonitor>,
 }
 
@@ -93,6 +94,7 @@ impl State {
           tree = extensions.tree;
           link = extensions.link;
           resolve_undo = extensions.resolve_undo;
+          untracked = extensions.untracked;
           fs_monitor = extensions.fs_monitor;
         } }
     {
@@ -108,6 +110,7 @@ impl State {
             tree: extensions.tree,
             link: extensions.link,
             resolve_undo: extensions.resolve_undo,
+            untracked: extensions.untracked,
             fs_monitor: extensions.fs_monitor,
         }
     }

@@ -2,13 +2,18 @@
 
 ghost use Rattle.std.specs.Borrow.{sem};
 ghost use Rattle.std.specs.Option.{option_map, option_copied_mut};
-ghost use Rattle.std.specs.Prelude.{◌≡◌, None};
+ghost use Rattle.std.specs.Prelude.{◌≡◌, None, map};
+ghost use Rattle.index_extensions.specs.FsMonitor.{monitor_of};
+ghost use Rattle.index_extensions.specs.ResolveUndo.{path_stages};
 ghost use Rattle.index_extensions.specs.Tree.{node_of};
+ghost use Rattle.index_extensions.specs.Untracked.{cache_of};
 ghost use Rattle.index_state.specs.Edits.{LendsTree};
+ghost use Rattle.index_state.specs.Link.{link_of};
 ghost use Rattle.index_state.specs.Record.{contents, entries_of, storage_of};
 
 use crate::State;
-use index_extensions::extension::Tree;
+use crate::extension::link::Link;
+use index_extensions::extension::{FsMonitor, Tree, UntrackedCache, resolve_undo};
 
 impl State {
     /// The cached tree, where the file had one that could be read (gitformat-index, "Cache tree"). Edits of entries leave
@@ -35,6 +40,47 @@ impl State {
         ensures storage { storage_of self.new ≡ storage_of self.old }
     {
         self.tree.take()
+    }
+
+    /// The link to a shared index, where the file was a split index (gitformat-index, "Split index").
+    pub fn link(&self) -> Option<&Link>
+        ensures { option_map (λ l. link_of l.now) result ≡ (contents self.now).link }
+    {
+        self.link.as_ref()
+    }
+
+    /// The stages of conflicts that were resolved, path by path, where the file had them and they could be read
+    /// (gitformat-index, "Resolve undo").
+    pub fn resolve_undo(&self) -> Option<&resolve_undo::Paths>
+        ensures { option_map (λ paths. map path_stages paths.now.items) result ≡ (contents self.now).resolve_undo }
+    {
+        self.resolve_undo.as_ref()
+    }
+
+    /// Takes these out, and leaves none. All else stays.
+    pub fn remove_resolve_undo(&mut self) -> Option<resolve_undo::Paths>
+        ensures given { option_map (λ paths. map path_stages paths.items) result ≡ (contents self.old).resolve_undo }
+        ensures removed { contents self.new ≡ record (contents self.old) { resolve_undo = None } }
+        ensures entries { entries_of self.new ≡ entries_of self.old }
+        ensures storage { storage_of self.new ≡ storage_of self.old }
+    {
+        self.resolve_undo.take()
+    }
+
+    /// What was known of untracked files, where the file had it and it could be read (gitformat-index, "Untracked
+    /// cache").
+    pub fn untracked(&self) -> Option<&UntrackedCache>
+        ensures { option_map (λ cache. cache_of cache.now) result ≡ (contents self.now).untracked }
+    {
+        self.untracked.as_ref()
+    }
+
+    /// What a monitor of the file system had said, where the file had it and it could be read (gitformat-index, "File
+    /// System Monitor cache").
+    pub fn fs_monitor(&self) -> Option<&FsMonitor>
+        ensures { option_map (λ monitor. monitor_of monitor.now) result ≡ (contents self.now).fs_monitor }
+    {
+        self.fs_monitor.as_ref()
     }
 
     /// Whether the file had an end marker, whatever it said (gitformat-index, "End of Index Entry").

@@ -6,6 +6,7 @@ ghost use Rattle.std.specs.Prelude.{◌≡◌, ◌≤◌, ℕ, true, List, lengt
 ghost use Rattle.index_extensions.specs.FsMonitor.{IsMonitor, monitor_of};
 ghost use Rattle.index_extensions.specs.ResolveUndo.{IsResolveUndo, path_stages};
 ghost use Rattle.index_extensions.specs.Tree.{IsTree, node_of};
+ghost use Rattle.index_extensions.specs.Untracked.{IsCache, cache_of};
 ghost use Rattle.index_state.specs.Gathered.{Adds, IsGathered, Replaces, SaysExtension, SaysItem, outcome_of};
 ghost use Rattle.index_state.specs.Link.{HasLink, IsLink, SaysLink, link_of};
 ghost use Rattle.index_state.specs.Outcome.{is_mandatory, is_understood, no_extension};
@@ -14,8 +15,8 @@ ghost use Rattle.index_state.specs.Record.{ExtensionIdsAreOf};
 use crate::decode;
 use crate::extension::link::{self, Link};
 use index_extensions::extension::{
-    FsMonitor, Iter, Signature, Tree, end_of_index_entry, fs_monitor, index_entry_offset_table,
-    resolve_undo, sparse, tree,
+    FsMonitor, Iter, Signature, Tree, UntrackedCache, end_of_index_entry, fs_monitor,
+    index_entry_offset_table, resolve_undo, sparse, tree, untracked_cache,
 };
 use index_parts::hash::Kind;
 use std::alloc::{AllocError, Global};
@@ -41,6 +42,7 @@ pub(crate) struct Outcome {
     pub(crate) tree: Option<Tree>,
     pub(crate) link: Option<Link>,
     pub(crate) resolve_undo: Option<resolve_undo::Paths>,
+    pub(crate) untracked: Option<UntrackedCache>,
     pub(crate) fs_monitor: Option<FsMonitor>,
     pub(crate) is_sparse: bool,
     pub(crate) had_end_of_index_marker: bool,
@@ -116,6 +118,23 @@ fn later_paths(
     Ok(())
 }
 
+/// The same of the untracked cache.
+fn later_cache(
+    slot: &mut Option<UntrackedCache>,
+    alloc: Global,
+    object_hash: Kind,
+    alloc_limit_bytes: Option<usize>,
+    signature: Signature,
+    content: &[u8],
+) -> Result<(), AllocError>
+    ensures { OnOk result (Replaces (codes "UNTR") (IsCache object_hash alloc_limit_bytes) signature content.now (option_map cache_of slot.old) (option_map cache_of slot.new)) }
+{
+    if signature == untracked_cache::SIGNATURE {
+        *slot = untracked_cache::decode(alloc, content, object_hash, alloc_limit_bytes)?;
+    }
+    Ok(())
+}
+
 /// The same of the file system monitor.
 fn later_monitor(
     slot: &mut Option<FsMonitor>,
@@ -140,6 +159,7 @@ impl Outcome {
             tree: None,
             link: None,
             resolve_undo: None,
+            untracked: None,
             fs_monitor: None,
             is_sparse: false,
             had_end_of_index_marker: false,
@@ -161,8 +181,29 @@ impl Outcome {
     {
         later_link(&mut self.link, alloc, object_hash, signature, content)?;
         let limit = alloc_limit_bytes;
-        later_tree(&mut self.tree, alloc, object_hash, limit, signature, content)?;
-        later_paths(&mut self.resolve_undo, alloc, object_hash, signature, content)?;
+        later_tree(
+            &mut self.tree,
+            alloc,
+            object_hash,
+            limit,
+            signature,
+            content,
+        )?;
+        later_paths(
+            &mut self.resolve_undo,
+            alloc,
+            object_hash,
+            signature,
+            content,
+        )?;
+        later_cache(
+            &mut self.untracked,
+            alloc,
+            object_hash,
+            limit,
+            signature,
+            content,
+        )?;
         later_monitor(&mut self.fs_monitor, alloc, signature, content)?;
         self.is_sparse = self.is_sparse || signature == sparse::SIGNATURE;
         self.had_end_of_index_marker = self.had_end_of_index_marker
@@ -181,7 +222,7 @@ pub(crate) fn all(
     alloc_limit_bytes: Option<usize>,
 ) -> Result<(Outcome, usize), decode::Error>
     ensures ok { IfOk result (λ x. IsGathered object_hash alloc_limit_bytes extensions.now (outcome_of x.0) x.1) }
-    ensures ids { IfOk result (λ x. ExtensionIdsAreOf object_hash (outcome_of x.0).tree (outcome_of x.0).link (outcome_of x.0).resolve_undo) }
+    ensures ids { IfOk result (λ x. ExtensionIdsAreOf object_hash (outcome_of x.0).tree (outcome_of x.0).link (outcome_of x.0).resolve_undo (outcome_of x.0).untracked) }
     ensures small { IfOk result (λ x. x.1 ≤ length extensions.now) }
     ensures err { IfErr result (SaysExtension object_hash extensions.now) }
 {

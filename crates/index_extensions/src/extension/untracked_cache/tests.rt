@@ -86,7 +86,10 @@ fn nested_directories(rt: HostRuntime) -> Result<(), Fail> {
     let cache = read(&rt, alloc, &deepest)?;
     assert_eq!(rt; cache.directories().len(), 2049);
     assert_eq!(rt; cache.directories()[0].sub_directories(), [1].as_slice());
-    assert_eq!(rt; cache.directories()[2047].sub_directories(), [2048].as_slice());
+    assert_eq!(rt;
+        cache.directories()[2047].sub_directories(),
+        [2048].as_slice()
+    );
     assert!(rt; cache.directories()[2048].sub_directories().is_empty());
     let too_deep = unmarked(alloc, &[0x8f, 0x02], &chain(alloc, 2049)?)?;
     assert!(rt; decode(alloc, &too_deep, Kind::Sha1, None)?.is_none());

@@ -29,10 +29,12 @@ fn text_of(alloc: Global, bytes: &[u8]) -> Option<&'static str> {
 
 fn lacks_length(alloc: Global, bytes: &[u8], name: &str) -> bool {
     match decode(alloc, bytes, Kind::Sha1) {
-        Err(Error::BitmapDecode {
-            err: ewah::decode::Error::Length,
-            kind,
-        }) => kind == name,
+        Err(
+            Error::BitmapDecode {
+                err: ewah::decode::Error::Length,
+                kind,
+            },
+        ) => kind == name,
         _ => false,
     }
 }
@@ -67,7 +69,10 @@ fn faults(rt: HostRuntime) -> Result<(), Fail> {
     let short = "link extension too short to read share index checksum";
     assert_eq!(rt; text_of(alloc, &ID[..19]), Some(short));
     let more = joined(alloc, &[&ID, &MAPS, b"\0"])?;
-    assert_eq!(rt; text_of(alloc, &more), Some("garbage trailing link extension"));
+    assert_eq!(rt;
+        text_of(alloc, &more),
+        Some("garbage trailing link extension")
+    );
     assert!(rt; lacks_length(alloc, &joined(alloc, &[&ID, &MAPS[..4]])?, "delete"));
     assert!(rt; lacks_length(alloc, &joined(alloc, &[&ID, &MAPS[..16]])?, "replace"));
     Ok(())

@@ -40,9 +40,13 @@ loop-item-preserved c =
     let x : List ℕ × List ℕ = (c.in-Some.item.0, c.in-Some.item.1.now) in
     let h : Steps before count (Some x) after counted = c.in-Some.ensures.steps in
     let i = step_item x before count after counted h in
-    let lt : length c.args.extensions.now < 2 ^ 64 = search rules in
-    (inv.0 ++ i ∷ [], step_more c.args.extensions.now inv.0 x before count after counted inv.1 h, sound_push c.args.object_hash c.args.alloc_limit_bytes inv.0 i (outcome_of c.loop-item.outcome) (outcome_of c.add.new.self) inv.2 (sym c.if-not-is_understood.ensures) c.in_ok-add.ensures.ok,
-      outcome_push c.args.object_hash c.args.alloc_limit_bytes inv.0 i (outcome_of c.loop-item.outcome) (outcome_of c.add.new.self) inv.3 c.in_ok-add.ensures.ok, step_counts (length c.args.extensions.now) x before count after counted lt inv.4 h)
+    let lt : length c.args.extensions.now < 2 ^ 64 = search rules in (
+      inv.0 ++ i ∷ [],
+      step_more c.args.extensions.now inv.0 x before count after counted inv.1 h,
+      sound_push c.args.object_hash c.args.alloc_limit_bytes inv.0 i (outcome_of c.loop-item.outcome) (outcome_of c.add.new.self) inv.2 (sym c.if-not-is_understood.ensures) c.in_ok-add.ensures.ok,
+      outcome_push c.args.object_hash c.args.alloc_limit_bytes inv.0 i (outcome_of c.loop-item.outcome) (outcome_of c.add.new.self) inv.3 c.in_ok-add.ensures.ok,
+      step_counts (length c.args.extensions.now) x before count after counted lt inv.4 h,
+    )
 
 pub overflow_sub-result : goal.overflow_sub-result
 overflow_sub-result c =
