@@ -1,13 +1,16 @@
 pub mod BitmapPlaces
 pub mod BlockHeads
+pub mod BlockReadings
 pub mod Decimals
 pub mod EqualPieces
 pub mod Heads
 pub mod Marking
 pub mod Nests
 pub mod NullIds
+pub mod Readings
 pub mod Rows
 pub mod Sorted
 pub mod Spelled
+pub mod TailReadings
 pub mod Tails
 pub mod Trees
