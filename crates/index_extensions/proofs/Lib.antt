@@ -1,6 +1,8 @@
 pub mod BitmapPlaces
 pub mod BlockHeads
 pub mod BlockReadings
+pub mod Caches
+pub mod Clones
 pub mod Decimals
 pub mod EqualPieces
 pub mod Heads

@@ -74,8 +74,13 @@ pub fn decode(
 ) -> Result<Option<Tree>, AllocError>
     ensures read { IfOk result (λ found. IsRead (IsTree object_hash alloc_limit_bytes) «data».now (option_map node_of found)) }
 {
-    let Some((tree, rest)) =
-        nodes::read_node(alloc, object_hash, alloc_limit_bytes, MAX_LEVELS, data)?
+    let Some((tree, rest)) = nodes::read_node(
+        alloc,
+        object_hash,
+        alloc_limit_bytes,
+        MAX_LEVELS,
+        data,
+    )?
     else {
         return Ok(None);
     };

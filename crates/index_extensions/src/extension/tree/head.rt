@@ -5,8 +5,8 @@ ghost use Rattle.std.specs.Option.{option_map};
 ghost use Rattle.index_extensions.specs.Reading.{id_at, limited_id_at, head_at, lent_head};
 
 use super::decimal::{count_of, decimal_of};
-use index_parts::hash::{Kind, ObjectId};
 use crate::extension::pieces::{passes_limit, piece_of, split_of};
+use index_parts::hash::{Kind, ObjectId};
 
 /// What a node says of itself, and how many children it declares.
 #[derive(Clone, Copy)]

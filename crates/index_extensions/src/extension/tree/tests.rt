@@ -21,7 +21,16 @@ fn family(alloc: Global, kind: Kind, first: &[u8], second: &[u8]) -> Result<Vec<
     let [root, one, two] = &IDS;
     joined(
         alloc,
-        &[ROOT, &root[..len], first, leaf, &one[..len], second, leaf, &two[..len]],
+        &[
+            ROOT,
+            &root[..len],
+            first,
+            leaf,
+            &one[..len],
+            second,
+            leaf,
+            &two[..len],
+        ],
     )
 }
 

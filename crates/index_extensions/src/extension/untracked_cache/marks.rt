@@ -86,11 +86,7 @@ fn places_of(
 }
 
 /// The three bitmaps at the front of bytes, and the bytes behind them.
-fn marks_of(
-    alloc: Global,
-    count: usize,
-    bytes: &[u8],
-) -> Result<Option<(Marks, &[u8])>, AllocError>
+fn marks_of(alloc: Global, count: usize, bytes: &[u8]) -> Result<Option<(Marks, &[u8])>, AllocError>
     ensures found { IfOk result (λ found. IfSome found (λ x. AreMarks count bytes.now (own_marks x.0) x.1.now)) }
     ensures none { IfOk result (λ found. IfNone found ((m : Places) (rest : List ℕ) → AreMarks count bytes.now m rest → ⊥)) }
 {

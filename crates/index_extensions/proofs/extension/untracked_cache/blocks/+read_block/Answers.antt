@@ -1,7 +1,7 @@
-use Rattle.std.proofs.Common.{rules, arith, ◌≡◌, ℕ, ◌-◌, ◌+◌, List, [], ◌∷◌, ◌++◌, length, length-append, map, refl, sym, ap, ◌∙◌, Some}
+use Rattle.std.proofs.Common.{rules, arith, ◌≡◌, ℕ, ◌+◌, List, [], ◌∷◌, ◌++◌, length, length-append, map, refl, sym, ap, ◌∙◌}
 use Rattle.std.proofs.lemmas.List.{map-append}
 use Rattle.index_extensions.specs.Blocks.{block, how_many, blocks_size, unmarked, places_from, value_of}
-use Rattle.index_extensions.specs.UntrackedReading.{Start, start_at, own_start}
+use Rattle.index_extensions.specs.UntrackedReading.{own_start}
 use Rattle.index_extensions.proofs.Nests.{blocks_from, next_block, no_block, block_from, row_push, number_of_row, depth_push, places_push, directories_len, directories_push, directories_done}
 use Rattle.index_extensions.proofs.extension.untracked_cache.blocks.+read_block.Goals as goal
 

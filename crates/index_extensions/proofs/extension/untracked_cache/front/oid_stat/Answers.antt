@@ -1,5 +1,5 @@
-use Rattle.std.proofs.Common.{◌≡◌, true, refl, sym, subst, ap, ◌∙◌}
-use Rattle.index_parts.specs.Id.{id_kind, make_id, null_id}
+use Rattle.std.proofs.Common.{◌≡◌, true, refl, sym, subst}
+use Rattle.index_parts.specs.Id.{id_kind, null_id}
 use Rattle.index_parts.specs.declared.hash.ObjectId.{ObjectId}
 use Rattle.index_extensions.proofs.NullIds.{not_zeros, zeros_of_null}
 use Rattle.index_extensions.proofs.extension.untracked_cache.front.oid_stat.Goals as goal

@@ -1,4 +1,4 @@
-use Rattle.std.proofs.Common.{◌≡◌, ℕ, List, sym, subst}
+use Rattle.std.proofs.Common.{ℕ, List, subst}
 use Rattle.index_extensions.specs.Marks.{ListsBelow}
 use Rattle.index_extensions.proofs.BitmapPlaces.{one_list}
 use Rattle.index_extensions.proofs.extension.untracked_cache.marks.marks_of.Goals as goal

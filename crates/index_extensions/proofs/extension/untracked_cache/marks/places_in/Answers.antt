@@ -1,4 +1,4 @@
-use Rattle.std.proofs.Common.{◌≡◌, ℕ, ◌++◌, ◌∷◌, List, Result, ap, arith, ◌∙◌}
+use Rattle.std.proofs.Common.{ℕ, ◌++◌, ◌∷◌, List, Result, ap, arith, ◌∙◌}
 use Rattle.index_parts.specs.Unpacking.{items_left}
 use Rattle.index_parts.specs.declared.ewah.iter.Malformed.{Malformed}
 use Rattle.index_parts.proofs.Places.{one_listing}

@@ -1,4 +1,4 @@
-use Rattle.std.proofs.Common.{◌≡◌, ◌++◌, ◌<◌, All, map, Ok}
+use Rattle.std.proofs.Common.{◌++◌, ◌<◌, All, map, Ok}
 use Rattle.index_parts.specs.Bitmap.{bitmap}
 use Rattle.index_parts.specs.Bits.{ListPlaces}
 use Rattle.index_parts.specs.Unpacking.{items_left}

@@ -1,0 +1,33 @@
+use Rattle.std.proofs.Common.{rules, ◌≡◌, true, map, sym}
+use Rattle.index_extensions.specs.Blocks.{value_of}
+use Rattle.index_extensions.specs.UntrackedReading.{ends_with_nul, lent_front}
+use Rattle.index_extensions.proofs.Caches.{front_read, agrees, no_count, nul_again, cache_from}
+use Rattle.index_extensions.proofs.extension.untracked_cache.decode.Goals as goal
+
+pub returns-in_default : goal.returns-in_default
+returns-in_default c = record { read = λ x p. let some = front_read c.args.object_hash c.args.alloc_limit_bytes c.args.data.now x p in cc (some, c.in_default.ensures) }
+
+pub returns-in_default-count_of : goal.returns-in_default-count_of
+returns-in_default-count_of c = record {
+  read = λ x p. no_count c.args.object_hash c.args.alloc_limit_bytes c.args.data.now x (lent_front c.in-Some.front) c.in-Some.rest.now (sym c.in-Some.ensures) (sym c.in_default-count_of.ensures) p;
+}
+
+pub returns-in_default-2 : goal.returns-in_default-2
+returns-in_default-2 c = record {
+  read = λ x p.
+      let a = agrees c.args.object_hash c.args.alloc_limit_bytes c.args.data.now x (lent_front c.in-Some.front) c.in-Some.rest.now c.in-Some-count_of.count c.in-Some-count_of.rest.now (sym c.in-Some.ensures) (sym c.in-Some-count_of.ensures) p in
+      let none = rw c.in_default-2.is at c.in_ok-directories.ensures.read in
+      none x.directories a.are_directories;
+}
+
+pub returns : goal.returns
+returns c =
+    let last : ends_with_nul c.args.data.now ≡ true = search rules in
+    let read = rw c.in-Some-2.is at c.in_ok-directories.ensures.read in
+    record {
+      read = rw (c.in_ok-from_slice.ensures, c.in_ok-from_slice-2.ensures)
+          (cache_from c.args.object_hash c.args.alloc_limit_bytes c.args.data.now (lent_front c.in-Some.front) c.in-Some.rest.now c.in-Some-count_of.count c.in-Some-count_of.rest.now (map value_of c.in-Some-2.directories.items) last (sym c.in-Some.ensures) (sym c.in-Some-count_of.ensures) read);
+    }
+
+pub returns-then-not-ends_with_nul : goal.returns-then-not-ends_with_nul
+returns-then-not-ends_with_nul c = record { read = λ x p. let last = nul_again c.args.data.now p.before p.last in cc (last, c.if-not-ends_with_nul.ensures) }
