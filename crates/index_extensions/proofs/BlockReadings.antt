@@ -1,5 +1,5 @@
 -- Bytes begin with one block of so many levels, with all that is in it, or with none.
-use Rattle.std.proofs.Common.{◌≡◌, ℕ, zero, suc, ◌≤◌, inl, inr, List, Option, Some, None, refl, sym, ap, subst, arith, length}
+use Rattle.std.proofs.Common.{◌≡◌, ℕ, zero, suc, ◌≤◌, inl, inr, List, length, Option, Some, None, refl, sym, ap, subst, arith}
 use Rattle.index_extensions.specs.Blocks.{Block, Blocks, block, none, more, how_many, IsHead, IsBlock, AreBlocks, block_depth, blocks_depth}
 use Rattle.index_extensions.specs.UntrackedReading.{Start, start_at}
 use Rattle.index_extensions.proofs.BlockHeads.{IsStart, start_takes, one_start}

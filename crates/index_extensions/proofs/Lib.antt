@@ -1,6 +1,7 @@
 pub mod BitmapPlaces
 pub mod BlockHeads
 pub mod BlockReadings
+pub mod CacheReadings
 pub mod Caches
 pub mod Clones
 pub mod Decimals
