@@ -1,6 +1,8 @@
 pub mod BitmapPlaces
 pub mod BlockHeads
+pub mod BlockReadings
 pub mod Blocks
+pub mod CacheReadings
 pub mod Caches
 pub mod Clones
 pub mod Decimals
@@ -22,6 +24,7 @@ pub mod ResolveUndo
 pub mod Rows
 pub mod Sorted
 pub mod Spelled
+pub mod TailReadings
 pub mod Tails
 pub mod TreeReadings
 pub mod Trees
