@@ -7,6 +7,7 @@ use Rattle.index_state.specs.declared.decode.Options.{Options}
 use Rattle.index_state.specs.declared.decode.Error.{Error as Decoding}
 use Rattle.index_state.specs.declared.decode.Error.TheVariants as decoding
 use Rattle.index_state.specs.declared.extension.decode.Error.TheVariants as extensions
+use Rattle.index_state.specs.declared.extension.link.decode.Error.TheVariants as links
 use Rattle.index_state.specs.Answer.{Answer, Verify, IsAnswer}
 use Rattle.index_state.specs.Faults.{SaysFault}
 use Rattle.gix_index.specs.Checked.{needs_check, digest_id, trailer_id, digest_fault, IsIntact, IsBroken, IsFileAnswer, error_of, SaysFile}
@@ -40,7 +41,9 @@ fault_moved decoding.Hasher P Q to back h = h
 fault_moved decoding.OutOfMemory P Q to back h = to _ h
 fault_moved (decoding.Entry i) P Q to back h = to _ h
 fault_moved (decoding.Extension (extensions.MandatoryUnimplemented signature)) P Q to back h = to _ h
-fault_moved (decoding.Extension (extensions.Link e)) P Q to back h = h
+fault_moved (decoding.Extension (extensions.Link (links.Corrupt text))) P Q to back h = to _ h
+fault_moved (decoding.Extension (extensions.Link (links.BitmapDecode e name))) P Q to back h = to _ h
+fault_moved (decoding.Extension (extensions.Link links.Memory)) P Q to back h = h
 fault_moved (decoding.UnexpectedTrailerLength n m) P Q to back h = to _ h
 fault_moved (decoding.Verify p q) P Q to back h = to _ h
 fault_moved decoding.Memory P Q to back h = λ f early q. h f early (back _ q)

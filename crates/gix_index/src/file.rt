@@ -16,7 +16,7 @@ use std::ops::{Deref, DerefMut};
 use std::path::{Path, PathBuf};
 
 /// An index that was read from a file or is to be written to one. It lends the [`State`] by `Deref`.
-#[derive(Drop)]
+#[derive(Clone, Drop)]
 pub struct File {
     state: State,
     path: PathBuf,

@@ -32,8 +32,8 @@ impl Vec {
     /// The places of the bits that are set, counted from 0 and ascending; they aren't cut at the number of bits.
     ///
     /// Nothing is unpacked before it is asked for. Where a run word lacks some of its literal words, the places of its
-    /// run come, and then [`Malformed`] for all of the literal words. It also comes for a set bit at a place of 2^64 or
-    /// more. It is the last item.
+    /// run come, and then [`Malformed`] for all of the literal words. It also comes for a set bit whose place has more
+    /// than 64 bits. It is the last item.
     pub fn positions(&self) -> Positions<'_>
         ensures { ListPlaces (items_left result) (bitmap self.now).words }
     {

@@ -52,8 +52,8 @@ pub struct Entry {
     path: Range<usize>,
 }
 
-/// A git index in memory: entries in the order of the file, and what the extensions say.
-#[derive(Drop)]
+/// A git index in memory: entries in the order of the file, and what the extensions say. A clone asks for memory.
+#[derive(Clone, Drop)]
 pub struct State {
     object_hash: Kind,
     timestamp: FileTime,

@@ -4,6 +4,7 @@ ghost use Rattle.std.specs.Prelude.{IfOk};
 ghost use Rattle.index_state.specs.Record.{PathsInStorage};
 
 use super::decode::Error;
+use super::link;
 use crate::State;
 use crate::decode::{Error as Fault, Options};
 use index_extensions::extension::{Tree, end_of_index_entry};
@@ -91,6 +92,70 @@ fn mandatory(rt: HostRuntime) -> Result<(), Fail> {
     Ok(())
 }
 
+/// The text of a link's fault.
+fn link_text(answer: &Answer) -> Option<&'static str> {
+    match answer {
+        Err(Fault::Extension(Error::Link(link::decode::Error::Corrupt(text)))) => Some(*text),
+        _ => None,
+    }
+}
+
+#[test]
+fn links(rt: HostRuntime) -> Result<(), Fail> {
+    let alloc = rt.alloc();
+    let short = "link extension too short to read share index checksum";
+    assert_eq!(rt; link_text(&read(alloc, b"link\0\0\0\0")?), Some(short));
+    // It comes before an unknown extension behind it, and the link before it isn't kept.
+    let two = joined(
+        alloc,
+        &[b"link\0\0\0\x14", &[17; 20], b"link\0\0\0\0zzzz\0\0\0\0"],
+    )?;
+    assert_eq!(rt; link_text(&read(alloc, &two)?), Some(short));
+    let one = joined(alloc, &[b"link\0\0\0\x14", &[17; 20]])?;
+    let split = state(alloc, &one)?;
+    let Some(link) = split.link() else {
+        assert!(rt; false);
+        return Ok(());
+    };
+    assert_eq!(rt; link.shared_index_checksum, ObjectId::Sha1([17; 20]));
+    assert!(rt; link.bitmaps.is_none());
+    Ok(())
+}
+
+#[test]
+fn optional_values(rt: HostRuntime) -> Result<(), Fail> {
+    let alloc = rt.alloc();
+    let plain = state(alloc, b"")?;
+    assert!(rt; plain.link().is_none() && plain.resolve_undo().is_none());
+    assert!(rt; plain.untracked().is_none() && plain.fs_monitor().is_none());
+    let mut conflicts = state(alloc, b"REUC\0\0\0\x08a\0\x30\0\x30\0\x30\0")?;
+    assert_eq!(rt; conflicts.resolve_undo().map(|paths| paths.len()), Some(1));
+    assert!(rt; conflicts.remove_resolve_undo().is_some());
+    assert!(rt; conflicts.resolve_undo().is_none());
+    let bitmap = b"FSMN\0\0\0\x16\0\0\0\x02t\0\0\0\0\x0c\0\0\0\0\0\0\0\0\0\0\0\0";
+    assert!(rt; state(alloc, bitmap)?.fs_monitor().is_some());
+    let cache = joined(
+        alloc,
+        &[
+            b"UNTR\0\0\0\x81\0",
+            &[0; 72],
+            &[0; 4],
+            &[0; 40],
+            b".gitignore\0\0",
+        ],
+    )?;
+    let untracked = state(alloc, &cache)?;
+    assert_eq!(rt;
+        untracked.untracked().map(|cache| cache.directories().len()),
+        Some(0)
+    );
+    // What is malformed is None, and no fault.
+    let malformed = state(alloc, b"REUC\0\0\0\x01aUNTR\0\0\0\0FSMN\0\0\0\0")?;
+    assert!(rt; malformed.resolve_undo().is_none() && malformed.untracked().is_none());
+    assert!(rt; malformed.fs_monitor().is_none());
+    Ok(())
+}
+
 #[test]
 fn marks(rt: HostRuntime) -> Result<(), Fail> {
     let alloc = rt.alloc();
@@ -117,6 +182,7 @@ fn trees(rt: HostRuntime) -> Result<(), Fail> {
         tree.num_entries = Some(7);
     }
     assert_eq!(rt; count_of(one.tree()), Some(Some(7)));
+    assert_eq!(rt; count_of(one.clone()?.tree()), Some(Some(7)));
     assert!(rt; one.remove_tree().is_some());
     assert!(rt; one.tree().is_none());
     // The last one counts, also where it is malformed.
