@@ -1,7 +1,7 @@
 -- The places of a bitmap over directories, and that bytes are three such bitmaps in one way.
-use Rattle.std.proofs.Common.{◌≡◌, ℕ, ◌<◌, ◌≤◌, List, [], ◌∷◌, ◌++◌, length, map, All, Result, Ok, Err, refl, sym, ap, subst, ◌∙◌}
+use Rattle.std.proofs.Common.{◌≡◌, ℕ, ◌<◌, ◌≤◌, List, [], ◌∷◌, ◌++◌, map, All, Result, Ok, Err, refl, sym, ap, subst, ◌∙◌}
 use Rattle.std.proofs.lemmas.List.Elements.{All-head, All-tail}
-use Rattle.index_parts.specs.Bitmap.{Bitmap, IsBitmap, HasBitmap, Says}
+use Rattle.index_parts.specs.Bitmap.{Bitmap, IsBitmap, Says}
 use Rattle.index_parts.specs.Bits.{ListPlaces}
 use Rattle.index_parts.specs.declared.ewah.decode.Error.{Error}
 use Rattle.index_parts.specs.declared.ewah.decode.Error.TheVariants as errors

@@ -1,7 +1,6 @@
 -- What is read as the beginning of a block is spelled so, and what is spelled so is read.
-use Rattle.std.proofs.Common.{◌≡◌, ℕ, zero, suc, ◌+◌, ◌-◌, ◌*◌, ◌/◌, ◌<◌, ◌≤◌, Bool, true, false, cond, not, leb, List, [], ◌∷◌, ◌++◌, length, Option, Some, None, refl, sym, ap, subst, ◌∙◌, arith, append_assoc}
+use Rattle.std.proofs.Common.{◌≡◌, ℕ, zero, suc, ◌+◌, ◌-◌, ◌*◌, ◌/◌, ◌<◌, ◌≤◌, Bool, true, false, not, leb, List, [], ◌∷◌, ◌++◌, length, Option, Some, None, refl, sym, ap, subst, ◌∙◌, arith, append_assoc}
 use Rattle.std.specs.Option.{option_map}
-use Rattle.std.specs.Prelude.{◌&&◌, nat_le}
 use Rattle.std.proofs.lemmas.Bool.{leb-true, le-leb, and_parts, and_from}
 use Rattle.std.proofs.lemmas.List.{append-nil}
 use Rattle.std.proofs.lemmas.Option.{same_Some}
@@ -12,7 +11,7 @@ use Rattle.index_parts.specs.Front.{IsUpTo}
 use Rattle.index_parts.specs.Reading.{◌>>=◌, split_at_byte, offset_at}
 use Rattle.index_extensions.specs.Blocks.{Head, IsHead, AreNames}
 use Rattle.index_extensions.specs.Limit.{passes_limit}
-use Rattle.index_extensions.specs.UntrackedReading.{is_allowed, allowed, head_at, names_at, Start, start_at}
+use Rattle.index_extensions.specs.UntrackedReading.{is_allowed, head_at, names_at, Start, start_at}
 
 -- ---- the head
 
@@ -54,8 +53,8 @@ head_takes limit bytes x e =
     let t = test_some (is_allowed limit made (length n.0.1)) (made, n.0.1) x n.2 in
     let ok = allowed_parts limit made (length n.0.1) t.0 in
     subst (λ (y : Head × List ℕ). IsHead limit bytes y.0 y.1) t.1 (record {
-      untracked = untracked.spelling;
-      subs = subs.spelling;
+      first = untracked.spelling;
+      second = subs.spelling;
       parts = untracked.parts ∙ ap (λ (l : List ℕ). untracked.spelling ++ l) (subs.parts ∙ ap (λ (l : List ℕ). subs.spelling ++ l) name.parts);
       is_untracked = untracked.is_offset;
       is_subs = subs.is_offset;
@@ -70,8 +69,8 @@ pub head_again : (limit : Option ℕ) (bytes : List ℕ) (h : Head) (rest : List
 unfolding head_at
 head_again limit bytes h rest p =
     let named : List ℕ = h.name ++ 0 ∷ rest in
-    let one = offset_again (p.untracked ++ (p.subs ++ named)) h.untracked (p.subs ++ named) (record { spelling = p.untracked; parts = refl; is_offset = p.is_untracked }) in
-    let two = offset_again (p.subs ++ named) h.subs named (record { spelling = p.subs; parts = refl; is_offset = p.is_subs }) in
+    let one = offset_again (p.first ++ (p.second ++ named)) h.untracked (p.second ++ named) (record { spelling = p.first; parts = refl; is_offset = p.is_untracked }) in
+    let two = offset_again (p.second ++ named) h.subs named (record { spelling = p.second; parts = refl; is_offset = p.is_subs }) in
     let three = split_again 0 named h.name rest p.is_name in
     let ok = allowed_from limit h (length rest) (record { untracked = p.room_for_untracked; subs = p.room_for_subs; untracked_within = p.untracked_within; subs_within = p.subs_within }) in
     rw (p.parts, one, two, three, ok) refl

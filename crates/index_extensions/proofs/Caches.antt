@@ -1,5 +1,5 @@
 -- What is read as a cache is spelled so, and what is spelled so is read; bytes are one cache, and the ids in it are of one kind.
-use Rattle.std.proofs.Common.{◌≡◌, ◌≢◌, ℕ, zero, suc, ◌+◌, ◌-◌, ◌*◌, ◌<◌, ◌≤◌, Bool, true, false, cond, not, ltb, leb, eqb, List, [], ◌∷◌, ◌++◌, length, take, map, get_or, All, Option, Some, None, refl, sym, ap, subst, ◌∙◌, arith}
+use Rattle.std.proofs.Common.{◌≡◌, ℕ, zero, suc, ◌+◌, ◌-◌, ◌*◌, ◌<◌, ◌≤◌, Bool, true, false, cond, not, ltb, leb, eqb, List, [], ◌∷◌, ◌++◌, length, take, map, get_or, Option, Some, None, refl, sym, ap, subst, ◌∙◌, arith}
 use Rattle.std.specs.Prelude.{◌&&◌, IfSome}
 use Rattle.std.specs.List.{AllByRecursion, list_all, enumerate_from}
 use Rattle.std.specs.Option.{option_map}
@@ -14,10 +14,9 @@ use Rattle.index_parts.proofs.Steps.{bind_some, test_some}
 use Rattle.index_parts.specs.Front.{be}
 use Rattle.index_parts.specs.Id.{id_len, id_kind, make_id}
 use Rattle.index_parts.specs.Offset.{AreMarked, IsOffset, StartsWithOffset}
-use Rattle.index_parts.specs.Reading.{◌>>=◌, piece_at, split_at_byte, offset_at}
+use Rattle.index_parts.specs.Reading.{piece_at, split_at_byte, offset_at}
 use Rattle.index_parts.specs.declared.entry.stat.Stat.{Stat}
 use Rattle.index_parts.specs.declared.hash.Kind.{Kind}
-use Rattle.index_parts.specs.declared.hash.ObjectId.{ObjectId}
 use Rattle.index_extensions.specs.Blocks.{Block, IsBlock, block_size, DirectoryValue, listed}
 use Rattle.index_extensions.specs.Limit.{passes_limit}
 use Rattle.index_extensions.specs.Marks.{Marks, marked, value_at, IsTail}

@@ -1,11 +1,13 @@
 -- Pieces of one size, one after another.
-use Rattle.std.proofs.Common.{◌≡◌, ℕ, zero, suc, ◌+◌, ◌*◌, ◌<◌, ◌≤◌, Bool, true, false, cond, ltb, Option, Some, None, List, [], ◌∷◌, ◌++◌, add-one, length, take, drop, All, refl, sym, ap, subst, ◌∙◌, append_assoc, append-nil, arith}
+use Rattle.std.proofs.Common.{◌≡◌, ℕ, ◌+◌, ◌*◌, ◌<◌, ◌≤◌, Bool, true, false, cond, ltb, Option, Some, None, List, [], ◌∷◌, ◌++◌, length, take, drop, All, refl, sym, ap, ◌∙◌, append_assoc, append-nil, arith}
 use Rattle.std.specs.List.{concat}
 use Rattle.std.proofs.Math.Nat.{mul-le-mul_left}
 use Rattle.std.proofs.lemmas.Bool.{ltb-true}
-use Rattle.std.proofs.lemmas.List.{take_at, drop_at, length-append}
+use Rattle.std.proofs.lemmas.List.{length-append}
 use Rattle.std.proofs.lemmas.List.Elements.{All-nil, All-cons, All-head, All-tail, All-append}
 use Rattle.std.proofs.lemmas.List.Folds.{concat-append}
+use Rattle.std.proofs.lemmas.Option.{same_Some}
+use Rattle.index_parts.proofs.Splits.{piece_again}
 use Rattle.index_parts.specs.Reading.{piece_at}
 use Rattle.index_extensions.specs.Marks.{ArePieces}
 
@@ -52,8 +54,10 @@ pieces_short size count all bytes pieces rest p few less =
     let room : size * (count + 1) ≤ size * all = mul-le-mul_left size (omega arith) in
     omega (arith, pieces_len size count bytes pieces rest p, next_size size count, room)
 
-same_pieces : (a b x y : List ℕ) → a ++ x ≡ b ++ y → length a ≡ length b → (a ≡ b) × (x ≡ y)
-same_pieces a b x y e len = (sym (take_at a x (length a) refl) ∙ ap (take (length a)) e ∙ take_at b y (length a) (sym len), sym (drop_at a x (length a) refl) ∙ ap (drop (length a)) e ∙ drop_at b y (length a) (sym len))
+same_first : (size : ℕ) (p q x y : List ℕ) → length p ≡ size → length q ≡ size → p ++ x ≡ q ++ y → (p ≡ q) × (x ≡ y)
+same_first size p q x y h k e =
+    let same = same_Some {A = List ℕ × List ℕ} (p, x) (q, y) (sym (piece_again size p x h) ∙ ap (piece_at size) e ∙ piece_again size q y k) in
+    (ap (λ (z : List ℕ × List ℕ). z.0) same, ap (λ (z : List ℕ × List ℕ). z.1) same)
 
 same_each : (size : ℕ) (a b : List (List ℕ)) (x y : List ℕ) → All (λ p. length p ≡ size) a → All (λ p. length p ≡ size) b → length a ≡ length b → concat a ++ x ≡ concat b ++ y → (a ≡ b) × (x ≡ y)
 same_each size [] [] x y h k len e = (refl, e)
@@ -61,7 +65,7 @@ same_each size [] (q ∷ b) x y h k len e = absurd (omega arith)
 same_each size (p ∷ a) [] x y h k len e = absurd (omega arith)
 same_each size (p ∷ a) (q ∷ b) x y h k len e =
     let assoc : p ++ (concat a ++ x) ≡ q ++ (concat b ++ y) = sym (append_assoc p (concat a) x) ∙ e ∙ append_assoc q (concat b) y in
-    let first = same_pieces p q (concat a ++ x) (concat b ++ y) assoc (All-head (λ l. length l ≡ size) p a h ∙ sym (All-head (λ l. length l ≡ size) q b k)) in
+    let first = same_first size p q (concat a ++ x) (concat b ++ y) (All-head (λ l. length l ≡ size) p a h) (All-head (λ l. length l ≡ size) q b k) assoc in
     let others = same_each size a b x y (All-tail (λ l. length l ≡ size) p a h) (All-tail (λ l. length l ≡ size) q b k) (omega arith) first.1 in
     let head : p ≡ q = first.0 in
     let tail : a ≡ b = others.0 in

@@ -1,5 +1,5 @@
 -- Bytes are one block with all that is in it; and a row of blocks, one more at its end, and the first taken off.
-use Rattle.std.proofs.Common.{◌≡◌, ℕ, zero, suc, ◌+◌, ◌-◌, ◌<◌, ◌≤◌, max, List, [], ◌∷◌, ◌++◌, length, map, Option, Some, None, refl, sym, ap, subst, ◌∙◌, arith, append_assoc, length-append}
+use Rattle.std.proofs.Common.{◌≡◌, ℕ, ◌+◌, ◌-◌, ◌<◌, ◌≤◌, max, List, [], ◌∷◌, ◌++◌, length, map, Option, Some, None, refl, sym, ap, subst, ◌∙◌, arith, append_assoc, length-append}
 use Rattle.std.specs.List.{AllByRecursion}
 use Rattle.std.proofs.lemmas.List.{append-nil, length-map}
 use Rattle.index_extensions.specs.Blocks.{Block, Blocks, block, none, more, how_many, IsHead, IsBlock, AreBlocks, block_depth, blocks_depth, block_size, blocks_size, DirectoryValue, value_of, unmarked, places_from, listed, all_listed}

@@ -22,20 +22,20 @@ abbrev pub how_many : Blocks → ℕ
 how_many none = 0
 how_many (more b bs) = how_many bs + 1
 
--- how a block begins: how many untracked names it has, how many directories, and its name
+-- what a block begins with: how many untracked names and how many directories are in it, and its name
 pub record Head : Type 0 where
   pub untracked : ℕ
   pub subs : ℕ
   pub name : List ℕ
 
--- Two offset numbers, and the name up to a NUL. Each number is at most half the bytes behind the name. At 24 bytes an untracked
--- name, and at 8 bytes a directory, they are within the limit.
+-- The two numbers as offset numbers, the name up to a NUL, and the rest. Each number is at most half the number of bytes in the
+-- rest. At 24 bytes an untracked name, and at 8 bytes a directory, they are within the limit.
 pub record IsHead (limit : Option ℕ) (bytes : List ℕ) (h : Head) (rest : List ℕ) : Type 0 where
-  pub untracked : List ℕ
-  pub subs : List ℕ
-  pub parts : bytes ≡ untracked ++ (subs ++ (h.name ++ 0 ∷ rest))
-  pub is_untracked : IsOffset untracked h.untracked
-  pub is_subs : IsOffset subs h.subs
+  pub first : List ℕ
+  pub second : List ℕ
+  pub parts : bytes ≡ first ++ (second ++ (h.name ++ 0 ∷ rest))
+  pub is_untracked : IsOffset first h.untracked
+  pub is_subs : IsOffset second h.subs
   pub is_name : IsUpTo 0 (h.name ++ 0 ∷ rest) h.name rest
   pub room_for_untracked : h.untracked ≤ length rest / 2
   pub room_for_subs : h.subs ≤ length rest / 2

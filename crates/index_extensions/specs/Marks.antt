@@ -1,6 +1,6 @@
 -- What stands behind the directory blocks of an untracked cache (gitformat-index, "Untracked cache"): three bitmaps over the
 -- directories, the stats and the ids of those that two of them mark, and one byte.
-use Rattle.std.specs.Prelude.{◌≡◌, ℕ, ◌+◌, ◌<◌, ◌≤◌, ◌==◌, Bool, List, [], ◌∷◌, ◌++◌, All, length, map, Option, Some, None, Result, Ok, if◌then◌else◌}
+use Rattle.std.specs.Prelude.{◌≡◌, ℕ, ◌<◌, ◌≤◌, ◌==◌, List, [], ◌∷◌, ◌++◌, All, length, map, Option, Some, None, Ok, if◌then◌else◌}
 use Rattle.std.specs.List.{concat, enumerate_from, list_any}
 use Rattle.std.specs.Option.{option_map}
 use Rattle.index_parts.specs.Bitmap.{Bitmap, IsBitmap}
@@ -34,7 +34,7 @@ pub record AreMarks (count : ℕ) (bytes : List ℕ) (m : Marks) (rest : List �
   pub is_check_only : ListsBelow count behind_valid m.check_only behind_check_only
   pub is_hash_valid : ListsBelow count behind_check_only m.hash_valid rest
 
--- Bytes are pieces of one size, one after another, as many as this, and the rest.
+-- bytes are so many pieces of one size, one after another, and the rest
 pub record ArePieces (size count : ℕ) (bytes : List ℕ) (pieces : List (List ℕ)) (rest : List ℕ) : Type 0 where
   pub parts : bytes ≡ concat pieces ++ rest
   pub sizes : All (λ piece. length piece ≡ size) pieces
@@ -54,8 +54,8 @@ marked kind m stats ids place d = record d {
   check_only = list_any (λ p. p == place) m.check_only;
 }
 
--- Bytes are what stands behind the blocks of the directories: bitmaps, a stat for each directory that the first one marks, an id for
--- each that the third one marks, and one byte. With it the directories are those.
+-- Bytes are what stands behind the blocks of these bare directories: the three bitmaps, a stat for each place of the first one, an
+-- id for each place of the third one, and one byte. With what they say of each, the directories are these.
 pub record IsTail (kind : Kind) (bare : List DirectoryValue) (bytes : List ℕ) (directories : List DirectoryValue) : Type 0 where
   pub marks : Marks
   pub behind_marks : List ℕ

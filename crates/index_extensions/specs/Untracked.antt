@@ -71,7 +71,7 @@ pub record IsNest (kind : Kind) (limit : Option ℕ) (count : ℕ) (bytes : List
   pub size : block_size root ≡ count
   pub is_tail : IsTail kind (listed 0 root) rest directories
 
--- bytes are so many directories; of none there are no bytes
+-- bytes are so many directories; where there are none, nothing follows their number
 abbrev pub AreDirectories : Kind → Option ℕ → ℕ → List ℕ → List DirectoryValue → Type 0
 AreDirectories kind limit zero bytes directories = (bytes ≡ []) × (directories ≡ [])
 AreDirectories kind limit (suc n) bytes directories = IsNest kind limit (suc n) bytes directories
