@@ -78,8 +78,8 @@ pub struct Options {
     /// The id that the trailer must be, unless the trailer is null.
     pub expected_checksum: Option<ObjectId>,
     /// How many bytes the entries, at 96 each, and the estimate of their paths may take, each by itself; no
-    /// limit where it is None. It bounds neither what paths of version 4 really take nor what the allocator
-    /// rounds up.
+    /// limit where it is None. A cached tree or an untracked cache that declares more is malformed, and so None. It bounds
+    /// neither what paths of version 4 really take nor what the allocator rounds up.
     pub alloc_limit_bytes: Option<usize>,
 }
 
@@ -282,8 +282,8 @@ impl State {
     /// [`Error::UnexpectedTrailerLength`]; [`Error::Verify`]. [`Error::Memory`] comes only where a growth
     /// was refused, and never in place of the first two. The digest isn't computed.
     ///
-    /// Nothing is copied but the paths, into one storage; room for them and for the entries is asked for once
-    /// (gitformat-index).
+    /// Of the entries nothing is copied but the paths, into one storage; room for them and for the entries is asked
+    /// for once. A malformed optional extension is no fault, and gives no value (gitformat-index).
     pub fn from_bytes(
         alloc: Global,
         data: &[u8],
