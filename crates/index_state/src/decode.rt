@@ -4,7 +4,7 @@ pub mod entries;
 mod entry;
 pub mod header;
 #[cfg(test)]
-mod tests;
+pub(crate) mod tests;
 
 ghost use Rattle.std.specs.List.{list_all};
 ghost use Rattle.std.specs.Prelude.{◌≡◌, ◌≤◌, ◌==◌, ◌+◌, ◌*◌, ◌||◌, length, IfOk, IfErr, OnOk, All};

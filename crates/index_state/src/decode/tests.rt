@@ -10,7 +10,7 @@ use std::process::Abort;
 use std::test::Fail;
 
 /// The fixed part of an entry but its flags: stat numbers of zero, the mode 0o100644, an id of bytes 0x11.
-const FIXED: [u8; 60] = [
+pub(crate) const FIXED: [u8; 60] = [
     0, 0, 0, 0, 0, 0, 0, 0, 0, 0, 0, 0, 0, 0, 0, 0, 0, 0, 0, 0, 0, 0, 0, 0, 0, 0, 0x81, 0xa4, 0, 0,
     0, 0, 0, 0, 0, 0, 0, 0, 0, 0, 17, 17, 17, 17, 17, 17, 17, 17, 17, 17, 17, 17, 17, 17, 17, 17,
     17, 17, 17, 17,
@@ -22,7 +22,7 @@ const EMPTY: &[u8] = b"DIRC\0\0\0\x02\0\0\0\0";
 
 const ZEROS: [u8; 20] = [0; 20];
 
-fn joined(alloc: Global, pieces: &[&[u8]]) -> Result<Vec<u8>, AllocError> {
+pub(crate) fn joined(alloc: Global, pieces: &[&[u8]]) -> Result<Vec<u8>, AllocError> {
     let mut bytes = Vec::new(alloc);
     for piece in pieces {
         bytes.extend_from_slice(piece)?;
@@ -30,12 +30,10 @@ fn joined(alloc: Global, pieces: &[&[u8]]) -> Result<Vec<u8>, AllocError> {
     Ok(bytes)
 }
 
-type Answer = Result<(State, Option<ObjectId>), Error>;
-
-fn read(alloc: Global, pieces: &[&[u8]]) -> Result<Answer, AllocError> {
+/// The fault of these bytes, or None where they are read.
+fn fault(alloc: Global, pieces: &[&[u8]], options: Options) -> Result<Option<Error>, AllocError> {
     let bytes = joined(alloc, pieces)?;
-    let time = FileTime::EPOCH;
-    Ok(State::from_bytes(alloc, &bytes, time, Kind::Sha1, Options::default()))
+    Ok(State::from_bytes(alloc, &bytes, FileTime::EPOCH, Kind::Sha1, options).err())
 }
 
 /// The state and the checksum, where they must be.
@@ -47,12 +45,41 @@ fn state(alloc: Global, pieces: &[&[u8]]) -> Result<(State, Option<ObjectId>), F
     Ok(State::from_bytes(alloc, &bytes, time, Kind::Sha1, Options::default())?)
 }
 
-fn is_corrupt(answer: &Answer, text: &str) -> bool {
-    matches!(answer, Err(Error::Header(header::Error::Corrupt(found))) if *found == text)
+fn assert_corrupt(
+    rt: &impl Abort,
+    alloc: Global,
+    pieces: &[&[u8]],
+    text: &str,
+) -> Result<(), AllocError> {
+    let fault = fault(alloc, pieces, Options::default())?;
+    assert!(rt;
+        matches!(fault, Some(Error::Header(header::Error::Corrupt(found))) if found == text)
+    );
+    Ok(())
 }
 
-fn is_unsupported(answer: &Answer, number: u32) -> bool {
-    matches!(answer, Err(Error::Header(header::Error::UnsupportedVersion(found))) if *found == number)
+fn assert_unsupported(
+    rt: &impl Abort,
+    alloc: Global,
+    pieces: &[&[u8]],
+    number: u32,
+) -> Result<(), AllocError> {
+    let fault = fault(alloc, pieces, Options::default())?;
+    assert!(rt;
+        matches!(fault, Some(Error::Header(header::Error::UnsupportedVersion(found))) if found == number)
+    );
+    Ok(())
+}
+
+fn assert_no_entry(
+    rt: &impl Abort,
+    alloc: Global,
+    pieces: &[&[u8]],
+    place: u32,
+) -> Result<(), AllocError> {
+    let fault = fault(alloc, pieces, Options::default())?;
+    assert!(rt; matches!(fault, Some(Error::Entry { index }) if index == place));
+    Ok(())
 }
 
 const TOO_SHORT: &str = "File is too small even for header with zero entries and smallest hash";
@@ -64,16 +91,13 @@ const TOO_MANY: &str = "Declared entry count exceeds possible entries for file s
 #[test]
 fn headers(rt: HostRuntime) -> Result<(), Fail> {
     let alloc = rt.alloc();
-    assert!(rt; is_corrupt(&read(alloc, &[EMPTY, &ZEROS[..19]])?, TOO_SHORT));
-    assert!(rt;
-        is_corrupt(
-            &read(alloc, &[b"DIRD\0\0\0\x02\0\0\0\0", &ZEROS])?,
-            NO_SIGNATURE
-        )
-    );
-    assert!(rt; is_unsupported(&read(alloc, &[b"DIRC\0\0\0\x05\0\0\0\0", &ZEROS])?, 5));
+    assert_corrupt(&rt, alloc, &[EMPTY, &ZEROS[..19]], TOO_SHORT)?;
+    let other = b"DIRD\0\0\0\x02\0\0\0\0";
+    assert_corrupt(&rt, alloc, &[other, &ZEROS], NO_SIGNATURE)?;
+    let fifth = b"DIRC\0\0\0\x05\0\0\0\0";
+    assert_unsupported(&rt, alloc, &[fifth, &ZEROS], 5)?;
     let most = b"DIRC\0\0\0\x02\xff\xff\xff\xff";
-    assert!(rt; is_corrupt(&read(alloc, &[most, &ZEROS])?, TOO_MANY));
+    assert_corrupt(&rt, alloc, &[most, &ZEROS], TOO_MANY)?;
     assert_eq!(rt; max_entries_possible(160, None, Kind::Sha1, Version::V2), 2);
     Ok(())
 }
@@ -89,22 +113,26 @@ fn empty_index(rt: HostRuntime) -> Result<(), Fail> {
     Ok(())
 }
 
+/// The one entry is the file `a`.
+fn assert_a(rt: &impl Abort, state: &State) {
+    assert_eq!(rt; state.entries().len(), 1);
+    for entry in state.entries() {
+        assert_eq!(rt; entry.mode, Mode::FILE);
+        assert_eq!(rt; entry.id, ObjectId::Sha1([17; 20]));
+        assert_eq!(rt; entry.flags, Flags::from_stage(Stage::Unconflicted));
+        assert_eq!(rt; entry.stage(), Stage::Unconflicted);
+        assert_eq!(rt; entry.stage_raw(), 0);
+        assert!(rt; state.paths_in_storage());
+        assert_eq!(rt; entry.path(state), b"a".as_slice());
+        assert_eq!(rt; entry.path_in(state.path_backing()), b"a".as_slice());
+    }
+}
+
 fn assert_one(rt: &impl Abort, alloc: Global, word: &[u8]) -> Result<(), Fail> {
     let trailer = [0x22; 20];
     let (state, checksum) = state(alloc, &[ONE, &FIXED, word, b"a\0", &trailer])?;
-    assert_eq!(rt; state.entries().len(), 1);
+    assert_a(rt, &state);
     assert_eq!(rt; checksum, Some(ObjectId::Sha1(trailer)));
-    assert!(rt; state.paths_in_storage());
-    let entry = state.entry(0);
-    assert_eq!(rt; entry.mode, Mode::FILE);
-    assert_eq!(rt; entry.id, ObjectId::Sha1([17; 20]));
-    assert_eq!(rt; entry.flags, Flags::from_stage(Stage::Unconflicted));
-    assert_eq!(rt; entry.stage(), Stage::Unconflicted);
-    assert_eq!(rt; entry.stage_raw(), 0);
-    for entry in state.entries() {
-        assert_eq!(rt; entry.path(&state), b"a".as_slice());
-        assert_eq!(rt; entry.path_in(state.path_backing()), b"a".as_slice());
-    }
     Ok(())
 }
 
@@ -120,23 +148,16 @@ fn refused_entries(rt: HostRuntime) -> Result<(), Fail> {
     let alloc = rt.alloc();
     // A path of 30 bytes runs past the end; a second word may not be 0x6100.
     for word in [b"\0\x1e".as_slice(), b"\x40\x01"] {
-        let answer = read(alloc, &[ONE, &FIXED, word, b"a\0", &ZEROS])?;
-        assert!(rt; matches!(answer, Err(Error::Entry { index: 0 })));
+        assert_no_entry(&rt, alloc, &[ONE, &FIXED, word, b"a\0", &ZEROS], 0)?;
     }
-    assert!(rt;
-        is_corrupt(
-            &read(alloc, &[ONE, &FIXED, b"\0\x01a\0", &ZEROS[..19]])?,
-            TOO_MANY
-        )
-    );
-    let answer = read(
-        alloc,
-        &[ONE, &FIXED, b"\0\x02ab\0\0\0\0\0\0\0\0", &ZEROS[..12]],
-    )?;
+    let short = &[ONE, &FIXED, b"\0\x01a\0", &ZEROS[..19]];
+    assert_corrupt(&rt, alloc, short, TOO_MANY)?;
+    let short = &[ONE, &FIXED, b"\0\x02ab\0\0\0\0\0\0\0\0", &ZEROS[..12]];
+    let fault = fault(alloc, short, Options::default())?;
     assert!(rt;
         matches!(
-            answer,
-            Err(Error::UnexpectedTrailerLength {
+            fault,
+            Some(Error::UnexpectedTrailerLength {
                 expected: 20,
                 actual: 12
             })
@@ -167,29 +188,32 @@ fn long_paths(rt: HostRuntime) -> Result<(), Fail> {
     Ok(())
 }
 
-/// Two entries of version 4 with these tails behind their flags.
-fn two_deltas(alloc: Global, first: &[u8], second: &[u8]) -> Result<Answer, AllocError> {
-    let header = b"DIRC\0\0\0\x04\0\0\0\x02";
-    read(
-        alloc,
-        &[
-            header, &FIXED, b"\0\0", first, &FIXED, b"\0\0", second, &ZEROS,
-        ],
-    )
+const TWO: &[u8] = b"DIRC\0\0\0\x04\0\0\0\x02";
+
+/// Two entries of version 4 with these tails behind their flags have paths of these bytes.
+fn assert_deltas(
+    rt: &impl Abort,
+    alloc: Global,
+    first: &[u8],
+    second: &[u8],
+    paths: &[u8],
+) -> Result<(), Fail> {
+    let pieces = &[TWO, &FIXED, b"\0\0", first, &FIXED, b"\0\0", second, &ZEROS];
+    let (state, _) = state(alloc, pieces)?;
+    assert_eq!(rt; state.version(), Version::V4);
+    assert_eq!(rt; state.path_backing(), paths);
+    Ok(())
 }
 
 #[test]
 fn deltas(rt: HostRuntime) -> Result<(), Fail> {
-    let (state, _) = two_deltas(rt.alloc(), b"\0dir/a\0", b"\x01b\0")??;
-    assert_eq!(rt; state.version(), Version::V4);
-    assert_eq!(rt; state.path_backing(), b"dir/adir/b".as_slice());
+    let alloc = rt.alloc();
+    assert_deltas(&rt, alloc, b"\0dir/a\0", b"\x01b\0", b"dir/adir/b")?;
     // How much the first entry takes off isn't looked at.
-    let (state, _) = two_deltas(rt.alloc(), b"\x09a\0", b"\0b\0")??;
-    assert_eq!(rt; state.path_backing(), b"aab".as_slice());
+    assert_deltas(&rt, alloc, b"\x09a\0", b"\0b\0", b"aab")?;
     // The second may take off no more than there is.
-    let answer = two_deltas(rt.alloc(), b"\0abc\0", b"\x05b\0")?;
-    assert!(rt; matches!(answer, Err(Error::Entry { index: 1 })));
-    Ok(())
+    let pieces = &[TWO, &FIXED, b"\0\0\0abc\0", &FIXED, b"\0\0\x05b\0", &ZEROS];
+    Ok(assert_no_entry(&rt, alloc, pieces, 1)?)
 }
 
 #[test]
@@ -205,18 +229,13 @@ fn sizes(rt: HostRuntime) {
     assert_eq!(rt; paths(1, 1000, Some(512), Kind::Sha1, Version::V2), 438);
 }
 
-/// The one entry `a` with this trailer, read by these options.
-fn read_one(alloc: Global, trailer: &[u8], options: Options) -> Result<Answer, AllocError> {
-    let bytes = joined(alloc, &[ONE, &FIXED, b"\0\x01a\0", trailer])?;
-    Ok(State::from_bytes(alloc, &bytes, FileTime::EPOCH, Kind::Sha1, options))
-}
-
-/// The trailer and the expected id of a fault.
-fn compared(answer: &Answer) -> Option<(ObjectId, ObjectId)> {
-    match answer {
-        Err(Error::Verify { actual, expected }) => Some((*actual, *expected)),
-        _ => None,
-    }
+/// The fault of the one entry `a` with this trailer.
+fn fault_of_one(
+    alloc: Global,
+    trailer: &[u8],
+    options: Options,
+) -> Result<Option<Error>, AllocError> {
+    fault(alloc, &[ONE, &FIXED, b"\0\x01a\0", trailer], options)
 }
 
 #[test]
@@ -225,30 +244,30 @@ fn limits(rt: HostRuntime) -> Result<(), Fail> {
         alloc_limit_bytes: Some(95),
         ..Options::default()
     };
-    let answer = read_one(rt.alloc(), &ZEROS, options)?;
-    assert!(rt; matches!(answer, Err(Error::OutOfMemory)));
+    let fault = fault_of_one(rt.alloc(), &ZEROS, options)?;
+    assert!(rt; matches!(fault, Some(Error::OutOfMemory)));
     let options = Options {
         alloc_limit_bytes: Some(96),
         ..Options::default()
     };
-    assert!(rt; read_one(rt.alloc(), &ZEROS, options)?.is_ok());
+    assert!(rt; fault_of_one(rt.alloc(), &ZEROS, options)?.is_none());
     Ok(())
 }
 
 #[test]
 fn expected_checksums(rt: HostRuntime) -> Result<(), Fail> {
-    let expected = ObjectId::Sha1([0x33; 20]);
+    let wanted = ObjectId::Sha1([0x33; 20]);
     let options = Options {
-        expected_checksum: Some(expected),
+        expected_checksum: Some(wanted),
         ..Options::default()
     };
-    let answer = read_one(rt.alloc(), &[0x22; 20], options)?;
-    assert_eq!(rt;
-        compared(&answer),
-        Some((ObjectId::Sha1([0x22; 20]), expected))
+    let other = ObjectId::Sha1([0x22; 20]);
+    let fault = fault_of_one(rt.alloc(), other.as_bytes(), options)?;
+    assert!(rt;
+        matches!(fault, Some(Error::Verify { actual, expected }) if actual == other && expected == wanted)
     );
-    assert!(rt; read_one(rt.alloc(), &[0x33; 20], options)?.is_ok());
+    assert!(rt; fault_of_one(rt.alloc(), wanted.as_bytes(), options)?.is_none());
     // A null trailer is compared with nothing.
-    assert!(rt; read_one(rt.alloc(), &ZEROS, options)?.is_ok());
+    assert!(rt; fault_of_one(rt.alloc(), &ZEROS, options)?.is_none());
     Ok(())
 }

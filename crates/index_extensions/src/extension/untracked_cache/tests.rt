@@ -31,6 +31,7 @@ fn chain(alloc: Global, levels: usize) -> Result<Vec<u8>, AllocError> {
     Ok(blocks)
 }
 
+/// The copy of what is read.
 fn read(rt: &impl Abort, alloc: Global, bytes: &[u8]) -> Result<UntrackedCache, Fail> {
     let Some(cache) = decode(alloc, bytes, Kind::Sha1, None)? else {
         return Err(Fail::from("a cache is refused"));
@@ -40,23 +41,36 @@ fn read(rt: &impl Abort, alloc: Global, bytes: &[u8]) -> Result<UntrackedCache, 
     Ok(copy)
 }
 
-#[test]
-fn no_directories(rt: HostRuntime) -> Result<(), Fail> {
-    let alloc = rt.alloc();
-    let mut bytes = front(alloc)?;
-    bytes.push(0)?;
-    assert_eq!(rt; bytes.len(), 129);
-    let cache = read(&rt, alloc, &bytes)?;
+fn is_read(alloc: Global, bytes: &[u8], limit: Option<usize>) -> Result<bool, AllocError> {
+    Ok(decode(alloc, bytes, Kind::Sha1, limit)?.is_some())
+}
+
+fn assert_no_directories(rt: &impl Abort, cache: &UntrackedCache) {
     assert!(rt; cache.identifier().is_empty());
     assert!(rt; cache.info_exclude().is_none());
     assert!(rt; cache.excludes_file().is_none());
     assert_eq!(rt; cache.exclude_filename_per_dir(), b".gitignore".as_slice());
     assert_eq!(rt; cache.dir_flags(), 0);
     assert!(rt; cache.directories().is_empty());
+}
+
+#[test]
+fn no_directories(rt: HostRuntime) -> Result<(), Fail> {
+    let alloc = rt.alloc();
+    let mut bytes = front(alloc)?;
+    bytes.push(0)?;
+    assert_eq!(rt; bytes.len(), 129);
+    assert_no_directories(&rt, &read(&rt, alloc, &bytes)?);
     bytes.pop();
-    assert!(rt; decode(alloc, &bytes, Kind::Sha1, None)?.is_none());
-    assert!(rt; decode(alloc, b"", Kind::Sha1, None)?.is_none());
+    assert!(rt; !is_read(alloc, &bytes, None)?);
+    assert!(rt; !is_read(alloc, b"", None)?);
     Ok(())
+}
+
+fn assert_bare(rt: &impl Abort, root: &Directory) {
+    assert!(rt; root.name().is_empty() && root.untracked_entries().is_empty());
+    assert!(rt; root.sub_directories().is_empty() && root.stat().is_none());
+    assert!(rt; root.exclude_file_oid().is_none() && !root.check_only());
 }
 
 #[test]
@@ -66,46 +80,38 @@ fn one_directory(rt: HostRuntime) -> Result<(), Fail> {
     assert_eq!(rt; bytes.len(), 169);
     let cache = read(&rt, alloc, &bytes)?;
     assert_eq!(rt; cache.directories().len(), 1);
-    let root = &cache.directories()[0];
-    assert!(rt; root.name().is_empty() && root.untracked_entries().is_empty());
-    assert!(rt; root.sub_directories().is_empty() && root.stat().is_none());
-    assert!(rt; root.exclude_file_oid().is_none() && !root.check_only());
-    assert!(rt; decode(alloc, &bytes, Kind::Sha1, Some(152))?.is_some());
-    assert!(rt; decode(alloc, &bytes, Kind::Sha1, Some(151))?.is_none());
+    assert_bare(&rt, &cache.directories()[0]);
+    assert!(rt; is_read(alloc, &bytes, Some(152))?);
+    assert!(rt; !is_read(alloc, &bytes, Some(151))?);
     bytes[168] = 1;
-    assert!(rt; decode(alloc, &bytes, Kind::Sha1, None)?.is_none());
+    assert!(rt; !is_read(alloc, &bytes, None)?);
     bytes[168] = 0;
     bytes.push(0)?;
-    assert!(rt; decode(alloc, &bytes, Kind::Sha1, None)?.is_none());
+    assert!(rt; !is_read(alloc, &bytes, None)?);
     Ok(())
+}
+
+fn assert_nested(rt: &impl Abort, all: &[Directory]) {
+    assert_eq!(rt; all.len(), 2049);
+    assert_eq!(rt; all[0].sub_directories(), [1].as_slice());
+    assert_eq!(rt; all[2047].sub_directories(), [2048].as_slice());
+    assert!(rt; all[2048].sub_directories().is_empty());
 }
 
 #[test]
 fn nested_directories(rt: HostRuntime) -> Result<(), Fail> {
     let alloc = rt.alloc();
     let deepest = unmarked(alloc, &[0x8f, 0x01], &chain(alloc, 2048)?)?;
-    let cache = read(&rt, alloc, &deepest)?;
-    assert_eq!(rt; cache.directories().len(), 2049);
-    assert_eq!(rt; cache.directories()[0].sub_directories(), [1].as_slice());
-    assert_eq!(rt;
-        cache.directories()[2047].sub_directories(),
-        [2048].as_slice()
-    );
-    assert!(rt; cache.directories()[2048].sub_directories().is_empty());
+    assert_nested(&rt, read(&rt, alloc, &deepest)?.directories());
     let too_deep = unmarked(alloc, &[0x8f, 0x02], &chain(alloc, 2049)?)?;
-    assert!(rt; decode(alloc, &too_deep, Kind::Sha1, None)?.is_none());
+    assert!(rt; !is_read(alloc, &too_deep, None)?);
     Ok(())
 }
 
 /// A root with two untracked names and two directories, of which the first has a directory.
 const FAMILY: &[u8] = b"\x02\x02\0b\0c\0\x00\x01x\0\x00\x00y\0\x00\x00z\0";
 
-#[test]
-fn names_and_places(rt: HostRuntime) -> Result<(), Fail> {
-    let alloc = rt.alloc();
-    let bytes = unmarked(alloc, &[4], FAMILY)?;
-    let cache = read(&rt, alloc, &bytes)?;
-    let all = cache.directories();
+fn assert_family(rt: &impl Abort, all: &[Directory]) {
     assert_eq!(rt; all.len(), 4);
     assert_eq!(rt; all[0].untracked_entries().len(), 2);
     assert_eq!(rt; all[0].untracked_entries()[1].as_bytes(), b"c".as_slice());
@@ -114,10 +120,17 @@ fn names_and_places(rt: HostRuntime) -> Result<(), Fail> {
     for (directory, name) in all.iter().zip([b"".as_slice(), b"x", b"y", b"z"]) {
         assert_eq!(rt; directory.name(), name);
     }
-    assert!(rt; decode(alloc, &bytes, Kind::Sha1, Some(608))?.is_some());
-    assert!(rt; decode(alloc, &bytes, Kind::Sha1, Some(607))?.is_none());
+}
+
+#[test]
+fn names_and_places(rt: HostRuntime) -> Result<(), Fail> {
+    let alloc = rt.alloc();
+    let bytes = unmarked(alloc, &[4], FAMILY)?;
+    assert_family(&rt, read(&rt, alloc, &bytes)?.directories());
+    assert!(rt; is_read(alloc, &bytes, Some(608))?);
+    assert!(rt; !is_read(alloc, &bytes, Some(607))?);
     let fewer = unmarked(alloc, &[3], FAMILY)?;
-    assert!(rt; decode(alloc, &fewer, Kind::Sha1, None)?.is_none());
+    assert!(rt; !is_read(alloc, &fewer, None)?);
     Ok(())
 }
 
@@ -131,21 +144,7 @@ fn bitmap(bits: u8) -> [u8; 28] {
     bytes
 }
 
-#[test]
-fn marks(rt: HostRuntime) -> Result<(), Fail> {
-    let alloc = rt.alloc();
-    let mut bytes = front(alloc)?;
-    bytes.push(4)?;
-    bytes.extend_from_slice(FAMILY)?;
-    bytes.extend_from_slice(&bitmap(0b0101))?;
-    bytes.extend_from_slice(&EMPTY)?;
-    bytes.extend_from_slice(&bitmap(0b1000))?;
-    bytes.extend_from_slice(&[1; 36])?;
-    bytes.extend_from_slice(&[2; 36])?;
-    bytes.extend_from_slice(&[3; 20])?;
-    bytes.push(0)?;
-    let cache = read(&rt, alloc, &bytes)?;
-    let all = cache.directories();
+fn assert_marks(rt: &impl Abort, all: &[Directory]) {
     assert_eq!(rt; all.len(), 4);
     assert_eq!(rt; all[0].stat().map(|stat| stat.size), Some(0x0101_0101));
     assert!(rt; all[1].stat().is_none() && all[3].stat().is_none());
@@ -155,5 +154,25 @@ fn marks(rt: HostRuntime) -> Result<(), Fail> {
     );
     assert_eq!(rt; all[3].exclude_file_oid(), Some(ObjectId::Sha1([3; 20])));
     assert!(rt; all[0].exclude_file_oid().is_none() && all[2].exclude_file_oid().is_none());
+}
+
+#[test]
+fn marks(rt: HostRuntime) -> Result<(), Fail> {
+    let alloc = rt.alloc();
+    let mut bytes = front(alloc)?;
+    bytes.push(4)?;
+    for piece in [
+        FAMILY,
+        &bitmap(0b0101),
+        &EMPTY,
+        &bitmap(0b1000),
+        &[1; 36],
+        &[2; 36],
+        &[3; 20],
+        &[0],
+    ] {
+        bytes.extend_from_slice(piece)?;
+    }
+    assert_marks(&rt, read(&rt, alloc, &bytes)?.directories());
     Ok(())
 }

@@ -1,19 +1,12 @@
 //! Links, and what must be read of them.
 
 use super::decode::{Error, decode};
+use crate::decode::tests::joined;
 use index_parts::ewah;
 use index_parts::hash::{Kind, ObjectId};
-use std::alloc::{AllocError, Global};
+use std::alloc::Global;
 use std::process::Abort;
 use std::test::Fail;
-
-fn joined(alloc: Global, pieces: &[&[u8]]) -> Result<Vec<u8>, AllocError> {
-    let mut bytes = Vec::new(alloc);
-    for piece in pieces {
-        bytes.extend_from_slice(piece)?;
-    }
-    Ok(bytes)
-}
 
 const ID: [u8; 20] = [17; 20];
 
