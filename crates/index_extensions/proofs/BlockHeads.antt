@@ -9,7 +9,7 @@ use Rattle.index_parts.proofs.Splits.{split_takes, split_again}
 use Rattle.index_parts.proofs.Steps.{bind_some, test_some}
 use Rattle.index_parts.specs.Front.{IsUpTo}
 use Rattle.index_parts.specs.Reading.{◌>>=◌, split_at_byte, offset_at}
-use Rattle.index_extensions.specs.Blocks.{Head, IsHead, AreNames}
+use Rattle.index_extensions.specs.Blocks.{Head, IsHead, HasHead, AreNames}
 use Rattle.index_extensions.specs.Limit.{passes_limit}
 use Rattle.index_extensions.specs.UntrackedReading.{is_allowed, head_at, names_at, Start, start_at}
 
@@ -149,3 +149,12 @@ pub one_start : (limit : Option ℕ) (bytes : List ℕ) (s t : Start) (rest end 
 one_start limit bytes s t rest end p q =
     let same = same_Some {A = Start × List ℕ} (s, rest) (t, end) (sym (start_again limit bytes s rest p) ∙ start_again limit bytes t end q) in
     (ap (λ (x : Start × List ℕ). x.0) same, ap (λ (x : Start × List ℕ). x.1) same)
+
+pub head_there : (limit : Option ℕ) (bytes : List ℕ) (h : Head) (rest : List ℕ) → head_at limit bytes ≡ Some (h, rest) → HasHead limit bytes
+head_there limit bytes h rest e = record { head = h; rest = rest; is_head = head_takes limit bytes (h, rest) e }
+
+-- a block up to its directories begins with a head
+pub start_there : (limit : Option ℕ) (bytes : List ℕ) (s : Start) (rest : List ℕ) → start_at limit bytes ≡ Some (s, rest) → HasHead limit bytes
+start_there limit bytes s rest e =
+    let p = start_takes limit bytes (s, rest) e in
+    record { head = record { untracked = length s.untracked; subs = s.subs; name = s.name }; rest = p.names; is_head = p.is_head }

@@ -1,7 +1,7 @@
 -- Blocks of the offset table, one after another, and the table that they make.
-use Rattle.std.proofs.Common.{◌≡◌, ℕ, ◌+◌, ◌*◌, ◌%◌, ◌<◌, List, [], ◌∷◌, ◌++◌, length, Option, Some, None, refl, sym, ap, subst, ◌∙◌, arith}
+use Rattle.std.proofs.Common.{◌≡◌, ℕ, zero, suc, ◌+◌, ◌-◌, ◌/◌, take, drop, ◌*◌, ◌%◌, ◌<◌, List, [], ◌∷◌, ◌++◌, length, Option, Some, None, refl, sym, ap, subst, ◌∙◌, arith}
 use Rattle.std.specs.Prelude.{◌≢◌}
-use Rattle.std.proofs.lemmas.List.{length-append, nil_from_length}
+use Rattle.std.proofs.lemmas.List.{length-append, length-drop, length-take-le, nil_from_length, take-append-drop}
 use Rattle.std.proofs.lemmas.Option.{same_Some}
 use Rattle.index_parts.proofs.Splits.{piece_again}
 use Rattle.index_parts.specs.Front.{be, StartsWithNumber}
@@ -39,6 +39,30 @@ blocks_all bytes blocks rest h whole lt = subst (λ (r : List ℕ). AreBlocks by
 -- bytes of another number are no blocks
 pub blocks_whole : (bytes : List ℕ) (blocks : List Offset) → AreBlocks bytes blocks [] → length bytes % 8 ≡ 0
 blocks_whole bytes blocks h = omega (arith, blocks_len bytes blocks [] h)
+
+-- bytes of such a number are blocks
+pub blocks_of_len : (n : ℕ) (bytes : List ℕ) → length bytes ≡ 8 * n → (blocks : List Offset) × AreBlocks bytes blocks []
+blocks_of_len zero bytes len = ([], nil_from_length bytes (omega (arith, len)))
+blocks_of_len (suc n) bytes len =
+    let behind : List ℕ = drop 4 bytes in
+    let rest : List ℕ = drop 4 behind in
+    let o : Offset = record { from_beginning_of_file = be (take 4 bytes); num_entries = be (take 4 behind) } in
+    let left : length behind ≡ length bytes - 4 = length-drop 4 bytes in
+    let fewer : length rest ≡ length behind - 4 = length-drop 4 behind in
+    let block : IsBlock bytes o rest = record {
+      place = take 4 bytes;
+      count = take 4 behind;
+      parts = sym (ap (λ (l : List ℕ). take 4 bytes ++ l) (take-append-drop 4 behind) ∙ take-append-drop 4 bytes);
+      place_len = length-take-le 4 bytes (omega (arith, len));
+      count_len = length-take-le 4 behind (omega (arith, len, left));
+      is_place = refl;
+      is_count = refl;
+    } in
+    let others = blocks_of_len n rest (omega (arith, len, left, fewer)) in
+    (o ∷ others.0, (rest, block, others.1))
+
+pub blocks_there : (bytes : List ℕ) → length bytes % 8 ≡ 0 → (blocks : List Offset) × AreBlocks bytes blocks []
+blocks_there bytes whole = blocks_of_len (length bytes / 8) bytes (omega (arith, whole))
 
 -- ---- the table
 

@@ -17,11 +17,11 @@ use Rattle.index_parts.specs.Offset.{AreMarked, IsOffset, StartsWithOffset}
 use Rattle.index_parts.specs.Reading.{piece_at, split_at_byte, offset_at}
 use Rattle.index_parts.specs.declared.entry.stat.Stat.{Stat}
 use Rattle.index_parts.specs.declared.hash.Kind.{Kind}
-use Rattle.index_extensions.specs.Blocks.{Block, IsBlock, block_size, DirectoryValue, listed}
+use Rattle.index_extensions.specs.Blocks.{Block, block, HasHead, IsBlock, block_size, how_many, DirectoryValue, listed}
 use Rattle.index_extensions.specs.Limit.{passes_limit}
 use Rattle.index_extensions.specs.Marks.{Marks, marked, value_at, IsTail}
 use Rattle.index_extensions.specs.StatNumbers.{stat_of}
-use Rattle.index_extensions.specs.Untracked.{oid_stat, Front, Cache, IsFront, IsNest, AreDirectories, IsCache, CacheIdsAreOf}
+use Rattle.index_extensions.specs.Untracked.{oid_stat, Front, Cache, IsFront, IsNest, AreDirectories, IsCache, HasFirst, HasStart, CacheIdsAreOf}
 use Rattle.index_extensions.specs.UntrackedReading.{ends_with_nul, front_at, count_at}
 use Rattle.index_extensions.specs.declared.extension.untracked_cache.OidStat.{OidStat}
 use Rattle.index_extensions.proofs.BlockHeads.{not_true, not_false}
@@ -231,6 +231,42 @@ cache_from kind limit bytes f rest count body ds last e g d =
       are_directories = d;
       last = nul.1;
     }
+
+pub start_from : (kind : Kind) (limit : Option ℕ) (bytes : List ℕ) (f : Front) (rest : List ℕ) (count : ℕ) (body : List ℕ) → ends_with_nul bytes ≡ true → front_at kind bytes ≡ Some (f, rest) → count_at limit rest ≡ Some (count, body) → HasFirst limit count body → HasStart kind limit bytes
+start_from kind limit bytes f rest count body last e g first =
+    let nul = nul_takes bytes last in
+    let number = count_takes limit rest (count, body) g in
+    record {
+      front = f;
+      rest = rest;
+      number = number.starts.spelling;
+      body = body;
+      count = count;
+      before = nul.0;
+      is_front = front_takes kind bytes (f, rest) e;
+      parts = number.starts.parts;
+      is_number = number.starts.is_offset;
+      room = number.room;
+      within = number.within;
+      has_first = first;
+      last = nul.1;
+    }
+
+-- a block begins with a head
+block_head : (limit : Option ℕ) (bytes : List ℕ) (b : Block) (rest : List ℕ) → IsBlock limit bytes b rest → HasHead limit bytes
+block_head limit bytes (block name untracked subs) rest p = record { head = record { untracked = length untracked; subs = how_many subs; name = name }; rest = p.0; is_head = p.2 }
+
+-- what stands where directories are declared
+pub first_from : (limit : Option ℕ) (count : ℕ) (bytes : List ℕ) → (count ≡ 0 → ⊥) → HasHead limit bytes → HasFirst limit count bytes
+first_from limit zero bytes some h = absurd (some refl)
+first_from limit (suc n) bytes some h = h
+
+pub first_block : (limit : Option ℕ) (count : ℕ) (bytes : List ℕ) (b : Block) (rest : List ℕ) → (count ≡ 0 → ⊥) → IsBlock limit bytes b rest → HasFirst limit count bytes
+first_block limit count bytes b rest some p = first_from limit count bytes some (block_head limit bytes b rest p)
+
+pub first_there : (kind : Kind) (limit : Option ℕ) (count : ℕ) (bytes : List ℕ) (ds : List DirectoryValue) → AreDirectories kind limit count bytes ds → HasFirst limit count bytes
+first_there kind limit zero bytes ds p = p.0
+first_there kind limit (suc n) bytes ds p = block_head limit bytes p.root p.rest p.is_root
 
 -- bytes are one cache
 pub one_cache : (kind : Kind) (limit : Option ℕ) (bytes : List ℕ) (a b : Cache) → IsCache kind limit bytes a → IsCache kind limit bytes b → a ≡ b

@@ -11,7 +11,7 @@ use Rattle.index_parts.specs.declared.hash.Kind.{Kind}
 use Rattle.index_parts.specs.declared.hash.ObjectId.{ObjectId}
 use Rattle.index_extensions.specs.Limit.{passes_limit}
 use Rattle.index_extensions.specs.Reading.{decimal_of, count_of, id_at, limited_id_at, head_at}
-use Rattle.index_extensions.specs.Tree.{Head, IsHead}
+use Rattle.index_extensions.specs.Tree.{Head, IsHead, HasHead}
 use Rattle.index_extensions.proofs.Decimals.{decimal_takes, decimal_again, decimal_apart, decimal_some, count_takes, count_again, count_apart}
 
 -- ---- the id
@@ -69,6 +69,9 @@ head_takes kind limit bytes x e =
       within = within.0;
       is_id = id.2;
     })
+
+pub head_there : (kind : Kind) (limit : Option ℕ) (bytes : List ℕ) (h : Head) (tail : List ℕ) → head_at kind limit bytes ≡ Some (h, tail) → HasHead kind limit bytes
+head_there kind limit bytes h tail e = record { head = h; tail = tail; is_head = head_takes kind limit bytes (h, tail) e }
 
 pub head_again : (kind : Kind) (limit : Option ℕ) (bytes : List ℕ) (h : Head) (tail : List ℕ) → IsHead kind limit bytes h tail → head_at kind limit bytes ≡ Some (h, tail)
 unfolding head_at

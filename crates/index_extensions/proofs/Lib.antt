@@ -8,6 +8,7 @@ pub mod Clones
 pub mod Decimals
 pub mod EndMarks
 pub mod EqualPieces
+pub mod Errors
 pub mod FirstContent
 pub mod Heads
 pub mod Items

@@ -8,13 +8,13 @@ use Rattle.index_parts.proofs.BitmapFaults.{no_fault, bitmap_or_fault}
 use Rattle.index_parts.proofs.Bitmaps.{one_bitmap}
 use Rattle.index_parts.proofs.Splits.{piece_takes, piece_again, split_takes, split_again}
 use Rattle.index_parts.proofs.Steps.{bind_some}
-use Rattle.index_parts.specs.Bitmap.{Bitmap, IsBitmap, Lacks, Says}
+use Rattle.index_parts.specs.Bitmap.{Bitmap, IsBitmap, HasBitmap, Lacks, Says}
 use Rattle.index_parts.specs.Front.{be, StartsWithNumber}
 use Rattle.index_parts.specs.Reading.{◌>>=◌, piece_at, split_at_byte}
 use Rattle.index_parts.specs.declared.ewah.decode.Error.{Error}
 use Rattle.index_parts.specs.declared.ewah.decode.Error.TheVariants as errors
 use Rattle.index_extensions.specs.Contents.{IsRead}
-use Rattle.index_extensions.specs.FsMonitor.{TokenValue, nanoseconds, opaque, Monitor, IsToken, version_1, version_2, IsMonitor}
+use Rattle.index_extensions.specs.FsMonitor.{TokenValue, nanoseconds, opaque, Monitor, IsToken, version_1, version_2, IsMonitor, HasParts}
 use Rattle.index_extensions.specs.ReadingMonitor.{number_at, token_at, parts_at, IsSized}
 
 -- ---- numbers
@@ -160,6 +160,11 @@ pub monitor_from : (bytes : List ℕ) (token : TokenValue) (count : ℕ) (rest :
 monitor_from bytes token count rest dirty e s =
     let f = parts_takes bytes (token, count, rest) e in
     record { version = f.version; token = f.token; size = f.size; dirty = rest; parts = f.parts; version_len = f.version_len; is_token = f.is_token; size_len = f.size_len; dirty_len = s.len ∙ f.count_is; is_dirty = s.is_bitmap }
+
+pub has_parts : (bytes : List ℕ) (token : TokenValue) (count : ℕ) (rest : List ℕ) → parts_at bytes ≡ Some (token, count, rest) → length rest ≡ count → HasBitmap rest → HasParts bytes
+has_parts bytes token count rest e len has =
+    let f = parts_takes bytes (token, count, rest) e in
+    record { version = f.version; token = f.token; value = token; size = f.size; dirty = rest; parts = f.parts; version_len = f.version_len; is_token = f.is_token; size_len = f.size_len; dirty_len = len ∙ f.count_is; has_bitmap = has }
 
 -- the parts that are read are a monitor's own
 pub monitor_parts : (bytes : List ℕ) (token : TokenValue) (count : ℕ) (rest : List ℕ) (m : Monitor) → parts_at bytes ≡ Some (token, count, rest) → IsMonitor bytes m → (m.token ≡ token) × IsSized count rest m.dirty

@@ -6,12 +6,17 @@ use Rattle.index_parts.specs.Id.{id_kind}
 use Rattle.index_parts.specs.declared.hash.Kind.{Kind}
 use Rattle.index_extensions.specs.Contents.{IsRead}
 use Rattle.index_extensions.specs.ReadingPaths.{path_at}
-use Rattle.index_extensions.specs.ResolveUndo.{PathStages, IsPath, ArePaths, IsResolveUndo, PathIdsAreOf}
+use Rattle.index_extensions.specs.ResolveUndo.{PathStages, IsPath, HasPath, ArePaths, IsResolveUndo, PathIdsAreOf}
 use Rattle.index_extensions.proofs.Paths.{path_takes, path_again, one_path, path_fewer, path_kind}
 
 -- no path begins where nothing is left
 no_path : (kind : Kind) (bytes : List ℕ) (p : PathStages) (rest : List ℕ) → bytes ≡ [] → IsPath kind bytes p rest → ⊥
 no_path kind bytes p rest none h = omega (arith, path_fewer kind bytes p rest h, ap length none)
+
+-- a path behind paths tells of one at the front
+pub front_path : (kind : Kind) (bytes : List ℕ) (paths : List PathStages) (rest : List ℕ) → ArePaths kind bytes paths rest → HasPath kind rest → HasPath kind bytes
+front_path kind bytes [] rest h has = subst (HasPath kind) (sym h) has
+front_path kind bytes (p ∷ paths) rest h has = record { path = p; rest = h.0; is_path = h.1 }
 
 -- one more path behind paths
 pub paths_push : (kind : Kind) (bytes : List ℕ) (paths : List PathStages) (p : PathStages) (middle rest : List ℕ) → ArePaths kind bytes paths middle → IsPath kind middle p rest → ArePaths kind bytes (paths ++ p ∷ []) rest

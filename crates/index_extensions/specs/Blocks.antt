@@ -42,6 +42,11 @@ pub record IsHead (limit : Option ℕ) (bytes : List ℕ) (h : Head) (rest : Lis
   pub untracked_within : passes_limit limit (24 * h.untracked) ≡ false
   pub subs_within : passes_limit limit (8 * h.subs) ≡ false
 
+pub record HasHead (limit : Option ℕ) (bytes : List ℕ) : Type 0 where
+  pub head : Head
+  pub rest : List ℕ
+  pub is_head : IsHead limit bytes head rest
+
 -- bytes are these names, each up to a NUL, one after another, and the rest
 abbrev pub AreNames : List ℕ → List (List ℕ) → List ℕ → Type 0
 AreNames bytes [] rest = bytes ≡ rest

@@ -32,6 +32,10 @@ pub record IsTable (bytes : List ℕ) (blocks : List Offset) : Type 0 where
   pub some : blocks ≢ []
   pub are_blocks : AreBlocks rest blocks []
 
+pub record HasTable (bytes : List ℕ) : Type 0 where
+  pub blocks : List Offset
+  pub is_table : IsTable bytes blocks
+
 -- Bytes from the first extension to the end of a file: the table in the first extension with the table's signature, or None where
 -- there is none, it is malformed, or the bytes are fewer than the trailer's.
 pub data IsFound (kind : Kind) (bytes : List ℕ) (found : Option (List Offset)) : Type 0 where

@@ -40,6 +40,11 @@ pub record IsPath (kind : Kind) (bytes : List ℕ) (p : PathStages) (rest : List
   pub is_theirs : IsStage kind theirs theirs_id theirs_stage
   pub stages_are : p.stages ≡ base_stage ∷ ours_stage ∷ theirs_stage ∷ []
 
+pub record HasPath (kind : Kind) (bytes : List ℕ) : Type 0 where
+  pub path : PathStages
+  pub rest : List ℕ
+  pub is_path : IsPath kind bytes path rest
+
 -- bytes are these paths, one after another, and the rest
 abbrev pub ArePaths : Kind → List ℕ → List PathStages → List ℕ → Type 0
 ArePaths kind bytes [] rest = bytes ≡ rest

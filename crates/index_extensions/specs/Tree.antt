@@ -55,6 +55,11 @@ pub record IsHead (kind : Kind) (limit : Option ℕ) (bytes : List ℕ) (h : Hea
   pub within : passes_limit limit (104 * h.number) ≡ false
   pub is_id : MatchOption h.count ((id ≡ []) × (h.id ≡ null_id kind)) (λ _. (length id ≡ id_len kind) × (h.id ≡ make_id kind id))
 
+pub record HasHead (kind : Kind) (limit : Option ℕ) (bytes : List ℕ) : Type 0 where
+  pub head : Head
+  pub tail : List ℕ
+  pub is_head : IsHead kind limit bytes head tail
+
 abbrev mutual
   -- bytes spell a node and all below it, in preorder, and the rest
   pub IsSpelled : Kind → Option ℕ → Node → List ℕ → List ℕ → Type 0

@@ -6,7 +6,7 @@ use Rattle.index_parts.specs.Front.{be}
 use Rattle.index_parts.specs.Id.{id_len, id_kind, make_id}
 use Rattle.index_parts.specs.Offset.{IsOffset}
 use Rattle.index_parts.specs.declared.hash.Kind.{Kind}
-use Rattle.index_extensions.specs.Blocks.{Block, IsBlock, block_depth, block_size, DirectoryValue, value_of, listed}
+use Rattle.index_extensions.specs.Blocks.{Block, HasHead, IsBlock, block_depth, block_size, DirectoryValue, value_of, listed}
 use Rattle.index_extensions.specs.Limit.{passes_limit}
 use Rattle.index_extensions.specs.Marks.{IsTail}
 use Rattle.index_extensions.specs.StatNumbers.{stat_of}
@@ -90,6 +90,27 @@ pub record IsCache (kind : Kind) (limit : Option ℕ) (bytes : List ℕ) (c : Ca
   pub room : count ≤ length body
   pub within : passes_limit limit (152 * count) ≡ false
   pub are_directories : AreDirectories kind limit count body c.directories
+  pub last : bytes ≡ before ++ 0 ∷ []
+
+-- the head of the first block stands where directories are declared; else nothing follows their number
+abbrev pub HasFirst : Option ℕ → ℕ → List ℕ → Type 0
+HasFirst limit zero bytes = bytes ≡ []
+HasFirst limit (suc n) bytes = HasHead limit bytes
+
+-- bytes are what a cache says of itself, the number of directories, within the limits, and the head of the first, if there is one
+pub record HasStart (kind : Kind) (limit : Option ℕ) (bytes : List ℕ) : Type 0 where
+  pub front : Front
+  pub rest : List ℕ
+  pub number : List ℕ
+  pub body : List ℕ
+  pub count : ℕ
+  pub before : List ℕ
+  pub is_front : IsFront kind bytes front rest
+  pub parts : rest ≡ number ++ body
+  pub is_number : IsOffset number count
+  pub room : count ≤ length body
+  pub within : passes_limit limit (152 * count) ≡ false
+  pub has_first : HasFirst limit count body
   pub last : bytes ≡ before ++ 0 ∷ []
 
 -- all ids in a cache are of this kind

@@ -1,11 +1,11 @@
 //! What a file system monitor said (gitformat-index, "File System Monitor cache").
 
-ghost use Rattle.std.specs.Prelude.{◌≡◌, IfOk};
+ghost use Rattle.std.specs.Prelude.{◌≡◌, length, IfOk, IfErr};
 ghost use Rattle.std.specs.Option.{option_map};
-ghost use Rattle.index_parts.specs.Bitmap.{bitmap};
+ghost use Rattle.index_parts.specs.Bitmap.{bitmap, HasBitmap};
 ghost use Rattle.index_parts.specs.declared.ewah.decode.Error.TheVariants.{Memory};
 ghost use Rattle.index_extensions.specs.Contents.{IsRead};
-ghost use Rattle.index_extensions.specs.FsMonitor.{token_value, monitor_of, IsMonitor};
+ghost use Rattle.index_extensions.specs.FsMonitor.{token_value, monitor_of, IsMonitor, HasParts};
 ghost use Rattle.index_extensions.specs.ReadingMonitor.{lent_token, IsSized};
 
 use super::Signature;
@@ -62,7 +62,8 @@ impl FsMonitor {
 
 /// Lets each fault of the bytes pass; want of memory is none.
 fn check_memory(error: Error) -> Result<(), AllocError>
-    ensures { IfOk result (λ _. error ≡ Memory → ⊥) }
+    ensures other { IfOk result (λ _. error ≡ Memory → ⊥) }
+    ensures memory { IfErr result (λ _. error ≡ Memory) }
 {
     match error {
         Error::Memory => Err(AllocError),
@@ -72,7 +73,8 @@ fn check_memory(error: Error) -> Result<(), AllocError>
 
 /// The bitmap that the bytes are, if they have this size.
 fn bitmap_of(alloc: Global, size: u32, bytes: &[u8]) -> Result<Option<ewah::Vec>, AllocError>
-    ensures { IfOk result (λ found. IsRead (IsSized size) bytes.now (option_map bitmap found)) }
+    ensures read { IfOk result (λ found. IsRead (IsSized size) bytes.now (option_map bitmap found)) }
+    ensures memory { IfErr result (λ _. (length bytes.now ≡ size) × HasBitmap bytes.now) }
 {
     if bytes.len() != size as usize {
         return Ok(None);
@@ -101,9 +103,11 @@ fn own(alloc: Global, token: LentToken<'_>) -> Result<Token, AllocError>
 /// What the content of the extension spells: a version, a token, and a bitmap with its size.
 ///
 /// None where the version is neither 1 nor 2, where the bytes end within a part, where they are no bitmap, and where the
-/// bitmap has another size than the declared one or bytes stand behind it. All memory is bounded by the bytes.
+/// bitmap has another size than the declared one or bytes stand behind it. All memory is bounded by the bytes, and none is
+/// asked for before all parts were found and as many words as the bitmap has; an error is the want of it.
 pub fn decode(alloc: Global, data: &[u8]) -> Result<Option<FsMonitor>, AllocError>
     ensures read { IfOk result (λ found. IsRead IsMonitor «data».now (option_map monitor_of found)) }
+    ensures memory { IfErr result (λ _. HasParts «data».now) }
 {
     let Some(parts) = parts_of(data) else {
         return Ok(None);

@@ -1,9 +1,9 @@
 //! The offset table, which names where blocks of entries begin (gitformat-index, "Index Entry Offset Table").
 
-ghost use Rattle.std.specs.Prelude.{◌<◌, [], length, IfOk, IfSome, IfNone};
+ghost use Rattle.std.specs.Prelude.{◌≡◌, ◌<◌, List, [], length, Some, IfOk, IfErr, IfSome, IfNone};
 ghost use Rattle.std.specs.Option.{option_map};
 ghost use Rattle.index_extensions.specs.Contents.{IsRead};
-ghost use Rattle.index_extensions.specs.OffsetTable.{IsBlock, AreBlocks, IsTable, IsFound};
+ghost use Rattle.index_extensions.specs.OffsetTable.{HasTable, IsBlock, AreBlocks, IsTable, IsFound};
 
 use super::{Iter, Signature};
 use index_parts::hash::Kind;
@@ -37,6 +37,7 @@ pub struct Offset {
 /// Memory is asked for once, for the blocks that the bytes hold, and only where they are whole; an error is the want of it.
 pub fn decode(alloc: Global, data: &[u8]) -> Result<Option<Vec<Offset>>, AllocError>
     ensures read { IfOk result (λ found. IsRead IsTable «data».now (option_map (λ v. v.items) found)) }
+    ensures memory { IfErr result (λ _. HasTable «data».now) }
 {
     let Some((version, rest)) = read_u32(data) else {
         return Ok(None);
@@ -49,12 +50,15 @@ pub fn decode(alloc: Global, data: &[u8]) -> Result<Option<Vec<Offset>>, AllocEr
 
 /// The blocks of the first offset table in bytes from the first extension to the end of the file, trailer included. None
 /// where there is no table or the first one is malformed, and where there are fewer bytes than a trailer has.
+///
+/// An error is the want of memory for a first table that is whole.
 pub fn find(
     alloc: Global,
     extensions: &[u8],
     object_hash: Kind,
 ) -> Result<Option<Vec<Offset>>, AllocError>
     ensures found { IfOk result (λ found. IsFound object_hash extensions.now (option_map (λ v. v.items) found)) }
+    ensures memory { IfErr result (λ _. (blocks : List Offset) × IsFound object_hash extensions.now (Some blocks)) }
 {
     let Some(mut walk) = Iter::new_without_checksum(extensions, object_hash) else {
         return Ok(None);
@@ -71,6 +75,7 @@ pub fn find(
 /// Blocks that are all of the bytes. None where a part of a block is left.
 fn blocks_of(alloc: Global, bytes: &[u8]) -> Result<Option<Vec<Offset>>, AllocError>
     ensures read { IfOk result (λ found. IsRead (λ all blocks. AreBlocks all blocks []) bytes.now (option_map (λ v. v.items) found)) }
+    ensures memory { IfErr result (λ _. (blocks : List Offset) × AreBlocks bytes.now blocks []) }
 {
     if bytes.len() % BLOCK_LEN != 0 {
         return Ok(None);

@@ -1,10 +1,10 @@
 //! What conflicts were before they were resolved (gitformat-index, "Resolve undo").
 
-ghost use Rattle.std.specs.Prelude.{◌≡◌, map, IfOk};
+ghost use Rattle.std.specs.Prelude.{◌≡◌, map, IfOk, IfErr};
 ghost use Rattle.std.specs.Option.{option_map};
 ghost use Rattle.bstr.specs.Owned.{bstring_bytes};
 ghost use Rattle.index_extensions.specs.Contents.{IsRead};
-ghost use Rattle.index_extensions.specs.ResolveUndo.{path_stages, IsResolveUndo};
+ghost use Rattle.index_extensions.specs.ResolveUndo.{HasPath, path_stages, IsResolveUndo};
 
 use super::Signature;
 use bstr::BString;
@@ -71,9 +71,10 @@ impl ResolvePath {
 /// The paths that the content of the extension spells. Empty content spells none.
 ///
 /// None where the bytes end within a path, or where a mode is no octal number of at most 32 bits. Memory is asked for
-/// path by path, once all of it was read.
+/// path by path, once all of it was read; an error is the want of it.
 pub fn decode(alloc: Global, data: &[u8], object_hash: Kind) -> Result<Option<Paths>, AllocError>
     ensures read { IfOk result (λ found. IsRead (IsResolveUndo object_hash) «data».now (option_map (λ paths. map path_stages paths.items) found)) }
+    ensures memory { IfErr result (λ _. HasPath object_hash «data».now) }
 {
     let mut paths = Vec::new(alloc);
     let mut rest = data;

@@ -1,11 +1,11 @@
 //! The untracked cache (gitformat-index, "Untracked cache").
 
-ghost use Rattle.std.specs.Prelude.{◌≡◌, IfOk, map};
+ghost use Rattle.std.specs.Prelude.{◌≡◌, IfOk, IfErr, map};
 ghost use Rattle.std.specs.Option.{option_map};
 ghost use Rattle.bstr.specs.Owned.{bstring_bytes};
 ghost use Rattle.index_extensions.specs.Blocks.{value_of};
 ghost use Rattle.index_extensions.specs.Contents.{IsRead};
-ghost use Rattle.index_extensions.specs.Untracked.{AreDirectories, IsCache, cache_of};
+ghost use Rattle.index_extensions.specs.Untracked.{AreDirectories, IsCache, HasFirst, HasStart, cache_of};
 
 use super::Signature;
 use blocks::read_block;
@@ -211,6 +211,7 @@ fn directories_of(
     bytes: &[u8],
 ) -> Result<Option<Vec<Directory>>, AllocError>
     ensures read { IfOk result (λ found. IsRead (AreDirectories kind limit count) bytes.now (option_map (λ v. map value_of v.items) found)) }
+    ensures memory { IfErr result (λ _. HasFirst limit count bytes.now) }
 {
     let mut directories = Vec::new(alloc);
     if count == 0 {
@@ -235,7 +236,8 @@ fn directories_of(
 ///
 /// None where the bytes spell none, or don't end in a 0; where a directory lies more than 2048 levels below the root; and where the
 /// limit is passed by the directories at 152 bytes each, or in one of them by the untracked names at 24 bytes each or by its
-/// directories at 8 bytes each. Memory is only asked for what the bytes hold, and not by a declared number.
+/// directories at 8 bytes each. Memory is only asked for what the bytes hold, and not by a declared number, and none
+/// before all but the names and directories of the first block was read; an error is the want of it.
 pub fn decode(
     alloc: Global,
     data: &[u8],
@@ -243,6 +245,7 @@ pub fn decode(
     alloc_limit_bytes: Option<usize>,
 ) -> Result<Option<UntrackedCache>, AllocError>
     ensures read { IfOk result (λ found. IsRead (IsCache object_hash alloc_limit_bytes) «data».now (option_map cache_of found)) }
+    ensures memory { IfErr result (λ _. HasStart object_hash alloc_limit_bytes «data».now) }
 {
     if !ends_with_nul(data) {
         return Ok(None);

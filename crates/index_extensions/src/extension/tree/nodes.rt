@@ -1,8 +1,8 @@
 //! A node and all below it.
 
 ghost use Rattle.std.specs.List.Sorted.{IsPermutation};
-ghost use Rattle.std.specs.Prelude.{◌≡◌, ℕ, false, List, [], ◌∷◌, ◌++◌, map, IsTrue, IfOk, IfSome, IfNone};
-ghost use Rattle.index_extensions.specs.Tree.{Node, node, nodes_from, node_of, name_cmp, NamesRise, IsNode};
+ghost use Rattle.std.specs.Prelude.{◌≡◌, ℕ, false, List, [], ◌∷◌, ◌++◌, map, IsTrue, IfOk, IfErr, IfSome, IfNone};
+ghost use Rattle.index_extensions.specs.Tree.{Node, node, nodes_from, node_of, name_cmp, NamesRise, IsNode, HasHead};
 
 use super::Tree;
 use super::head::{Head, head_of};
@@ -74,6 +74,7 @@ pub(super) fn push_node<'a>(
     ensures some { IfOk result (λ found. IfSome found (λ rest. (t : Node) × (map node_of siblings.new.items ≡ map node_of siblings.old.items ++ t ∷ [])
         × IsNode kind limit levels bytes.now t rest.now)) }
     ensures none { IfOk result (λ found. IfNone found ((t : Node) (rest : List ℕ) → IsNode kind limit levels bytes.now t rest → ⊥)) }
+    ensures memory { IfErr result (λ _. HasHead kind limit bytes.now) }
 {
     let Some((head, tail)) = head_of(kind, limit, bytes) else {
         return Ok(None);

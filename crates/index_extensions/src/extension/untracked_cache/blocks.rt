@@ -1,9 +1,9 @@
 //! The directory blocks.
 
-ghost use Rattle.std.specs.Prelude.{◌≡◌, ◌<◌, ◌≤◌, ◌++◌, ℕ, List, map, length, IfOk, IfSome, IfNone};
+ghost use Rattle.std.specs.Prelude.{◌≡◌, ◌<◌, ◌≤◌, ◌++◌, ℕ, List, map, length, IfOk, IfErr, IfSome, IfNone};
 ghost use Rattle.std.specs.Option.{option_map};
 ghost use Rattle.bstr.specs.Owned.{bstring_bytes};
-ghost use Rattle.index_extensions.specs.Blocks.{Block, IsBlock, block_depth, value_of, listed};
+ghost use Rattle.index_extensions.specs.Blocks.{Block, HasHead, IsBlock, block_depth, value_of, listed};
 ghost use Rattle.index_extensions.specs.UntrackedReading.{is_allowed, head_at, lent_head, names_at, start_at, own_start};
 ghost use Rattle.index_extensions.specs.Marking.{change, with_subs};
 
@@ -91,7 +91,8 @@ fn start_of(
     limit: Option<usize>,
     bytes: &[u8],
 ) -> Result<Option<(Start, &[u8])>, AllocError>
-    ensures { IfOk result (λ found. option_map (λ x. (own_start x.0, x.1.now)) found ≡ start_at limit bytes.now) }
+    ensures found { IfOk result (λ found. option_map (λ x. (own_start x.0, x.1.now)) found ≡ start_at limit bytes.now) }
+    ensures memory { IfErr result (λ _. HasHead limit bytes.now) }
 {
     let Some((head, rest)) = head_of(limit, bytes) else {
         return Ok(None);
@@ -127,6 +128,7 @@ pub(super) fn read_block<'a>(
 ) -> Result<Option<&'a [u8]>, AllocError>
     ensures some { IfOk result (λ found. IfSome found (λ rest. (b : Block) × IsBlock limit bytes.now b rest.now × (block_depth b ≤ levels) × (map value_of directories.new.items ≡ map value_of directories.old.items ++ listed (length directories.old.items) b))) }
     ensures none { IfOk result (λ found. IfNone found ((b : Block) (rest : List ℕ) → IsBlock limit bytes.now b rest → block_depth b ≤ levels → ⊥)) }
+    ensures memory { IfErr result (λ _. HasHead limit bytes.now) }
 {
     let Some((start, tail)) = start_of(alloc, limit, bytes)? else {
         return Ok(None);

@@ -1,7 +1,7 @@
 use Rattle.std.proofs.Common.{◌≡◌, ℕ, [], ◌∷◌, ◌++◌, List, length, Option, Some, refl, sym, subst}
 use Rattle.std.specs.Prelude.{codes}
 use Rattle.std.specs.Option.{option_map}
-use Rattle.std.proofs.lemmas.Result.{IfOk-weaker}
+use Rattle.std.proofs.lemmas.Result.{IfErr-weaker, IfOk-weaker}
 use Rattle.index_parts.specs.Id.{id_len}
 use Rattle.index_parts.specs.declared.hash.Kind.{Kind}
 use Rattle.index_extensions.specs.Contents.{IsRead, IsValue, first_content}
@@ -17,12 +17,12 @@ table_found : (kind : Kind) (bytes start trailer : List ℕ) (items : List Item)
     → bytes ≡ start ++ trailer → length trailer ≡ id_len kind → IsWalk start items tail → first_content (codes "IEOT") items ≡ Some content → IsRead IsTable content found → IsFound kind bytes found
 table_found kind bytes start trailer items tail content found parts len walk first h = walked start trailer items tail parts len walk (subst (λ (o : Option (List ℕ)). IsValue IsTable o found) (sym first) h)
 
-pub returns-then-eq : goal.returns-then-eq
-returns-then-eq c =
+pub returns-then-eq-clause-found : goal.returns-then-eq-clause-found
+returns-then-eq-clause-found c =
     let inv = c.loop-item.invariant in
     let i : Item = step_item (c.in-Some-next.item.0, c.in-Some-next.item.1.now) (unread c.loop-item.walk) c.loop-item.walk.consumed (unread c.next.new.self) c.next.new.self.consumed c.in-Some-next.ensures.steps in
     let w = found_item (codes "IEOT") inv.0 (unread c.loop-item.walk) (unread c.next.new.self) inv.2 i inv.3.items_are inv.3.none c.in-Some-next.ensures.steps.1 (sym c.if-eq.ensures) in
-    record { found = IfOk-weaker c.decode.result _ _ (λ found h. table_found c.args.object_hash c.args.extensions.now inv.0 inv.1 w.0 w.1 i.content (option_map (λ v. v.items) found) inv.3.parts inv.3.trailer_len w.2 w.3 h) c.decode.ensures.read }
+    IfOk-weaker c.decode.result _ _ (λ found h. table_found c.args.object_hash c.args.extensions.now inv.0 inv.1 w.0 w.1 i.content (option_map (λ v. v.items) found) inv.3.parts inv.3.trailer_len w.2 w.3 h) c.decode.ensures.read
 
 pub loop-item-preserved : goal.loop-item-preserved
 loop-item-preserved c =
@@ -40,8 +40,15 @@ loop-item-preserved c =
       },
     )
 
-pub returns : goal.returns
-returns c =
+pub returns-clause-found : goal.returns-clause-found
+returns-clause-found c =
     let inv = c.loop-item.invariant in
     let w = step_ends inv.0 inv.2 (unread c.loop-item.walk) c.loop-item.walk.consumed (unread c.next.new.self) c.next.new.self.consumed inv.3.items_are c.in_default-next.ensures.steps in
-    record { found = walked inv.0 inv.1 inv.2 (unread c.loop-item.walk) inv.3.parts inv.3.trailer_len w (rw inv.3.none refl) }
+    walked inv.0 inv.1 inv.2 (unread c.loop-item.walk) inv.3.parts inv.3.trailer_len w (rw inv.3.none refl)
+
+pub returns-then-eq-clause-memory : goal.returns-then-eq-clause-memory
+returns-then-eq-clause-memory c =
+    let inv = c.loop-item.invariant in
+    let i : Item = step_item (c.in-Some-next.item.0, c.in-Some-next.item.1.now) (unread c.loop-item.walk) c.loop-item.walk.consumed (unread c.next.new.self) c.next.new.self.consumed c.in-Some-next.ensures.steps in
+    let w = found_item (codes "IEOT") inv.0 (unread c.loop-item.walk) (unread c.next.new.self) inv.2 i inv.3.items_are inv.3.none c.in-Some-next.ensures.steps.1 (sym c.if-eq.ensures) in
+    IfErr-weaker c.decode.result _ _ (λ error h. (h.blocks, table_found c.args.object_hash c.args.extensions.now inv.0 inv.1 w.0 w.1 i.content (Some h.blocks) inv.3.parts inv.3.trailer_len w.2 w.3 h.is_table)) c.decode.ensures.memory

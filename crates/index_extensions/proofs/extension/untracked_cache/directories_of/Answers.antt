@@ -5,22 +5,21 @@ use Rattle.index_extensions.specs.Blocks.{block_size, DirectoryValue, value_of, 
 use Rattle.index_extensions.specs.Marking.{IsUnmarked}
 use Rattle.index_extensions.specs.Marks.{IsTail}
 use Rattle.index_extensions.specs.declared.extension.untracked_cache.Directory.{Directory}
-use Rattle.index_extensions.proofs.Caches.{nest_is, nest_of, root_of}
+use Rattle.index_extensions.proofs.Caches.{first_block, nest_is, nest_of, root_of}
+use Rattle.index_extensions.proofs.Errors.{at_err}
 use Rattle.index_extensions.proofs.Nests.{listed_len, listed_unmarked}
 use Rattle.index_extensions.proofs.extension.untracked_cache.directories_of.Goals as goal
 
-pub returns-then-len-count : goal.returns-then-len-count
-returns-then-len-count c = record {
-  read = λ ds p.
-      let h = rw c.in-Some.is at c.in_ok-rest.ensures.some in
-      let items = c.read_block.new.directories.items in
-      let are : map value_of items ≡ listed 0 h.0 = h.3 ∙ ap (λ (l : List Directory). map value_of l ++ listed (length l) h.0) c.new-directories.ensures.items in
-      let number : length items ≡ block_size h.0 = sym (length-map items value_of) ∙ ap length are ∙ listed_len 0 h.0 in
-      let some : c.args.count ≡ 0 → ⊥ = search rules in
-      let q = root_of c.args.kind c.args.limit c.args.count c.args.bytes.now h.0 c.in-Some.rest.now ds h.1 (nest_of c.args.kind c.args.limit c.args.count c.args.bytes.now ds some p) in
-      let len : c.len.result ≡ length items = search rules in
-      c.if-len-count.true (len ∙ number ∙ q.size);
-}
+pub returns-then-len-count-clause-read : goal.returns-then-len-count-clause-read
+returns-then-len-count-clause-read c = λ ds p.
+    let h = rw c.in-Some.is at c.in_ok-rest.ensures.some in
+    let items = c.read_block.new.directories.items in
+    let are : map value_of items ≡ listed 0 h.0 = h.3 ∙ ap (λ (l : List Directory). map value_of l ++ listed (length l) h.0) c.new-directories.ensures.items in
+    let number : length items ≡ block_size h.0 = sym (length-map items value_of) ∙ ap length are ∙ listed_len 0 h.0 in
+    let some : c.args.count ≡ 0 → ⊥ = search rules in
+    let q = root_of c.args.kind c.args.limit c.args.count c.args.bytes.now h.0 c.in-Some.rest.now ds h.1 (nest_of c.args.kind c.args.limit c.args.count c.args.bytes.now ds some p) in
+    let len : c.len.result ≡ length items = search rules in
+    c.if-len-count.true (len ∙ number ∙ q.size)
 
 pub read_marks-requires : goal.read_marks-requires
 read_marks-requires c =
@@ -28,20 +27,18 @@ read_marks-requires c =
     let are : map value_of c.read_block.new.directories.items ≡ listed 0 h.0 = h.3 ∙ ap (λ (l : List Directory). map value_of l ++ listed (length l) h.0) c.new-directories.ensures.items in
     subst (AllByRecursion IsUnmarked) (sym are) (listed_unmarked 0 h.0)
 
-pub returns-then-not-branch : goal.returns-then-not-branch
-returns-then-not-branch c = record {
-  read = λ ds p.
-      let h = rw c.in-Some.is at c.in_ok-rest.ensures.some in
-      let items = c.read_block.new.directories.items in
-      let rest = c.in-Some.rest.now in
-      let are : map value_of items ≡ listed 0 h.0 = h.3 ∙ ap (λ (l : List Directory). map value_of l ++ listed (length l) h.0) c.new-directories.ensures.items in
-      let some : c.args.count ≡ 0 → ⊥ = search rules in
-      let q = root_of c.args.kind c.args.limit c.args.count c.args.bytes.now h.0 rest ds h.1 (nest_of c.args.kind c.args.limit c.args.count c.args.bytes.now ds some p) in
-      c.in_ok-read_marks.ensures.torn c.if-not-branch.true ds (subst (λ (l : List DirectoryValue). IsTail c.args.kind l rest ds) (sym are) q.is_tail);
-}
+pub returns-then-not-branch-clause-read : goal.returns-then-not-branch-clause-read
+returns-then-not-branch-clause-read c = λ ds p.
+    let h = rw c.in-Some.is at c.in_ok-rest.ensures.some in
+    let items = c.read_block.new.directories.items in
+    let rest = c.in-Some.rest.now in
+    let are : map value_of items ≡ listed 0 h.0 = h.3 ∙ ap (λ (l : List Directory). map value_of l ++ listed (length l) h.0) c.new-directories.ensures.items in
+    let some : c.args.count ≡ 0 → ⊥ = search rules in
+    let q = root_of c.args.kind c.args.limit c.args.count c.args.bytes.now h.0 rest ds h.1 (nest_of c.args.kind c.args.limit c.args.count c.args.bytes.now ds some p) in
+    c.in_ok-read_marks.ensures.torn c.if-not-branch.true ds (subst (λ (l : List DirectoryValue). IsTail c.args.kind l rest ds) (sym are) q.is_tail)
 
-pub returns : goal.returns
-returns c =
+pub returns-clause-read : goal.returns-clause-read
+returns-clause-read c =
     let h = rw c.in-Some.is at c.in_ok-rest.ensures.some in
     let items = c.read_block.new.directories.items in
     let rest = c.in-Some.rest.now in
@@ -51,4 +48,10 @@ returns c =
     let some : c.args.count ≡ 0 → ⊥ = search rules in
     let len : length items ≡ c.args.count = search rules in
     let tail : IsTail c.args.kind (listed 0 h.0) rest ds = subst (λ (l : List DirectoryValue). IsTail c.args.kind l rest ds) are (c.in_ok-read_marks.ensures.whole c.if-not-branch.false) in
-    record { read = nest_is c.args.kind c.args.limit c.args.count c.args.bytes.now ds some (record { root = h.0; rest = rest; is_root = h.1; shallow = h.2; size = sym number ∙ len; is_tail = tail }) }
+    nest_is c.args.kind c.args.limit c.args.count c.args.bytes.now ds some (record { root = h.0; rest = rest; is_root = h.1; shallow = h.2; size = sym number ∙ len; is_tail = tail })
+
+pub returns-in_err-read_marks-clause-memory : goal.returns-in_err-read_marks-clause-memory
+returns-in_err-read_marks-clause-memory c =
+    let h = rw c.in-Some.is at c.in_ok-rest.ensures.some in
+    let some : c.args.count ≡ 0 → ⊥ = search rules in
+    at_err c.from_residual-in_err-read_marks.result (first_block c.args.limit c.args.count c.args.bytes.now h.0 c.in-Some.rest.now some h.1)

@@ -2,6 +2,8 @@ use Rattle.std.proofs.Common.{arith, ◌≡◌, ◌-◌, ◌+◌, [], ◌∷◌,
 use Rattle.std.specs.List.Sorted.{IsPermutation}
 use Rattle.index_extensions.specs.Reading.{lent_head}
 use Rattle.index_extensions.specs.Tree.{node_of}
+use Rattle.index_extensions.proofs.Errors.{at_err}
+use Rattle.index_extensions.proofs.Heads.{head_there}
 use Rattle.index_extensions.proofs.Rows.{IsRow, none_at, row_of, row_push, first_of, others_of, same_row, node_from}
 use Rattle.index_extensions.proofs.extension.tree.nodes.+push_node.Goals as goal
 
@@ -57,3 +59,9 @@ returns-clause-some t c =
     let all : c.loop-i._i ≡ c.in-Some.head.number = omega arith in
     let row : IsRow c.args.kind c.args.limit c.args.levels c.in-Some.head.number c.in-Some.tail.now children c.loop-i.rest.now = rw (← all) c.loop-i.invariant.0 in
     (_, made.3, node_from c.args.kind c.args.limit c.args.levels c.args.bytes.now c.in-Some.tail.now c.loop-i.rest.now (lent_head c.in-Some.head) children made.0 (sym c.in-Some.ensures) row made.1 made.2)
+
+pub returns-in_err-after-clause-memory : goal.returns-in_err-after-clause-memory
+returns-in_err-after-clause-memory t c = at_err c.from_residual.result (head_there c.args.kind c.args.limit c.args.bytes.now (lent_head c.in-Some.head) c.in-Some.tail.now (sym c.in-Some.ensures))
+
+pub returns-in_err-push_tree-clause-memory : goal.returns-in_err-push_tree-clause-memory
+returns-in_err-push_tree-clause-memory t c = at_err c.from_residual-in_err-push_tree.result (head_there c.args.kind c.args.limit c.args.bytes.now (lent_head c.in-Some.head) c.in-Some.tail.now (sym c.in-Some.ensures))

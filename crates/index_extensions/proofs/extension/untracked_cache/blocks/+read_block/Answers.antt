@@ -2,23 +2,25 @@ use Rattle.std.proofs.Common.{rules, arith, ◌≡◌, ℕ, ◌+◌, List, [], �
 use Rattle.std.proofs.lemmas.List.{map-append}
 use Rattle.index_extensions.specs.Blocks.{block, how_many, blocks_size, unmarked, places_from, value_of}
 use Rattle.index_extensions.specs.UntrackedReading.{own_start}
+use Rattle.index_extensions.proofs.BlockHeads.{start_there}
+use Rattle.index_extensions.proofs.Errors.{at_err}
 use Rattle.index_extensions.proofs.Nests.{blocks_from, next_block, no_block, block_from, row_push, number_of_row, depth_push, places_push, directories_len, directories_push, directories_done}
 use Rattle.index_extensions.proofs.extension.untracked_cache.blocks.+read_block.Goals as goal
 
 pub returns-in_default-clause-none : goal.returns-in_default-clause-none
-returns-in_default-clause-none t c = λ b rest p d. no_block c.args.limit b c.args.bytes.now rest (sym (rw c.in_default.is at c.in_ok-start.ensures)) p
+returns-in_default-clause-none t c = λ b rest p d. no_block c.args.limit b c.args.bytes.now rest (sym (rw c.in_default.is at c.in_ok-start.ensures.found)) p
 
 pub returns-then-levels-eq0-clause-none : goal.returns-then-levels-eq0-clause-none
 returns-then-levels-eq0-clause-none t c = λ b rest p d.
     let inv = c.loop-i.invariant in
-    let start = sym (rw c.in-Some.is at c.in_ok-start.ensures) in
+    let start = sym (rw c.in-Some.is at c.in_ok-start.ensures.found) in
     let f = next_block c.args.limit (own_start c.in-Some.start) c.in-Some.tail.now c.loop-i.rest.now rest c.args.bytes.now inv.0 b c.args.levels start p d inv.1 (omega arith) in
     omega (arith, f.level)
 
 pub returns-in_default-2-clause-none : goal.returns-in_default-2-clause-none
 returns-in_default-2-clause-none t c = λ b rest p d.
     let inv = c.loop-i.invariant in
-    let start = sym (rw c.in-Some.is at c.in_ok-start.ensures) in
+    let start = sym (rw c.in-Some.is at c.in_ok-start.ensures.found) in
     let f = next_block c.args.limit (own_start c.in-Some.start) c.in-Some.tail.now c.loop-i.rest.now rest c.args.bytes.now inv.0 b c.args.levels start p d inv.1 (omega arith) in
     let none = rw c.in_default-2.is at c.in_ok-after.ensures.none in
     none f.first f.after f.is_first f.shallow
@@ -52,7 +54,16 @@ returns-clause-some t c =
     let bs = blocks_from inv.0 in
     let pushed_is : map value_of c.push.new.self.items ≡ map value_of c.args.directories.now.items ++ unmarked start.name start.untracked [] ∷ [] = rw (c.in_ok-push.ensures.items, map-append, c.new.ensures.items) refl in (
       block start.name start.untracked bs,
-      block_from c.args.limit start c.in-Some.tail.now c.loop-i.rest.now c.args.bytes.now inv.0 (sym (rw c.in-Some.is at c.in_ok-start.ensures)) inv.1 number,
+      block_from c.args.limit start c.in-Some.tail.now c.loop-i.rest.now c.args.bytes.now inv.0 (sym (rw c.in-Some.is at c.in_ok-start.ensures.found)) inv.1 number,
       inv.3,
       directories_done _ c.loop-i.directories.items c.push.new.self.items c.args.directories.now.items place start.name start.untracked c.loop-i.subs.items bs c.set_subs.ensures inv.4 pushed_is inv.5 place_is,
     )
+
+pub returns-in_err-push-clause-memory : goal.returns-in_err-push-clause-memory
+returns-in_err-push-clause-memory t c = at_err c.from_residual-in_err-push.result (start_there c.args.limit c.args.bytes.now (own_start c.in-Some.start) c.in-Some.tail.now (sym (rw c.in-Some.is at c.in_ok-start.ensures.found)))
+
+pub returns-in_err-push-2-clause-memory : goal.returns-in_err-push-2-clause-memory
+returns-in_err-push-2-clause-memory t c = at_err c.from_residual-in_err-push-2.result (start_there c.args.limit c.args.bytes.now (own_start c.in-Some.start) c.in-Some.tail.now (sym (rw c.in-Some.is at c.in_ok-start.ensures.found)))
+
+pub returns-in_err-after-clause-memory : goal.returns-in_err-after-clause-memory
+returns-in_err-after-clause-memory t c = at_err c.from_residual-in_err-after.result (start_there c.args.limit c.args.bytes.now (own_start c.in-Some.start) c.in-Some.tail.now (sym (rw c.in-Some.is at c.in_ok-start.ensures.found)))
