@@ -45,9 +45,18 @@ fn answer(alloc: Global, data: &[u8], skip_hash: bool) -> Result<Result<File, Er
     Ok(File::decode(alloc, data, path, Kind::Sha1, skip_hash, time, options))
 }
 
+/// The fault, or None where there is a file.
+fn fault(alloc: Global, data: &[u8], skip_hash: bool) -> Result<Option<Error>, Fail> {
+    Ok(answer(alloc, data, skip_hash)?.err())
+}
+
 /// The file, where there must be one.
 fn read(alloc: Global, data: &[u8], skip_hash: bool) -> Result<File, Fail> {
     Ok(answer(alloc, data, skip_hash)??)
+}
+
+fn checksum_of(alloc: Global, data: &[u8], skip_hash: bool) -> Result<Option<ObjectId>, Fail> {
+    Ok(read(alloc, data, skip_hash)?.checksum())
 }
 
 fn file_of(alloc: Global, state: State) -> Result<File, Fail> {
@@ -55,12 +64,9 @@ fn file_of(alloc: Global, state: State) -> Result<File, Fail> {
 }
 
 /// What is written, the version and the id.
-fn written(
-    rt: &impl Abort,
-    alloc: Global,
-    file: &File,
-    skip_hash: bool,
-) -> Result<(Vec<u8>, Version, ObjectId), Fail> {
+type Written = (Vec<u8>, Version, ObjectId);
+
+fn written(rt: &impl Abort, alloc: Global, file: &File, skip_hash: bool) -> Result<Written, Fail> {
     assert!(rt; file.paths_in_storage());
     let mut out = Plain::new(Vec::new(alloc));
     let options = Options {
@@ -70,6 +76,26 @@ fn written(
     let (version, id) = file.write_to(&mut out, options)?;
     assert!(rt; !out.has_failed());
     Ok((out.inner, version, id))
+}
+
+/// The same of a new file with this state.
+fn written_of(
+    rt: &impl Abort,
+    alloc: Global,
+    state: State,
+    skip_hash: bool,
+) -> Result<Written, Fail> {
+    written(rt, alloc, &file_of(alloc, state)?, skip_hash)
+}
+
+/// The same of the file that was read of these bytes.
+fn rewritten(
+    rt: &impl Abort,
+    alloc: Global,
+    data: &[u8],
+    skip_hash: bool,
+) -> Result<Written, Fail> {
+    written(rt, alloc, &read(alloc, data, false)?, skip_hash)
 }
 
 fn empty_state(alloc: Global) -> State {
@@ -90,18 +116,20 @@ fn one_entry(alloc: Global) -> Result<State, Fail> {
     Ok(state)
 }
 
-#[test]
-fn an_empty_index_without_digest(rt: HostRuntime) -> Result<(), Fail> {
-    let alloc = rt.alloc();
-    let file = file_of(alloc, empty_state(alloc))?;
-    let (bytes, version, id) = written(&rt, alloc, &file, true)?;
-    assert_eq!(rt; bytes.as_slice(), EMPTY);
-    assert_eq!(rt; version, Version::V2);
-    assert_eq!(rt; id, ObjectId::Sha1([0; 20]));
-    let file = read(alloc, EMPTY, false)?;
+fn assert_empty(rt: &impl Abort, file: &File) {
     assert_eq!(rt; file.version(), Version::V2);
     assert_eq!(rt; file.entries().len(), 0);
     assert_eq!(rt; file.checksum(), None);
+}
+
+#[test]
+fn an_empty_index_without_digest(rt: HostRuntime) -> Result<(), Fail> {
+    let alloc = rt.alloc();
+    let (bytes, version, id) = written_of(&rt, alloc, empty_state(alloc), true)?;
+    assert_eq!(rt; bytes.as_slice(), EMPTY);
+    assert_eq!(rt; version, Version::V2);
+    assert_eq!(rt; id, ObjectId::Sha1([0; 20]));
+    assert_empty(&rt, &read(alloc, EMPTY, false)?);
     Ok(())
 }
 
@@ -111,22 +139,19 @@ fn an_empty_index_with_its_digest(rt: HostRuntime) -> Result<(), Fail> {
     let id = ObjectId::Sha1(EMPTY_DIGEST);
     let file = file_of(alloc, empty_state(alloc))?;
     let (bytes, version, got) = written(&rt, alloc, &file, false)?;
+    // What is written becomes no checksum of the file in memory.
+    assert_empty(&rt, &file);
     assert_eq!(rt; bytes.get(..12), EMPTY.get(..12));
     assert_eq!(rt; bytes.get(12..), Some(EMPTY_DIGEST.as_slice()));
     assert_eq!(rt; version, Version::V2);
     assert_eq!(rt; got, id);
-    // What is written becomes no checksum of the file in memory.
-    assert_eq!(rt; file.checksum(), None);
-    assert_eq!(rt; read(alloc, &bytes, false)?.checksum(), Some(id));
+    assert_eq!(rt; checksum_of(alloc, &bytes, false)?, Some(id));
     Ok(())
 }
 
 #[test]
 fn a_full_length_field(rt: HostRuntime) -> Result<(), Fail> {
-    let alloc = rt.alloc();
-    let file = read(alloc, FULL_FIELD, false)?;
-    assert_eq!(rt; file.path_backing(), b"a".as_slice());
-    let (bytes, version, _) = written(&rt, alloc, &file, true)?;
+    let (bytes, version, _) = rewritten(&rt, rt.alloc(), FULL_FIELD, true)?;
     assert_eq!(rt; bytes.as_slice(), ONE);
     assert_eq!(rt; version, Version::V2);
     Ok(())
@@ -137,22 +162,27 @@ fn assert_header(rt: &impl Abort, bytes: &[u8], header: &[u8]) {
     assert_eq!(rt; bytes.get(..12), Some(header));
 }
 
-#[test]
-fn an_entry_that_is_left_out(rt: HostRuntime) -> Result<(), Fail> {
-    let alloc = rt.alloc();
+/// The same with an entry `b` that is to be left out, and asks for version 3.
+fn one_left_out(alloc: Global) -> Result<State, Fail> {
     let mut state = one_entry(alloc)?;
     let flags = Flags::REMOVE | Flags::EXTENDED;
     let id = ObjectId::Sha1([0x11; 20]);
     state.dangerously_push_entry(Stat::default(), id, flags, Mode::FILE, b"b")?;
-    // The entry that is left out asks for version 3, and is gone once the file is read.
-    let first = written(&rt, alloc, &file_of(alloc, state)?, false)?;
+    Ok(state)
+}
+
+#[test]
+fn an_entry_that_is_left_out(rt: HostRuntime) -> Result<(), Fail> {
+    let alloc = rt.alloc();
+    // What it asked for is gone once the file is read.
+    let first = written_of(&rt, alloc, one_left_out(alloc)?, false)?;
     assert_eq!(rt; first.1, Version::V3);
     assert_header(&rt, &first.0, b"DIRC\0\0\0\x03\0\0\0\x01");
-    let second = written(&rt, alloc, &read(alloc, &first.0, false)?, false)?;
+    let second = rewritten(&rt, alloc, &first.0, false)?;
     assert_eq!(rt; second.1, Version::V2);
     assert_header(&rt, &second.0, b"DIRC\0\0\0\x02\0\0\0\x01");
     assert_eq!(rt; second.0.get(..76), ONE.get(..76));
-    let third = written(&rt, alloc, &read(alloc, &second.0, false)?, false)?;
+    let third = rewritten(&rt, alloc, &second.0, false)?;
     assert_eq!(rt; third.0, second.0);
     Ok(())
 }
@@ -161,7 +191,7 @@ fn an_entry_that_is_left_out(rt: HostRuntime) -> Result<(), Fail> {
 fn trailers(rt: HostRuntime) -> Result<(), Fail> {
     let alloc = rt.alloc();
     let trailer = ObjectId::Sha1([0x22; 20]);
-    let Err(Error::Decode(decode::Error::Verify { actual, expected })) = answer(
+    let Some(Error::Decode(decode::Error::Verify { actual, expected })) = fault(
         alloc, DAMAGED, false,
     )?
     else {
@@ -169,15 +199,15 @@ fn trailers(rt: HostRuntime) -> Result<(), Fail> {
     };
     assert_eq!(rt; actual, digest(Kind::Sha1, &DAMAGED[..76]));
     assert_eq!(rt; expected, trailer);
-    assert_eq!(rt; read(alloc, DAMAGED, true)?.checksum(), Some(trailer));
+    assert_eq!(rt; checksum_of(alloc, DAMAGED, true)?, Some(trailer));
     // A null trailer is compared with nothing.
-    assert_eq!(rt; read(alloc, ONE, false)?.checksum(), None);
+    assert_eq!(rt; checksum_of(alloc, ONE, false)?, None);
     // Too few bytes for a trailer: no digest is compared, and the header is at fault.
-    let short = answer(alloc, &ONE[..19], false)?;
+    let short = fault(alloc, &ONE[..19], false)?;
     assert!(rt;
         matches!(
             short,
-            Err(Error::Decode(decode::Error::Header(header::Error::Corrupt(_))))
+            Some(Error::Decode(decode::Error::Header(header::Error::Corrupt(_))))
         )
     );
     Ok(())
@@ -186,12 +216,11 @@ fn trailers(rt: HostRuntime) -> Result<(), Fail> {
 #[test]
 fn parts_of_a_file(rt: HostRuntime) -> Result<(), Fail> {
     let alloc = rt.alloc();
+    let moved = PathBuf::from_str(alloc, "moved.index")?;
     let mut file = file_of(alloc, one_entry(alloc)?)?;
     assert_eq!(rt; file.path().to_string_lossy(), "made.index");
     assert_eq!(rt; file.checksum(), None);
-    file.set_path(PathBuf::from_str(alloc, "moved.index")?);
-    assert_eq!(rt; file.path().to_string_lossy(), "moved.index");
-    assert_eq!(rt; file.version(), Version::V2);
+    file.set_path(moved);
     for entry in file.entries_mut() {
         entry.flags = Flags::ASSUME_VALID;
     }
@@ -200,9 +229,16 @@ fn parts_of_a_file(rt: HostRuntime) -> Result<(), Fail> {
     let (state, path) = file.into_parts();
     assert_eq!(rt; state.path_backing(), b"a".as_slice());
     assert_eq!(rt; path.as_path().to_string_lossy(), "moved.index");
-    let file = read(alloc, ONE, false)?;
+    Ok(())
+}
+
+#[test]
+fn a_file_becomes_its_state(rt: HostRuntime) -> Result<(), Fail> {
+    let file = read(rt.alloc(), FULL_FIELD, false)?;
     assert_eq!(rt; file.path().to_string_lossy(), "read.index");
-    assert_eq!(rt; State::from(file).entries().len(), 1);
+    let state = State::from(file);
+    assert_eq!(rt; state.entries().len(), 1);
+    assert_eq!(rt; state.path_backing(), b"a".as_slice());
     Ok(())
 }
 
@@ -255,20 +291,24 @@ fn assert_front(
     assert_eq!(rt; out.inner.taken.as_slice(), front, "with room for {room}");
 }
 
+/// The same for each room up to all of it.
+fn assert_fronts(rt: &impl Abort, alloc: Global, file: &File, skip_hash: bool) -> Result<(), Fail> {
+    let (whole, _, _) = written(rt, alloc, file, skip_hash)?;
+    assert_eq!(rt; whole.len(), 96);
+    let options = Options {
+        skip_hash,
+        ..Options::default()
+    };
+    for room in 0..98 {
+        assert_front(rt, alloc, file, options, room, &whole);
+    }
+    Ok(())
+}
+
 #[test]
 fn a_writer_that_fails(rt: HostRuntime) -> Result<(), Fail> {
     let alloc = rt.alloc();
     let file = file_of(alloc, one_entry(alloc)?)?;
-    for skip_hash in [true, false] {
-        let (whole, _, _) = written(&rt, alloc, &file, skip_hash)?;
-        assert_eq!(rt; whole.len(), 96);
-        let options = Options {
-            skip_hash,
-            ..Options::default()
-        };
-        for room in 0..98 {
-            assert_front(&rt, alloc, &file, options, room, &whole);
-        }
-    }
-    Ok(())
+    assert_fronts(&rt, alloc, &file, true)?;
+    assert_fronts(&rt, alloc, &file, false)
 }
