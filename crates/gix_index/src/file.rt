@@ -1,8 +1,6 @@
 //! An index with the path of its file and the id at the file's end.
 
 pub mod init;
-#[cfg(test)]
-mod tests;
 mod write;
 
 ghost use Rattle.std.specs.Prelude.{◌≡◌, None};

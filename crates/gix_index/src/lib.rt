@@ -7,6 +7,8 @@
 pub mod extension;
 pub mod file;
 pub mod laws;
+#[cfg(test)]
+mod tests;
 
 pub use file::File;
 pub use index_parts::{entry, ewah, hash, util};

@@ -4,8 +4,6 @@ pub mod at_rest;
 mod flags;
 pub mod mode;
 pub mod stat;
-#[cfg(test)]
-mod tests;
 
 pub use flags::{Flags, Stage, StageRaw};
 pub use mode::Mode;

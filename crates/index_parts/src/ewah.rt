@@ -9,8 +9,6 @@ use std::vec::Vec as Words;
 
 pub mod decode;
 mod iter;
-#[cfg(test)]
-mod tests;
 
 pub use iter::{Malformed, Positions};
 

@@ -11,8 +11,6 @@ use sha2::{Digest, Sha256};
 use std::fmt;
 
 pub mod io;
-#[cfg(test)]
-mod tests;
 pub mod verify;
 
 /// Which hash function a repository names its objects by (gitformat-index: 160 or 256 bits).

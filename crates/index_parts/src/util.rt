@@ -8,8 +8,6 @@ ghost use Rattle.index_parts.specs.Offset.{StartsWithOffset};
 ghost use Rattle.index_parts.specs.Reading.{split_at_byte, offset_at};
 ghost use Rattle.index_parts.specs.Front.{be, StartsWithNumber, IsUpTo};
 
-#[cfg(test)]
-mod tests;
 
 /// The number that two bytes spell.
 pub fn from_be_u16(bytes: &[u8]) -> u16

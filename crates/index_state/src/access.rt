@@ -150,5 +150,3 @@ impl State {
     }
 }
 
-#[cfg(test)]
-mod tests;

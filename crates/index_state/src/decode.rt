@@ -3,8 +3,6 @@
 pub mod entries;
 mod entry;
 pub mod header;
-#[cfg(test)]
-pub(crate) mod tests;
 
 ghost use Rattle.std.specs.List.{list_all};
 ghost use Rattle.std.specs.Prelude.{◌≡◌, ◌≤◌, ◌==◌, ◌+◌, ◌*◌, ◌||◌, length, IfOk, IfErr, OnOk, All};

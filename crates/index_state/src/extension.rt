@@ -2,5 +2,3 @@
 
 pub mod decode;
 pub mod link;
-#[cfg(test)]
-mod tests;

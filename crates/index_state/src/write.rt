@@ -1,8 +1,6 @@
 //! Writing an index as the bytes of a file.
 
 mod entry;
-#[cfg(test)]
-mod tests;
 
 ghost use Rattle.std.specs.Prelude.{◌≡◌, ◌+◌, ◌≤◌, ◌<◌, ◌^◌, ◌↔◌, ℕ, List, length, count_by, not, false, is_err, IsTrue, IfOk, OnOk, All};
 ghost use Rattle.std.specs.List.{flat_map, list_any};

@@ -16,8 +16,6 @@ use parts::{LentToken, parts_of};
 use std::alloc::{AllocError, Global};
 
 mod parts;
-#[cfg(test)]
-mod tests;
 
 /// The signature.
 pub const SIGNATURE: Signature = *b"FSMN";

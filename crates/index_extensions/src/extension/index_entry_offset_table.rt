@@ -10,8 +10,6 @@ use index_parts::hash::Kind;
 use index_parts::util::read_u32;
 use std::alloc::{AllocError, Global};
 
-#[cfg(test)]
-mod tests;
 
 /// The signature.
 pub const SIGNATURE: Signature = *b"IEOT";

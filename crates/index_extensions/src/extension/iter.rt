@@ -11,8 +11,6 @@ use super::{MIN_SIZE, Signature};
 use index_parts::hash::Kind;
 use index_parts::util::from_be_u32;
 
-#[cfg(test)]
-mod tests;
 
 /// The extensions that bytes begin with, one after another, as signature and content. Nothing is copied.
 ///

@@ -13,8 +13,6 @@ use std::alloc::{AllocError, Global};
 
 mod octal;
 mod path;
-#[cfg(test)]
-mod tests;
 
 /// The signature.
 pub const SIGNATURE: Signature = *b"REUC";

@@ -14,8 +14,6 @@ use std::alloc::{AllocError, Global};
 mod decimal;
 mod head;
 mod nodes;
-#[cfg(test)]
-mod tests;
 
 /// The signature.
 pub const SIGNATURE: Signature = *b"TREE";

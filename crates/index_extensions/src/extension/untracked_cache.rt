@@ -20,8 +20,6 @@ mod blocks;
 mod front;
 mod marks;
 mod stat;
-#[cfg(test)]
-mod tests;
 
 /// The signature.
 pub const SIGNATURE: Signature = *b"UNTR";

@@ -1,8 +1,6 @@
 //! A split index's link to its shared index (gitformat-index, "Split index").
 
 pub mod decode;
-#[cfg(test)]
-mod tests;
 
 use index_extensions::extension::Signature;
 use index_parts::ewah;

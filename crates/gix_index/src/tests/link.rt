@@ -1,9 +1,9 @@
 //! Links, and what must be read of them.
 
-use super::decode::{Error, decode};
-use crate::decode::tests::joined;
-use index_parts::ewah;
-use index_parts::hash::{Kind, ObjectId};
+use super::joined;
+use crate::ewah;
+use crate::extension::link::decode::{Error, decode};
+use crate::hash::{Kind, ObjectId};
 use std::alloc::Global;
 use std::process::Abort;
 use std::test::Fail;

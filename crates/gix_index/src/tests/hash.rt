@@ -1,5 +1,7 @@
-use super::io::{Out, Plain, Write};
-use super::{Hasher, Kind, ObjectId, digest};
+//! Digests, ids, and the writers that hash.
+
+use crate::hash::io::{Out, Plain, Write};
+use crate::hash::{Hasher, Kind, ObjectId, digest};
 use std::io;
 use std::io::ErrorKind;
 use std::test::Fail;

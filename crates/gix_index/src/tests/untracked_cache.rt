@@ -1,4 +1,9 @@
-use super::*;
+//! Untracked caches.
+
+use crate::extension::UntrackedCache;
+use crate::extension::untracked_cache::{Directory, decode};
+use crate::hash::{Kind, ObjectId};
+use std::alloc::{AllocError, Global};
 use std::process::Abort;
 use std::test::Fail;
 

@@ -1,7 +1,8 @@
-use super::*;
-use crate::Version;
-use index_parts::entry::FileTime;
-use index_parts::hash::Kind;
+//! Searches, and entries that are pushed and changed.
+
+use crate::entry::{FileTime, Flags, Mode, Stage, Stat};
+use crate::hash::{Kind, ObjectId};
+use crate::{Entry, State, Version};
 use std::cmp::Ordering;
 use std::test::Fail;
 

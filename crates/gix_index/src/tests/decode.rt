@@ -3,32 +3,21 @@
 ghost use Rattle.std.specs.Prelude.{IfOk, ◌≤◌};
 ghost use Rattle.index_state.specs.Record.{PathsInStorage};
 
-use super::entries::{estimate_path_storage_requirements_in_bytes, max_entries_possible};
-use super::*;
-use index_parts::entry::{Flags, Mode, Stage};
+use super::{FIXED, joined};
+use crate::decode::entries::{estimate_path_storage_requirements_in_bytes, max_entries_possible};
+use crate::decode::{Error, Options, header};
+use crate::entry::{FileTime, Flags, Mode, Stage};
+use crate::hash::{Kind, ObjectId};
+use crate::{State, Version};
+use std::alloc::{AllocError, Global};
 use std::process::Abort;
 use std::test::Fail;
-
-/// The fixed part of an entry but its flags: stat numbers of zero, the mode 0o100644, an id of bytes 0x11.
-pub(crate) const FIXED: [u8; 60] = [
-    0, 0, 0, 0, 0, 0, 0, 0, 0, 0, 0, 0, 0, 0, 0, 0, 0, 0, 0, 0, 0, 0, 0, 0, 0, 0, 0x81, 0xa4, 0, 0,
-    0, 0, 0, 0, 0, 0, 0, 0, 0, 0, 17, 17, 17, 17, 17, 17, 17, 17, 17, 17, 17, 17, 17, 17, 17, 17,
-    17, 17, 17, 17,
-];
 
 const ONE: &[u8] = b"DIRC\0\0\0\x02\0\0\0\x01";
 
 const EMPTY: &[u8] = b"DIRC\0\0\0\x02\0\0\0\0";
 
 const ZEROS: [u8; 20] = [0; 20];
-
-pub(crate) fn joined(alloc: Global, pieces: &[&[u8]]) -> Result<Vec<u8>, AllocError> {
-    let mut bytes = Vec::new(alloc);
-    for piece in pieces {
-        bytes.extend_from_slice(piece)?;
-    }
-    Ok(bytes)
-}
 
 /// The fault of these bytes, or None where they are read.
 fn fault(alloc: Global, pieces: &[&[u8]], options: Options) -> Result<Option<Error>, AllocError> {

@@ -1,14 +1,14 @@
 //! Worked examples of bitmaps, and what they must give.
 
-use super::decode::{Error, decode};
-use super::*;
+use crate::ewah::Malformed;
+use crate::ewah::decode::{Error, decode};
 use std::alloc::Global;
 use std::process::Abort;
 use std::test::Fail;
 
 /// The places of 64 set bits, the first at 0.
-fn first_64(alloc: Global) -> Result<Words<Result<u64, Malformed>>, Fail> {
-    let mut items = Words::new(alloc);
+fn first_64(alloc: Global) -> Result<Vec<Result<u64, Malformed>>, Fail> {
+    let mut items = Vec::new(alloc);
     for place in 0..64u64 {
         items.push(Ok(place))?;
     }
@@ -25,7 +25,7 @@ fn assert_items(
     let (bitmap, rest) = decode(alloc, bytes)?;
     assert!(rt; rest.is_empty(), "behind {bytes:?}");
     let copy = bitmap.clone()?;
-    let items: Words<Result<u64, Malformed>> = copy.positions().collect(alloc)?;
+    let items: Vec<Result<u64, Malformed>> = copy.positions().collect(alloc)?;
     assert_eq!(rt; items.as_slice(), wanted, "at {bytes:?}");
     Ok(())
 }

@@ -1,4 +1,7 @@
-use super::*;
+//! Offset tables.
+
+use crate::extension::index_entry_offset_table::{Offset, decode, find};
+use crate::hash::Kind;
 use std::test::Fail;
 
 /// The table's first block, and how many there are.

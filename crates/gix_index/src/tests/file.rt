@@ -1,15 +1,15 @@
 //! Whole files that are read and written, and what they must give.
 
-use super::init::Error;
-use super::*;
-use index_parts::entry::{FileTime, Flags, Mode, Stage, Stat};
-use index_parts::hash::io::{Out, Plain};
-use index_parts::hash::{Kind, digest};
-use index_state::Version;
-use index_state::decode::{self, header};
-use index_state::write::{Error as WriteError, Options};
+use crate::decode::{self, header};
+use crate::entry::{FileTime, Flags, Mode, Stage, Stat};
+use crate::file::init::Error;
+use crate::hash::io::{Out, Plain};
+use crate::hash::{Kind, ObjectId, digest};
+use crate::write::{Error as WriteError, Options};
+use crate::{File, State, Version};
 use std::alloc::Global;
 use std::io::{self, ErrorKind};
+use std::path::PathBuf;
 use std::process::Abort;
 use std::test::Fail;
 

@@ -1,4 +1,6 @@
-use super::*;
+//! Numbers and pieces at the front of bytes.
+
+use crate::util::*;
 
 #[test]
 fn offset_numbers(rt: HostRuntime) {

@@ -1,37 +1,22 @@
-use super::{Extensions, Options};
-use crate::extension::decode::Outcome;
-use crate::{Entry, State, Version};
+//! What is written of a state.
+
+use crate::entry::{FileTime, Flags, Mode, Stat};
+use crate::hash::io::Plain;
+use crate::hash::{Kind, ObjectId};
+use crate::write::{Extensions, Options};
+use crate::{State, Version};
 use bitflags::Flags as _;
-use index_parts::entry::{FileTime, Flags, Mode, Stat};
-use index_parts::hash::io::Plain;
-use index_parts::hash::{Kind, ObjectId};
 use std::alloc::Global;
 use std::process::Abort;
 use std::test::Fail;
 
 /// A SHA-1 state of entries with these paths, flags and ids.
 fn state_of(alloc: Global, parts: &[(&[u8], Flags, ObjectId)]) -> Result<State, Fail> {
-    let mut entries = Vec::new(alloc);
-    let mut paths = Vec::new(alloc);
+    let mut state = State::new(alloc, Kind::Sha1, FileTime::EPOCH);
     for (path, flags, id) in parts {
-        let start = paths.len();
-        paths.extend_from_slice(path)?;
-        entries.push(Entry {
-            stat: Stat::default(),
-            id: *id,
-            flags: *flags,
-            mode: Mode::FILE,
-            path: start..paths.len(),
-        })?;
+        state.dangerously_push_entry(Stat::default(), *id, *flags, Mode::FILE, path)?;
     }
-    Ok(State::of_parts(
-        Kind::Sha1,
-        FileTime::EPOCH,
-        Version::V2,
-        entries,
-        paths,
-        Outcome::none(),
-    ))
+    Ok(state)
 }
 
 /// The version and all bytes but the trailer.

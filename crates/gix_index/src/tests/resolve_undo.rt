@@ -1,4 +1,8 @@
-use super::*;
+//! Resolve-undo.
+
+use crate::extension::resolve_undo::decode;
+use crate::hash::Kind;
+use std::alloc::{AllocError, Global};
 use std::process::Abort;
 use std::test::Fail;
 

@@ -1,4 +1,7 @@
-use super::*;
+//! The walk over extensions.
+
+use crate::extension::Iter;
+use crate::hash::Kind;
 use std::test::Fail;
 
 #[test]

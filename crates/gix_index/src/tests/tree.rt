@@ -1,16 +1,14 @@
-use super::*;
+//! Cached trees.
+
+use super::joined;
+use crate::extension::Tree;
+use crate::extension::tree::decode;
+use crate::hash::{Kind, ObjectId};
+use std::alloc::{AllocError, Global};
 use std::process::Abort;
 use std::test::Fail;
 
 const IDS: [[u8; 32]; 3] = [[0x11; 32], [0x22; 32], [0x33; 32]];
-
-fn joined(alloc: Global, pieces: &[&[u8]]) -> Result<Vec<u8>, AllocError> {
-    let mut bytes = Vec::new(alloc);
-    for piece in pieces {
-        bytes.extend_from_slice(piece)?;
-    }
-    Ok(bytes)
-}
 
 /// A root with two children of these names.
 fn family(alloc: Global, kind: Kind, first: &[u8], second: &[u8]) -> Result<Vec<u8>, AllocError> {

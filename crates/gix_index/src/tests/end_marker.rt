@@ -1,5 +1,7 @@
-use super::*;
-use index_parts::hash::digest;
+//! End markers.
+
+use crate::extension::end_of_index_entry::decode;
+use crate::hash::{Kind, ObjectId, digest};
 use std::alloc::{AllocError, Global};
 use std::test::Fail;
 

@@ -1,13 +1,12 @@
 //! Files with extensions, and what must be read of them.
 
-use super::decode::Error;
-use super::link;
+use super::{FIXED, joined};
 use crate::State;
-use crate::decode::tests::{FIXED, joined};
 use crate::decode::{Error as Fault, Options};
-use index_extensions::extension::end_of_index_entry;
-use index_parts::entry::FileTime;
-use index_parts::hash::{Kind, ObjectId, digest};
+use crate::entry::FileTime;
+use crate::extension::decode::Error;
+use crate::extension::{end_of_index_entry, link};
+use crate::hash::{Kind, ObjectId, digest};
 use std::alloc::{AllocError, Global};
 use std::process::Abort;
 use std::test::Fail;

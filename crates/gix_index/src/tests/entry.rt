@@ -1,4 +1,6 @@
-use super::{FileTime, Flags, Mode, Stage, at_rest};
+//! Flags, stages, modes and times.
+
+use crate::entry::{FileTime, Flags, Mode, Stage, at_rest};
 use bitflags::Flags as _;
 
 #[test]
