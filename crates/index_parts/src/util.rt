@@ -8,7 +8,6 @@ ghost use Rattle.index_parts.specs.Offset.{StartsWithOffset};
 ghost use Rattle.index_parts.specs.Reading.{split_at_byte, offset_at};
 ghost use Rattle.index_parts.specs.Front.{be, StartsWithNumber, IsUpTo};
 
-
 /// The number that two bytes spell.
 pub fn from_be_u16(bytes: &[u8]) -> u16
     requires { length bytes.now ≡ 2 }

@@ -14,7 +14,6 @@ use super::iter::item_of;
 use index_parts::hash::{Hasher, Kind, ObjectId};
 use index_parts::util::from_be_u32;
 
-
 /// The signature.
 pub const SIGNATURE: Signature = *b"EOIE";
 

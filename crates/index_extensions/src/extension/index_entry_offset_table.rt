@@ -10,7 +10,6 @@ use index_parts::hash::Kind;
 use index_parts::util::read_u32;
 use std::alloc::{AllocError, Global};
 
-
 /// The signature.
 pub const SIGNATURE: Signature = *b"IEOT";
 

@@ -11,7 +11,6 @@ use super::{MIN_SIZE, Signature};
 use index_parts::hash::Kind;
 use index_parts::util::from_be_u32;
 
-
 /// The extensions that bytes begin with, one after another, as signature and content. Nothing is copied.
 ///
 /// It ends where no whole extension begins. Fewer than eight bytes are left alone there; a head whose size passes the
