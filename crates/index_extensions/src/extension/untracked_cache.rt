@@ -235,7 +235,7 @@ fn directories_of(
 /// None where the bytes spell none, or don't end in a 0; where a directory lies more than 2048 levels below the root; and where the
 /// limit is passed by the directories at 152 bytes each, or in one of them by the untracked names at 24 bytes each or by its
 /// directories at 8 bytes each. Memory is only asked for what the bytes hold, and not by a declared number, and none
-/// before all but the names and directories of the first block was read; an error is the want of it.
+/// before the head of the first block, if there is one, was read; an error is the want of it.
 pub fn decode(
     alloc: Global,
     data: &[u8],
