@@ -11,7 +11,7 @@ use Rattle.index_state.specs.declared.write.Error.{Error}
 use Rattle.index_state.specs.declared.write.Error.TheVariants as errors
 use Rattle.index_state.specs.declared.write.Options.{Options}
 use Rattle.index_state.specs.Image.{body, trailer}
-use Rattle.index_state.specs.Record.{Contents}
+use Rattle.index_state.specs.State.{Contents}
 use Rattle.index_state.specs.Writing.{Fails}
 
 -- a fault before the rest

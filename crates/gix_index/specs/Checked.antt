@@ -1,9 +1,8 @@
 -- The digest of a file, compared before its bytes are read (gitformat-index, "Hash checksum over the content of the index file
 -- before this checksum").
-use Rattle.std.specs.Prelude.{◌≡◌, ◌≢◌, ℕ, ◌-◌, ◌==◌, ◌&&◌, ◌⊎◌, not, nat_lt, Bool, true, List, length, take, drop, Result, Ok, Err, MatchBool}
-use Rattle.std.specs.List.{list_any}
+use Rattle.std.specs.Prelude.{◌≡◌, ◌≢◌, ℕ, ◌-◌, ◌&&◌, ◌⊎◌, not, nat_lt, Bool, true, List, length, take, drop, Result, Ok, Err, MatchBool}
 use Rattle.index_parts.specs.Digest.{digest}
-use Rattle.index_parts.specs.Id.{id_len, make_id}
+use Rattle.index_parts.specs.Id.{id_len, is_null, make_id}
 use Rattle.index_parts.specs.declared.hash.Kind.{Kind}
 use Rattle.index_parts.specs.declared.hash.ObjectId.{ObjectId}
 use Rattle.index_parts.specs.declared.entry.stat.FileTime.{FileTime}
@@ -12,7 +11,7 @@ use Rattle.index_state.specs.declared.decode.Error.{Error as Decoding}
 use Rattle.index_state.specs.declared.decode.Error.TheVariants as decoding
 use Rattle.index_state.specs.Answer.{Answer, Fault, Verify, IsAnswer}
 use Rattle.index_state.specs.Faults.{IsEarly, SaysFault}
-use Rattle.index_state.specs.Record.{contents}
+use Rattle.index_state.specs.State.{contents}
 use Rattle.gix_index.specs.declared.file.File.{File}
 use Rattle.gix_index.specs.declared.file.init.Error.{Error}
 use Rattle.gix_index.specs.declared.file.init.Error.TheVariants as errors
@@ -27,7 +26,7 @@ trailer_part kind bytes = drop (length bytes - id_len kind) bytes
 
 -- the digest is compared: the caller didn't waive it, there is a trailer, and some byte of it isn't zero
 abbrev pub needs_check : Bool → Kind → List ℕ → Bool
-needs_check skip kind bytes = not skip && not (nat_lt (length bytes) (id_len kind)) && list_any (λ b. not (b == 0)) (trailer_part kind bytes)
+needs_check skip kind bytes = not skip && not (nat_lt (length bytes) (id_len kind)) && not (is_null (trailer_part kind bytes))
 
 -- the digest of the bytes, and the trailer, as ids
 abbrev pub digest_id : Kind → List ℕ → ObjectId

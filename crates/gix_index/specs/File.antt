@@ -1,10 +1,11 @@
 -- A file as a value: the index, the path's text, and the id at its end.
-use Rattle.std.specs.Prelude.{ℕ, List, Option}
+use Rattle.std.specs.Prelude.{◌≡◌, ℕ, List, Option}
 use Rattle.std.specs.Borrow.{Lends, MutBor, Fml}
 use Rattle.std.specs.Path.{path_buf_bytes}
 use Rattle.index_parts.specs.declared.hash.ObjectId.{ObjectId}
 use Rattle.index_state.specs.declared.State.{State}
 use Rattle.index_state.specs.contracts.State as state
+use Rattle.index_state.specs.Edits.{IsUnchanged}
 use Rattle.gix_index.specs.declared.file.File.{File}
 use Rattle.gix_index.specs.contracts.file.File as file
 
@@ -16,6 +17,12 @@ path_of f = path_buf_bytes f.path
 
 abbrev pub checksum_of : File → Option ObjectId
 checksum_of f = f.checksum
+
+-- the state has the same entries, storage and contents, and the path and the checksum are the same
+pub record IsSameFile (old new : File) : Type 0 where
+  pub same_state : IsUnchanged (state_of old) (state_of new)
+  pub same_path : path_of new ≡ path_of old
+  pub same_checksum : checksum_of new ≡ checksum_of old
 
 -- the file ends with the last state behind the loan; all else stays
 abbrev pub LendsState : MutBor File → MutBor State → Fml

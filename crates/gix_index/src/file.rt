@@ -6,19 +6,35 @@ mod write;
 ghost use Rattle.std.specs.Prelude.{◌≡◌, None};
 ghost use Rattle.std.specs.Borrow.{Lends, sem};
 ghost use Rattle.std.specs.Path.{path_bytes, path_buf_bytes};
-ghost use Rattle.gix_index.specs.File.{state_of, path_of, checksum_of, LendsState};
+ghost use Rattle.gix_index.specs.File.{state_of, path_of, checksum_of, IsSameFile, LendsState};
 
+use index_entries::{PathBacking, PathStorageRef};
 use index_parts::hash::ObjectId;
 use index_state::State;
+use std::alloc::AllocError;
 use std::ops::{Deref, DerefMut};
 use std::path::{Path, PathBuf};
 
 /// An index that was read from a file or is to be written to one. It lends the [`State`] by `Deref`.
-#[derive(Clone, Drop)]
+#[derive(Drop)]
 pub struct File {
     state: State,
     path: PathBuf,
     checksum: Option<ObjectId>,
+}
+
+/// The clone has a clone of the state, the same path and the same checksum; nothing happens on the disk. An error is want of
+/// memory for the state or the path.
+impl Clone for File {
+    ghost is_clone = { λ a b. IsSameFile a b };
+
+    fn clone(&self) -> Result<File, AllocError> {
+        Ok(File {
+            state: self.state.clone()?,
+            path: self.path.clone()?,
+            checksum: self.checksum,
+        })
+    }
 }
 
 impl File {
@@ -100,5 +116,16 @@ impl From<File> for State {
 
     fn from(file: File) -> State {
         file.into_parts().0
+    }
+}
+
+/// The storage of the paths of the file's state.
+impl PathBacking for File {
+    ghost use Rattle.index_state.specs.State.{storage_of};
+
+    ghost paths = { λ file. storage_of (state_of file) };
+
+    fn backing(&self) -> PathStorageRef<'_> {
+        self.state.path_backing()
     }
 }

@@ -1,6 +1,6 @@
 -- Bytes begin with one block of so many levels, with all that is in it, or with none.
 use Rattle.std.proofs.Common.{◌≡◌, ℕ, zero, suc, ◌≤◌, inl, inr, List, length, Option, Some, None, refl, sym, ap, subst, arith}
-use Rattle.index_extensions.specs.Blocks.{Block, Blocks, block, none, more, how_many, IsHead, IsBlock, AreBlocks, block_depth, blocks_depth}
+use Rattle.index_extensions.specs.Blocks.{Block, Blocks, block, none, more, how_many_blocks, IsBlockHead, IsBlock, AreBlocks, block_depth, blocks_depth}
 use Rattle.index_extensions.specs.UntrackedReading.{Start, start_at}
 use Rattle.index_extensions.proofs.BlockHeads.{IsStart, start_takes, one_start}
 use Rattle.index_extensions.proofs.Nests.{one_block, no_block}
@@ -20,7 +20,7 @@ module _ (limit : Option ℕ) where
   -- bytes are so many blocks in one with so many levels below it, and the rest
   record AreShallow (levels number : ℕ) (bytes : List ℕ) (bs : Blocks) (rest : List ℕ) : Type 0 where
     are_blocks : AreBlocks limit bytes bs rest
-    counted : how_many bs ≡ number
+    counted : how_many_blocks bs ≡ number
     shallow : blocks_depth bs ≤ levels
 
   abbrev BlockAt : ℕ → List ℕ → Type 0
@@ -80,14 +80,14 @@ module _ (limit : Option ℕ) where
   block_with : (levels : ℕ) (bytes tail rest : List ℕ) (s : Start) (bs : Blocks) → start_at limit bytes ≡ Some (s, tail) → AreShallow levels s.subs tail bs rest → IsShallow levels bytes (block s.name s.untracked bs) rest
   block_with levels bytes tail rest s bs e q =
       let start = start_takes limit bytes (s, tail) e in
-      let head : IsHead limit bytes (record { untracked = length s.untracked; subs = how_many bs; name = s.name }) start.names = subst (λ (n : ℕ). IsHead limit bytes (record { untracked = length s.untracked; subs = n; name = s.name }) start.names) (sym q.counted) start.is_head in
+      let head : IsBlockHead limit bytes (record { untracked = length s.untracked; subs = how_many_blocks bs; name = s.name }) start.names = subst (λ (n : ℕ). IsBlockHead limit bytes (record { untracked = length s.untracked; subs = n; name = s.name }) start.names) (sym q.counted) start.is_head in
       record { is_block = (start.names, tail, head, start.are_names, q.are_blocks); shallow = q.shallow }
 
   row_of : (levels : ℕ) (bytes tail rest : List ℕ) (s : Start) (b : Block) → start_at limit bytes ≡ Some (s, tail) → IsShallow levels bytes b rest → (x : Blocks × List ℕ) × AreShallow levels s.subs tail x.0 x.1
   row_of levels bytes tail rest s (block name untracked bs) e q =
       let p = q.is_block in
-      let here : IsStart limit bytes (record { name = name; untracked = untracked; subs = how_many bs }) p.1 = record { names = p.0; is_head = p.2; are_names = p.3 } in
-      let same = one_start limit bytes (record { name = name; untracked = untracked; subs = how_many bs }) s p.1 tail here (start_takes limit bytes (s, tail) e) in
+      let here : IsStart limit bytes (record { name = name; untracked = untracked; subs = how_many_blocks bs }) p.1 = record { names = p.0; is_head = p.2; are_names = p.3 } in
+      let same = one_start limit bytes (record { name = name; untracked = untracked; subs = how_many_blocks bs }) s p.1 tail here (start_takes limit bytes (s, tail) e) in
       ((bs, rest), record { are_blocks = subst (λ (l : List ℕ). AreBlocks limit l bs rest) same.1 p.4; counted = ap (λ (t : Start). t.subs) same.0; shallow = q.shallow })
 
   block_by : (levels : ℕ) (bytes : List ℕ) → ((number : ℕ) (tail : List ℕ) → RowAt levels number tail) → (o : Option (Start × List ℕ)) → start_at limit bytes ≡ o → BlockAt levels bytes

@@ -4,10 +4,10 @@ use Rattle.index_parts.specs.declared.hash.Kind.{Kind}
 use Rattle.index_extensions.specs.Blocks.{Block, IsBlock, block_depth, block_size, listed}
 use Rattle.index_extensions.specs.Contents.{IsRead}
 use Rattle.index_extensions.specs.Marks.{IsTail}
-use Rattle.index_extensions.specs.Untracked.{Front, Cache, IsNest, AreDirectories, IsCache}
-use Rattle.index_extensions.specs.UntrackedReading.{ends_with_nul, front_at, count_at}
+use Rattle.index_extensions.specs.Untracked.{Preamble, Cache, IsNest, AreDirectories, IsCache}
+use Rattle.index_extensions.specs.UntrackedReading.{ends_with_nul, preamble_at, directory_count_at}
 use Rattle.index_extensions.proofs.BlockReadings.{decided_by, IsShallow, block_reading}
-use Rattle.index_extensions.proofs.Caches.{nul_again, root_of, front_read, agrees, no_count, cache_from, one_cache}
+use Rattle.index_extensions.proofs.Caches.{nul_again, root_of, preamble_read, agrees, no_count, cache_from, one_cache}
 use Rattle.index_extensions.proofs.Readings.{Decided, read_of, one_read}
 use Rattle.index_extensions.proofs.TailReadings.{same_or_not, tail_reading}
 
@@ -46,19 +46,19 @@ module _ (kind : Kind) (limit : Option ℕ) where
   abbrev CacheAt : List ℕ → Type 0
   CacheAt bytes = Decided (IsCache kind limit bytes)
 
-  count_by : (bytes rest : List ℕ) (f : Front) (o : Option (ℕ × List ℕ)) → ends_with_nul bytes ≡ true → front_at kind bytes ≡ Some (f, rest) → count_at limit rest ≡ o → CacheAt bytes
+  count_by : (bytes rest : List ℕ) (f : Preamble) (o : Option (ℕ × List ℕ)) → ends_with_nul bytes ≡ true → preamble_at kind bytes ≡ Some (f, rest) → directory_count_at limit rest ≡ o → CacheAt bytes
   count_by bytes rest f None last e g = inr (λ c q. no_count kind limit bytes c f rest e g q)
   count_by bytes rest f (Some n) last e g =
       decided_by (AreDirectories kind limit n.0 n.1) (IsCache kind limit bytes) (directories_reading n.0 n.1)
-      (λ ds d. inl (record { front = f; directories = ds }, cache_from kind limit bytes f rest n.0 n.1 ds last e g d))
+      (λ ds d. inl (record { preamble = f; directories = ds }, cache_from kind limit bytes f rest n.0 n.1 ds last e g d))
       (λ c q. (c.directories, (agrees kind limit bytes c f rest n.0 n.1 e g q).are_directories))
 
-  front_by : (bytes : List ℕ) (o : Option (Front × List ℕ)) → ends_with_nul bytes ≡ true → front_at kind bytes ≡ o → CacheAt bytes
-  front_by bytes None last e = inr (λ c q. let some = front_read kind limit bytes c q in cc)
-  front_by bytes (Some f) last e = count_by bytes f.1 f.0 (count_at limit f.1) last e refl
+  preamble_by : (bytes : List ℕ) (o : Option (Preamble × List ℕ)) → ends_with_nul bytes ≡ true → preamble_at kind bytes ≡ o → CacheAt bytes
+  preamble_by bytes None last e = inr (λ c q. let some = preamble_read kind limit bytes c q in cc)
+  preamble_by bytes (Some f) last e = count_by bytes f.1 f.0 (directory_count_at limit f.1) last e refl
 
   cache_by : (bytes : List ℕ) (t : Bool) → ends_with_nul bytes ≡ t → CacheAt bytes
-  cache_by bytes true e = front_by bytes (front_at kind bytes) e refl
+  cache_by bytes true e = preamble_by bytes (preamble_at kind bytes) e refl
   cache_by bytes false e = inr (λ c q. let last = nul_again bytes q.before q.last in cc)
 
   -- bytes are read as a cache or as none

@@ -1,30 +1,24 @@
 -- What is read as a cache is spelled so, and what is spelled so is read; bytes are one cache, and the ids in it are of one kind.
-use Rattle.std.proofs.Common.{◌≡◌, ℕ, zero, suc, ◌+◌, ◌-◌, ◌*◌, ◌<◌, ◌≤◌, Bool, true, false, cond, not, ltb, leb, eqb, List, [], ◌∷◌, ◌++◌, length, take, map, get_or, Option, Some, None, refl, sym, ap, subst, ◌∙◌, arith}
-use Rattle.std.specs.Prelude.{◌&&◌, IfSome}
-use Rattle.std.specs.List.{AllByRecursion, list_all, enumerate_from}
-use Rattle.std.specs.Option.{option_map}
+use Rattle.std.proofs.Common.{◌≡◌, ℕ, zero, suc, ◌+◌, ◌-◌, ◌*◌, ◌<◌, ◌≤◌, true, ltb, leb, eqb, List, [], ◌∷◌, ◌++◌, length, take, get_or, Option, Some, None, refl, sym, ap, subst, ◌∙◌, arith}
+use Rattle.std.specs.Prelude.{◌&&◌}
 use Rattle.std.proofs.lemmas.Bool.{leb-true, le-leb, lt-ltb, ltb-true, eqb-true, and_parts, and_from}
 use Rattle.std.proofs.lemmas.List.{length-append, take_all, take_more}
 use Rattle.std.proofs.lemmas.Option.{same_Some}
 use Rattle.std.proofs.Math.Seq.{get_or-append_seam}
-use Rattle.index_parts.proofs.Ids.{id_kind-make_id}
 use Rattle.index_parts.proofs.Offsets.{offset_takes, offset_again}
 use Rattle.index_parts.proofs.Splits.{piece_takes, piece_again, split_takes, split_again}
 use Rattle.index_parts.proofs.Steps.{bind_some, test_some}
 use Rattle.index_parts.specs.Front.{be}
-use Rattle.index_parts.specs.Id.{id_len, id_kind, make_id}
+use Rattle.index_parts.specs.Id.{id_len}
 use Rattle.index_parts.specs.Offset.{AreMarked, IsOffset, StartsWithOffset}
 use Rattle.index_parts.specs.Reading.{piece_at, split_at_byte, offset_at}
-use Rattle.index_parts.specs.declared.entry.stat.Stat.{Stat}
 use Rattle.index_parts.specs.declared.hash.Kind.{Kind}
-use Rattle.index_extensions.specs.Blocks.{Block, block, HasHead, IsBlock, block_size, how_many, DirectoryValue, listed}
-use Rattle.index_extensions.specs.Limit.{passes_limit}
-use Rattle.index_extensions.specs.Marks.{Marks, marked, value_at, IsTail}
-use Rattle.index_extensions.specs.StatNumbers.{stat_of}
-use Rattle.index_extensions.specs.Untracked.{oid_stat, Front, Cache, IsFront, IsNest, AreDirectories, IsCache, HasFirst, HasStart, CacheIdsAreOf}
-use Rattle.index_extensions.specs.UntrackedReading.{ends_with_nul, front_at, count_at}
-use Rattle.index_extensions.specs.declared.extension.untracked_cache.OidStat.{OidStat}
-use Rattle.index_extensions.proofs.BlockHeads.{not_true, not_false}
+use Rattle.index_extensions.specs.Blocks.{Block, block, HasBlockHead, IsBlock, block_size, how_many_blocks, DirectoryValue, listed}
+use Rattle.index_parts.specs.Limit.{IsWithin, is_within}
+use Rattle.index_extensions.specs.Marks.{IsTail}
+use Rattle.index_extensions.specs.Untracked.{oid_stat, Preamble, Cache, IsPreamble, IsNest, AreDirectories, IsCache, HasFirstHead, HasStart}
+use Rattle.index_extensions.specs.UntrackedReading.{ends_with_nul, preamble_at, directory_count_at}
+use Rattle.index_extensions.proofs.Limits.{within_from, within_true}
 use Rattle.index_extensions.proofs.Nests.{one_block}
 use Rattle.index_extensions.proofs.Tails.{one_tail}
 
@@ -47,15 +41,15 @@ nul_again bytes before e =
     let last : get_or bytes (length bytes - 1) 0 ≡ 0 = ap (λ (n : ℕ). get_or bytes n 0) at ∙ ap (λ (l : List ℕ). get_or l (length before) 0) e ∙ get_or-append_seam before 0 [] 0 in
     rw (some, last) refl
 
--- ---- the front
+-- ---- the preamble
 
 parts_from : (bytes len r1 identifier r2 info r3 excludes r4 flags r5 info_id r6 excludes_id r7 name rest : List ℕ) → bytes ≡ len ++ r1 → r1 ≡ identifier ++ r2 → r2 ≡ info ++ r3 → r3 ≡ excludes ++ r4 → r4 ≡ flags ++ r5 → r5 ≡ info_id ++ r6 → r6 ≡ excludes_id ++ r7 → r7 ≡ name ++ 0 ∷ rest
     → bytes ≡ len ++ (identifier ++ (info ++ (excludes ++ (flags ++ (info_id ++ (excludes_id ++ (name ++ 0 ∷ rest)))))))
 parts_from bytes len r1 identifier r2 info r3 excludes r4 flags r5 info_id r6 excludes_id r7 name rest e1 e2 e3 e4 e5 e6 e7 e8 = rw (e1, e2, e3, e4, e5, e6, e7, e8) refl
 
-pub front_takes : (kind : Kind) (bytes : List ℕ) (x : Front × List ℕ) → front_at kind bytes ≡ Some x → IsFront kind bytes x.0 x.1
-unfolding front_at
-front_takes kind bytes x e =
+pub preamble_takes : (kind : Kind) (bytes : List ℕ) (x : Preamble × List ℕ) → preamble_at kind bytes ≡ Some x → IsPreamble kind bytes x.0 x.1
+unfolding preamble_at
+preamble_takes kind bytes x e =
     let a = bind_some (offset_at bytes) _ x e in
     let b = bind_some (piece_at a.0.0 a.0.1) _ x a.2 in
     let c = bind_some (piece_at 36 b.0.1) _ x b.2 in
@@ -72,9 +66,9 @@ front_takes kind bytes x e =
     let info_id = piece_takes (id_len kind) f.0.1 g.0 g.1 in
     let excludes_id = piece_takes (id_len kind) g.0.1 h.0 h.1 in
     let name = split_takes 0 h.0.1 n.0 n.1 in
-    let made : Front = record { identifier = b.0.0; info_exclude = oid_stat kind c.0.0 g.0.0; excludes_file = oid_stat kind d.0.0 h.0.0; dir_flags = be f.0.0; exclude_filename = n.0.0 } in
-    let is : ◌≡◌ {A = Front × List ℕ} (made, n.0.1) x = same_Some _ _ n.2 in
-    subst (λ (y : Front × List ℕ). IsFront kind bytes y.0 y.1) is (record {
+    let made : Preamble = record { identifier = b.0.0; info_exclude = oid_stat kind c.0.0 g.0.0; excludes_file = oid_stat kind d.0.0 h.0.0; dir_flags = be f.0.0; exclude_filename = n.0.0 } in
+    let is : ◌≡◌ {A = Preamble × List ℕ} (made, n.0.1) x = same_Some _ _ n.2 in
+    subst (λ (y : Preamble × List ℕ). IsPreamble kind bytes y.0 y.1) is (record {
       len = len.spelling;
       info = c.0.0;
       excludes = d.0.0;
@@ -94,9 +88,9 @@ front_takes kind bytes x e =
       name_apart = name.apart;
     })
 
-pub front_again : (kind : Kind) (bytes : List ℕ) (f : Front) (rest : List ℕ) → IsFront kind bytes f rest → 1 ≤ length rest → front_at kind bytes ≡ Some (f, rest)
-unfolding front_at
-front_again kind bytes f rest p some =
+pub preamble_again : (kind : Kind) (bytes : List ℕ) (f : Preamble) (rest : List ℕ) → IsPreamble kind bytes f rest → 1 ≤ length rest → preamble_at kind bytes ≡ Some (f, rest)
+unfolding preamble_at
+preamble_again kind bytes f rest p some =
     let named : List ℕ = f.exclude_filename ++ 0 ∷ rest in
     let r6 : List ℕ = p.excludes_id ++ named in
     let r5 : List ℕ = p.info_id ++ r6 in
@@ -118,35 +112,27 @@ front_again kind bytes f rest p some =
 -- ---- the number of directories
 
 -- bytes are the number of directories, for which there is room, and the rest
-pub record IsCount (limit : Option ℕ) (bytes : List ℕ) (n : ℕ) (rest : List ℕ) : Type 0 where
+pub record IsDirectoryCount (limit : Option ℕ) (bytes : List ℕ) (n : ℕ) (rest : List ℕ) : Type 0 where
   pub starts : StartsWithOffset bytes n rest
   pub room : n ≤ length rest
-  pub within : passes_limit limit (152 * n) ≡ false
+  pub within : IsWithin limit (152 * n)
 
-pub count_takes : (limit : Option ℕ) (bytes : List ℕ) (x : ℕ × List ℕ) → count_at limit bytes ≡ Some x → IsCount limit bytes x.0 x.1
-unfolding count_at
-count_takes limit bytes x e =
+pub directory_count_takes : (limit : Option ℕ) (bytes : List ℕ) (x : ℕ × List ℕ) → directory_count_at limit bytes ≡ Some x → IsDirectoryCount limit bytes x.0 x.1
+unfolding directory_count_at
+directory_count_takes limit bytes x e =
     let a = bind_some (offset_at bytes) _ x e in
-    let t = test_some (leb a.0.0 (length a.0.1) && not (passes_limit limit (152 * a.0.0))) a.0 x a.2 in
-    let p = and_parts (leb a.0.0 (length a.0.1)) (not (passes_limit limit (152 * a.0.0))) t.0 in
-    subst (λ (y : ℕ × List ℕ). IsCount limit bytes y.0 y.1) t.1 (record { starts = offset_takes bytes a.0 a.1; room = leb-true _ _ p.0; within = not_true _ p.1 })
+    let t = test_some (leb a.0.0 (length a.0.1) && is_within limit (152 * a.0.0)) a.0 x a.2 in
+    let p = and_parts (leb a.0.0 (length a.0.1)) (is_within limit (152 * a.0.0)) t.0 in
+    subst (λ (y : ℕ × List ℕ). IsDirectoryCount limit bytes y.0 y.1) t.1 (record { starts = offset_takes bytes a.0 a.1; room = leb-true _ _ p.0; within = within_from limit _ p.1 })
 
-pub count_again : (limit : Option ℕ) (bytes : List ℕ) (n : ℕ) (rest : List ℕ) → IsCount limit bytes n rest → count_at limit bytes ≡ Some (n, rest)
-unfolding count_at
-count_again limit bytes n rest p =
+pub directory_count_again : (limit : Option ℕ) (bytes : List ℕ) (n : ℕ) (rest : List ℕ) → IsDirectoryCount limit bytes n rest → directory_count_at limit bytes ≡ Some (n, rest)
+unfolding directory_count_at
+directory_count_again limit bytes n rest p =
     let one = offset_again bytes n rest p.starts in
-    let two : (leb n (length rest) && not (passes_limit limit (152 * n))) ≡ true = and_from _ _ (le-leb _ _ p.room) (not_false _ p.within) in
+    let two : (leb n (length rest) && is_within limit (152 * n)) ≡ true = and_from _ _ (le-leb _ _ p.room) (within_true limit _ p.within) in
     rw (one, two) refl
 
 -- ---- the directories
-
-pub none_are : (kind : Kind) (limit : Option ℕ) (count : ℕ) (bytes : List ℕ) (ds : List DirectoryValue) → count ≡ 0 → bytes ≡ [] → ds ≡ [] → AreDirectories kind limit count bytes ds
-none_are kind limit zero bytes ds e f g = (f, g)
-none_are kind limit (suc n) bytes ds e f g = absurd (omega arith)
-
-pub of_none : (kind : Kind) (limit : Option ℕ) (count : ℕ) (bytes : List ℕ) (ds : List DirectoryValue) → count ≡ 0 → AreDirectories kind limit count bytes ds → bytes ≡ []
-of_none kind limit zero bytes ds e p = p.0
-of_none kind limit (suc n) bytes ds e p = absurd (omega arith)
 
 pub nest_is : (kind : Kind) (limit : Option ℕ) (count : ℕ) (bytes : List ℕ) (ds : List DirectoryValue) → (count ≡ 0 → ⊥) → IsNest kind limit count bytes ds → AreDirectories kind limit count bytes ds
 nest_is kind limit zero bytes ds some p = absurd (some refl)
@@ -183,47 +169,47 @@ some_digit [] m = absurd m
 some_digit (b ∷ bytes) m = omega arith
 
 module _ (kind : Kind) (limit : Option ℕ) (bytes : List ℕ) (c : Cache) (p : IsCache kind limit bytes c) where
-  pub front_read : front_at kind bytes ≡ Some (c.front, p.rest)
-  front_read = front_again kind bytes c.front p.rest p.is_front (omega (arith, ap length p.parts, length-append p.number p.body, some_digit p.number p.is_number.marked))
+  pub preamble_read : preamble_at kind bytes ≡ Some (c.preamble, p.rest)
+  preamble_read = preamble_again kind bytes c.preamble p.rest p.is_preamble (omega (arith, ap length p.parts, length-append p.number p.body, some_digit p.number p.is_number.marked))
 
-  pub count_read : count_at limit p.rest ≡ Some (p.count, p.body)
-  count_read = count_again limit p.rest p.count p.body (record { starts = record { spelling = p.number; parts = p.parts; is_offset = p.is_number }; room = p.room; within = p.within })
+  pub directory_count_read : directory_count_at limit p.rest ≡ Some (p.count, p.body)
+  directory_count_read = directory_count_again limit p.rest p.count p.body (record { starts = record { spelling = p.number; parts = p.parts; is_offset = p.is_number }; room = p.room; within = p.within })
 
--- the front that was read, and the number behind it
-pub record Agrees (kind : Kind) (limit : Option ℕ) (c : Cache) (f : Front) (count : ℕ) (body : List ℕ) : Type 0 where
-  pub front : c.front ≡ f
+-- the preamble that was read, and the number behind it
+pub record Agrees (kind : Kind) (limit : Option ℕ) (c : Cache) (f : Preamble) (count : ℕ) (body : List ℕ) : Type 0 where
+  pub preamble : c.preamble ≡ f
   pub are_directories : AreDirectories kind limit count body c.directories
 
-pub rest_is : (kind : Kind) (limit : Option ℕ) (bytes : List ℕ) (c : Cache) (f : Front) (rest : List ℕ) → front_at kind bytes ≡ Some (f, rest) → (p : IsCache kind limit bytes c) → (c.front ≡ f) × (p.rest ≡ rest)
+pub rest_is : (kind : Kind) (limit : Option ℕ) (bytes : List ℕ) (c : Cache) (f : Preamble) (rest : List ℕ) → preamble_at kind bytes ≡ Some (f, rest) → (p : IsCache kind limit bytes c) → (c.preamble ≡ f) × (p.rest ≡ rest)
 rest_is kind limit bytes c f rest e p =
-    let same = same_Some {A = Front × List ℕ} (c.front, p.rest) (f, rest) (sym (front_read kind limit bytes c p) ∙ e) in
-    (ap (λ (x : Front × List ℕ). x.0) same, ap (λ (x : Front × List ℕ). x.1) same)
+    let same = same_Some {A = Preamble × List ℕ} (c.preamble, p.rest) (f, rest) (sym (preamble_read kind limit bytes c p) ∙ e) in
+    (ap (λ (x : Preamble × List ℕ). x.0) same, ap (λ (x : Preamble × List ℕ). x.1) same)
 
-pub agrees : (kind : Kind) (limit : Option ℕ) (bytes : List ℕ) (c : Cache) (f : Front) (rest : List ℕ) (count : ℕ) (body : List ℕ) → front_at kind bytes ≡ Some (f, rest) → count_at limit rest ≡ Some (count, body) → IsCache kind limit bytes c → Agrees kind limit c f count body
+pub agrees : (kind : Kind) (limit : Option ℕ) (bytes : List ℕ) (c : Cache) (f : Preamble) (rest : List ℕ) (count : ℕ) (body : List ℕ) → preamble_at kind bytes ≡ Some (f, rest) → directory_count_at limit rest ≡ Some (count, body) → IsCache kind limit bytes c → Agrees kind limit c f count body
 agrees kind limit bytes c f rest count body e g p =
-    let front = rest_is kind limit bytes c f rest e p in
-    let same = same_Some {A = ℕ × List ℕ} (p.count, p.body) (count, body) (sym (count_read kind limit bytes c p) ∙ ap (count_at limit) front.1 ∙ g) in
-    record { front = front.0; are_directories = subst (λ (x : ℕ × List ℕ). AreDirectories kind limit x.0 x.1 c.directories) same p.are_directories }
+    let preamble = rest_is kind limit bytes c f rest e p in
+    let same = same_Some {A = ℕ × List ℕ} (p.count, p.body) (count, body) (sym (directory_count_read kind limit bytes c p) ∙ ap (directory_count_at limit) preamble.1 ∙ g) in
+    record { preamble = preamble.0; are_directories = subst (λ (x : ℕ × List ℕ). AreDirectories kind limit x.0 x.1 c.directories) same p.are_directories }
 
-pub no_count : (kind : Kind) (limit : Option ℕ) (bytes : List ℕ) (c : Cache) (f : Front) (rest : List ℕ) → front_at kind bytes ≡ Some (f, rest) → count_at limit rest ≡ None → IsCache kind limit bytes c → ⊥
+pub no_count : (kind : Kind) (limit : Option ℕ) (bytes : List ℕ) (c : Cache) (f : Preamble) (rest : List ℕ) → preamble_at kind bytes ≡ Some (f, rest) → directory_count_at limit rest ≡ None → IsCache kind limit bytes c → ⊥
 no_count kind limit bytes c f rest e g p =
-    let front = rest_is kind limit bytes c f rest e p in
-    let read : count_at limit rest ≡ Some (p.count, p.body) = ap (count_at limit) (sym front.1) ∙ count_read kind limit bytes c p in
+    let preamble = rest_is kind limit bytes c f rest e p in
+    let read : directory_count_at limit rest ≡ Some (p.count, p.body) = ap (directory_count_at limit) (sym preamble.1) ∙ directory_count_read kind limit bytes c p in
     let clash : ◌≡◌ {A = Option (ℕ × List ℕ)} None (Some (p.count, p.body)) = sym g ∙ read in
     absurd cc
 
-pub cache_from : (kind : Kind) (limit : Option ℕ) (bytes : List ℕ) (f : Front) (rest : List ℕ) (count : ℕ) (body : List ℕ) (ds : List DirectoryValue) → ends_with_nul bytes ≡ true → front_at kind bytes ≡ Some (f, rest) → count_at limit rest ≡ Some (count, body) → AreDirectories kind limit count body ds
-    → IsCache kind limit bytes (record { front = f; directories = ds })
+pub cache_from : (kind : Kind) (limit : Option ℕ) (bytes : List ℕ) (f : Preamble) (rest : List ℕ) (count : ℕ) (body : List ℕ) (ds : List DirectoryValue) → ends_with_nul bytes ≡ true → preamble_at kind bytes ≡ Some (f, rest) → directory_count_at limit rest ≡ Some (count, body) → AreDirectories kind limit count body ds
+    → IsCache kind limit bytes (record { preamble = f; directories = ds })
 cache_from kind limit bytes f rest count body ds last e g d =
     let nul = nul_takes bytes last in
-    let number = count_takes limit rest (count, body) g in
+    let number = directory_count_takes limit rest (count, body) g in
     record {
       rest = rest;
       number = number.starts.spelling;
       body = body;
       count = count;
       before = nul.0;
-      is_front = front_takes kind bytes (f, rest) e;
+      is_preamble = preamble_takes kind bytes (f, rest) e;
       parts = number.starts.parts;
       is_number = number.starts.is_offset;
       room = number.room;
@@ -232,18 +218,18 @@ cache_from kind limit bytes f rest count body ds last e g d =
       last = nul.1;
     }
 
-pub start_from : (kind : Kind) (limit : Option ℕ) (bytes : List ℕ) (f : Front) (rest : List ℕ) (count : ℕ) (body : List ℕ) → ends_with_nul bytes ≡ true → front_at kind bytes ≡ Some (f, rest) → count_at limit rest ≡ Some (count, body) → HasFirst limit count body → HasStart kind limit bytes
+pub start_from : (kind : Kind) (limit : Option ℕ) (bytes : List ℕ) (f : Preamble) (rest : List ℕ) (count : ℕ) (body : List ℕ) → ends_with_nul bytes ≡ true → preamble_at kind bytes ≡ Some (f, rest) → directory_count_at limit rest ≡ Some (count, body) → HasFirstHead limit count body → HasStart kind limit bytes
 start_from kind limit bytes f rest count body last e g first =
     let nul = nul_takes bytes last in
-    let number = count_takes limit rest (count, body) g in
+    let number = directory_count_takes limit rest (count, body) g in
     record {
-      front = f;
+      preamble = f;
       rest = rest;
       number = number.starts.spelling;
       body = body;
       count = count;
       before = nul.0;
-      is_front = front_takes kind bytes (f, rest) e;
+      is_preamble = preamble_takes kind bytes (f, rest) e;
       parts = number.starts.parts;
       is_number = number.starts.is_offset;
       room = number.room;
@@ -253,58 +239,24 @@ start_from kind limit bytes f rest count body last e g first =
     }
 
 -- a block begins with a head
-block_head : (limit : Option ℕ) (bytes : List ℕ) (b : Block) (rest : List ℕ) → IsBlock limit bytes b rest → HasHead limit bytes
-block_head limit bytes (block name untracked subs) rest p = record { head = record { untracked = length untracked; subs = how_many subs; name = name }; rest = p.0; is_head = p.2 }
+block_head : (limit : Option ℕ) (bytes : List ℕ) (b : Block) (rest : List ℕ) → IsBlock limit bytes b rest → HasBlockHead limit bytes
+block_head limit bytes (block name untracked subs) rest p = record { head = record { untracked = length untracked; subs = how_many_blocks subs; name = name }; rest = p.0; is_head = p.2 }
 
 -- what stands where directories are declared
-pub first_from : (limit : Option ℕ) (count : ℕ) (bytes : List ℕ) → (count ≡ 0 → ⊥) → HasHead limit bytes → HasFirst limit count bytes
+pub first_from : (limit : Option ℕ) (count : ℕ) (bytes : List ℕ) → (count ≡ 0 → ⊥) → HasBlockHead limit bytes → HasFirstHead limit count bytes
 first_from limit zero bytes some h = absurd (some refl)
 first_from limit (suc n) bytes some h = h
 
-pub first_block : (limit : Option ℕ) (count : ℕ) (bytes : List ℕ) (b : Block) (rest : List ℕ) → (count ≡ 0 → ⊥) → IsBlock limit bytes b rest → HasFirst limit count bytes
+pub first_block : (limit : Option ℕ) (count : ℕ) (bytes : List ℕ) (b : Block) (rest : List ℕ) → (count ≡ 0 → ⊥) → IsBlock limit bytes b rest → HasFirstHead limit count bytes
 first_block limit count bytes b rest some p = first_from limit count bytes some (block_head limit bytes b rest p)
 
-pub first_there : (kind : Kind) (limit : Option ℕ) (count : ℕ) (bytes : List ℕ) (ds : List DirectoryValue) → AreDirectories kind limit count bytes ds → HasFirst limit count bytes
+pub first_there : (kind : Kind) (limit : Option ℕ) (count : ℕ) (bytes : List ℕ) (ds : List DirectoryValue) → AreDirectories kind limit count bytes ds → HasFirstHead limit count bytes
 first_there kind limit zero bytes ds p = p.0
 first_there kind limit (suc n) bytes ds p = block_head limit bytes p.root p.rest p.is_root
 
 -- bytes are one cache
 pub one_cache : (kind : Kind) (limit : Option ℕ) (bytes : List ℕ) (a b : Cache) → IsCache kind limit bytes a → IsCache kind limit bytes b → a ≡ b
 one_cache kind limit bytes a b p q =
-    let same = agrees kind limit bytes b a.front p.rest p.count p.body (front_read kind limit bytes a p) (count_read kind limit bytes a p) q in
+    let same = agrees kind limit bytes b a.preamble p.rest p.count p.body (preamble_read kind limit bytes a p) (directory_count_read kind limit bytes a p) q in
     let directories : a.directories ≡ b.directories = one_list kind limit p.count p.body a.directories b.directories p.are_directories same.are_directories in
-    ap (λ (f : Front). record { front = f; directories = a.directories }) (sym same.front) ∙ ap (λ (d : List DirectoryValue). record { front = b.front; directories = d }) directories
-
--- ---- the kind of ids
-
-pair_by : (kind : Kind) (s : Stat) (id : List ℕ) (t : Bool) → IfSome (cond {A = Option OidStat} t None (Some (record { stat = s; id = make_id kind id }))) (λ x. id_kind x.id ≡ kind)
-pair_by kind s id true = tt
-pair_by kind s id false = id_kind-make_id kind id
-
-pair_kind : (kind : Kind) (stat id : List ℕ) (found : Option OidStat) → found ≡ oid_stat kind stat id → IfSome found (λ x. id_kind x.id ≡ kind)
-pair_kind kind stat id found e = subst (λ (o : Option OidStat). IfSome o (λ x. id_kind x.id ≡ kind)) (sym e) (pair_by kind (stat_of stat) id (list_all (λ b. eqb b 0) id))
-
-abbrev IdIsOf : Kind → DirectoryValue → Type 0
-IdIsOf kind d = IfSome d.exclude (λ id. id_kind id ≡ kind)
-
-made_kind : (kind : Kind) (found : Option (List ℕ)) → IfSome (option_map (make_id kind) found) (λ id. id_kind id ≡ kind)
-made_kind kind None = tt
-made_kind kind (Some id) = id_kind-make_id kind id
-
-marked_kinds : (kind : Kind) (m : Marks) (stats ids : List (List ℕ)) (n : ℕ) (ds : List DirectoryValue) → AllByRecursion (IdIsOf kind) (map (λ x. marked kind m stats ids x.0 x.1) (enumerate_from n ds))
-marked_kinds kind m stats ids n [] = tt
-marked_kinds kind m stats ids n (d ∷ ds) = (made_kind kind (value_at m.hash_valid ids n), marked_kinds kind m stats ids (n + 1) ds)
-
-kinds_of : (kind : Kind) (limit : Option ℕ) (count : ℕ) (bytes : List ℕ) (ds : List DirectoryValue) → AreDirectories kind limit count bytes ds → AllByRecursion (IdIsOf kind) ds
-kinds_of kind limit zero bytes ds p = subst (AllByRecursion (IdIsOf kind)) (sym p.1) tt
-kinds_of kind limit (suc n) bytes ds p =
-    let t = p.is_tail in
-    subst (AllByRecursion (IdIsOf kind)) (sym t.directories_are) (marked_kinds kind t.marks t.stats t.ids 0 (listed 0 p.root))
-
--- all ids of a cache are of the kind that its bytes are read by
-pub ids_of_cache : (kind : Kind) (limit : Option ℕ) (bytes : List ℕ) (c : Cache) → IsCache kind limit bytes c → CacheIdsAreOf kind c
-ids_of_cache kind limit bytes c p = record {
-  info = pair_kind kind p.is_front.info p.is_front.info_id c.front.info_exclude p.is_front.info_is;
-  excludes = pair_kind kind p.is_front.excludes p.is_front.excludes_id c.front.excludes_file p.is_front.excludes_is;
-  directories = kinds_of kind limit p.count p.body c.directories p.are_directories;
-}
+    ap (λ (f : Preamble). record { preamble = f; directories = a.directories }) (sym same.preamble) ∙ ap (λ (d : List DirectoryValue). record { preamble = b.preamble; directories = d }) directories

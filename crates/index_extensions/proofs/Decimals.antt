@@ -7,8 +7,8 @@ use Rattle.std.proofs.lemmas.List.Elements.{All-nil, All-cons, All-head, All-tai
 use native.Mathlib.Numerals.{unary_clauses}
 use Rattle.index_parts.proofs.Steps.{bind_some, test_some}
 use Rattle.index_parts.specs.Reading.{◌>>=◌}
-use Rattle.index_extensions.specs.Decimal.{IsDigit, digits_value, IsDecimal, IsCount, plain, plus, minus, minus_zero}
-use Rattle.index_extensions.specs.Reading.{decimal_from, decimal_of, nonnegative_count, negated_count, count_of}
+use Rattle.index_extensions.specs.Decimal.{IsDigit, decimal_value, IsDecimal, IsCount, plain, plus, minus, minus_zero}
+use Rattle.index_extensions.specs.Reading.{decimal_from, decimal_of, nonnegative_count, negated_count, entry_count_of}
 
 -- ---- digits
 
@@ -20,7 +20,7 @@ is_digit b h = and_from _ _ (le-leb _ _ h.0) (le-leb _ _ h.1)
 
 -- where digits that stand for high come before, all stand for
 abbrev whole : ℕ → List ℕ → ℕ
-whole high text = high * 10 ^ length text + digits_value text
+whole high text = high * 10 ^ length text + decimal_value text
 
 regroup : (high digit power value next : ℕ) → next ≡ 10 * power → high * next + (digit * power + value) ≡ (high * 10 + digit) * power + value
 regroup high digit power value next e = rw e (omega arith)
@@ -29,7 +29,7 @@ next_power : (n : ℕ) → 10 ^ suc n ≡ 10 * 10 ^ n
 next_power n = simp unary_clauses (omega arith)
 
 whole_next : (high b : ℕ) (text : List ℕ) → whole high (b ∷ text) ≡ whole (high * 10 + (b - 48)) text
-whole_next high b text = regroup high (b - 48) (10 ^ length text) (digits_value text) (10 ^ length (b ∷ text)) (next_power (length text))
+whole_next high b text = regroup high (b - 48) (10 ^ length text) (decimal_value text) (10 ^ length (b ∷ text)) (next_power (length text))
 
 whole_nil : (high : ℕ) → whole high [] ≡ high
 whole_nil high = omega arith
@@ -113,11 +113,11 @@ count_by b text count false false m p e =
     let n = nonnegative_takes d.0 count d.2 in
     plain d.0 (decimal_takes (b ∷ text) d.0 d.1) n.0 n.1
 
-pub count_takes : (text : List ℕ) (count : Option ℕ) → count_of text ≡ Some count → IsCount text count
+pub count_takes : (text : List ℕ) (count : Option ℕ) → entry_count_of text ≡ Some count → IsCount text count
 count_takes [] count e = absurd cc
 count_takes (b ∷ text) count e = count_by b text count (eqb b 45) (eqb b 43) refl refl e
 
-unsigned : (text : List ℕ) (n : ℕ) → IsDecimal text n → count_of text ≡ (decimal_of text >>= nonnegative_count)
+unsigned : (text : List ℕ) (n : ℕ) → IsDecimal text n → entry_count_of text ≡ (decimal_of text >>= nonnegative_count)
 unsigned [] n h = absurd (h.some refl)
 unsigned (b ∷ text) n h =
     let digit = All-head IsDigit b text h.digits in
@@ -125,7 +125,7 @@ unsigned (b ∷ text) n h =
     let no_plus : eqb b 43 ≡ false = ne_eqb b 43 (λ e. omega arith) in
     rw (no_minus, no_plus) refl
 
-pub count_again : (text : List ℕ) (count : Option ℕ) → IsCount text count → count_of text ≡ Some count
+pub count_again : (text : List ℕ) (count : Option ℕ) → IsCount text count → entry_count_of text ≡ Some count
 count_again text count (plain n h small is) = unsigned text n h ∙ rw (decimal_again text n h, is) (nonnegative_again n small)
 count_again text count (plus digits n parts h small is) = rw (parts, decimal_again digits n h, is) (nonnegative_again n small)
 count_again text count (minus digits n parts h low high is) = rw (parts, decimal_again digits n h, is) (negated_again n low high)
@@ -145,3 +145,9 @@ count_apart text count (minus_zero digits parts h is) = rw parts (All-cons (λ x
 pub decimal_some : (text : List ℕ) (n : ℕ) → IsDecimal text n → 1 ≤ length text
 decimal_some [] n h = absurd (h.some refl)
 decimal_some (b ∷ text) n h = omega arith
+
+pub count_some : (text : List ℕ) (count : Option ℕ) → IsCount text count → 1 ≤ length text
+count_some text count (plain n d lt e) = decimal_some text n d
+count_some text count (plus digits n t d lt e) = omega (arith, ap length t)
+count_some text count (minus digits n t d le lt e) = omega (arith, ap length t)
+count_some text count (minus_zero digits t d e) = omega (arith, ap length t)

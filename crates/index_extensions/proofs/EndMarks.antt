@@ -2,13 +2,13 @@
 use Rattle.std.proofs.Common.{◌≡◌, ℕ, ◌+◌, ◌-◌, ◌≤◌, Bool, true, false, cond, ltb, eqb, not, List, [], ◌∷◌, ◌++◌, length, take, drop, Some, None, Option, refl, sym, ap, append_assoc, subst, ◌∙◌, arith}
 use Rattle.std.specs.List.{starts_with}
 use Rattle.std.specs.Cmp.Lexicographic.{pointwise}
-use Rattle.std.proofs.lemmas.Bool.{ltb-true, ltb-false, le-ltb, not-true, not-false}
+use Rattle.std.proofs.lemmas.Bool.{ltb-false, le-ltb, not-true, not-false}
 use Rattle.std.proofs.lemmas.Bool.Decides.{Decides-eqb}
 use Rattle.std.proofs.lemmas.List.{take_at, drop_at, take-append-drop, length-append, length-take, length-drop, append-nil, nil_from_length}
 use Rattle.std.proofs.lemmas.Option.{same_Some}
 use Rattle.std.proofs.lemmas.Slice.Eq.{starts_is, slice_eq-Decides}
 use Rattle.index_parts.proofs.Splits.{piece_takes, piece_again}
-use Rattle.index_parts.proofs.Steps.{bind_some, guard_some, test_some}
+use Rattle.index_parts.proofs.Steps.{bind_some}
 use Rattle.index_parts.specs.Digest.{digest}
 use Rattle.index_parts.specs.Front.{be}
 use Rattle.index_parts.specs.Reading.{◌>>=◌, piece_at}
@@ -16,7 +16,7 @@ use Rattle.index_parts.specs.declared.hash.Kind.{Kind}
 use Rattle.index_parts.specs.declared.hash.Kind.TheVariants.{Sha1}
 use Rattle.index_extensions.specs.EndMarker.{heads, IsMarked}
 use Rattle.index_extensions.specs.Reading.{ending_of, marker_start, offset_in, marker_at}
-use Rattle.index_extensions.specs.Walk.{Item, AreItems, IsWalk}
+use Rattle.index_extensions.specs.Walk.{Item, AreItems}
 use Rattle.index_extensions.proofs.Walks.{walk_one, no_empty}
 
 pub heads_push : (items : List Item) (i : Item) → heads (items ++ i ∷ []) ≡ heads items ++ (i.signature ++ i.size)

@@ -7,8 +7,8 @@ use Rattle.index_parts.specs.declared.hash.Kind.TheVariants.{Sha1, Sha256}
 use Rattle.index_extensions.specs.EndMarker.{heads, IsMarked, IsMarker}
 use Rattle.index_extensions.specs.Reading.{marker_at}
 use Rattle.index_extensions.specs.Walk.{Item, AreItems, IsWalk}
-use Rattle.index_extensions.proofs.EndMarks.{marker_takes, marked_from, marked_none, marked_items, marked_digest, bytes_agree, bytes_differ}
-use Rattle.index_extensions.proofs.Readings.{Decided, read_of}
+use Rattle.index_extensions.proofs.EndMarks.{marker_takes, marked_from, marked_none, marked_items, marked_digest, bytes_agree, bytes_differ, marked_one}
+use Rattle.index_extensions.proofs.Readings.{Decided, read_of, one_read}
 use Rattle.index_extensions.proofs.Walks.{walk_of, walk_one, no_empty}
 
 -- extensions that are all of some bytes are the whole walk
@@ -39,3 +39,7 @@ marked_reading Sha256 bytes = inr (λ place h. let e = h.is_sha1 in absurd cc)
 -- bytes are read as having a marker or as having none
 pub marker_reading : (kind : Kind) (bytes : List ℕ) → (place : Option ℕ) × IsMarker kind bytes place
 marker_reading kind bytes = read_of (IsMarked kind) bytes (marked_reading kind bytes)
+
+-- and in one way
+pub marker_reading_one : (kind : Kind) (bytes : List ℕ) (p q : Option ℕ) → IsMarker kind bytes p → IsMarker kind bytes q → p ≡ q
+marker_reading_one kind bytes = one_read (IsMarked kind) bytes (marked_one kind bytes)

@@ -5,17 +5,16 @@ use Rattle.std.specs.List.{enumerate_from, list_any}
 use Rattle.std.proofs.lemmas.Bool.{eq-eqb, ne_eqb}
 use Rattle.std.proofs.lemmas.List.{take_more, length-take}
 use Rattle.std.proofs.lemmas.List.Folds.{list_any-append}
-use Rattle.index_extensions.specs.Blocks.{DirectoryValue, value_of}
+use Rattle.index_extensions.specs.Blocks.{DirectoryValue, directory_value}
 use Rattle.index_extensions.specs.Contents.{or_else}
-use Rattle.index_extensions.specs.Marking.{change, checked, by_some, by_true, each}
-use Rattle.index_extensions.specs.Marks.{value_at}
+use Rattle.index_extensions.specs.Marking.{change, checked, last_at, by_some, by_true, each}
 use Rattle.index_extensions.specs.declared.extension.untracked_cache.Directory.{Directory}
 
 -- the directory that is written is the value changed
-pub change_set : (f : DirectoryValue → DirectoryValue) (xs : List Directory) (place : ℕ) (x y : Directory) → place < length xs → x ≡ get_or xs place x → value_of y ≡ f (value_of x) → map value_of (slice_set xs place y) ≡ change f place (map value_of xs)
+pub change_set : (f : DirectoryValue → DirectoryValue) (xs : List Directory) (place : ℕ) (x y : Directory) → place < length xs → x ≡ get_or xs place x → directory_value y ≡ f (directory_value x) → map directory_value (slice_set xs place y) ≡ change f place (map directory_value xs)
 change_set f [] place x y lt e h = absurd (omega arith)
-change_set f (a ∷ xs) zero x y lt e h = ap (λ (d : DirectoryValue). d ∷ map value_of xs) (h ∙ ap (λ (z : Directory). f (value_of z)) e)
-change_set f (a ∷ xs) (suc place) x y lt e h = ap (λ (ds : List DirectoryValue). value_of a ∷ ds) (change_set f xs place x y (omega arith) e h)
+change_set f (a ∷ xs) zero x y lt e h = ap (λ (d : DirectoryValue). d ∷ map directory_value xs) (h ∙ ap (λ (z : Directory). f (directory_value z)) e)
+change_set f (a ∷ xs) (suc place) x y lt e h = ap (λ (ds : List DirectoryValue). directory_value a ∷ ds) (change_set f xs place x y (omega arith) e h)
 
 -- the directory behind a front of so many
 pub change_at : (f : DirectoryValue → DirectoryValue) (place : ℕ) (xs : List DirectoryValue) (d : DirectoryValue) (ys : List DirectoryValue) → place ≡ length xs → change f place (xs ++ d ∷ ys) ≡ xs ++ f d ∷ ys
@@ -54,12 +53,12 @@ value_by : {A : Type 0} (b : Bool) (o p : Option A) (x : A) → or_else (cond b 
 value_by true o p x = refl
 value_by false o p x = refl
 
-value_push : {A : Type 0} (places : List ℕ) (values : List A) (place : ℕ) (x : A) (i : ℕ) → length places ≡ length values → value_at (places ++ place ∷ []) (values ++ x ∷ []) i ≡ cond (eqb place i) (Some x) (value_at places values i)
+value_push : {A : Type 0} (places : List ℕ) (values : List A) (place : ℕ) (x : A) (i : ℕ) → length places ≡ length values → last_at (places ++ place ∷ []) (values ++ x ∷ []) i ≡ cond (eqb place i) (Some x) (last_at places values i)
 value_push [] [] place x i e = refl
 value_push [] (y ∷ values) place x i e = absurd (omega arith)
 value_push (p ∷ places) [] place x i e = absurd (omega arith)
 value_push {A} (p ∷ places) (y ∷ values) place x i e =
-    ap (λ (o : Option A). or_else o (cond (eqb p i) (Some y) None)) (value_push places values place x i (omega arith)) ∙ value_by (eqb place i) (value_at places values i) (cond (eqb p i) (Some y) None) x
+    ap (λ (o : Option A). or_else o (cond (eqb p i) (Some y) None)) (value_push places values place x i (omega arith)) ∙ value_by (eqb place i) (last_at places values i) (cond (eqb p i) (Some y) None) x
 
 by_last : {A : Type 0} (f : A → DirectoryValue → DirectoryValue) → ((x y : A) (d : DirectoryValue) → f x (f y d) ≡ f x d) → (b : Bool) (o : Option A) (x : A) (d : DirectoryValue) → by_some f (cond b (Some x) o) d ≡ by_true (f x) b (by_some f o d)
 by_last f over true None x d = refl
@@ -68,30 +67,30 @@ by_last f over false o x d = refl
 
 -- one more directory changed by its value
 pub each_value : {A : Type 0} (f : A → DirectoryValue → DirectoryValue) → ((x y : A) (d : DirectoryValue) → f x (f y d) ≡ f x d) → (places : List ℕ) (values : List A) (place : ℕ) (x : A) (ds : List DirectoryValue) → length places ≡ length values
-    → change (f x) place (each (λ i. by_some f (value_at places values i)) ds) ≡ each (λ i. by_some f (value_at (places ++ place ∷ []) (values ++ x ∷ []) i)) ds
+    → change (f x) place (each (λ i. by_some f (last_at places values i)) ds) ≡ each (λ i. by_some f (last_at (places ++ place ∷ []) (values ++ x ∷ []) i)) ds
 each_value {A} f over places values place x ds e =
-    change_from (λ i. by_some f (value_at places values i)) (λ i. by_some f (value_at (places ++ place ∷ []) (values ++ x ∷ []) i)) (f x) place 0 place ds (omega arith)
-    (λ i d. ap (λ (o : Option A). by_some f o d) (value_push places values place x i e) ∙ by_last f over (eqb place i) (value_at places values i) x d)
+    change_from (λ i. by_some f (last_at places values i)) (λ i. by_some f (last_at (places ++ place ∷ []) (values ++ x ∷ []) i)) (f x) place 0 place ds (omega arith)
+    (λ i d. ap (λ (o : Option A). by_some f o d) (value_push places values place x i e) ∙ by_last f over (eqb place i) (last_at places values i) x d)
 
-marked_by : (f : DirectoryValue → DirectoryValue) → ((d : DirectoryValue) → f (f d) ≡ f d) → (a b : Bool) (d : DirectoryValue) → by_true f (a || (b || false)) d ≡ by_true f b (by_true f a d)
-marked_by f over true true d = sym (over d)
-marked_by f over true false d = refl
-marked_by f over false true d = refl
-marked_by f over false false d = refl
+mark_twice : (f : DirectoryValue → DirectoryValue) → ((d : DirectoryValue) → f (f d) ≡ f d) → (a b : Bool) (d : DirectoryValue) → by_true f (a || (b || false)) d ≡ by_true f b (by_true f a d)
+mark_twice f over true true d = sym (over d)
+mark_twice f over true false d = refl
+mark_twice f over false true d = refl
+mark_twice f over false false d = refl
 
 pub each_checked : (places : List ℕ) (place : ℕ) (ds : List DirectoryValue) → change checked place (each (λ i. by_true checked (list_any (λ p. eqb p i) places)) ds) ≡ each (λ i. by_true checked (list_any (λ p. eqb p i) (places ++ place ∷ []))) ds
 each_checked places place ds =
     change_from (λ i. by_true checked (list_any (λ p. eqb p i) places)) (λ i. by_true checked (list_any (λ p. eqb p i) (places ++ place ∷ []))) checked place 0 place ds (omega arith)
-    (λ i d. ap (λ (b : Bool). by_true checked b d) (list_any-append (λ p. eqb p i) places (place ∷ [])) ∙ marked_by checked (λ e. refl) (list_any (λ p. eqb p i) places) (eqb place i) d)
+    (λ i d. ap (λ (b : Bool). by_true checked b d) (list_any-append (λ p. eqb p i) places (place ∷ [])) ∙ mark_twice checked (λ e. refl) (list_any (λ p. eqb p i) places) (eqb place i) d)
 
 -- ---- a step of a loop over places
 
 pub value_step : {A : Type 0} (f : A → DirectoryValue → DirectoryValue) → ((x y : A) (d : DirectoryValue) → f x (f y d) ≡ f x d) → (places : List ℕ) (i : ℕ) (values : List A) (x : A) (ds now next : List DirectoryValue) → i < length places → length values ≡ i
-    → now ≡ each (λ j. by_some f (value_at (take i places) values j)) ds → next ≡ change (f x) (get_or places i 0) now → next ≡ each (λ j. by_some f (value_at (take (i + 1) places) (values ++ x ∷ []) j)) ds
+    → now ≡ each (λ j. by_some f (last_at (take i places) values j)) ds → next ≡ change (f x) (get_or places i 0) now → next ≡ each (λ j. by_some f (last_at (take (i + 1) places) (values ++ x ∷ []) j)) ds
 value_step {A} f over places i values x ds now next lt len same step =
     let taken : length (take i places) ≡ length values = omega (arith, length-take i places) in
     step ∙ ap (change (f x) (get_or places i 0)) same ∙ each_value f over (take i places) values (get_or places i 0) x ds taken
-    ∙ ap (λ (ps : List ℕ). each (λ j. by_some f (value_at ps (values ++ x ∷ []) j)) ds) (sym (take_more places i 0 lt))
+    ∙ ap (λ (ps : List ℕ). each (λ j. by_some f (last_at ps (values ++ x ∷ []) j)) ds) (sym (take_more places i 0 lt))
 
 pub check_step : (places : List ℕ) (i : ℕ) (ds now next : List DirectoryValue) → i < length places → now ≡ each (λ j. by_true checked (list_any (λ p. eqb p j) (take i places))) ds → next ≡ change checked (get_or places i 0) now
     → next ≡ each (λ j. by_true checked (list_any (λ p. eqb p j) (take (i + 1) places))) ds

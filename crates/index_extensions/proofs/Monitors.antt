@@ -1,42 +1,26 @@
 -- What is read of a file system monitor is spelled so, and what is spelled so is read; and bytes are one monitor, or none.
-use Rattle.std.proofs.Common.{◌≡◌, ℕ, ◌+◌, ◌<◌, ◌≤◌, Bool, true, false, cond, ltb, eqb, List, [], ◌∷◌, ◌++◌, length, Option, Some, None, inl, inr, refl, sym, ap, subst, ◌∙◌, append_assoc, arith}
-use Rattle.std.specs.Prelude.{IfSome, IfNone}
-use Rattle.std.specs.Option.{option_map}
-use Rattle.std.proofs.lemmas.Bool.{eqb-true, eqb-false, lt-ltb}
-use Rattle.std.proofs.lemmas.List.{length-append}
+use Rattle.std.proofs.Common.{◌≡◌, ℕ, ◌+◌, ◌*◌, ◌≤◌, Bool, true, false, cond, leb, eqb, ◌⊎◌, List, [], ◌∷◌, ◌++◌, length, take, drop, Option, Some, None, inl, inr, refl, sym, ap, subst, ◌∙◌, append_assoc, arith}
+use Rattle.std.proofs.lemmas.Bool.{eqb-true, eqb-false, eq-eqb, le-leb, and_parts, and_from}
+use Rattle.std.proofs.lemmas.List.{length-append, take_at, drop_at, nil_from_length}
 use Rattle.index_parts.proofs.BitmapFaults.{no_fault, bitmap_or_fault}
 use Rattle.index_parts.proofs.Bitmaps.{one_bitmap}
-use Rattle.index_parts.proofs.Splits.{piece_takes, piece_again, split_takes, split_again}
+use Rattle.index_parts.proofs.Splits.{split_takes, split_again}
+use Rattle.index_parts.proofs.Readers.{number_takes, number_again}
 use Rattle.index_parts.proofs.Steps.{bind_some}
 use Rattle.index_parts.specs.Bitmap.{Bitmap, IsBitmap, HasBitmap, Lacks, Says}
-use Rattle.index_parts.specs.Front.{be, StartsWithNumber}
-use Rattle.index_parts.specs.Reading.{◌>>=◌, piece_at, split_at_byte}
+use Rattle.index_parts.specs.Front.{be, number}
+use Rattle.index_parts.specs.Reading.{◌>>=◌, split_at_byte, number_at}
 use Rattle.index_parts.specs.declared.ewah.decode.Error.{Error}
 use Rattle.index_parts.specs.declared.ewah.decode.Error.TheVariants as errors
 use Rattle.index_extensions.specs.Contents.{IsRead}
-use Rattle.index_extensions.specs.FsMonitor.{TokenValue, nanoseconds, opaque, Monitor, IsToken, version_1, version_2, IsMonitor, HasParts}
-use Rattle.index_extensions.specs.ReadingMonitor.{number_at, token_at, parts_at, IsSized}
+use Rattle.index_extensions.specs.FsMonitor.{TokenValue, nanoseconds, opaque, Monitor, IsToken, version_1, version_2, IsMonitor, HasMonitor}
+use Rattle.index_extensions.specs.ReadingMonitor.{token_at, parts_at, has_bitmap_len, IsSized}
+use Rattle.index_extensions.proofs.Readings.{one_read}
 
 -- ---- numbers
 
-number_takes : (size : ℕ) (bytes : List ℕ) (x : ℕ × List ℕ) → number_at size bytes ≡ Some x → StartsWithNumber size bytes x.0 x.1
-number_takes size bytes x e =
-    let p = bind_some (piece_at size bytes) (λ piece. Some (be piece.0, piece.1)) x e in
-    let t = piece_takes size bytes p.0 p.1 in
-    let made : ℕ × List ℕ = (be p.0.0, p.0.1) in
-    let is : made ≡ x = cc (p.2) in
-    subst (λ (y : ℕ × List ℕ). StartsWithNumber size bytes y.0 y.1) is (record { spelling = p.0.0; parts = t.0; size = t.1; value = refl })
-
-number_again : (size : ℕ) (spelling rest : List ℕ) → length spelling ≡ size → number_at size (spelling ++ rest) ≡ Some (be spelling, rest)
-number_again size spelling rest len = rw (piece_again size spelling rest len) refl
-
--- an answer that is right in both cases is the function's
-pub number_exact : {X : Type 0} (f : X → ℕ × List ℕ) (size : ℕ) (bytes : List ℕ) (o : Option X) → IfSome o (λ x. StartsWithNumber size bytes (f x).0 (f x).1) → IfNone o (length bytes < size) → option_map f o ≡ number_at size bytes
-number_exact f size bytes None found few = let short : ltb (length bytes) size ≡ true = lt-ltb _ _ few in rw short refl
-number_exact f size bytes (Some x) found few =
-    let again : number_at size bytes ≡ Some (be found.spelling, (f x).1) = ap (number_at size) found.parts ∙ number_again size found.spelling (f x).1 found.size in
-    let with_number : ℕ → Option (ℕ × List ℕ) = λ n. Some (n, (f x).1) in
-    ap with_number found.value ∙ sym again
+spelled_again : (size : ℕ) (spelling rest : List ℕ) → length spelling ≡ size → number_at size (spelling ++ rest) ≡ Some (be spelling, rest)
+spelled_again size spelling rest len = number_again size (spelling ++ rest) (be spelling) rest (record { spelling = spelling; parts = refl; size = len; value = refl })
 
 -- ---- a token
 
@@ -78,7 +62,7 @@ token_takes version bytes x e = token_by version bytes x (eqb version 1) (eqb ve
 
 token_again : (version : ℕ) (spelling rest : List ℕ) (token : TokenValue) → 1 ≤ length rest → IsToken version spelling token → token_at version (spelling ++ rest) ≡ Some (token, rest)
 unfolding token_at
-token_again version spelling rest token more (version_1 v len is) = rw (v, is, number_again 8 spelling rest len) refl
+token_again version spelling rest token more (version_1 v len is) = rw (v, is, spelled_again 8 spelling rest len) refl
 token_again version spelling rest token more (version_2 text v parts apart is) =
     let regrouped : spelling ++ rest ≡ text ++ 0 ∷ rest = ap (λ (l : List ℕ). l ++ rest) parts ∙ append_assoc text (0 ∷ []) rest in
     let len : length (text ++ 0 ∷ rest) ≡ length text + length (0 ∷ rest) = length-append text (0 ∷ rest) in
@@ -88,7 +72,7 @@ token_again version spelling rest token more (version_2 text v parts apart is) =
 -- ---- what stands before the bitmap
 
 -- bytes are a version, a token, the size of a bitmap, and the rest
-pub record IsFront (bytes : List ℕ) (value : TokenValue) (count : ℕ) (rest : List ℕ) : Type 0 where
+pub record StartsWithParts (bytes : List ℕ) (value : TokenValue) (count : ℕ) (rest : List ℕ) : Type 0 where
   pub version : List ℕ
   pub token : List ℕ
   pub size : List ℕ
@@ -101,7 +85,7 @@ pub record IsFront (bytes : List ℕ) (value : TokenValue) (count : ℕ) (rest :
 joined : (bytes version rest1 token rest2 size rest : List ℕ) → bytes ≡ version ++ rest1 → rest1 ≡ token ++ rest2 → rest2 ≡ size ++ rest → bytes ≡ version ++ (token ++ (size ++ rest))
 joined bytes version rest1 token rest2 size rest e f g = rw (e, f, g) refl
 
-pub parts_takes : (bytes : List ℕ) (x : TokenValue × ℕ × List ℕ) → parts_at bytes ≡ Some x → IsFront bytes x.0 x.1 x.2
+pub parts_takes : (bytes : List ℕ) (x : TokenValue × ℕ × List ℕ) → parts_at bytes ≡ Some x → StartsWithParts bytes x.0 x.1 x.2
 unfolding parts_at
 parts_takes bytes x e =
     let v = bind_some (number_at 4 bytes) _ x e in
@@ -112,7 +96,7 @@ parts_takes bytes x e =
     let size = number_takes 4 t.0.1 s.0 s.1 in
     let made : TokenValue × ℕ × List ℕ = (t.0.0, s.0.0, s.0.1) in
     let is : made ≡ x = cc (s.2) in
-    subst (λ (y : TokenValue × ℕ × List ℕ). IsFront bytes y.0 y.1 y.2) is (record {
+    subst (λ (y : TokenValue × ℕ × List ℕ). StartsWithParts bytes y.0 y.1 y.2) is (record {
       version = version.spelling;
       token = token.spelling;
       size = size.spelling;
@@ -123,15 +107,15 @@ parts_takes bytes x e =
       count_is = size.value;
     })
 
-pub parts_again : (bytes : List ℕ) (token : TokenValue) (count : ℕ) (rest : List ℕ) → IsFront bytes token count rest → parts_at bytes ≡ Some (token, count, rest)
+pub parts_again : (bytes : List ℕ) (token : TokenValue) (count : ℕ) (rest : List ℕ) → StartsWithParts bytes token count rest → parts_at bytes ≡ Some (token, count, rest)
 unfolding parts_at
 parts_again bytes token count rest h =
     let sized : List ℕ = h.size ++ rest in
     let len : length sized ≡ length h.size + length rest = length-append h.size rest in
     let more : 1 ≤ length sized = omega (arith, h.size_len) in
-    let one = number_again 4 h.version (h.token ++ sized) h.version_len in
+    let one = spelled_again 4 h.version (h.token ++ sized) h.version_len in
     let two = token_again (be h.version) h.token sized token more h.is_token in
-    let three = number_again 4 h.size rest h.size_len in
+    let three = spelled_again 4 h.size rest h.size_len in
     rw (h.parts, one, two, three, h.count_is) refl
 
 -- ---- the bitmap
@@ -147,13 +131,44 @@ says_lacks errors.Memory bytes h other = absurd (other refl)
 pub no_bitmap : (error : Error) (size : ℕ) (bytes : List ℕ) (b : Bitmap) → Says error bytes → (error ≡ errors.Memory → ⊥) → IsSized size bytes b → ⊥
 no_bitmap error size bytes b says other s = no_fault bytes error (record { value = b; rest = []; is_bitmap = s.is_bitmap }) (says_lacks error bytes says other)
 
--- bytes behind a bitmap are no part of it
-pub nothing_behind : (size : ℕ) (bytes : List ℕ) (a b : Bitmap) (rest : List ℕ) → IsBitmap bytes a rest → 1 ≤ length rest → IsSized size bytes b → ⊥
-nothing_behind size bytes a b rest h some s = omega (arith, some, ap length (one_bitmap bytes a b rest [] h s.is_bitmap).1)
+-- ---- the length of a bitmap
+
+word_count : (bytes : List ℕ) (b : Bitmap) (rest : List ℕ) (h : IsBitmap bytes b rest) → number bytes 1 ≡ be h.len
+word_count bytes b rest h =
+    let behind : List ℕ = h.words ++ (h.last ++ rest) in
+    ap be (ap (λ (l : List ℕ). take 4 (drop 4 l)) h.parts ∙ ap (take 4) (drop_at h.bits (h.len ++ behind) 4 h.bits_size) ∙ take_at h.len behind 4 h.len_size)
+
+bitmap_len : (bytes : List ℕ) (b : Bitmap) (rest : List ℕ) → IsBitmap bytes b rest → length bytes ≡ 12 + 8 * number bytes 1 + length rest
+bitmap_len bytes b rest h =
+    let a = length-append h.bits (h.len ++ (h.words ++ (h.last ++ rest))) in
+    let l = length-append h.len (h.words ++ (h.last ++ rest)) in
+    let w = length-append h.words (h.last ++ rest) in
+    let e = length-append h.last rest in
+    omega (arith, ap length h.parts, a, l, w, e, word_count bytes b rest h, h.bits_size, h.len_size, h.words_size, h.last_size)
+
+-- bytes of another length than a bitmap declares are none
+pub no_len : (size : ℕ) (bytes : List ℕ) (b : Bitmap) → has_bitmap_len bytes ≡ false → IsSized size bytes b → ⊥
+no_len size bytes b e s =
+    let len = bitmap_len bytes b [] s.is_bitmap in
+    let t : has_bitmap_len bytes ≡ true = and_from (leb 12 (length bytes)) (eqb (length bytes) (12 + 8 * number bytes 1)) (le-leb 12 (length bytes) (omega arith)) (eq-eqb (length bytes) (12 + 8 * number bytes 1) (omega arith)) in
+    absurd (cc (t, e))
+
+-- and behind a bitmap of its length stands nothing
+pub sized_from : (size : ℕ) (bytes : List ℕ) (b : Bitmap) (rest : List ℕ) → length bytes ≡ size → has_bitmap_len bytes ≡ true → IsBitmap bytes b rest → IsSized size bytes b
+sized_from size bytes b rest len e h =
+    let whole : length bytes ≡ 12 + 8 * number bytes 1 = eqb-true _ _ (and_parts (leb 12 (length bytes)) _ e).1 in
+    let none : length rest ≡ 0 = omega (arith, bitmap_len bytes b rest h) in
+    record { len = len; is_bitmap = subst (λ (l : List ℕ). IsBitmap bytes b l) (nil_from_length rest none) h }
+
+-- where memory is wanted for a bitmap of its length, the bytes are one
+pub wanted : (error : Error) (size : ℕ) (bytes : List ℕ) → Says error bytes → error ≡ errors.Memory → length bytes ≡ size → has_bitmap_len bytes ≡ true → (b : Bitmap) × IsSized size bytes b
+wanted error size bytes says e len whole =
+    let has : HasBitmap bytes = subst (λ (x : Error). Says x bytes) e says in
+    (has.value, sized_from size bytes has.value has.rest len whole has.is_bitmap)
 
 -- ---- the whole
 
-pub front_of : (bytes : List ℕ) (m : Monitor) (h : IsMonitor bytes m) → IsFront bytes m.token (be h.size) h.dirty
+pub front_of : (bytes : List ℕ) (m : Monitor) (h : IsMonitor bytes m) → StartsWithParts bytes m.token (be h.size) h.dirty
 front_of bytes m h = record { version = h.version; token = h.token; size = h.size; parts = h.parts; version_len = h.version_len; is_token = h.is_token; size_len = h.size_len; count_is = refl }
 
 pub monitor_from : (bytes : List ℕ) (token : TokenValue) (count : ℕ) (rest : List ℕ) (dirty : Bitmap) → parts_at bytes ≡ Some (token, count, rest) → IsSized count rest dirty → IsMonitor bytes (record { token = token; dirty = dirty })
@@ -161,10 +176,8 @@ monitor_from bytes token count rest dirty e s =
     let f = parts_takes bytes (token, count, rest) e in
     record { version = f.version; token = f.token; size = f.size; dirty = rest; parts = f.parts; version_len = f.version_len; is_token = f.is_token; size_len = f.size_len; dirty_len = s.len ∙ f.count_is; is_dirty = s.is_bitmap }
 
-pub has_parts : (bytes : List ℕ) (token : TokenValue) (count : ℕ) (rest : List ℕ) → parts_at bytes ≡ Some (token, count, rest) → length rest ≡ count → HasBitmap rest → HasParts bytes
-has_parts bytes token count rest e len has =
-    let f = parts_takes bytes (token, count, rest) e in
-    record { version = f.version; token = f.token; value = token; size = f.size; dirty = rest; parts = f.parts; version_len = f.version_len; is_token = f.is_token; size_len = f.size_len; dirty_len = len ∙ f.count_is; has_bitmap = has }
+pub has_monitor : (bytes : List ℕ) (token : TokenValue) (count : ℕ) (rest : List ℕ) (dirty : Bitmap) → parts_at bytes ≡ Some (token, count, rest) → IsSized count rest dirty → HasMonitor bytes
+has_monitor bytes token count rest dirty e s = record { monitor = record { token = token; dirty = dirty }; is_monitor = monitor_from bytes token count rest dirty e s }
 
 -- the parts that are read are a monitor's own
 pub monitor_parts : (bytes : List ℕ) (token : TokenValue) (count : ℕ) (rest : List ℕ) (m : Monitor) → parts_at bytes ≡ Some (token, count, rest) → IsMonitor bytes m → (m.token ≡ token) × IsSized count rest m.dirty
@@ -191,17 +204,15 @@ one_monitor bytes a b h k =
 
 -- ---- bytes are a monitor or none
 
-sized_by : (size : ℕ) (bytes : List ℕ) (b : Bitmap) (rest : List ℕ) → length bytes ≡ size → IsBitmap bytes b rest → (v : Option Bitmap) × IsRead (IsSized size) bytes v
-sized_by size bytes b [] len h = (Some b, record { len = len; is_bitmap = h })
-sized_by size bytes b (x ∷ rest) len h = (None, λ a s. nothing_behind size bytes b a (x ∷ rest) h (omega arith) s)
+sized_by : (size : ℕ) (bytes : List ℕ) (t : Bool) → has_bitmap_len bytes ≡ t → length bytes ≡ size → (HasBitmap bytes ⊎ ((e : Error) × Lacks e bytes)) → (v : Option Bitmap) × IsRead (IsSized size) bytes v
+sized_by size bytes false e len h = (None, λ b s. no_len size bytes b e s)
+sized_by size bytes true e len (inl has) = (Some has.value, sized_from size bytes has.value has.rest len e has.is_bitmap)
+sized_by size bytes true e len (inr lacks) = (None, λ b s. no_fault bytes lacks.0 (record { value = b; rest = []; is_bitmap = s.is_bitmap }) lacks.1)
 
 sized_reading : (size : ℕ) (bytes : List ℕ) → (v : Option Bitmap) × IsRead (IsSized size) bytes v
 sized_reading size bytes = elim (eqb (length bytes) size) as (λ t. eqb (length bytes) size ≡ t → (v : Option Bitmap) × IsRead (IsSized size) bytes v) [
   | false ↦ λ e. (None, λ b s. eqb-false _ _ e s.len)
-  | true ↦ λ e. elim (bitmap_or_fault bytes) [
-    | inl has ↦ sized_by size bytes has.value has.rest (eqb-true _ _ e) has.is_bitmap
-    | inr lacks ↦ (None, λ b s. no_fault bytes lacks.0 (record { value = b; rest = []; is_bitmap = s.is_bitmap }) lacks.1)
-  ]
+  | true ↦ λ e. sized_by size bytes (has_bitmap_len bytes) refl (eqb-true _ _ e) (bitmap_or_fault bytes)
 ] refl
 
 monitor_by : (bytes : List ℕ) (token : TokenValue) (count : ℕ) (rest : List ℕ) (v : Option Bitmap) → parts_at bytes ≡ Some (token, count, rest) → IsRead (IsSized count) rest v → (m : Option Monitor) × IsRead IsMonitor bytes m
@@ -214,3 +225,6 @@ parts_by bytes (Some x) e = let v = sized_reading x.1 x.2 in monitor_by bytes x.
 
 pub monitor_reading : (bytes : List ℕ) → (m : Option Monitor) × IsRead IsMonitor bytes m
 monitor_reading bytes = parts_by bytes (parts_at bytes) refl
+
+pub monitor_reading_one : (bytes : List ℕ) (v w : Option Monitor) → IsRead IsMonitor bytes v → IsRead IsMonitor bytes w → v ≡ w
+monitor_reading_one bytes = one_read IsMonitor bytes (one_monitor bytes)

@@ -6,14 +6,16 @@ use Rattle.std.proofs.lemmas.List.{length-append}
 use Rattle.std.proofs.lemmas.List.Elements.{All-nil, All-cons}
 use Rattle.std.proofs.lemmas.Option.{same_Some}
 use Rattle.index_parts.proofs.Ids.{id_kind-make_id}
-use Rattle.index_parts.proofs.Splits.{piece_takes, piece_again, split_takes, split_again}
+use Rattle.index_parts.proofs.Splits.{split_takes, split_again}
+use Rattle.index_parts.proofs.Readers.{id_takes, id_again}
+use Rattle.index_parts.specs.declared.hash.ObjectId.{ObjectId}
 use Rattle.index_parts.proofs.Steps.{bind_some}
 use Rattle.index_parts.specs.Id.{id_len, id_kind, make_id}
-use Rattle.index_parts.specs.Reading.{◌>>=◌, piece_at, split_at_byte}
+use Rattle.index_parts.specs.Reading.{◌>>=◌, split_at_byte, object_id_at}
 use Rattle.index_parts.specs.declared.hash.Kind.{Kind}
 use Rattle.index_extensions.specs.Octal.{IsMode}
-use Rattle.index_extensions.specs.ReadingPaths.{mode_of, mode_at, stage_at, path_at}
-use Rattle.index_extensions.specs.ResolveUndo.{PathStages, IsStage, absent, present, IsPath}
+use Rattle.index_extensions.specs.ReadingPaths.{mode_of, mode_at, stage_at, resolve_path_at}
+use Rattle.index_extensions.specs.ResolveUndo.{PathStages, IsStage, absent, present, IsResolvePath}
 use Rattle.index_extensions.specs.declared.extension.resolve_undo.Stage.{Stage}
 use Rattle.index_extensions.proofs.Octals.{mode_takes, mode_again, mode_apart, mode_some}
 
@@ -50,18 +52,19 @@ abbrev IsIdOf : Kind → ℕ → List ℕ → Option Stage → Type 0
 IsIdOf kind mode id stage = (text : List ℕ) → IsMode text mode → IsStage kind text id stage
 
 stage_by : (kind : Kind) (mode : ℕ) (bytes : List ℕ) (x : Option Stage × List ℕ) (t : Bool) → eqb mode 0 ≡ t
-    → cond t (Some (None, bytes)) (piece_at (id_len kind) bytes >>= λ id. Some (Some (record { mode = mode; id = make_id kind id.0 }), id.1)) ≡ Some x
+    → cond t (Some (None, bytes)) (object_id_at kind bytes >>= λ id. Some (Some (record { mode = mode; id = id.0 }), id.1)) ≡ Some x
     → (id : List ℕ) × (bytes ≡ id ++ x.1) × IsIdOf kind mode id x.0
 stage_by kind mode bytes x true z e =
     let none : mode ≡ 0 = eqb-true mode 0 z in
     let is : ◌≡◌ {A = Option Stage × List ℕ} (None, bytes) x = cc (e) in
     subst (λ (y : Option Stage × List ℕ). (id : List ℕ) × (bytes ≡ id ++ y.1) × IsIdOf kind mode id y.0) is ([], refl, λ text m. absent (subst (IsMode text) none m) refl refl)
 stage_by kind mode bytes x false z e =
-    let p = bind_some (piece_at (id_len kind) bytes) (λ id. Some (Some (record { mode = mode; id = make_id kind id.0 }), id.1)) x e in
-    let t = piece_takes (id_len kind) bytes p.0 p.1 in
-    let made : Option Stage × List ℕ = (Some (record { mode = mode; id = make_id kind p.0.0 }), p.0.1) in
+    let p = bind_some (object_id_at kind bytes) (λ id. Some (Some (record { mode = mode; id = id.0 }), id.1)) x e in
+    let t = id_takes kind bytes p.0 p.1 in
+    let with_id : ObjectId → Option Stage = λ id. Some (record { mode = mode; id = id }) in
+    let made : Option Stage × List ℕ = (with_id p.0.0, p.0.1) in
     let is : made ≡ x = cc (p.2) in
-    subst (λ (y : Option Stage × List ℕ). (id : List ℕ) × (bytes ≡ id ++ y.1) × IsIdOf kind mode id y.0) is (p.0.0, t.0, λ text m. present mode m (eqb-false mode 0 z) t.1 refl)
+    subst (λ (y : Option Stage × List ℕ). (id : List ℕ) × (bytes ≡ id ++ y.1) × IsIdOf kind mode id y.0) is (t.spelling, t.parts, λ text m. present mode m (eqb-false mode 0 z) t.size (ap with_id t.value))
 
 stage_takes : (kind : Kind) (mode : ℕ) (bytes : List ℕ) (x : Option Stage × List ℕ) → stage_at kind mode bytes ≡ Some x → (id : List ℕ) × (bytes ≡ id ++ x.1) × IsIdOf kind mode id x.0
 unfolding stage_at
@@ -81,7 +84,7 @@ some_again : (kind : Kind) (mode : ℕ) (id rest : List ℕ) → mode ≢ 0 → 
 unfolding stage_at
 some_again kind mode id rest other len =
     let no : eqb mode 0 ≡ false = ne_eqb mode 0 other in
-    rw (no, piece_again (id_len kind) id rest len) refl
+    rw (no, id_again kind id rest len) refl
 
 stage_again : (kind : Kind) (text id : List ℕ) (stage : Option Stage) → IsStage kind text id stage → IsRereadAs kind text id stage
 stage_again kind text id stage (absent m none is) = record { mode = 0; is_mode = m; again = λ rest. rw (none, is) (none_again kind rest) }
@@ -94,8 +97,8 @@ joined : (bytes name rest0 base rest1 ours rest2 theirs rest3 id1 rest4 id2 rest
     → bytes ≡ name ++ 0 ∷ (base ++ 0 ∷ (ours ++ 0 ∷ (theirs ++ 0 ∷ (id1 ++ (id2 ++ (id3 ++ rest))))))
 joined bytes name rest0 base rest1 ours rest2 theirs rest3 id1 rest4 id2 rest5 id3 rest e f g h i j k = rw (e, f, g, h, i, j, k) refl
 
-pub path_takes : (kind : Kind) (bytes : List ℕ) (x : PathStages × List ℕ) → path_at kind bytes ≡ Some x → IsPath kind bytes x.0 x.1
-unfolding path_at
+pub path_takes : (kind : Kind) (bytes : List ℕ) (x : PathStages × List ℕ) → resolve_path_at kind bytes ≡ Some x → IsResolvePath kind bytes x.0 x.1
+unfolding resolve_path_at
 path_takes kind bytes x e =
     let n = bind_some (split_at_byte 0 bytes) _ x e in
     let a = bind_some (mode_at n.0.1) _ x n.2 in
@@ -113,7 +116,7 @@ path_takes kind bytes x e =
     let theirs_id = stage_takes kind c.0.0 j.0.1 k.0 k.1 in
     let made : PathStages × List ℕ = (record { name = n.0.0; stages = i.0.0 ∷ j.0.0 ∷ k.0.0 ∷ [] }, k.0.1) in
     let is : made ≡ x = same_Some {A = PathStages × List ℕ} made x k.2 in
-    subst (λ (y : PathStages × List ℕ). IsPath kind bytes y.0 y.1) is (record {
+    subst (λ (y : PathStages × List ℕ). IsResolvePath kind bytes y.0 y.1) is (record {
       base = base.0;
       ours = ours.0;
       theirs = theirs.0;
@@ -131,8 +134,8 @@ path_takes kind bytes x e =
       stages_are = refl;
     })
 
-pub path_again : (kind : Kind) (bytes : List ℕ) (p : PathStages) (rest : List ℕ) → IsPath kind bytes p rest → path_at kind bytes ≡ Some (p, rest)
-unfolding path_at
+pub path_again : (kind : Kind) (bytes : List ℕ) (p : PathStages) (rest : List ℕ) → IsResolvePath kind bytes p rest → resolve_path_at kind bytes ≡ Some (p, rest)
+unfolding resolve_path_at
 path_again kind bytes p rest h =
     let base = stage_again kind h.base h.base_id h.base_stage h.is_base in
     let ours = stage_again kind h.ours h.ours_id h.ours_stage h.is_ours in
@@ -154,14 +157,14 @@ path_again kind bytes p rest h =
     rw (name, one, two, three, base.again ids2, ours.again ids1, theirs.again rest) (ap with_stages (sym h.stages_are))
 
 -- bytes have one path
-pub one_path : (kind : Kind) (bytes : List ℕ) (p q : PathStages) (rest end : List ℕ) → IsPath kind bytes p rest → IsPath kind bytes q end → (p ≡ q) × (rest ≡ end)
+pub one_path : (kind : Kind) (bytes : List ℕ) (p q : PathStages) (rest end : List ℕ) → IsResolvePath kind bytes p rest → IsResolvePath kind bytes q end → (p ≡ q) × (rest ≡ end)
 one_path kind bytes p q rest end h k =
     let e = path_again kind bytes p rest h in
     let f = path_again kind bytes q end k in
     let same : ◌≡◌ {A = PathStages × List ℕ} (p, rest) (q, end) = cc in
     (ap (λ (x : PathStages × List ℕ). x.0) same, ap (λ (x : PathStages × List ℕ). x.1) same)
 
-pub path_fewer : (kind : Kind) (bytes : List ℕ) (p : PathStages) (rest : List ℕ) → IsPath kind bytes p rest → length rest < length bytes
+pub path_fewer : (kind : Kind) (bytes : List ℕ) (p : PathStages) (rest : List ℕ) → IsResolvePath kind bytes p rest → length rest < length bytes
 path_fewer kind bytes p rest h =
     let ids : List ℕ = h.base_id ++ (h.ours_id ++ (h.theirs_id ++ rest)) in
     let modes1 : List ℕ = h.theirs ++ 0 ∷ ids in
@@ -185,7 +188,7 @@ stage_kind : (kind : Kind) (text id : List ℕ) (stage : Option Stage) → IsSta
 stage_kind kind text id stage (absent m none is) = subst (IsOf kind) (sym is) tt
 stage_kind kind text id stage (present mode m other len is) = subst (IsOf kind) (sym is) (id_kind-make_id kind id)
 
-pub path_kind : (kind : Kind) (bytes : List ℕ) (p : PathStages) (rest : List ℕ) → IsPath kind bytes p rest → All (IsOf kind) p.stages
+pub path_kind : (kind : Kind) (bytes : List ℕ) (p : PathStages) (rest : List ℕ) → IsResolvePath kind bytes p rest → All (IsOf kind) p.stages
 path_kind kind bytes p rest h =
     let base = stage_kind kind h.base h.base_id h.base_stage h.is_base in
     let ours = stage_kind kind h.ours h.ours_id h.ours_stage h.is_ours in

@@ -1,17 +1,18 @@
 -- A row of nodes behind a head, as it is read: one more at its end, and the first taken off.
-use Rattle.std.proofs.Common.{◌≡◌, ℕ, zero, suc, ◌-◌, ◌<◌, ◌≤◌, List, [], ◌∷◌, ◌++◌, Option, Some, None, refl, sym, ap, subst, arith}
+use Rattle.std.proofs.Common.{◌≡◌, ℕ, suc, ◌-◌, ◌<◌, ◌≤◌, List, [], ◌∷◌, ◌++◌, Option, Some, None, refl, sym, ap, subst, ◌∙◌, arith}
 use Rattle.std.specs.List.Sorted.{IsPermutation}
 use Rattle.index_parts.specs.declared.hash.Kind.{Kind}
-use Rattle.index_extensions.specs.Reading.{head_at}
-use Rattle.index_extensions.specs.Tree.{Node, Nodes, node, none, more, nodes_from, Head, IsHead, IsSpelled, AreSpelled, node_depth, nodes_depth, NamesRise, Sorts, SortsEach, IsNode}
-use Rattle.index_extensions.proofs.Heads.{one_head, head_takes}
-use Rattle.index_extensions.proofs.Spelled.{depth_push, one_row, spelled_push, no_node}
+use Rattle.index_extensions.specs.Reading.{roomy_head_at}
+use Rattle.index_extensions.specs.Tree.{Node, Nodes, node, none, more, how_many_nodes, nodes_from, NodeHead, IsNodeHead, IsSpelled, AreSpelled, node_depth, nodes_depth, NamesRise, Sorts, SortsEach, IsNode}
+use Rattle.index_extensions.proofs.NodeHeads.{one_node_head, roomy_head_takes}
+use Rattle.index_extensions.proofs.Spelled.{depth_push, number_push, one_row, spelled_push, no_node}
 use Rattle.index_extensions.proofs.Trees.{each_once, one_subtree}
 
 -- bytes spell so many nodes that lie in so many levels, and the rest; ts are these nodes, the children of each one sorted
 pub record IsRow (kind : Kind) (limit : Option ℕ) (levels number : ℕ) (bytes : List ℕ) (ts : List Node) (rest : List ℕ) : Type 0 where
   pub nodes : List Node
-  pub spelled : AreSpelled kind limit (nodes_from nodes) number bytes rest
+  pub spelled : AreSpelled kind limit (nodes_from nodes) bytes rest
+  pub number_is : how_many_nodes (nodes_from nodes) ≡ number
   pub shallow : nodes_depth (nodes_from nodes) ≤ levels
   pub sorted : SortsEach (nodes_from nodes) ts
 
@@ -21,23 +22,24 @@ each_push (x ∷ us) u t ts p q = (p.0, p.1 ++ t ∷ [], ap (λ zs. zs ++ t ∷ 
 
 module _ (kind : Kind) (limit : Option ℕ) (levels : ℕ) where
   pub no_row : (bytes : List ℕ) → IsRow kind limit levels 0 bytes [] bytes
-  no_row bytes = record { nodes = []; spelled = refl; shallow = omega arith; sorted = refl }
+  no_row bytes = record { nodes = []; spelled = refl; number_is = refl; shallow = omega arith; sorted = refl }
 
   pub row_push : (number : ℕ) (bytes middle rest : List ℕ) (ts : List Node) (t : Node) → 1 ≤ levels → IsRow kind limit levels number bytes ts middle → IsNode kind limit (levels - 1) middle t rest → IsRow kind limit levels (suc number) bytes (ts ++ t ∷ []) rest
   row_push number bytes middle rest ts t some p q = record {
     nodes = p.nodes ++ q.spelled ∷ [];
-    spelled = spelled_push kind limit p.nodes q.spelled number bytes middle rest p.spelled q.spells;
+    spelled = spelled_push kind limit p.nodes q.spelled bytes middle rest p.spelled q.spells;
+    number_is = number_push p.nodes q.spelled ∙ ap suc p.number_is;
     shallow = omega (arith, depth_push p.nodes q.spelled, p.shallow, q.shallow);
     sorted = each_push p.nodes q.spelled t ts p.sorted q.sorts;
   }
 
   pub same_row : (number : ℕ) (bytes rest end : List ℕ) (ts vs : List Node) → IsRow kind limit levels number bytes ts rest → IsRow kind limit levels number bytes vs end → ts ≡ vs
   same_row number bytes rest end ts vs p q =
-      let same = (one_row kind limit (nodes_from p.nodes) (nodes_from q.nodes) number bytes rest end p.spelled q.spelled).0 in
+      let same = (one_row kind limit (nodes_from p.nodes) (nodes_from q.nodes) bytes rest end (p.number_is ∙ sym q.number_is) p.spelled q.spelled).0 in
       each_once (nodes_from p.nodes) ts vs p.sorted (subst (λ (us : Nodes). SortsEach us vs) (sym same) q.sorted)
 
   -- a row that isn't empty has a first node, one level down
-  pub record HasFirst (number : ℕ) (bytes rest : List ℕ) : Type 0 where
+  pub record HasFirstNode (number : ℕ) (bytes rest : List ℕ) : Type 0 where
     pub first : Node
     pub after : List ℕ
     pub others : List Node
@@ -45,23 +47,20 @@ module _ (kind : Kind) (limit : Option ℕ) (levels : ℕ) where
     pub is_first : IsNode kind limit (levels - 1) bytes first after
     pub behind : IsRow kind limit levels (number - 1) after others rest
 
-  first_by : (us ts : List Node) (number : ℕ) (bytes rest : List ℕ) → 0 < number → AreSpelled kind limit (nodes_from us) number bytes rest → nodes_depth (nodes_from us) ≤ levels → SortsEach (nodes_from us) ts → HasFirst number bytes rest
-  first_by [] ts zero bytes rest some p d s = absurd (omega arith)
-  first_by [] ts (suc k) bytes rest some p d s = absurd p
-  first_by (u ∷ us) ts zero bytes rest some p d s = absurd p
-  first_by (u ∷ us) ts (suc k) bytes rest some p d s =
-      let fewer : suc k - 1 ≡ k = omega arith in
+  first_by : (us ts : List Node) (number : ℕ) (bytes rest : List ℕ) → 0 < number → AreSpelled kind limit (nodes_from us) bytes rest → how_many_nodes (nodes_from us) ≡ number → nodes_depth (nodes_from us) ≤ levels → SortsEach (nodes_from us) ts → HasFirstNode number bytes rest
+  first_by [] ts number bytes rest some p e d s = absurd (omega arith)
+  first_by (u ∷ us) ts number bytes rest some p e d s =
       record {
         first = s.0;
         after = p.0;
         others = s.1;
         level = omega arith;
         is_first = record { spelled = u; spells = p.1; shallow = omega arith; sorts = s.3 };
-        behind = record { nodes = us; spelled = rw fewer p.2; shallow = omega arith; sorted = s.4 };
+        behind = record { nodes = us; spelled = p.2; number_is = omega arith; shallow = omega arith; sorted = s.4 };
       }
 
-  pub first_of : (number : ℕ) (bytes rest : List ℕ) (ts : List Node) → 0 < number → IsRow kind limit levels number bytes ts rest → HasFirst number bytes rest
-  first_of number bytes rest ts some p = first_by p.nodes ts number bytes rest some p.spelled p.shallow p.sorted
+  pub first_of : (number : ℕ) (bytes rest : List ℕ) (ts : List Node) → 0 < number → IsRow kind limit levels number bytes ts rest → HasFirstNode number bytes rest
+  first_of number bytes rest ts some p = first_by p.nodes ts number bytes rest some p.spelled p.number_is p.shallow p.sorted
 
   -- behind a first node that was read stand the others
   pub others_of : (number : ℕ) (bytes after rest : List ℕ) (ts : List Node) (t : Node) → 0 < number → IsRow kind limit levels number bytes ts rest → IsNode kind limit (levels - 1) bytes t after → (vs : List Node) × IsRow kind limit levels (number - 1) after vs rest
@@ -72,10 +71,10 @@ module _ (kind : Kind) (limit : Option ℕ) (levels : ℕ) where
 
   -- ---- a node with its row
 
-  pub node_from : (bytes tail rest : List ℕ) (h : Head) (ts vs : List Node) → head_at kind limit bytes ≡ Some (h, tail) → IsRow kind limit levels h.number tail ts rest → IsPermutation ts vs → NamesRise vs → IsNode kind limit levels bytes (node h.name h.id h.count (nodes_from vs)) rest
+  pub node_from : (bytes tail rest : List ℕ) (h : NodeHead) (ts vs : List Node) → roomy_head_at kind limit bytes ≡ Some (h, tail) → IsRow kind limit levels h.number tail ts rest → IsPermutation ts vs → NamesRise vs → IsNode kind limit levels bytes (node h.name h.id h.count (nodes_from vs)) rest
   node_from bytes tail rest h ts vs e p order rise = record {
     spelled = node h.name h.id h.count (nodes_from p.nodes);
-    spells = (h.number, tail, head_takes kind limit bytes (h, tail) e, p.spelled);
+    spells = (tail, subst (λ (n : ℕ). IsNodeHead kind limit bytes (record { name = h.name; count = h.count; id = h.id; number = n }) tail) (sym p.number_is) (roomy_head_takes kind limit bytes h tail e).0, p.spelled);
     shallow = p.shallow;
     sorts = (ts, p.sorted, (vs, order, rise, refl));
   }
@@ -91,18 +90,18 @@ module _ (kind : Kind) (limit : Option ℕ) (levels : ℕ) where
     pub order : IsPermutation nodes ordered
     pub rise : NamesRise ordered
 
-  row_by : (bytes tail rest : List ℕ) (h : Head) (u t : Node) → IsHead kind limit bytes h tail → IsSpelled kind limit u bytes rest → node_depth u ≤ levels → Sorts u t → HasRow h.number tail rest
+  row_by : (bytes tail rest : List ℕ) (h : NodeHead) (u t : Node) → IsNodeHead kind limit bytes h tail → IsSpelled kind limit u bytes rest → node_depth u ≤ levels → Sorts u t → HasRow h.number tail rest
   row_by bytes tail rest h (node n i c us) t is p d s =
-      let same = one_head kind limit bytes (record { name = n; count = c; id = i; number = p.0 }) h p.1 tail p.2 is in
-      let number : h.number ≡ p.0 = sym (ap (λ (x : Head). x.number) same.0) in
-      let after : tail ≡ p.1 = sym same.1 in
-      let kids : AreSpelled kind limit us h.number tail rest = rw (number, after) p.3 in
+      let same = one_node_head kind limit bytes (record { name = n; count = c; id = i; number = how_many_nodes us }) h p.0 tail p.1 is in
+      let number : how_many_nodes us ≡ h.number = ap (λ (x : NodeHead). x.number) same.0 in
+      let kids : AreSpelled kind limit us tail rest = subst (λ (l : List ℕ). AreSpelled kind limit us l rest) same.1 p.2 in
       let list = listed us in
       record {
         nodes = s.0;
         row = record {
           nodes = list.0;
-          spelled = subst (λ (vs : Nodes). AreSpelled kind limit vs h.number tail rest) list.1 kids;
+          spelled = subst (λ (vs : Nodes). AreSpelled kind limit vs tail rest) list.1 kids;
+          number_is = subst (λ (vs : Nodes). how_many_nodes vs ≡ h.number) list.1 number;
           shallow = subst (λ (vs : Nodes). nodes_depth vs ≤ levels) list.1 d;
           sorted = subst (λ (vs : Nodes). SortsEach vs s.0) list.1 s.1;
         };
@@ -112,9 +111,9 @@ module _ (kind : Kind) (limit : Option ℕ) (levels : ℕ) where
       }
 
   -- the row of a node whose head was read
-  pub row_of : (bytes tail rest : List ℕ) (h : Head) (t : Node) → head_at kind limit bytes ≡ Some (h, tail) → IsNode kind limit levels bytes t rest → HasRow h.number tail rest
-  row_of bytes tail rest h t e p = row_by bytes tail rest h p.spelled t (head_takes kind limit bytes (h, tail) e) p.spells p.shallow p.sorts
+  pub row_of : (bytes tail rest : List ℕ) (h : NodeHead) (t : Node) → roomy_head_at kind limit bytes ≡ Some (h, tail) → IsNode kind limit levels bytes t rest → HasRow h.number tail rest
+  row_of bytes tail rest h t e p = row_by bytes tail rest h p.spelled t (roomy_head_takes kind limit bytes h tail e).0 p.spells p.shallow p.sorts
 
   -- where no head is read, no node stands
-  pub none_at : (bytes : List ℕ) → head_at kind limit bytes ≡ None → (t : Node) (rest : List ℕ) → IsNode kind limit levels bytes t rest → ⊥
+  pub none_at : (bytes : List ℕ) → roomy_head_at kind limit bytes ≡ None → (t : Node) (rest : List ℕ) → IsNode kind limit levels bytes t rest → ⊥
   none_at bytes e t rest p = no_node kind limit p.spelled bytes rest e p.spells

@@ -13,7 +13,7 @@ use Rattle.index_parts.specs.declared.hash.Kind.{Kind}
 use Rattle.index_parts.proofs.BitmapFaults.{bitmap_or_fault, no_fault}
 use Rattle.index_parts.proofs.Unpackings.{le_or_lt, stand_for_unpacked, one_unpacking}
 use Rattle.index_extensions.specs.Blocks.{DirectoryValue}
-use Rattle.index_extensions.specs.Marks.{ListsBelow, Marks, AreMarks, ArePieces, marked, IsTail}
+use Rattle.index_extensions.specs.Marks.{ListsBelow, Marks, AreMarks, ArePieces, with_marks, IsTail}
 use Rattle.index_extensions.proofs.BitmapPlaces.{oks, one_list, Lists, bitmap_is}
 use Rattle.index_extensions.proofs.BlockReadings.{decided_by}
 use Rattle.index_extensions.proofs.EqualPieces.{no_pieces, pieces_push, pieces_len}
@@ -145,7 +145,7 @@ module _ (kind : Kind) (bare : List DirectoryValue) (bytes : List ℕ) where
   module _ (m : Marks) (behind : List ℕ) (are_marks : AreMarks (length bare) bytes m behind) where
     last_by : (stats : List (List ℕ)) (after : List ℕ) (ids : List (List ℕ)) (rest : List ℕ) → ArePieces 36 (length m.valid) behind stats after → ArePieces (id_len kind) (length m.hash_valid) after ids rest → (length rest ≡ 1) ⊎ (length rest ≡ 1 → ⊥) → TailAt
     last_by stats after ids rest s i (inl one) =
-        let ds : List DirectoryValue = map (λ x. marked kind m stats ids x.0 x.1) (enumerate_from 0 bare) in
+        let ds : List DirectoryValue = map (λ x. with_marks kind m stats ids x.0 x.1) (enumerate_from 0 bare) in
         inl (ds, tail_from kind bare bytes m behind stats after ids rest ds are_marks s i one refl)
     last_by stats after ids rest s i (inr other) = inr (λ ds t. other (one_left kind bare bytes m behind stats after ids rest (pieces_of kind bare bytes m behind ds are_marks t) s i))
 

@@ -3,8 +3,8 @@ use Rattle.std.proofs.Common.{◌≡◌, ℕ, zero, suc, ◌-◌, inl, inr, List
 use Rattle.std.specs.List.Sorted.{IsPermutation}
 use Rattle.index_parts.specs.declared.hash.Kind.{Kind}
 use Rattle.index_extensions.specs.Contents.{IsRead}
-use Rattle.index_extensions.specs.Reading.{head_at}
-use Rattle.index_extensions.specs.Tree.{Node, node, nodes_from, Head, NamesRise, IsNode, IsTree}
+use Rattle.index_extensions.specs.Reading.{roomy_head_at}
+use Rattle.index_extensions.specs.Tree.{Node, node, nodes_from, NodeHead, NamesRise, IsNode, IsTree}
 use Rattle.index_extensions.proofs.Orders.{sort_reading}
 use Rattle.index_extensions.proofs.Readings.{Decided, read_of, one_read}
 use Rattle.index_extensions.proofs.Rows.{IsRow, no_row, same_row, first_of, others_of, node_from, row_of, none_at}
@@ -25,6 +25,7 @@ module _ (kind : Kind) (limit : Option ℕ) where
   row_cons level number bytes middle rest t ts p q = record {
     nodes = p.spelled ∷ q.nodes;
     spelled = (middle, p.spells, q.spelled);
+    number_is = omega (arith, q.number_is);
     shallow = omega (arith, p.shallow, q.shallow);
     sorted = (t, ts, refl, p.sorts, q.sorted);
   }
@@ -66,26 +67,26 @@ module _ (kind : Kind) (limit : Option ℕ) where
 
   -- ---- a node
 
-  node_sorted : (levels : ℕ) (bytes tail rest : List ℕ) (h : Head) (ts : List Node) → head_at kind limit bytes ≡ Some (h, tail) → IsRow kind limit levels h.number tail ts rest → Decided (λ (vs : List Node). IsPermutation ts vs × NamesRise vs) → NodeAt levels bytes
+  node_sorted : (levels : ℕ) (bytes tail rest : List ℕ) (h : NodeHead) (ts : List Node) → roomy_head_at kind limit bytes ≡ Some (h, tail) → IsRow kind limit levels h.number tail ts rest → Decided (λ (vs : List Node). IsPermutation ts vs × NamesRise vs) → NodeAt levels bytes
   node_sorted levels bytes tail rest h ts e p (inl s) = inl ((node h.name h.id h.count (nodes_from s.0), rest), node_from kind limit levels bytes tail rest h ts s.0 e p s.1.0 s.1.1)
   node_sorted levels bytes tail rest h ts e p (inr no_order) = inr (λ x q.
       let r = row_of kind limit levels bytes tail x.1 h x.0 e q in
       let same : r.nodes ≡ ts = same_row kind limit levels h.number tail x.1 rest r.nodes ts r.row p in
       no_order r.ordered (subst (λ (us : List Node). IsPermutation us r.ordered) same r.order, r.rise))
 
-  node_with : (levels : ℕ) (bytes tail : List ℕ) (h : Head) → head_at kind limit bytes ≡ Some (h, tail) → RowAt levels h.number tail → NodeAt levels bytes
+  node_with : (levels : ℕ) (bytes tail : List ℕ) (h : NodeHead) → roomy_head_at kind limit bytes ≡ Some (h, tail) → RowAt levels h.number tail → NodeAt levels bytes
   node_with levels bytes tail h e (inl p) = node_sorted levels bytes tail p.0.1 h p.0.0 e p.1 (sort_reading p.0.0)
   node_with levels bytes tail h e (inr none_below) = inr (λ x q.
       let r = row_of kind limit levels bytes tail x.1 h x.0 e q in
       none_below (r.nodes, x.1) r.row)
 
-  node_by : (levels : ℕ) (bytes : List ℕ) → ((number : ℕ) (tail : List ℕ) → RowAt levels number tail) → (o : Option (Head × List ℕ)) → head_at kind limit bytes ≡ o → NodeAt levels bytes
+  node_by : (levels : ℕ) (bytes : List ℕ) → ((number : ℕ) (tail : List ℕ) → RowAt levels number tail) → (o : Option (NodeHead × List ℕ)) → roomy_head_at kind limit bytes ≡ o → NodeAt levels bytes
   node_by levels bytes row None e = inr (λ x q. none_at kind limit levels bytes e x.0 x.1 q)
   node_by levels bytes row (Some h) e = node_with levels bytes h.1 h.0 e (row h.0.number h.1)
 
   pub node_reading : (levels : ℕ) (bytes : List ℕ) → NodeAt levels bytes
-  node_reading zero bytes = node_by 0 bytes row_last (head_at kind limit bytes) refl
-  node_reading (suc level) bytes = node_by (suc level) bytes (row_below level (λ middle. node_reading level middle)) (head_at kind limit bytes) refl
+  node_reading zero bytes = node_by 0 bytes row_last (roomy_head_at kind limit bytes) refl
+  node_reading (suc level) bytes = node_by (suc level) bytes (row_below level (λ middle. node_reading level middle)) (roomy_head_at kind limit bytes) refl
 
   -- ---- the tree
 

@@ -1,12 +1,12 @@
 -- Bytes are one tree, the ids in it are of one kind, and its levels are bounded.
-use Rattle.std.proofs.Common.{◌≡◌, ℕ, zero, suc, ◌+◌, ◌-◌, ◌≤◌, List, [], ◌∷◌, Option, sym, ap, subst, ◌∙◌, arith}
+use Rattle.std.proofs.Common.{◌≡◌, ℕ, ◌+◌, ◌-◌, ◌≤◌, List, [], ◌∷◌, Option, sym, ap, subst, ◌∙◌, arith}
 use Rattle.std.specs.List.{AllByRecursion}
 use Rattle.std.specs.List.Sorted.{IsPermutation}
 use Rattle.std.proofs.lemmas.List.Elements.{All-from_recursion, recursion_from_All}
 use Rattle.std.proofs.lemmas.List.Sorted.{IsPermutation-sym, IsPermutation-trans, All-permutation}
 use Rattle.index_parts.specs.declared.hash.Kind.{Kind}
-use Rattle.index_extensions.specs.Tree.{Node, Nodes, node, none, more, nodes_from, IsSpelled, AreSpelled, node_depth, nodes_depth, NodeIdsAreOf, NodesIdsAreOf, Sorts, SortsEach, IsNode, IsTree}
-use Rattle.index_extensions.proofs.Heads.{head_kind}
+use Rattle.index_extensions.specs.Tree.{Node, Nodes, node, none, more, how_many_nodes, nodes_from, IsSpelled, AreSpelled, node_depth, nodes_depth, NodeIdsAreOf, NodesIdsAreOf, Sorts, SortsEach, IsNode, IsTree}
+use Rattle.index_extensions.proofs.NodeHeads.{head_kind}
 use Rattle.index_extensions.proofs.Sorted.{one_order}
 use Rattle.index_extensions.proofs.Spelled.{one_node}
 
@@ -44,12 +44,11 @@ moved P ts vs h a = recursion_from_All P vs (All-permutation P ts vs h (All-from
 
 mutual
   spelled_ids : (kind : Kind) (limit : Option ℕ) (t : Node) (bytes rest : List ℕ) → IsSpelled kind limit t bytes rest → NodeIdsAreOf kind t
-  spelled_ids kind limit (node n i c ts) bytes rest p = (head_kind kind limit bytes (record { name = n; count = c; id = i; number = p.0 }) p.1 p.2, row_ids kind limit ts p.0 p.1 rest p.3)
+  spelled_ids kind limit (node n i c ts) bytes rest p = (head_kind kind limit bytes (record { name = n; count = c; id = i; number = how_many_nodes ts }) p.0 p.1, row_ids kind limit ts p.0 rest p.2)
 
-  row_ids : (kind : Kind) (limit : Option ℕ) (ts : Nodes) (number : ℕ) (bytes rest : List ℕ) → AreSpelled kind limit ts number bytes rest → NodesIdsAreOf kind ts
-  row_ids kind limit none number bytes rest p = tt
-  row_ids kind limit (more t ts) zero bytes rest p = absurd p
-  row_ids kind limit (more t ts) (suc k) bytes rest p = (spelled_ids kind limit t bytes p.0 p.1, row_ids kind limit ts k p.0 rest p.2)
+  row_ids : (kind : Kind) (limit : Option ℕ) (ts : Nodes) (bytes rest : List ℕ) → AreSpelled kind limit ts bytes rest → NodesIdsAreOf kind ts
+  row_ids kind limit none bytes rest p = tt
+  row_ids kind limit (more t ts) bytes rest p = (spelled_ids kind limit t bytes p.0 p.1, row_ids kind limit ts p.0 rest p.2)
 
 ids_from : (kind : Kind) (ts : List Node) → AllByRecursion (NodeIdsAreOf kind) ts → NodesIdsAreOf kind (nodes_from ts)
 ids_from kind [] h = tt

@@ -1,9 +1,9 @@
 -- The walk over extensions: all bytes have one, and one alone; and what the steps of an iterator say of it.
-use Rattle.std.proofs.Common.{◌≡◌, ℕ, zero, suc, ◌+◌, ◌-◌, ◌%◌, ◌^◌, ◌<◌, ◌≤◌, Bool, true, false, ltb, List, [], ◌∷◌, ◌++◌, length, Option, Some, None, refl, sym, ap, subst, ◌∙◌, arith}
+use Rattle.std.proofs.Common.{◌≡◌, ℕ, zero, suc, ◌+◌, ◌%◌, ◌^◌, ◌<◌, ◌≤◌, Bool, true, false, ltb, List, [], ◌∷◌, ◌++◌, length, Option, Some, None, refl, sym, ap, subst, ◌∙◌, arith}
 use Rattle.std.specs.Prelude.{MatchBool}
-use Rattle.std.proofs.lemmas.Bool.{ltb-true, ltb-false}
+use Rattle.std.proofs.lemmas.Bool.{ltb-false}
 use Rattle.index_extensions.specs.Reading.{item_at}
-use Rattle.index_extensions.specs.Walk.{Item, IsItem, AreItems, NoItem, IsWalk, left_of, Steps}
+use Rattle.index_extensions.specs.Walk.{Item, IsItem, AreItems, NoItem, IsWalk, left_of, Cursor, Steps}
 use Rattle.index_extensions.proofs.Items.{item_takes, no_item, one_item, item_len, short_item}
 
 -- ---- extensions one after another
@@ -53,29 +53,25 @@ walk_one bytes (x ∷ xs) (y ∷ ys) r s h k =
 -- ---- the steps of an iterator over bytes that begin with items, of which so many were consumed
 
 -- the extension that a step took
-abbrev pub step_item : (x : List ℕ × List ℕ) (before : List ℕ) (count : ℕ) (after : List ℕ) (counted : ℕ) → Steps before count (Some x) after counted → Item
-step_item x before count after counted h = record { signature = x.0; size = h.0; content = x.1 }
+abbrev pub step_item : (x : List ℕ × List ℕ) (before after : Cursor) → Steps before (Some x) after → Item
+step_item x before after h = record { signature = x.0; size = h.size; content = x.1 }
 
 -- is one more
-pub step_more : (bytes : List ℕ) (items : List Item) (x : List ℕ × List ℕ) (before : List ℕ) (count : ℕ) (after : List ℕ) (counted : ℕ)
-    → AreItems bytes items before → (h : Steps before count (Some x) after counted) → AreItems bytes (items ++ step_item x before count after counted h ∷ []) after
-step_more bytes items x before count after counted are h = items_push bytes items (step_item x before count after counted h) before after are h.1
+pub step_more : (bytes : List ℕ) (items : List Item) (x : List ℕ × List ℕ) (before after : Cursor) → AreItems bytes items before.rest → (h : Steps before (Some x) after) → AreItems bytes (items ++ step_item x before after h ∷ []) after.rest
+step_more bytes items x before after are h = items_push bytes items (step_item x before after h) before.rest after.rest are h.is_item
 
 -- and is counted
-pub step_counts : (total : ℕ) (x : List ℕ × List ℕ) (before : List ℕ) (count : ℕ) (after : List ℕ) (counted : ℕ)
-    → total < 2 ^ 64 → count + length before ≡ total → Steps before count (Some x) after counted → counted + length after ≡ total
-step_counts total x before count after counted lt is h = omega (arith, item_len before (step_item x before count after counted h) after h.1, h.2)
+pub step_counts : (total : ℕ) (x : List ℕ × List ℕ) (before after : Cursor) → total < 2 ^ 64 → before.consumed + length before.rest ≡ total → Steps before (Some x) after → after.consumed + length after.rest ≡ total
+step_counts total x before after lt is h = omega (arith, item_len before.rest (step_item x before after h) after.rest h.is_item, h.counted)
 
 -- a step that takes none ends the walk
-pub step_ends : (bytes : List ℕ) (items : List Item) (before : List ℕ) (count : ℕ) (after : List ℕ) (counted : ℕ)
-    → AreItems bytes items before → Steps before count None after counted → IsWalk bytes items before
-step_ends bytes items before count after counted are h = record { items_are = are; ended = h.0 }
+pub step_ends : (bytes : List ℕ) (items : List Item) (before after : Cursor) → AreItems bytes items before.rest → Steps before None after → IsWalk bytes items before.rest
+step_ends bytes items before after are h = record { items_are = are; ended = h.ended }
 
 -- and what it leaves uncounted is what the tail leaves
-pub step_leaves : (total : ℕ) (before : List ℕ) (count : ℕ) (after : List ℕ) (counted : ℕ)
-    → total < 2 ^ 64 → count + length before ≡ total → Steps before count None after counted → counted + left_of before ≡ total
-step_leaves total before count after counted lt is h = by (ltb (length before) 8) refl h.1
+pub step_leaves : (total : ℕ) (before after : Cursor) → total < 2 ^ 64 → before.consumed + length before.rest ≡ total → Steps before None after → after.consumed + left_of before.rest ≡ total
+step_leaves total before after lt is h = by (ltb (length before.rest) 8) refl h.leaves
   where
-    by : (b : Bool) → ltb (length before) 8 ≡ b → MatchBool b ((after ≡ before) × (counted ≡ count)) ((after ≡ []) × (counted ≡ (count + 8) % 2 ^ 64)) → counted + left_of before ≡ total
+    by : (b : Bool) → ltb (length before.rest) 8 ≡ b → MatchBool b ((after.rest ≡ before.rest) × (after.consumed ≡ before.consumed)) ((after.rest ≡ []) × (after.consumed ≡ (before.consumed + 8) % 2 ^ 64)) → after.consumed + left_of before.rest ≡ total
     by true e k = rw e (omega (arith, k.1))
-    by false e k = let long : 8 ≤ length before = ltb-false _ _ e in rw e (omega (arith, k.1))
+    by false e k = let long : 8 ≤ length before.rest = ltb-false _ _ e in rw e (omega (arith, k.1))

@@ -6,7 +6,7 @@ use Rattle.index_parts.specs.Front.{IsUpTo}
 use Rattle.index_parts.specs.Offset.{IsOffset}
 use Rattle.index_parts.specs.declared.entry.stat.Stat.{Stat}
 use Rattle.index_parts.specs.declared.hash.ObjectId.{ObjectId}
-use Rattle.index_extensions.specs.Limit.{passes_limit}
+use Rattle.index_parts.specs.Limit.{IsWithin}
 use Rattle.index_extensions.specs.declared.extension.untracked_cache.Directory.{Directory}
 
 mutual
@@ -18,19 +18,19 @@ mutual
     none : Blocks
     more : (first : Block) (others : Blocks) → Blocks
 
-abbrev pub how_many : Blocks → ℕ
-how_many none = 0
-how_many (more b bs) = how_many bs + 1
+abbrev pub how_many_blocks : Blocks → ℕ
+how_many_blocks none = 0
+how_many_blocks (more b bs) = how_many_blocks bs + 1
 
 -- what a block begins with: how many untracked names and how many directories are in it, and its name
-pub record Head : Type 0 where
+pub record BlockHead : Type 0 where
   pub untracked : ℕ
   pub subs : ℕ
   pub name : List ℕ
 
 -- The two numbers as offset numbers, the name up to a NUL, and the rest. Each number is at most half the number of bytes in the
 -- rest. At 24 bytes an untracked name, and at 8 bytes a directory, they are within the limit.
-pub record IsHead (limit : Option ℕ) (bytes : List ℕ) (h : Head) (rest : List ℕ) : Type 0 where
+pub record IsBlockHead (limit : Option ℕ) (bytes : List ℕ) (h : BlockHead) (rest : List ℕ) : Type 0 where
   pub first : List ℕ
   pub second : List ℕ
   pub parts : bytes ≡ first ++ (second ++ (h.name ++ 0 ∷ rest))
@@ -39,13 +39,13 @@ pub record IsHead (limit : Option ℕ) (bytes : List ℕ) (h : Head) (rest : Lis
   pub is_name : IsUpTo 0 (h.name ++ 0 ∷ rest) h.name rest
   pub room_for_untracked : h.untracked ≤ length rest / 2
   pub room_for_subs : h.subs ≤ length rest / 2
-  pub untracked_within : passes_limit limit (24 * h.untracked) ≡ false
-  pub subs_within : passes_limit limit (8 * h.subs) ≡ false
+  pub untracked_within : IsWithin limit (24 * h.untracked)
+  pub subs_within : IsWithin limit (8 * h.subs)
 
-pub record HasHead (limit : Option ℕ) (bytes : List ℕ) : Type 0 where
-  pub head : Head
+pub record HasBlockHead (limit : Option ℕ) (bytes : List ℕ) : Type 0 where
+  pub head : BlockHead
   pub rest : List ℕ
-  pub is_head : IsHead limit bytes head rest
+  pub is_head : IsBlockHead limit bytes head rest
 
 -- bytes are these names, each up to a NUL, one after another, and the rest
 abbrev pub AreNames : List ℕ → List (List ℕ) → List ℕ → Type 0
@@ -56,7 +56,7 @@ abbrev mutual
   -- bytes are a block, with its names and all blocks in it behind its head, and the rest
   pub IsBlock : Option ℕ → List ℕ → Block → List ℕ → Type 0
   IsBlock limit bytes (block name untracked subs) rest =
-      (names : List ℕ) × (nested : List ℕ) × IsHead limit bytes (record { untracked = length untracked; subs = how_many subs; name = name }) names × AreNames names untracked nested × AreBlocks limit nested subs rest
+      (names : List ℕ) × (nested : List ℕ) × IsBlockHead limit bytes (record { untracked = length untracked; subs = how_many_blocks subs; name = name }) names × AreNames names untracked nested × AreBlocks limit nested subs rest
 
   -- bytes are these blocks, one after another, and the rest
   pub AreBlocks : Option ℕ → List ℕ → Blocks → List ℕ → Type 0
@@ -90,8 +90,8 @@ pub record DirectoryValue : Type 0 where
   pub exclude : Option ObjectId
   pub check_only : Bool
 
-abbrev pub value_of : Directory → DirectoryValue
-value_of d = record {
+abbrev pub directory_value : Directory → DirectoryValue
+directory_value d = record {
   name = bstring_bytes d.name;
   untracked = map bstring_bytes d.untracked_entries.items;
   subs = d.sub_directories.items;
@@ -101,8 +101,8 @@ value_of d = record {
 }
 
 -- a directory of which nothing else is known
-abbrev pub unmarked : List ℕ → List (List ℕ) → List ℕ → DirectoryValue
-unmarked name untracked subs = record { name = name; untracked = untracked; subs = subs; stat = None; exclude = None; check_only = false }
+abbrev pub bare_directory : List ℕ → List (List ℕ) → List ℕ → DirectoryValue
+bare_directory name untracked subs = record { name = name; untracked = untracked; subs = subs; stat = None; exclude = None; check_only = false }
 
 -- the places of blocks, the first at this place, where all that is in a block stands behind it
 abbrev pub places_from : ℕ → Blocks → List ℕ
@@ -112,7 +112,7 @@ places_from place (more b bs) = place ∷ places_from (place + block_size b) bs
 abbrev mutual
   -- the directories of a block in preorder, the first at this place
   pub listed : ℕ → Block → List DirectoryValue
-  listed place (block name untracked subs) = unmarked name untracked (places_from (place + 1) subs) ∷ all_listed (place + 1) subs
+  listed place (block name untracked subs) = bare_directory name untracked (places_from (place + 1) subs) ∷ all_listed (place + 1) subs
 
   pub all_listed : ℕ → Blocks → List DirectoryValue
   all_listed place none = []

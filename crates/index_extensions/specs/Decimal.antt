@@ -6,15 +6,15 @@ abbrev pub IsDigit : ℕ → Type 0
 IsDigit b = (48 ≤ b) × (b ≤ 57)
 
 -- what digits stand for, by their places
-abbrev pub digits_value : List ℕ → ℕ
-digits_value [] = 0
-digits_value (b ∷ text) = (b - 48) * 10 ^ length text + digits_value text
+abbrev pub decimal_value : List ℕ → ℕ
+decimal_value [] = 0
+decimal_value (b ∷ text) = (b - 48) * 10 ^ length text + decimal_value text
 
 -- text is one or more digits that stand for n, which has at most 64 bits
 pub record IsDecimal (text : List ℕ) (n : ℕ) : Type 0 where
   pub some : text ≢ []
   pub digits : All IsDigit text
-  pub value : n ≡ digits_value text
+  pub value : n ≡ decimal_value text
   pub fits : n < 2 ^ 64
 
 -- A count of 32 signed bits: a sign or none, then a decimal number. A negative one stands for no count.

@@ -2,7 +2,7 @@
 -- have changed.
 use Rattle.std.specs.Prelude.{◌≡◌, ◌≢◌, ℕ, List, [], ◌∷◌, ◌++◌, All, length}
 use Rattle.bstr.specs.Owned.{bstring_bytes}
-use Rattle.index_parts.specs.Bitmap.{Bitmap, bitmap, IsBitmap, HasBitmap}
+use Rattle.index_parts.specs.Bitmap.{Bitmap, bitmap, IsBitmap}
 use Rattle.index_parts.specs.Front.{be}
 use Rattle.index_extensions.specs.declared.extension.fs_monitor.FsMonitor.{FsMonitor}
 use Rattle.index_extensions.specs.declared.extension.fs_monitor.Token.{Token}
@@ -44,16 +44,6 @@ pub record IsMonitor (bytes : List ℕ) (m : Monitor) : Type 0 where
   pub dirty_len : length dirty ≡ be size
   pub is_dirty : IsBitmap dirty m.dirty []
 
--- bytes are the version, a token, the size of a bitmap, and just as many bytes, at whose front a whole bitmap stands
-pub record HasParts (bytes : List ℕ) : Type 0 where
-  pub version : List ℕ
-  pub token : List ℕ
-  pub value : TokenValue
-  pub size : List ℕ
-  pub dirty : List ℕ
-  pub parts : bytes ≡ version ++ (token ++ (size ++ dirty))
-  pub version_len : length version ≡ 4
-  pub is_token : IsToken (be version) token value
-  pub size_len : length size ≡ 4
-  pub dirty_len : length dirty ≡ be size
-  pub has_bitmap : HasBitmap dirty
+pub record HasMonitor (bytes : List ℕ) : Type 0 where
+  pub monitor : Monitor
+  pub is_monitor : IsMonitor bytes monitor

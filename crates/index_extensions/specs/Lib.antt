@@ -1,9 +1,9 @@
 pub mod Blocks
+pub mod CachedStat
 pub mod Contents
 pub mod Decimal
 pub mod EndMarker
 pub mod FsMonitor
-pub mod Limit
 pub mod Marking
 pub mod Marks
 pub mod Octal
@@ -12,8 +12,11 @@ pub mod Reading
 pub mod ReadingMonitor
 pub mod ReadingPaths
 pub mod ResolveUndo
-pub mod StatNumbers
+pub mod Sound
+pub mod Spelling
 pub mod Tree
+pub mod TreeImage
 pub mod Untracked
 pub mod UntrackedReading
 pub mod Walk
+pub mod Written

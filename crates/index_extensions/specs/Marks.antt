@@ -8,8 +8,7 @@ use Rattle.index_parts.specs.Bits.{ListPlaces}
 use Rattle.index_parts.specs.Id.{id_len, make_id}
 use Rattle.index_parts.specs.declared.hash.Kind.{Kind}
 use Rattle.index_extensions.specs.Blocks.{DirectoryValue}
-use Rattle.index_extensions.specs.Contents.{or_else}
-use Rattle.index_extensions.specs.StatNumbers.{stat_of}
+use Rattle.index_extensions.specs.CachedStat.{cached_stat}
 
 -- Bytes are a bitmap over so many directories, and the rest: it has no more bits than there are directories, and those that are set
 -- have these places, each of which is a directory's.
@@ -44,18 +43,19 @@ pub record ArePieces (size count : ℕ) (bytes : List ℕ) (pieces : List (List 
 abbrev pub value_at : {A : Type 0} → List ℕ → List A → ℕ → Option A
 value_at [] values place = None
 value_at (p ∷ places) [] place = None
-value_at (p ∷ places) (x ∷ values) place = or_else (value_at places values place) (if p == place then Some x else None)
+value_at (p ∷ places) (x ∷ values) place = if p == place then Some x else value_at places values place
 
 -- what is known of the directory at a place, by these stats and ids
-abbrev pub marked : Kind → Marks → List (List ℕ) → List (List ℕ) → ℕ → DirectoryValue → DirectoryValue
-marked kind m stats ids place d = record d {
-  stat = option_map stat_of (value_at m.valid stats place);
+abbrev pub with_marks : Kind → Marks → List (List ℕ) → List (List ℕ) → ℕ → DirectoryValue → DirectoryValue
+with_marks kind m stats ids place d = record d {
+  stat = option_map cached_stat (value_at m.valid stats place);
   exclude = option_map (make_id kind) (value_at m.hash_valid ids place);
   check_only = list_any (λ p. p == place) m.check_only;
 }
 
 -- Bytes are what stands behind the blocks of these bare directories: the three bitmaps, a stat for each place of the first one, an
--- id for each place of the third one, and one byte. With what they say of each, the directories are these.
+-- id for each place of the third one, and one byte. With what they say of each, the directories are these. gitformat-index has the
+-- stats go by the third bitmap too; git writes and reads them by the first, and so do these definitions.
 pub record IsTail (kind : Kind) (bare : List DirectoryValue) (bytes : List ℕ) (directories : List DirectoryValue) : Type 0 where
   pub marks : Marks
   pub behind_marks : List ℕ
@@ -66,4 +66,4 @@ pub record IsTail (kind : Kind) (bare : List DirectoryValue) (bytes : List ℕ) 
   pub are_marks : AreMarks (length bare) bytes marks behind_marks
   pub are_stats : ArePieces 36 (length marks.valid) behind_marks stats behind_stats
   pub are_ids : ArePieces (id_len kind) (length marks.hash_valid) behind_stats ids (last ∷ [])
-  pub directories_are : directories ≡ map (λ x. marked kind marks stats ids x.0 x.1) (enumerate_from 0 bare)
+  pub directories_are : directories ≡ map (λ x. with_marks kind marks stats ids x.0 x.1) (enumerate_from 0 bare)

@@ -8,7 +8,7 @@ use Rattle.index_extensions.specs.Walk.{Item, IsWalk}
 use Rattle.index_extensions.specs.declared.extension.index_entry_offset_table.Offset.{Offset}
 
 -- bytes are an offset and a count of entries, of four bytes each, and the rest
-pub record IsBlock (bytes : List ℕ) (o : Offset) (rest : List ℕ) : Type 0 where
+pub record IsEntryBlock (bytes : List ℕ) (o : Offset) (rest : List ℕ) : Type 0 where
   pub place : List ℕ
   pub count : List ℕ
   pub parts : bytes ≡ place ++ (count ++ rest)
@@ -18,9 +18,9 @@ pub record IsBlock (bytes : List ℕ) (o : Offset) (rest : List ℕ) : Type 0 wh
   pub is_count : o.num_entries ≡ be count
 
 -- bytes are these blocks, one after another, and the rest
-abbrev pub AreBlocks : List ℕ → List Offset → List ℕ → Type 0
-AreBlocks bytes [] rest = bytes ≡ rest
-AreBlocks bytes (o ∷ blocks) rest = (after : List ℕ) × IsBlock bytes o after × AreBlocks after blocks rest
+abbrev pub AreEntryBlocks : List ℕ → List Offset → List ℕ → Type 0
+AreEntryBlocks bytes [] rest = bytes ≡ rest
+AreEntryBlocks bytes (o ∷ blocks) rest = (after : List ℕ) × IsEntryBlock bytes o after × AreEntryBlocks after blocks rest
 
 -- bytes are the version, 1, in four bytes, and one or more blocks
 pub record IsTable (bytes : List ℕ) (blocks : List Offset) : Type 0 where
@@ -30,7 +30,7 @@ pub record IsTable (bytes : List ℕ) (blocks : List Offset) : Type 0 where
   pub version_len : length version ≡ 4
   pub version_is : be version ≡ 1
   pub some : blocks ≢ []
-  pub are_blocks : AreBlocks rest blocks []
+  pub are_blocks : AreEntryBlocks rest blocks []
 
 pub record HasTable (bytes : List ℕ) : Type 0 where
   pub blocks : List Offset

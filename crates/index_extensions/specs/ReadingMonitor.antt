@@ -1,16 +1,12 @@
 -- What the readers of the file system monitor find at the front of bytes, as functions: a value and the rest, or nothing.
 -- Public clauses cite none of these.
-use Rattle.std.specs.Prelude.{◌≡◌, ℕ, ◌==◌, List, [], length, Option, Some, None, if◌then◌else◌}
+use Rattle.std.specs.Prelude.{◌≡◌, ℕ, ◌+◌, ◌*◌, ◌==◌, ◌&&◌, nat_le, Bool, List, [], length, Option, Some, None, if◌then◌else◌}
 use Rattle.index_parts.specs.Bitmap.{Bitmap, IsBitmap}
-use Rattle.index_parts.specs.Front.{be}
-use Rattle.index_parts.specs.Reading.{◌>>=◌, piece_at, split_at_byte}
+use Rattle.index_parts.specs.Front.{number}
+use Rattle.index_parts.specs.Reading.{◌>>=◌, split_at_byte, number_at}
 use Rattle.index_extensions.specs.FsMonitor.{TokenValue, nanoseconds, opaque}
 use Rattle.index_extensions.specs.declared.extension.fs_monitor.parts.LentToken.{LentToken}
 use Rattle.index_extensions.specs.declared.extension.fs_monitor.parts.LentToken.TheVariants as lent
-
--- a number of so many bytes
-abbrev pub number_at : ℕ → List ℕ → Option (ℕ × List ℕ)
-number_at size bytes = piece_at size bytes >>= λ piece. Some (be piece.0, piece.1)
 
 -- the token of a version
 unfoldable pub token_at : ℕ → List ℕ → Option (TokenValue × List ℕ)
@@ -30,6 +26,10 @@ parts_at bytes = do
 abbrev pub lent_token : LentToken → TokenValue
 lent_token (lent.V1 nanos) = nanoseconds nanos
 lent_token (lent.V2 text) = opaque text.now
+
+-- whether bytes are as many as a bitmap has that declares as many words as they do
+abbrev pub has_bitmap_len : List ℕ → Bool
+has_bitmap_len bytes = nat_le 12 (length bytes) && length bytes == 12 + 8 * number bytes 1
 
 -- bytes are a bitmap of this size, and nothing behind it
 pub record IsSized (size : ℕ) (bytes : List ℕ) (b : Bitmap) : Type 0 where

@@ -1,8 +1,7 @@
 -- What the readers of resolve-undo find at the front of bytes, as functions: a value and the rest, or nothing. Public clauses
 -- cite none of these.
 use Rattle.std.specs.Prelude.{ℕ, ◌+◌, ◌-◌, ◌*◌, ◌^◌, ◌==◌, ◌&&◌, nat_le, nat_lt, List, [], ◌∷◌, Option, Some, None, Bool, if◌then◌else◌}
-use Rattle.index_parts.specs.Id.{id_len, make_id}
-use Rattle.index_parts.specs.Reading.{◌>>=◌, piece_at, split_at_byte}
+use Rattle.index_parts.specs.Reading.{◌>>=◌, split_at_byte, object_id_at}
 use Rattle.index_parts.specs.declared.hash.Kind.{Kind}
 use Rattle.index_extensions.specs.ResolveUndo.{PathStages}
 use Rattle.index_extensions.specs.declared.extension.resolve_undo.Stage.{Stage}
@@ -40,11 +39,11 @@ mode_at bytes = do
 unfoldable pub stage_at : Kind → ℕ → List ℕ → Option (Option Stage × List ℕ)
 stage_at kind mode bytes =
     if mode == 0 then Some (None, bytes)
-    else (piece_at (id_len kind) bytes >>= λ id. Some (Some (record { mode = mode; id = make_id kind id.0 }), id.1))
+    else (object_id_at kind bytes >>= λ id. Some (Some (record { mode = mode; id = id.0 }), id.1))
 
 -- a path and its stages
-unfoldable pub path_at : Kind → List ℕ → Option (PathStages × List ℕ)
-path_at kind bytes = do
+unfoldable pub resolve_path_at : Kind → List ℕ → Option (PathStages × List ℕ)
+resolve_path_at kind bytes = do
   name ← split_at_byte 0 bytes
   base ← mode_at name.1
   ours ← mode_at base.1

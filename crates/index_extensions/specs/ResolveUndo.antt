@@ -23,7 +23,7 @@ pub data IsStage (kind : Kind) (text id : List ℕ) (stage : Option Stage) : Typ
 
 -- Bytes are a path, and the rest: the name up to a NUL, three modes, each up to a NUL, and the ids of those that aren't 0, in
 -- the order of the modes.
-pub record IsPath (kind : Kind) (bytes : List ℕ) (p : PathStages) (rest : List ℕ) : Type 0 where
+pub record IsResolvePath (kind : Kind) (bytes : List ℕ) (p : PathStages) (rest : List ℕ) : Type 0 where
   pub base : List ℕ
   pub ours : List ℕ
   pub theirs : List ℕ
@@ -40,19 +40,19 @@ pub record IsPath (kind : Kind) (bytes : List ℕ) (p : PathStages) (rest : List
   pub is_theirs : IsStage kind theirs theirs_id theirs_stage
   pub stages_are : p.stages ≡ base_stage ∷ ours_stage ∷ theirs_stage ∷ []
 
-pub record HasPath (kind : Kind) (bytes : List ℕ) : Type 0 where
+pub record HasResolvePath (kind : Kind) (bytes : List ℕ) : Type 0 where
   pub path : PathStages
   pub rest : List ℕ
-  pub is_path : IsPath kind bytes path rest
+  pub is_path : IsResolvePath kind bytes path rest
 
 -- bytes are these paths, one after another, and the rest
-abbrev pub ArePaths : Kind → List ℕ → List PathStages → List ℕ → Type 0
-ArePaths kind bytes [] rest = bytes ≡ rest
-ArePaths kind bytes (p ∷ paths) rest = (after : List ℕ) × IsPath kind bytes p after × ArePaths kind after paths rest
+abbrev pub AreResolvePaths : Kind → List ℕ → List PathStages → List ℕ → Type 0
+AreResolvePaths kind bytes [] rest = bytes ≡ rest
+AreResolvePaths kind bytes (p ∷ paths) rest = (after : List ℕ) × IsResolvePath kind bytes p after × AreResolvePaths kind after paths rest
 
 -- bytes are these paths, and nothing behind them
 abbrev pub IsResolveUndo : Kind → List ℕ → List PathStages → Type 0
-IsResolveUndo kind bytes paths = ArePaths kind bytes paths []
+IsResolveUndo kind bytes paths = AreResolvePaths kind bytes paths []
 
 -- all ids of stages are of this kind
 abbrev pub PathIdsAreOf : Kind → List PathStages → Type 0

@@ -1,5 +1,5 @@
 -- The cached tree (gitformat-index, "Cache tree") as plain data, and which bytes spell one.
-use Rattle.std.specs.Prelude.{◌≡◌, ◌≢◌, ℕ, zero, suc, ◌+◌, ◌*◌, ◌≤◌, max, false, List, [], ◌∷◌, ◌++◌, All, length, Option, MatchOption}
+use Rattle.std.specs.Prelude.{◌≡◌, ◌≢◌, ℕ, ◌+◌, ◌*◌, ◌≤◌, max, List, [], ◌∷◌, ◌++◌, All, length, Option, MatchOption}
 use Rattle.std.specs.List.{AllByRecursion}
 use Rattle.std.specs.List.Sorted.{IsPermutation}
 use Rattle.std.specs.Ordering.{nat_cmp}
@@ -10,7 +10,7 @@ use Rattle.index_parts.specs.Id.{id_len, id_kind, make_id, null_id}
 use Rattle.index_parts.specs.declared.hash.Kind.{Kind}
 use Rattle.index_parts.specs.declared.hash.ObjectId.{ObjectId}
 use Rattle.index_extensions.specs.Decimal.{IsDecimal, IsCount}
-use Rattle.index_extensions.specs.Limit.{passes_limit}
+use Rattle.index_parts.specs.Limit.{IsWithin}
 use Rattle.index_extensions.specs.declared.extension.tree.Tree.{Tree}
 use Rattle.index_extensions.specs.declared.extension.tree.Tree.TheOpen.{Tree-F}
 use Rattle.index_extensions.specs.declared.extension.tree.Tree.TheFolds.{fold-Tree}
@@ -24,6 +24,10 @@ mutual
     none : Nodes
     more : (first : Node) (others : Nodes) → Nodes
 
+abbrev pub how_many_nodes : Nodes → ℕ
+how_many_nodes none = 0
+how_many_nodes (more t ts) = how_many_nodes ts + 1
+
 abbrev pub nodes_from : List Node → Nodes
 nodes_from [] = none
 nodes_from (t ∷ ts) = more t (nodes_from ts)
@@ -36,7 +40,7 @@ abbrev pub node_of : Tree → Node
 node_of = fold-Tree Node node_step
 
 -- what stands before a node's children: its name, its count, its id, and how many children it has
-pub record Head : Type 0 where
+pub record NodeHead : Type 0 where
   pub name : List ℕ
   pub count : Option ℕ
   pub id : ObjectId
@@ -44,7 +48,7 @@ pub record Head : Type 0 where
 
 -- The name up to a NUL, the count up to a space, the number of children up to a newline, and the id, which only a node with a
 -- count has. At 104 bytes each, the children are within the limit.
-pub record IsHead (kind : Kind) (limit : Option ℕ) (bytes : List ℕ) (h : Head) (tail : List ℕ) : Type 0 where
+pub record IsNodeHead (kind : Kind) (limit : Option ℕ) (bytes : List ℕ) (h : NodeHead) (tail : List ℕ) : Type 0 where
   pub count : List ℕ
   pub number : List ℕ
   pub id : List ℕ
@@ -52,26 +56,27 @@ pub record IsHead (kind : Kind) (limit : Option ℕ) (bytes : List ℕ) (h : Hea
   pub name_apart : All (λ b. b ≢ 0) h.name
   pub is_count : IsCount count h.count
   pub is_number : IsDecimal number h.number
-  pub within : passes_limit limit (104 * h.number) ≡ false
+  pub within : IsWithin limit (104 * h.number)
   pub is_id : MatchOption h.count ((id ≡ []) × (h.id ≡ null_id kind)) (λ _. (length id ≡ id_len kind) × (h.id ≡ make_id kind id))
 
-pub record HasHead (kind : Kind) (limit : Option ℕ) (bytes : List ℕ) : Type 0 where
-  pub head : Head
+-- Bytes begin with a head, and the rest has room for as many children as it declares: a node has six bytes or more, which are a
+-- NUL, a count as `-1`, a space, a number as `0`, and a newline.
+pub record HasNodeHead (kind : Kind) (limit : Option ℕ) (bytes : List ℕ) : Type 0 where
+  pub head : NodeHead
   pub tail : List ℕ
-  pub is_head : IsHead kind limit bytes head tail
+  pub is_head : IsNodeHead kind limit bytes head tail
+  pub room : 6 * head.number ≤ length tail
 
 abbrev mutual
   -- bytes spell a node and all below it, in preorder, and the rest
   pub IsSpelled : Kind → Option ℕ → Node → List ℕ → List ℕ → Type 0
   IsSpelled kind limit (node name id count children) bytes rest =
-      (number : ℕ) × (tail : List ℕ) × IsHead kind limit bytes (record { name = name; count = count; id = id; number = number }) tail × AreSpelled kind limit children number tail rest
+      (tail : List ℕ) × IsNodeHead kind limit bytes (record { name = name; count = count; id = id; number = how_many_nodes children }) tail × AreSpelled kind limit children tail rest
 
-  -- the same of so many nodes, one after another
-  pub AreSpelled : Kind → Option ℕ → Nodes → ℕ → List ℕ → List ℕ → Type 0
-  AreSpelled kind limit none zero bytes rest = bytes ≡ rest
-  AreSpelled kind limit none (suc k) bytes rest = ⊥
-  AreSpelled kind limit (more t ts) zero bytes rest = ⊥
-  AreSpelled kind limit (more t ts) (suc k) bytes rest = (middle : List ℕ) × IsSpelled kind limit t bytes middle × AreSpelled kind limit ts k middle rest
+  -- bytes spell these nodes, one after another, and the rest
+  pub AreSpelled : Kind → Option ℕ → Nodes → List ℕ → List ℕ → Type 0
+  AreSpelled kind limit none bytes rest = bytes ≡ rest
+  AreSpelled kind limit (more t ts) bytes rest = (middle : List ℕ) × IsSpelled kind limit t bytes middle × AreSpelled kind limit ts middle rest
 
 abbrev mutual
   -- how many levels lie below a node

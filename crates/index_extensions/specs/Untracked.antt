@@ -1,24 +1,24 @@
 -- The untracked cache (gitformat-index, "Untracked cache") as plain data, and which bytes spell one.
-use Rattle.std.specs.Prelude.{◌≡◌, ◌≢◌, ℕ, zero, suc, ◌*◌, ◌≤◌, ◌==◌, false, List, [], ◌∷◌, ◌++◌, All, IfSome, length, map, Option, Some, None, if◌then◌else◌}
-use Rattle.std.specs.List.{AllByRecursion, list_all}
+use Rattle.std.specs.Prelude.{◌≡◌, ◌≢◌, ℕ, zero, suc, ◌*◌, ◌≤◌, List, [], ◌∷◌, ◌++◌, All, IfSome, length, map, Option, Some, None, if◌then◌else◌}
+use Rattle.std.specs.List.{AllByRecursion}
 use Rattle.bstr.specs.Owned.{bstring_bytes}
 use Rattle.index_parts.specs.Front.{be}
-use Rattle.index_parts.specs.Id.{id_len, id_kind, make_id}
+use Rattle.index_parts.specs.Id.{id_len, id_kind, is_null, make_id}
 use Rattle.index_parts.specs.Offset.{IsOffset}
 use Rattle.index_parts.specs.declared.hash.Kind.{Kind}
-use Rattle.index_extensions.specs.Blocks.{Block, HasHead, IsBlock, block_depth, block_size, DirectoryValue, value_of, listed}
-use Rattle.index_extensions.specs.Limit.{passes_limit}
+use Rattle.index_extensions.specs.Blocks.{Block, HasBlockHead, IsBlock, block_depth, block_size, DirectoryValue, directory_value, listed}
+use Rattle.index_parts.specs.Limit.{IsWithin}
 use Rattle.index_extensions.specs.Marks.{IsTail}
-use Rattle.index_extensions.specs.StatNumbers.{stat_of}
+use Rattle.index_extensions.specs.CachedStat.{cached_stat}
 use Rattle.index_extensions.specs.declared.extension.untracked_cache.OidStat.{OidStat}
 use Rattle.index_extensions.specs.declared.extension.untracked_cache.UntrackedCache.{UntrackedCache}
 
 -- a stat with an id, or None where all bytes of the id are zero
 abbrev pub oid_stat : Kind → List ℕ → List ℕ → Option OidStat
-oid_stat kind stat id = if list_all (λ b. b == 0) id then None else Some (record { stat = stat_of stat; id = make_id kind id })
+oid_stat kind stat id = if is_null id then None else Some (record { stat = cached_stat stat; id = make_id kind id })
 
 -- what a cache says of itself
-pub record Front : Type 0 where
+pub record Preamble : Type 0 where
   pub identifier : List ℕ
   pub info_exclude : Option OidStat
   pub excludes_file : Option OidStat
@@ -26,24 +26,24 @@ pub record Front : Type 0 where
   pub exclude_filename : List ℕ
 
 pub record Cache : Type 0 where
-  pub front : Front
+  pub preamble : Preamble
   pub directories : List DirectoryValue
 
 abbrev pub cache_of : UntrackedCache → Cache
 cache_of u = record {
-  front = record {
+  preamble = record {
     identifier = bstring_bytes u.identifier;
     info_exclude = u.info_exclude;
     excludes_file = u.excludes_file;
     dir_flags = u.dir_flags;
     exclude_filename = bstring_bytes u.exclude_filename_per_dir;
   };
-  directories = map value_of u.directories.items;
+  directories = map directory_value u.directories.items;
 }
 
 -- The length of the identifier, the identifier, the stats of info/exclude and of the excludes file, the flags, the ids of the two
 -- files, and the name of the exclude files up to a NUL; and the rest.
-pub record IsFront (kind : Kind) (bytes : List ℕ) (f : Front) (rest : List ℕ) : Type 0 where
+pub record IsPreamble (kind : Kind) (bytes : List ℕ) (f : Preamble) (rest : List ℕ) : Type 0 where
   pub len : List ℕ
   pub info : List ℕ
   pub excludes : List ℕ
@@ -71,7 +71,8 @@ pub record IsNest (kind : Kind) (limit : Option ℕ) (count : ℕ) (bytes : List
   pub size : block_size root ≡ count
   pub is_tail : IsTail kind (listed 0 root) rest directories
 
--- bytes are so many directories; where there are none, nothing follows their number
+-- Bytes are so many directories; where there are none, nothing follows their number. gitformat-index has a NUL follow there. git
+-- writes none, and reads the number itself, a 0, as the last byte; so do these definitions.
 abbrev pub AreDirectories : Kind → Option ℕ → ℕ → List ℕ → List DirectoryValue → Type 0
 AreDirectories kind limit zero bytes directories = (bytes ≡ []) × (directories ≡ [])
 AreDirectories kind limit (suc n) bytes directories = IsNest kind limit (suc n) bytes directories
@@ -84,37 +85,37 @@ pub record IsCache (kind : Kind) (limit : Option ℕ) (bytes : List ℕ) (c : Ca
   pub body : List ℕ
   pub count : ℕ
   pub before : List ℕ
-  pub is_front : IsFront kind bytes c.front rest
+  pub is_preamble : IsPreamble kind bytes c.preamble rest
   pub parts : rest ≡ number ++ body
   pub is_number : IsOffset number count
   pub room : count ≤ length body
-  pub within : passes_limit limit (152 * count) ≡ false
+  pub within : IsWithin limit (152 * count)
   pub are_directories : AreDirectories kind limit count body c.directories
   pub last : bytes ≡ before ++ 0 ∷ []
 
 -- the head of the first block stands where directories are declared; else nothing follows their number
-abbrev pub HasFirst : Option ℕ → ℕ → List ℕ → Type 0
-HasFirst limit zero bytes = bytes ≡ []
-HasFirst limit (suc n) bytes = HasHead limit bytes
+abbrev pub HasFirstHead : Option ℕ → ℕ → List ℕ → Type 0
+HasFirstHead limit zero bytes = bytes ≡ []
+HasFirstHead limit (suc n) bytes = HasBlockHead limit bytes
 
 -- bytes are what a cache says of itself, the number of directories, within the limits, and the head of the first, if there is one
 pub record HasStart (kind : Kind) (limit : Option ℕ) (bytes : List ℕ) : Type 0 where
-  pub front : Front
+  pub preamble : Preamble
   pub rest : List ℕ
   pub number : List ℕ
   pub body : List ℕ
   pub count : ℕ
   pub before : List ℕ
-  pub is_front : IsFront kind bytes front rest
+  pub is_preamble : IsPreamble kind bytes preamble rest
   pub parts : rest ≡ number ++ body
   pub is_number : IsOffset number count
   pub room : count ≤ length body
-  pub within : passes_limit limit (152 * count) ≡ false
-  pub has_first : HasFirst limit count body
+  pub within : IsWithin limit (152 * count)
+  pub has_first : HasFirstHead limit count body
   pub last : bytes ≡ before ++ 0 ∷ []
 
 -- all ids in a cache are of this kind
 pub record CacheIdsAreOf (kind : Kind) (c : Cache) : Type 0 where
-  pub info : IfSome c.front.info_exclude (λ x. id_kind x.id ≡ kind)
-  pub excludes : IfSome c.front.excludes_file (λ x. id_kind x.id ≡ kind)
+  pub info : IfSome c.preamble.info_exclude (λ x. id_kind x.id ≡ kind)
+  pub excludes : IfSome c.preamble.excludes_file (λ x. id_kind x.id ≡ kind)
   pub directories : AllByRecursion (λ d. IfSome d.exclude (λ id. id_kind id ≡ kind)) c.directories

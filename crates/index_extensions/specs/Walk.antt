@@ -38,8 +38,26 @@ left_of tail = if nat_lt (length tail) 8 then length tail else length tail - 8
 abbrev pub unread : Iter → List ℕ
 unread i = i.rest.now
 
--- What a step does to the unread bytes and to the count of those consumed, which is kept in 64 bits. A whole extension is
--- taken. Where none begins, fewer than eight bytes stay; a head that declares too much is counted, and nothing is left behind it.
-abbrev pub Steps : List ℕ → ℕ → Option (List ℕ × List ℕ) → List ℕ → ℕ → Type 0
-Steps bytes count (Some x) after counted = (size : List ℕ) × IsItem bytes (record { signature = x.0; size = size; content = x.1 }) after × (counted ≡ (count + 8 + length x.1) % 2 ^ 64)
-Steps bytes count None after counted = NoItem bytes × MatchBool (nat_lt (length bytes) 8) ((after ≡ bytes) × (counted ≡ count)) ((after ≡ []) × (counted ≡ (count + 8) % 2 ^ 64))
+-- where an iterator stands: the bytes that it hasn't looked at, and how many it has consumed
+pub record Cursor : Type 0 where
+  pub rest : List ℕ
+  pub consumed : ℕ
+
+abbrev pub cursor : Iter → Cursor
+cursor i = record { rest = unread i; consumed = i.consumed }
+
+-- a step takes a whole extension, and counts its head and its content in 64 bits
+pub record TakesItem (before : Cursor) (signature content : List ℕ) (after : Cursor) : Type 0 where
+  pub size : List ℕ
+  pub is_item : IsItem before.rest (record { signature = signature; size = size; content = content }) after.rest
+  pub counted : after.consumed ≡ (before.consumed + 8 + length content) % 2 ^ 64
+
+-- No whole extension begins: fewer than eight bytes stay, and a head that declares too much is counted, with nothing left behind it.
+pub record Stops (before after : Cursor) : Type 0 where
+  pub ended : NoItem before.rest
+  pub leaves : MatchBool (nat_lt (length before.rest) 8) ((after.rest ≡ before.rest) × (after.consumed ≡ before.consumed)) ((after.rest ≡ []) × (after.consumed ≡ (before.consumed + 8) % 2 ^ 64))
+
+-- what a step answers, an extension's signature and content or nothing, and where it leaves the iterator
+abbrev pub Steps : Cursor → Option (List ℕ × List ℕ) → Cursor → Type 0
+Steps before (Some x) after = TakesItem before x.0 x.1 after
+Steps before None after = Stops before after

@@ -4,7 +4,7 @@ pub mod end_of_index_entry;
 pub mod fs_monitor;
 pub mod index_entry_offset_table;
 mod iter;
-mod pieces;
+mod limit;
 pub mod resolve_undo;
 pub mod sparse;
 pub mod tree;

@@ -1,5 +1,5 @@
 -- The words that bytes spell, and the bitmap or the fault at the front of bytes.
-use Rattle.std.proofs.Common.{◌≡◌, ℕ, zero, suc, ◌+◌, ◌-◌, ◌*◌, ◌<◌, List, [], ◌∷◌, ◌++◌, length, take, drop, map, All, refl, sym, ap, subst, ◌∙◌, arith, append_assoc, append-nil}
+use Rattle.std.proofs.Common.{◌≡◌, ℕ, zero, suc, ◌+◌, ◌-◌, ◌*◌, List, [], ◌∷◌, ◌++◌, length, take, drop, map, All, refl, sym, ap, subst, ◌∙◌, arith, append_assoc, append-nil}
 use Rattle.std.specs.List.{concat}
 use Rattle.std.proofs.lemmas.List.{take_at, drop_at, take-append-drop, length-append, length-take, length-drop, map-append, nil_from_length}
 use Rattle.std.proofs.lemmas.List.Elements.{All-nil, All-cons, All-head, All-tail, All-append}
@@ -17,11 +17,8 @@ pub record ReadsWords (bytes words rest : List ℕ) : Type 0 where
   pub left : ℕ
   pub size : length rest ≡ 8 * left
 
-pub no_words : AreWords [] []
-no_words = record { spellings = []; parts = refl; sizes = All-nil (λ spelling. length spelling ≡ 8); values = refl }
-
-pub reads_none : (bytes : List ℕ) (count : ℕ) → length bytes ≡ 8 * count → ReadsWords bytes [] bytes
-reads_none bytes count size = record { front = []; parts = refl; are_words = no_words; left = count; size = size }
+pub no_spelled_words : AreWords [] []
+no_spelled_words = record { spellings = []; parts = refl; sizes = All-nil (λ spelling. length spelling ≡ 8); values = refl }
 
 -- one more word behind words
 word_behind : (front words spelling : List ℕ) (word : ℕ) → length spelling ≡ 8 → word ≡ be spelling → AreWords front words → AreWords (front ++ spelling) (words ++ word ∷ [])
@@ -45,15 +42,9 @@ reads_word bytes words rest word after s r =
       size = omega (arith, len, r.size);
     }
 
-pub reads_all : (bytes words rest : List ℕ) → length rest < 8 → ReadsWords bytes words rest → AreWords bytes words
-reads_all bytes words rest few r =
-    let none : rest ≡ [] = nil_from_length rest (omega (arith, few, r.size)) in
-    let whole : bytes ≡ r.front = r.parts ∙ ap (λ (l : List ℕ). r.front ++ l) none ∙ append-nil r.front in
-    subst (λ (l : List ℕ). AreWords l words) (sym whole) r.are_words
-
 -- whole words spell some numbers
 pub some_words : (count : ℕ) (bytes : List ℕ) → length bytes ≡ 8 * count → (words : List ℕ) × AreWords bytes words
-some_words zero bytes size = ([], subst (λ (l : List ℕ). AreWords l []) (sym (nil_from_length bytes (omega (arith, size)))) no_words)
+some_words zero bytes size = ([], subst (λ (l : List ℕ). AreWords l []) (sym (nil_from_length bytes (omega (arith, size)))) no_spelled_words)
 some_words (suc count) bytes size =
     let spelling = take 8 bytes in
     let len : length spelling ≡ 8 = omega (arith, size, length-take 8 bytes) in

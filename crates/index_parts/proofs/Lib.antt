@@ -1,10 +1,10 @@
 pub mod BitmapFaults
 pub mod Bitmaps
 pub mod Digests
-pub mod Hex
 pub mod Ids
 pub mod Offsets
 pub mod Places
+pub mod Readers
 pub mod Splits
 pub mod Steps
 pub mod Taking

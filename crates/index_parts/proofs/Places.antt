@@ -1,5 +1,5 @@
 -- The places of bits that are set.
-use Rattle.std.proofs.Common.{◌≡◌, ℕ, zero, suc, ◌+◌, ◌-◌, ◌*◌, ◌/◌, ◌%◌, ◌^◌, ◌<◌, ◌≤◌, nat_lt, nat_eq, Bool, true, false, cond, List, [], ◌∷◌, ◌++◌, take, drop, Option, Some, None, Result, Ok, Err, refl, sym, ap, ◌∙◌, arith, append_assoc}
+use Rattle.std.proofs.Common.{◌≡◌, ℕ, zero, suc, ◌+◌, ◌-◌, ◌*◌, ◌/◌, ◌%◌, ◌^◌, ◌<◌, ◌≤◌, nat_lt, nat_eq, Bool, true, false, cond, List, [], ◌∷◌, ◌++◌, take, drop, Option, Some, None, Result, Ok, Err, refl, sym, ap, subst, ◌∙◌, arith, append_assoc}
 use Rattle.std.specs.Prelude.{replicate}
 use Rattle.std.specs.List.{flat_map}
 use Rattle.std.proofs.lemmas.Bool.Decides.{nat_tests}
@@ -7,7 +7,7 @@ use Rattle.index_parts.specs.Ascending.{Ascends}
 use Rattle.index_parts.specs.Bits.{Bit, clear, set, broken, bit_of, low_bits, word_bits, repetitions, places, ListPlaces}
 use Rattle.index_parts.specs.declared.ewah.iter.Malformed.{Malformed}
 use Rattle.index_parts.specs.Unpacking.{unpacked, place_of, IsPlaceAfter}
-use Rattle.index_parts.proofs.Unpackings.{behind_run, one_unpacking, unpacked-nil, unpacked-cons}
+use Rattle.index_parts.proofs.Unpackings.{behind_run, one_unpacking, stand_for_unpacked, unpacked-nil, unpacked-cons}
 
 -- ---- they ascend
 
@@ -21,13 +21,19 @@ ascend_by true p bits h = (omega arith, h)
 ascend_by false p bits h = refl
 
 -- places ascend, and a fault is the last of them
-pub places_ascend : (p : ℕ) (bits : List Bit) → Ascends p (places p bits)
+places_ascend : (p : ℕ) (bits : List Bit) → Ascends p (places p bits)
 places_ascend p [] = tt
 places_ascend p (clear ∷ bits) = weaker (places (p + 1) bits) p (p + 1) (omega arith) (places_ascend (p + 1) bits)
 places_ascend p (set ∷ bits) = ascend_by (nat_lt p (2 ^ 64)) p bits (places_ascend (p + 1) bits)
 places_ascend p (broken ∷ bits) = refl
 
--- words list some items, and no others
+-- words list some items, which ascend, and no others
+pub lists_unpacked : (items : List (Result ℕ Malformed)) (words : List ℕ) → items ≡ places 0 (unpacked words) → ListPlaces items words
+lists_unpacked items words e = record { bits = unpacked words; stand_for = stand_for_unpacked words; listed = e }
+
+pub listed_ascend : (items : List (Result ℕ Malformed)) (words : List ℕ) → ListPlaces items words → Ascends 0 items
+listed_ascend items words h = subst (Ascends 0) (sym h.listed) (places_ascend 0 h.bits)
+
 pub one_listing : (words : List ℕ) (a b : List (Result ℕ Malformed)) → ListPlaces a words → ListPlaces b words → a ≡ b
 one_listing words a b s t = s.listed ∙ ap (places 0) (one_unpacking words s.bits t.bits s.stand_for t.stand_for) ∙ sym t.listed
 
@@ -60,10 +66,6 @@ bit_set n h = let t : nat_eq n 1 ≡ true = grind (arith, nat_tests) in rw t ref
 
 bit_clear : (n : ℕ) → (n ≡ 1 → ⊥) → bit_of n ≡ clear
 bit_clear n h = let t : nat_eq n 1 ≡ false = grind (arith, nat_tests) in rw t refl
-
-pub replicate_step : (n : ℕ) (b : Bit) → 0 < n → replicate n b ≡ b ∷ replicate (n - 1) b
-replicate_step zero b h = absurd (omega arith)
-replicate_step (suc n) b h = let e : suc n - 1 ≡ n = omega arith in rw e refl
 
 pub word_step : (n w : ℕ) → 0 < n → low_bits n w ≡ bit_of (w % 2) ∷ low_bits (n - 1) (w / 2)
 word_step zero w h = absurd (omega arith)

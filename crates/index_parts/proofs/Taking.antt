@@ -1,13 +1,15 @@
 -- One piece taken after another.
-use Rattle.std.proofs.Common.{◌≡◌, ℕ, suc, ◌+◌, ◌<◌, List, [], ◌∷◌, ◌++◌, Option, None, Some, Result, Ok, Err, sym, ap, subst, ◌∙◌, append_assoc, append-nil, take, drop, length, get_or, drop-cons, take-append-drop}
-use Rattle.std.specs.Prelude.{IsErr}
-use Rattle.std.specs.List.{flat_map}
-use Rattle.std.proofs.lemmas.List.Concat.{flat_map-cons}
+use Rattle.std.proofs.Common.{◌≡◌, ℕ, suc, ◌+◌, ◌<◌, List, [], ◌∷◌, ◌++◌, Option, None, Some, Result, Ok, Err, sym, ap, subst, ◌∙◌, append_assoc, append-nil, take, drop, length, map, get_or, drop-cons, take-append-drop}
+use Rattle.std.specs.Prelude.{IsErr, OnErr}
+use Rattle.std.specs.List.{flat_map, concat}
+use Rattle.std.proofs.lemmas.List.{map-append}
+use Rattle.std.proofs.lemmas.List.Concat.{flat_map-cons, concat_is}
+use Rattle.std.proofs.lemmas.List.Folds.{flat_map-map}
 use Rattle.std.proofs.lemmas.Grind.{flat_map-append}
 use Rattle.std.proofs.Math.Seq.{take-add}
 use Rattle.std.specs.Io.KnownBytes.{Appends, Keeps}
 use Rattle.index_parts.specs.declared.hash.Kind.{Kind}
-use Rattle.index_parts.specs.Taking.{AppendsFront, Took, Puts}
+use Rattle.index_parts.specs.Taking.{AppendsFront, Took, Puts, Breaks, Hashes, KeepsHashed}
 
 pub Appends-nil : (a : Option (List ℕ)) → Appends a a []
 Appends-nil None = tt
@@ -30,9 +32,6 @@ Appends-taken a b c i n xs rest e p q = subst (λ (l : List ℕ). Appends a c l)
 
 pub front_of_take : (a b : Option (List ℕ)) (n : ℕ) (xs : List ℕ) → Appends a b (take n xs) → AppendsFront a b xs
 front_of_take a b n xs p = record { front = take n xs; rest = drop n xs; parts = sym (take-append-drop n xs); taken = p }
-
-pub front_of_all : {a b : Option (List ℕ)} {xs : List ℕ} → Appends a b xs → AppendsFront a b xs
-front_of_all {a} {b} {xs} p = record { front = xs; rest = []; parts = sym (append-nil xs); taken = p }
 
 -- a front of what follows what was taken
 pub front_after : (a b c : Option (List ℕ)) (xs ys : List ℕ) → Appends a b xs → AppendsFront b c ys → AppendsFront a c (xs ++ ys)
@@ -70,6 +69,29 @@ flat_map_at f xs i d h =
 pub front_at : {X : Type 0} (f : X → List ℕ) (xs : List X) (i : ℕ) (d : X) {a b c : Option (List ℕ)} → i < length xs → Appends a b (flat_map f (take i xs)) → AppendsFront b c (f (get_or xs i d)) → AppendsFront a c (flat_map f xs)
 front_at f xs i d {a} {b} {c} h p q =
     subst (λ (l : List ℕ). AppendsFront a c l) (sym (flat_map_at f xs i d h)) (front_before (front_after a b c _ _ p q) _)
+
+-- a piece of a list of pieces, and those before and behind it
+pieces_at : {X : Type 0} (f : X → List ℕ) (xs : List X) (i : ℕ) (d : X) → i < length xs → map f xs ≡ map f (take i xs) ++ f (get_or xs i d) ∷ map f (drop (suc i) xs)
+pieces_at f xs i d h = ap (map f) (sym (take-append-drop i xs) ∙ ap (λ l. take i xs ++ l) (drop-cons xs i d h)) ∙ map-append f (take i xs) (get_or xs i d ∷ drop (suc i) xs)
+
+-- the items before a place were taken whole, and of the item there a front
+pub breaks_at : {X : Type 0} (f : X → List ℕ) (xs : List X) (i : ℕ) (d : X) {S : Type 0} {taken : S → Option (List ℕ)} {hashed : S → Kind → List ℕ → Type 0} {a b c : S} → i < length xs
+    → Took taken hashed a b (flat_map f (take i xs)) → AppendsFront (taken b) (taken c) (f (get_or xs i d)) → KeepsHashed hashed b c → Breaks taken hashed a c (map f xs)
+breaks_at f xs i d {S} {taken} {hashed} {a} {b} {c} h p q kept =
+    let joined : concat (map f (take i xs)) ≡ flat_map f (take i xs) = concat_is (map f (take i xs)) ∙ flat_map-map (λ (l : List ℕ). l) f (take i xs) in
+    record {
+      whole = map f (take i xs);
+      front = q.front;
+      behind = q.rest;
+      after = map f (drop (suc i) xs);
+      parts = pieces_at f xs i d h ∙ ap (λ (l : List ℕ). map f (take i xs) ++ l ∷ map f (drop (suc i) xs)) q.parts;
+      grew = subst (λ (l : List ℕ). Appends (taken a) (taken c) (l ++ q.front)) (sym joined) (Appends-trans (taken a) (taken b) (taken c) (flat_map f (take i xs)) q.front p.grew q.taken);
+      into_hash = subst (Hashes hashed a c) (sym joined) (λ k m held. kept k (m ++ flat_map f (take i xs)) (p.into_hash k m held));
+    }
+
+pub on_err : {T E P : Type 0} (r : Result T E) → P → OnErr r P
+on_err (Ok x) p = tt
+on_err (Err e) p = p
 
 -- at the exit of a `?`
 pub Puts-err : {S T E : Type 0} (taken : S → Option (List ℕ)) (hashed : S → Kind → List ℕ → Type 0) (old new : S) (r : Result T E) (bytes : List ℕ) → IsErr r → AppendsFront (taken old) (taken new) bytes → Puts taken hashed old new r bytes

@@ -1,4 +1,5 @@
--- Places in order.
+-- Places in order, as a bitmap lists them (git's bitmap-format document, "Serialization format for an EWAH bitmap": bits at
+-- lower order first).
 use Rattle.std.specs.Prelude.{◌≡◌, ℕ, ◌+◌, ◌≤◌, List, [], ◌∷◌, Result, Ok, Err}
 
 -- places ascend from this one on, and a fault is the last item

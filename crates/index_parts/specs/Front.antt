@@ -1,10 +1,14 @@
 -- Numbers and pieces at the front of a list of bytes (gitformat-index: all numbers are big-endian).
-use Rattle.std.specs.Prelude.{◌≡◌, ◌≢◌, ℕ, ◌+◌, ◌*◌, ◌^◌, ◌≤◌, List, [], ◌∷◌, ◌++◌, All, length}
+use Rattle.std.specs.Prelude.{◌≡◌, ◌≢◌, ℕ, ◌+◌, ◌*◌, ◌^◌, ◌≤◌, List, [], ◌∷◌, ◌++◌, All, length, take, drop}
 
 -- the number that bytes spell, the first byte the highest
 abbrev pub be : List ℕ → ℕ
 be [] = 0
 be (byte ∷ bytes) = byte * 256 ^ length bytes + be bytes
+
+-- the number at a place among numbers of four bytes
+abbrev pub number : List ℕ → ℕ → ℕ
+number numbers place = be (take 4 (drop (4 * place) numbers))
 
 -- bytes are a number of so many bytes, and the rest
 pub record StartsWithNumber (count : ℕ) (bytes : List ℕ) (n : ℕ) (rest : List ℕ) : Type 0 where

@@ -1,5 +1,6 @@
 -- Object ids: a kind, and as many bytes as its digests have (gitformat-index; FIPS 180-4: 160 or 256 bits).
-use Rattle.std.specs.Prelude.{ℕ, ◌==◌, List, length, Option, Some, None, if◌then◌else◌, replicate}
+use Rattle.std.specs.Prelude.{ℕ, ◌==◌, Bool, List, length, Option, Some, None, if◌then◌else◌, replicate}
+use Rattle.std.specs.List.{list_all}
 use Rattle.index_parts.specs.declared.hash.Kind.{Kind}
 use Rattle.index_parts.specs.declared.hash.Kind.TheVariants as kinds
 use Rattle.index_parts.specs.declared.hash.ObjectId.{ObjectId}
@@ -22,6 +23,10 @@ id_kind (ids.Sha256 bytes) = kinds.Sha256
 abbrev pub make_id : Kind → List ℕ → ObjectId
 make_id kinds.Sha1 bytes = ids.Sha1 bytes
 make_id kinds.Sha256 bytes = ids.Sha256 bytes
+
+-- all bytes are zero
+abbrev pub is_null : List ℕ → Bool
+is_null bytes = list_all (λ byte. byte == 0) bytes
 
 -- the id of zeros
 abbrev pub null_id : Kind → ObjectId

@@ -5,6 +5,7 @@ pub mod Digest
 pub mod Flags
 pub mod Front
 pub mod Id
+pub mod Limit
 pub mod Mode
 pub mod Offset
 pub mod Reading

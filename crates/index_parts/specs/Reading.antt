@@ -1,6 +1,11 @@
--- What the readers find at the front of bytes, as functions: a value and the rest, or nothing. Public clauses cite none of these.
+-- What the readers find at the front of bytes, as functions: a value and the rest, or nothing (gitformat-index). The
+-- relations of Front and Offset say the same in the format's words.
 use Rattle.std.specs.Prelude.{ℕ, ◌+◌, ◌*◌, ◌%◌, ◌^◌, ◌==◌, nat_lt, List, [], ◌∷◌, length, take, drop, Option, Some, None, if◌then◌else◌, position}
 use Rattle.std.specs.Option.{option_map}
+use Rattle.index_parts.specs.Front.{be}
+use Rattle.index_parts.specs.Id.{id_len, make_id}
+use Rattle.index_parts.specs.declared.hash.Kind.{Kind}
+use Rattle.index_parts.specs.declared.hash.ObjectId.{ObjectId}
 
 -- the next step's answer, where there is a value
 infixl 10 ◌>>=◌
@@ -11,6 +16,14 @@ None >>= f = None
 -- a piece of so many bytes, and the rest
 abbrev pub piece_at : ℕ → List ℕ → Option (List ℕ × List ℕ)
 piece_at size bytes = if nat_lt (length bytes) size then None else Some (take size bytes, drop size bytes)
+
+-- a number of so many bytes, and the rest
+abbrev pub number_at : ℕ → List ℕ → Option (ℕ × List ℕ)
+number_at size bytes = piece_at size bytes >>= λ piece. Some (be piece.0, piece.1)
+
+-- an id of a kind, and the rest
+abbrev pub object_id_at : Kind → List ℕ → Option (ObjectId × List ℕ)
+object_id_at kind bytes = piece_at (id_len kind) bytes >>= λ piece. Some (make_id kind piece.0, piece.1)
 
 -- the bytes before the first b, and those after it; there are at least two bytes
 abbrev pub split_at_byte : ℕ → List ℕ → Option (List ℕ × List ℕ)

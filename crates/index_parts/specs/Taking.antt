@@ -1,5 +1,7 @@
--- What a writer took of what it was given.
-use Rattle.std.specs.Prelude.{◌≡◌, ℕ, List, ◌++◌, MatchResult, Option, Result}
+-- What a writer took of what it was given (`std::io::Write`: a call that fails may have taken a front), and what a hasher
+-- over it took in.
+use Rattle.std.specs.Prelude.{◌≡◌, ℕ, List, ◌∷◌, ◌++◌, MatchResult, Option, Result}
+use Rattle.std.specs.List.{concat}
 use Rattle.std.specs.Io.KnownBytes.{Appends}
 use Rattle.index_parts.specs.declared.hash.Kind.{Kind}
 
@@ -14,6 +16,10 @@ pub record AppendsFront (old new : Option (List ℕ)) (bytes : List ℕ) : Type 
 abbrev pub Hashes : {S : Type 0} → (S → Kind → List ℕ → Type 0) → S → S → List ℕ → Type 0
 Hashes hashed old new bytes = (k : Kind) (m : List ℕ) → hashed old k m → hashed new k (m ++ bytes)
 
+-- a hasher has taken in what it had before
+abbrev pub KeepsHashed : {S : Type 0} → (S → Kind → List ℕ → Type 0) → S → S → Type 0
+KeepsHashed hashed old new = (k : Kind) (m : List ℕ) → hashed old k m → hashed new k m
+
 -- these bytes were taken, and went into the hasher
 pub record Took {S : Type 0} (taken : S → Option (List ℕ)) (hashed : S → Kind → List ℕ → Type 0) (old new : S) (bytes : List ℕ) : Type 0 where
   pub grew : Appends (taken old) (taken new) bytes
@@ -22,3 +28,13 @@ pub record Took {S : Type 0} (taken : S → Option (List ℕ)) (hashed : S → K
 -- an Ok took these bytes whole, and an Err a front of them
 abbrev pub Puts : {S T E : Type 0} → (S → Option (List ℕ)) → (S → Kind → List ℕ → Type 0) → S → S → Result T E → List ℕ → Type 0
 Puts taken hashed old new r bytes = MatchResult r (λ _. Took taken hashed old new bytes) (λ _. AppendsFront (taken old) (taken new) bytes)
+
+-- Of pieces the first ones were taken whole, and of the next one a front. The hasher took in those that were taken whole.
+pub record Breaks {S : Type 0} (taken : S → Option (List ℕ)) (hashed : S → Kind → List ℕ → Type 0) (old new : S) (pieces : List (List ℕ)) : Type 0 where
+  pub whole : List (List ℕ)
+  pub front : List ℕ
+  pub behind : List ℕ
+  pub after : List (List ℕ)
+  pub parts : pieces ≡ whole ++ (front ++ behind) ∷ after
+  pub grew : Appends (taken old) (taken new) (concat whole ++ front)
+  pub into_hash : Hashes hashed old new (concat whole)

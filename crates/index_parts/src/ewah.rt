@@ -1,10 +1,12 @@
 //! Bitmaps of runs, in git's EWAH form (git's bitmap-format document, "Serialization format for an EWAH bitmap").
 
 ghost use Rattle.std.specs.Prelude.{◌≡◌};
+ghost use Rattle.index_parts.specs.Ascending.{Ascends};
 ghost use Rattle.index_parts.specs.Bitmap.{bitmap};
 ghost use Rattle.index_parts.specs.Bits.{ListPlaces};
 ghost use Rattle.index_parts.specs.Unpacking.{items_left};
 
+use std::alloc::AllocError;
 use std::vec::Vec as Words;
 
 pub mod decode;
@@ -13,10 +15,22 @@ mod iter;
 pub use iter::{Malformed, Positions};
 
 /// A bitmap in its compressed form. [`decode::decode`] makes one.
-#[derive(Clone, Debug, Drop)]
+#[derive(Debug, Drop)]
 pub struct Vec {
     num_bits: u32,
     words: Words<u64>,
+}
+
+/// The clone has the same number of bits and the same words. An error is want of memory for the words.
+impl Clone for Vec {
+    ghost is_clone = { λ a b. bitmap b ≡ bitmap a };
+
+    fn clone(&self) -> Result<Vec, AllocError> {
+        Ok(Vec {
+            num_bits: self.num_bits,
+            words: self.words.clone()?,
+        })
+    }
 }
 
 impl Vec {
@@ -33,7 +47,8 @@ impl Vec {
     /// run come, and then [`Malformed`] for all of the literal words. It also comes for a set bit whose place has more
     /// than 64 bits. It is the last item.
     pub fn positions(&self) -> Positions<'_>
-        ensures { ListPlaces (items_left result) (bitmap self.now).words }
+        ensures places { ListPlaces (items_left result) (bitmap self.now).words }
+        ensures ascending { Ascends 0 (items_left result) }
     {
         Positions::new(&self.words)
     }

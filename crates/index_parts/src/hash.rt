@@ -1,11 +1,12 @@
 //! Object ids of two kinds, and the digests that they are made of.
 
-ghost use Rattle.std.specs.Prelude.{◌≡◌, ◌<◌, ◌∷◌, ◌++◌, ℕ, List, [], length, slice_index, Some};
+ghost use Rattle.std.specs.Prelude.{◌≡◌, ◌≤◌, ◌++◌, ℕ, List, [], length, Some};
 ghost use Rattle.std.specs.Fmt.{WritesOnOk};
-ghost use Rattle.hex.specs.Hex.{encode_lower, lower_digits};
+ghost use Rattle.hex.specs.Hex.{encode_lower};
 ghost use Rattle.index_parts.specs.Digest.{digest, hasher_kind, Holds};
 ghost use Rattle.index_parts.specs.Id.{make_id};
 
+use crate::read;
 use sha1::Sha1;
 use sha2::{Digest, Sha256};
 use std::fmt;
@@ -56,8 +57,8 @@ impl Kind {
 }
 
 impl ObjectId {
-    ghost use Rattle.std.specs.Prelude.{IsTrue, IsOk, IfErr, ◌↔◌};
-    ghost use Rattle.index_parts.specs.Id.{id_bytes, id_kind, id_of, id_len, null_id};
+    ghost use Rattle.std.specs.Prelude.{IsOk, IfErr, ◌↔◌};
+    ghost use Rattle.index_parts.specs.Id.{id_bytes, id_kind, id_of, id_len, is_null};
 
     /// The id with these bytes; None where there are neither 20 nor 32.
     pub fn from_bytes(bytes: &[u8]) -> Option<ObjectId>
@@ -112,9 +113,9 @@ impl ObjectId {
 
     /// Whether all bytes are zero.
     pub fn is_null(&self) -> bool
-        ensures { IsTrue result ↔ (self.now ≡ null_id (id_kind self.now)) }
+        ensures { result ≡ is_null (id_bytes self.now) }
     {
-        *self == self.kind().null()
+        read::is_null(self.as_bytes())
     }
 
     /// Compares this digest with the one that was expected. An error names both.
@@ -186,37 +187,16 @@ pub fn digest(kind: Kind, bytes: &[u8]) -> ObjectId
     }
 }
 
-/// A digit of base 16, in lower case.
-fn hex_digit(n: u8) -> char
-    requires { n < 16 }
-    ensures ascii { result < 128 }
-    ensures digit { result ≡ slice_index lower_digits n }
-{
-    if n < 10 {
-        (b'0' + n) as char
-    } else {
-        (b'a' + (n - 10)) as char
-    }
-}
-
-/// Writes one digit of base 16.
-#[tactic(auto, using(std::proofs::lemmas::Str::encode_ascii))]
-fn write_digit<W: fmt::Write>(n: u8, f: &mut fmt::Formatter<W>) -> fmt::Result
-    requires { n < 16 }
-    ensures { WritesOnOk W.write_str_gives f.old result (slice_index lower_digits n ∷ []) f.new }
-{
-    f.write_char(hex_digit(n))
-}
-
-/// Writes two digits of base 16 for each byte.
+/// Writes two digits of base 16 for each of at most 32 bytes.
 fn write_hex<W: fmt::Write>(bytes: &[u8], f: &mut fmt::Formatter<W>) -> fmt::Result
+    requires { length bytes.now ≤ 32 }
     ensures { WritesOnOk W.write_str_gives f.old result (encode_lower bytes.now) f.new }
 {
-    for byte in bytes {
-        write_digit(*byte / 16, f)?;
-        write_digit(*byte % 16, f)?;
-    }
-    Ok(())
+    let mut room = [0; 64];
+    let digits = &mut room[..2 * bytes.len()];
+    hex::encode_to_slice(bytes, digits).map_err(|_| fmt::Error)?;
+    let text = str::from_utf8(digits).map_err(|_| fmt::Error)?;
+    f.write_str(text)
 }
 
 /// The id in base 16: 40 or 64 digits in lower case.

@@ -4,4 +4,5 @@
 pub mod entry;
 pub mod ewah;
 pub mod hash;
+pub mod read;
 pub mod util;

@@ -11,7 +11,7 @@ use Rattle.index_extensions.specs.EndMarker.{IsMarked, IsMarker}
 use Rattle.index_extensions.specs.Walk.{Item, left_of}
 use Rattle.index_extensions.proofs.EndMarks.{marked_one}
 use Rattle.index_extensions.proofs.Readings.{one_read}
-use Rattle.index_state.specs.declared.Version.{Version}
+use Rattle.index_entries.specs.declared.Version.{Version}
 use Rattle.index_state.specs.declared.State.{State}
 use Rattle.index_state.specs.declared.decode.Options.{Options}
 use Rattle.index_state.specs.declared.decode.Error.{Error}
@@ -19,13 +19,17 @@ use Rattle.index_state.specs.declared.decode.Error.TheVariants as errors
 use Rattle.index_state.specs.declared.extension.decode.Error.TheVariants as extensions
 use Rattle.index_state.specs.declared.extension.link.decode.Error.TheVariants as links
 use Rattle.index_state.specs.Answer.{Fault, Header, OutOfMemory, NoEntry, Extension, TrailerLength, Verify, Answer, checksum_of, IsVerified, value_of, IsClosed, faulty, left, whole, IsEnding, short, walked, IsBody, lacks, has, IsCounted, IsAnswer}
-use Rattle.index_state.specs.Entries.{AreEntries}
-use Rattle.index_state.specs.Faults.{IsEarly, SaysFault, Says, LacksSome, extension_fault}
+use Rattle.index_entries.specs.Entries.{AreEntries}
+use Rattle.index_state.specs.Faults.{IsEarly, SaysFault, Says, entries_error, extension_fault}
+use Rattle.index_entries.specs.Faults.{LacksSome}
+use Rattle.index_entries.specs.declared.decode.entries.Error.{Error as EntriesError}
+use Rattle.index_entries.specs.declared.decode.entries.Error.TheVariants as entries
 use Rattle.index_state.specs.Gathered.{IsGathered, HasFault, IsTaken, SaysExtension}
-use Rattle.index_state.specs.Header.{HeaderFault, header_of, count_of}
-use Rattle.index_state.specs.Limits.{most_entries, is_too_large}
+use Rattle.index_entries.specs.Header.{HeaderFault, header_of, count_of}
+use Rattle.index_entries.specs.Limits.{most_entries, is_too_large}
 use Rattle.index_state.specs.Outcome.{Outcome, ExtensionFault}
-use Rattle.index_state.specs.Record.{Record, Contents, contents}
+use Rattle.index_entries.specs.Record.{Record}
+use Rattle.index_state.specs.State.{Contents, contents}
 
 -- ---- what stands behind the limits is no early fault
 
@@ -71,15 +75,9 @@ says_weaker (Err (errors.Extension (extensions.Link (links.BitmapDecode e name))
 says_weaker (Err (errors.Extension (extensions.Link links.Memory))) P Q to never h = h
 says_weaker (Err errors.Memory) P Q to never h = never
 
-pub says_lack : (kind : Kind) (time : FileTime) (options : Options) (version : Version) (count : ℕ) (bytes : List ℕ) (e : Error) → LacksSome version kind count bytes e → SaysFault e (IsBody kind time options version count bytes)
-says_lack kind time options version count bytes (errors.Entry i) h = lacks i h.0 h.1 refl
-says_lack kind time options version count bytes errors.Memory h = body_late kind time options version count bytes
-says_lack kind time options version count bytes (errors.Header e) h = absurd h
-says_lack kind time options version count bytes errors.OutOfMemory h = absurd h
-says_lack kind time options version count bytes (errors.Verify p q) h = absurd h
-says_lack kind time options version count bytes (errors.UnexpectedTrailerLength n m) h = absurd h
-says_lack kind time options version count bytes errors.Hasher h = absurd h
-says_lack kind time options version count bytes (errors.Extension e) h = absurd h
+pub says_lack : (kind : Kind) (time : FileTime) (options : Options) (version : Version) (count : ℕ) (bytes : List ℕ) (e : EntriesError) → LacksSome version kind count bytes e → SaysFault (entries_error e) (IsBody kind time options version count bytes)
+says_lack kind time options version count bytes (entries.NoEntry i) h = lacks i h.0 h.1 refl
+says_lack kind time options version count bytes entries.Memory h = body_late kind time options version count bytes
 
 -- ---- behind a header that stands, a count that can be, and within the limit, the answer is the body's
 

@@ -13,14 +13,14 @@ use Rattle.index_extensions.specs.Untracked.{CacheIdsAreOf, IsCache}
 use Rattle.index_extensions.specs.Walk.{Item, IsItem, AreItems, NoItem, IsWalk, left_of}
 use Rattle.index_parts.proofs.Ids.{id_kind-make_id}
 use Rattle.index_parts.specs.Id.{id_kind}
-use Rattle.index_extensions.proofs.Caches.{ids_of_cache}
+use Rattle.index_extensions.proofs.CacheIds.{ids_of_cache}
 use Rattle.index_extensions.proofs.ResolveUndo.{ids_of_paths}
 use Rattle.index_extensions.proofs.Trees.{ids_of_tree}
 use Rattle.index_extensions.proofs.Walks.{walk_of, more_items}
 use Rattle.index_state.specs.Gathered.{Adds, IsGathered, HasFault, Replaces, SaysExtension, SaysItem}
 use Rattle.index_state.specs.Link.{LinkValue, IsLink, alone, split}
 use Rattle.index_state.specs.Outcome.{Outcome, ExtensionFault, is_understood, IsFault, unknown, broken_link, AreSound, IsFirstFault, IsOutcome, no_extension}
-use Rattle.index_state.specs.Record.{ExtensionIdsAreOf}
+use Rattle.index_state.specs.State.{ExtensionIdsAreOf}
 use Rattle.index_state.specs.declared.decode.Error.{Error}
 use Rattle.index_state.specs.declared.decode.Error.TheVariants as errors
 use Rattle.index_state.proofs.Links.{no_link_fault}
@@ -95,7 +95,7 @@ link_ids : (kind : Kind) (bytes : List ℕ) (l : LinkValue) → IsLink kind byte
 link_ids kind bytes l (alone id s e) = ap (λ (x : LinkValue). id_kind x.shared) e ∙ ap id_kind s.value ∙ id_kind-make_id kind s.spelling
 link_ids kind bytes l (split id maps after b s m n e) = ap (λ (x : LinkValue). id_kind x.shared) e ∙ ap id_kind s.value ∙ id_kind-make_id kind s.spelling
 
-pub outcome_ids : (kind : Kind) (limit : Option ℕ) (items : List Item) (o : Outcome) → IsOutcome kind limit items o → ExtensionIdsAreOf kind o.tree o.link o.resolve_undo o.untracked
+pub outcome_ids : (kind : Kind) (limit : Option ℕ) (items : List Item) (o : Outcome) → IsOutcome kind limit items o → ExtensionIdsAreOf kind o
 outcome_ids kind limit items o h = (
   value_has (IsTree kind limit) (NodeIdsAreOf kind) (λ bytes t. ids_of_tree kind limit bytes t) _ o.tree h.tree,
   value_has (IsLink kind) (λ l. id_kind l.shared ≡ kind) (link_ids kind) _ o.link h.link,

@@ -8,17 +8,17 @@ use Rattle.index_parts.specs.declared.hash.ObjectId.{ObjectId}
 use Rattle.index_parts.specs.declared.entry.stat.FileTime.{FileTime}
 use Rattle.index_extensions.specs.EndMarker.{IsMarker}
 use Rattle.index_extensions.specs.Walk.{Item, IsWalk}
-use Rattle.index_extensions.proofs.Blocks.{same_front, same_back}
+use Rattle.index_extensions.proofs.EntryBlocks.{same_front, same_back}
 use Rattle.index_extensions.proofs.Walks.{walk_one}
-use Rattle.index_state.specs.declared.Version.{Version}
+use Rattle.index_entries.specs.declared.Version.{Version}
 use Rattle.index_state.specs.declared.decode.Options.{Options}
 use Rattle.index_state.specs.Answer.{Header, OutOfMemory, NoEntry, Extension, Answer, checksum_of, IsVerified, value_of, IsClosed, faulty, left, whole, IsEnding, short, walked, IsBody, lacks, has, IsCounted, IsAnswer}
-use Rattle.index_state.specs.Header.{HeaderFault, Corrupt, header_of, count_of}
-use Rattle.index_state.specs.Limits.{most_entries, is_too_large}
+use Rattle.index_entries.specs.Header.{HeaderFault, Corrupt, header_of, count_of}
+use Rattle.index_entries.specs.Limits.{most_entries, is_too_large}
 use Rattle.index_state.specs.Outcome.{Outcome, ExtensionFault, IsFault, AreSound, IsFirstFault}
-use Rattle.index_state.specs.Record.{Record}
+use Rattle.index_entries.specs.Record.{Record}
 use Rattle.index_state.proofs.Answers.{one_marker}
-use Rattle.index_state.proofs.OnceEntries.{one_row, lacks_more, one_lack}
+use Rattle.index_entries.proofs.OnceEntries.{one_row, lacks_more, one_lack}
 use Rattle.index_state.proofs.Outcomes.{IsSound, one_fault, one_outcome}
 
 -- ---- the first fault

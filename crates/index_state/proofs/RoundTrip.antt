@@ -16,22 +16,26 @@ use Rattle.index_parts.specs.declared.hash.ObjectId.{ObjectId}
 use Rattle.index_parts.specs.declared.entry.stat.FileTime.{FileTime}
 use Rattle.index_extensions.specs.EndMarker.{IsMarker}
 use Rattle.index_extensions.proofs.Walks.{no_empty}
-use Rattle.index_state.specs.declared.Version.{Version}
-use Rattle.index_state.specs.declared.Version.TheVariants.{V2, V3}
+use Rattle.index_entries.specs.declared.Version.{Version}
+use Rattle.index_entries.specs.declared.Version.TheVariants.{V2, V3}
 use Rattle.index_state.specs.declared.decode.Options.{Options as ReadOptions}
 use Rattle.index_state.specs.declared.write.Options.{Options}
 use Rattle.index_state.specs.Answer.{Answer, checksum_of, IsVerified, value_of, whole, IsEnding, walked, IsBody, has, IsCounted, IsAnswer}
-use Rattle.index_state.specs.Entries.{AreEntries}
-use Rattle.index_state.specs.Header.{HeaderFault, header_of, count_of}
-use Rattle.index_state.specs.Image.{entry_bytes, is_removed, written, needed_version, header_bytes, unmarked, body, trailer, image}
-use Rattle.index_state.specs.Limits.{most_entries, smallest_entry, is_too_large}
+use Rattle.index_entries.specs.Entries.{AreEntries}
+use Rattle.index_entries.specs.Header.{HeaderFault, header_of, count_of}
+use Rattle.index_entries.specs.EntryImage.{entry_bytes, is_removed, written, needed_version, header_bytes}
+use Rattle.index_state.specs.Image.{unmarked, body, trailer, image}
+use Rattle.index_entries.specs.Limits.{most_entries, smallest_entry, is_too_large}
 use Rattle.index_state.specs.Outcome.{no_extension}
-use Rattle.index_state.specs.Record.{Record, Contents, has_directory}
-use Rattle.index_state.specs.Storable.{IsStorable, Fits}
-use Rattle.index_state.specs.Stored.{stored_record, stored_records, stored, expected}
-use Rattle.index_state.proofs.Again.{IsStorableIn, entries_again, smallest_entries}
+use Rattle.index_entries.specs.Record.{Record, has_directory}
+use Rattle.index_state.specs.State.{Contents}
+use Rattle.index_state.specs.Storable.{IsStorable}
+use Rattle.index_entries.specs.Record.{IsSized}
+use Rattle.index_entries.specs.EntryImage.{stored_record, stored_records}
+use Rattle.index_state.specs.Stored.{stored, expected}
+use Rattle.index_entries.proofs.Again.{IsStorableIn, entries_again, smallest_entries}
 use Rattle.index_state.proofs.Extensions.{none_sound, no_outcome}
-use Rattle.index_state.proofs.Words.{be_be32}
+use Rattle.index_entries.proofs.Words.{be_be32}
 
 -- ---- the records that are written can be read again
 
@@ -39,12 +43,12 @@ kept_by : (b : Bool) (P : Record → Type 0) (r : Record) (rs : List Record) →
 kept_by true P r rs p ps = (p, ps)
 kept_by false P r rs p ps = ps
 
-storable_from : (kind : Kind) (rs : List Record) → All (λ r. id_kind r.id ≡ kind) rs → All (λ r. 4095 ≤ length r.path → All (λ b. b ≢ 0) r.path) rs → All Fits rs → AllByRecursion (IsStorableIn kind) (written rs)
+storable_from : (kind : Kind) (rs : List Record) → All (λ r. id_kind r.id ≡ kind) rs → All (λ r. 4095 ≤ length r.path → All (λ b. b ≢ 0) r.path) rs → All IsSized rs → AllByRecursion (IsStorableIn kind) (written rs)
 storable_from kind [] i p f = tt
 storable_from kind (r ∷ rs) i p f =
-    let here : IsStorableIn kind r = record { id = All-head (λ x. id_kind x.id ≡ kind) r rs i; path = All-head (λ x. 4095 ≤ length x.path → All (λ b. b ≢ 0) x.path) r rs p; fits = All-head Fits r rs f } in
+    let here : IsStorableIn kind r = record { id = All-head (λ x. id_kind x.id ≡ kind) r rs i; path = All-head (λ x. 4095 ≤ length x.path → All (λ b. b ≢ 0) x.path) r rs p; fits = All-head IsSized r rs f } in
     kept_by (not (is_removed r.flags)) (IsStorableIn kind) r (written rs) here
-    (storable_from kind rs (All-tail (λ x. id_kind x.id ≡ kind) r rs i) (All-tail (λ x. 4095 ≤ length x.path → All (λ b. b ≢ 0) x.path) r rs p) (All-tail Fits r rs f))
+    (storable_from kind rs (All-tail (λ x. id_kind x.id ≡ kind) r rs i) (All-tail (λ x. 4095 ≤ length x.path → All (λ b. b ≢ 0) x.path) r rs p) (All-tail IsSized r rs f))
 
 fewer_by : (b : Bool) (r : Record) (rs : List Record) → length (cond b (r ∷ rs) rs) ≤ 1 + length rs
 fewer_by true r rs = omega arith
@@ -130,13 +134,13 @@ image_is v options = body_parts v options (trailer v options)
 
 -- reading the image of a storable value gives what is expected, and the trailer, where the image doesn't imitate an end marker; a mark
 -- of a sparse index that no mode shows is not written
-pub written_reads_back : (v : Contents) (options : Options) (time : FileTime) (reading : ReadOptions) → IsStorable v → All Fits v.records → length v.records < 2 ^ 32 → reading.alloc_limit_bytes ≡ None → reading.expected_checksum ≡ None
-    → IsMarker v.kind (image v options) None → (stored v options).sparse ≡ has_directory (stored v options).records → IsAnswer v.kind time reading (image v options) (Ok (expected v options time, checksum_of v.kind (trailer v options)))
-written_reads_back v options time reading storable fits few limit check unmarked_end shown =
+pub written_reads_back : (v : Contents) (options : Options) (time : FileTime) (reading : ReadOptions) → IsStorable v → length v.records < 2 ^ 32 → reading.alloc_limit_bytes ≡ None → reading.expected_checksum ≡ None
+    → IsMarker v.kind (image v options) None → (stored v options).extensions.sparse ≡ has_directory (stored v options).records → IsAnswer v.kind time reading (image v options) (Ok (expected v options time, checksum_of v.kind (trailer v options)))
+written_reads_back v options time reading storable few limit check unmarked_end shown =
     let rs : List Record = written v.records in
     let b : Bool = list_any (λ r. is_extended r.flags) v.records in
-    let each : AllByRecursion (IsStorableIn v.kind) rs = storable_from v.kind v.records storable.ids storable.paths fits in
-    let same : expected v options time ≡ value_of v.kind time (needed_version v.records) (stored_records v.records) no_extension = ap (λ (s : Bool). record (value_of v.kind time (needed_version v.records) (stored_records v.records) no_extension) { sparse = s }) shown in
+    let each : AllByRecursion (IsStorableIn v.kind) rs = storable_from v.kind v.records storable.ids storable.paths storable.fits in
+    let same : expected v options time ≡ value_of v.kind time (needed_version v.records) (stored_records v.records) no_extension = ap (λ (s : Bool). record (value_of v.kind time (needed_version v.records) (stored_records v.records) no_extension) { extensions = record no_extension { sparse = s } }) shown in
     let t : List ℕ = trailer v options in
     let read = file_again b v.kind time reading rs t each (omega (arith, fewer_written v.records)) (length-trailer v options) limit check (subst (λ (l : List ℕ). IsMarker v.kind l None) (image_is v options) unmarked_end) in
     let at = subst (λ (l : List ℕ). IsAnswer v.kind time reading l (Ok (value_of v.kind time (needed_version v.records) (stored_records v.records) no_extension, checksum_of v.kind t))) (sym (image_is v options)) read in

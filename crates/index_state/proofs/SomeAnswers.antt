@@ -16,15 +16,15 @@ use Rattle.index_extensions.proofs.EndMarks.{bytes_agree, bytes_differ}
 use Rattle.index_extensions.proofs.MarkerReadings.{marker_reading}
 use Rattle.index_extensions.proofs.Readings.{Decided}
 use Rattle.index_extensions.proofs.Walks.{walk_of}
-use Rattle.index_state.specs.declared.Version.{Version}
+use Rattle.index_entries.specs.declared.Version.{Version}
 use Rattle.index_state.specs.declared.decode.Options.{Options}
 use Rattle.index_state.specs.Answer.{Header, OutOfMemory, NoEntry, Extension, TrailerLength, Verify, Answer, checksum_of, IsVerified, value_of, IsClosed, faulty, left, whole, IsEnding, short, walked, IsBody, lacks, has, IsCounted, IsAnswer}
-use Rattle.index_state.specs.Header.{HeaderFault, Corrupt, header_of, count_of}
-use Rattle.index_state.specs.Limits.{most_entries, is_too_large}
+use Rattle.index_entries.specs.Header.{HeaderFault, Corrupt, header_of, count_of}
+use Rattle.index_entries.specs.Limits.{most_entries, is_too_large}
 use Rattle.index_state.specs.Outcome.{ExtensionFault, IsFault, AreSound, IsFirstFault}
-use Rattle.index_state.specs.Record.{Record}
+use Rattle.index_entries.specs.Record.{Record}
 use Rattle.index_state.proofs.Outcomes.{IsSound, fault_reading, outcome_reading}
-use Rattle.index_state.proofs.SomeEntries.{EntriesAt, entries_reading}
+use Rattle.index_entries.proofs.SomeEntries.{EntriesAt, entries_reading}
 
 -- ---- the first fault
 

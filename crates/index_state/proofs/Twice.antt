@@ -1,68 +1,22 @@
 -- What a file keeps of what it kept is the same.
-use Rattle.std.proofs.Common.{◌≡◌, ℕ, Bool, true, false, ◌||◌, eqb, List, [], ◌∷◌, map, None, refl, ap, ◌∙◌}
-use Rattle.std.specs.Prelude.{bit_and}
-use Rattle.std.proofs.lemmas.Nat.{and_assoc, and_comm}
-use Rattle.index_parts.specs.Flags.{is_extended, kept_flags}
+use Rattle.std.proofs.Common.{◌≡◌, Bool, true, false, ◌||◌, List, None, refl, ap, ◌∙◌}
+use Rattle.index_entries.specs.EntryImage.{stored_records}
+use Rattle.index_entries.specs.Record.{Record, has_directory}
+use Rattle.index_entries.proofs.Kept.{records_twice}
 use Rattle.index_state.specs.declared.write.Options.{Options}
-use Rattle.index_state.specs.Image.{is_removed, written}
-use Rattle.index_state.specs.Record.{Record, Contents, has_directory}
-use Rattle.index_state.specs.Stored.{stored_record, stored_records, stored}
-
--- bits within a mask are kept by it
-mask_twice : (m a b : ℕ) → bit_and m b ≡ b → bit_and (bit_and a m) b ≡ bit_and a b
-mask_twice m a b e = and_assoc b a m ∙ ap (bit_and a) e
-
--- bits outside a mask are lost
-mask_none : (m a b : ℕ) → bit_and m b ≡ 0 → bit_and (bit_and a m) b ≡ 0
-mask_none m a b e = and_assoc b a m ∙ ap (bit_and a) e ∙ and_comm a 0
-
-unmarked_by : (m f : ℕ) → bit_and m 0x20000 ≡ 0 → is_removed (bit_and f m) ≡ false
-unmarked_by m f e = ap (λ (n : ℕ). eqb n 0x20000) (mask_none m f 0x20000 e)
-
-extended_by : (m f : ℕ) → bit_and m 0x4000 ≡ 0x4000 → is_extended (bit_and f m) ≡ is_extended f
-extended_by m f e = ap (λ (n : ℕ). eqb n 0x4000) (mask_twice m f 0x4000 e)
-
-pub record IsKept (f : ℕ) : Type 0 where
-  pub flags : kept_flags (kept_flags f) ≡ kept_flags f
-  pub unmarked : is_removed (kept_flags f) ≡ false
-
-kept_by : (b : Bool) (f : ℕ) → is_extended f ≡ b → IsKept f
-kept_by true f e =
-    let m : ℕ = 0x6000f000 in
-    let is : kept_flags f ≡ bit_and f m = rw e refl in
-    let same : is_extended (bit_and f m) ≡ true = extended_by m f refl ∙ e in
-    record { flags = rw is (rw same (mask_twice m f m refl)); unmarked = rw is (unmarked_by m f refl) }
-kept_by false f e =
-    let m : ℕ = 0xf000 in
-    let is : kept_flags f ≡ bit_and f m = rw e refl in
-    let same : is_extended (bit_and f m) ≡ false = extended_by m f refl ∙ e in
-    record { flags = rw is (rw same (mask_twice m f m refl)); unmarked = rw is (unmarked_by m f refl) }
-
-kept_twice : (f : ℕ) → IsKept f
-kept_twice f = kept_by (is_extended f) f refl
-
-pub record_twice : (r : Record) → stored_record (stored_record r) ≡ stored_record r
-record_twice r = rw ((kept_twice r.flags).flags, mask_twice 0o160755 r.mode 0o160755 refl) refl
-
--- records that a file has are not marked
-pub written_stored : (rs : List Record) → written (map stored_record rs) ≡ map stored_record rs
-written_stored [] = refl
-written_stored (r ∷ rs) = rw (kept_twice r.flags).unmarked (ap (λ (l : List Record). stored_record r ∷ l) (written_stored rs))
-
-map_twice : (rs : List Record) → map stored_record (map stored_record rs) ≡ map stored_record rs
-map_twice [] = refl
-map_twice (r ∷ rs) = rw (record_twice r, map_twice rs) refl
-
-pub records_twice : (rs : List Record) → stored_records (stored_records rs) ≡ stored_records rs
-records_twice rs = ap (map stored_record) (written_stored (written rs)) ∙ map_twice (written rs)
+use Rattle.index_state.specs.State.{Contents}
+use Rattle.index_state.specs.Stored.{stored}
 
 or_twice : (a b : Bool) → ((a || b) || b) ≡ (a || b)
 or_twice true b = refl
 or_twice false true = refl
 or_twice false false = refl
 
+abbrev with_kept : Contents → List Record → Bool → Contents
+with_kept v rs a = record v { records = rs; extensions = record v.extensions { sparse = a; tree = None; link = None; resolve_undo = None; untracked = None; fs_monitor = None } }
+
 with_parts : (v : Contents) (rs ss : List Record) (a b : Bool) → rs ≡ ss → a ≡ b
-    → ◌≡◌ {A = Contents} (record v { records = rs; sparse = a; tree = None; link = None; resolve_undo = None; untracked = None; fs_monitor = None }) (record v { records = ss; sparse = b; tree = None; link = None; resolve_undo = None; untracked = None; fs_monitor = None })
+    → ◌≡◌ {A = Contents} (with_kept v rs a) (with_kept v ss b)
 with_parts v rs ss a b e h = rw (e, h) refl
 
 -- what a file keeps of what it kept is the same
@@ -70,5 +24,5 @@ pub stored_twice : (v : Contents) (options : Options) → stored (stored v optio
 stored_twice v options =
     let rs : List Record = stored_records v.records in
     let again : stored_records rs ≡ rs = records_twice v.records in
-    let sparse : (v.sparse || has_directory rs || has_directory (stored_records rs)) ≡ (v.sparse || has_directory rs) = ap (λ (l : List Record). v.sparse || has_directory rs || has_directory l) again ∙ or_twice v.sparse (has_directory rs) in
+    let sparse : (v.extensions.sparse || has_directory rs || has_directory (stored_records rs)) ≡ (v.extensions.sparse || has_directory rs) = ap (λ (l : List Record). v.extensions.sparse || has_directory rs || has_directory l) again ∙ or_twice v.extensions.sparse (has_directory rs) in
     with_parts v (stored_records rs) rs _ _ again sparse

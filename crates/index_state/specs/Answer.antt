@@ -1,19 +1,19 @@
 -- What reading a file gives: the value and the trailer's id, or the first fault (gitformat-index, as a whole).
-use Rattle.std.specs.Prelude.{◌≡◌, ◌≢◌, ℕ, ◌+◌, ◌<◌, ◌==◌, ◌||◌, ◌⊎◌, nat_lt, List, ◌++◌, length, drop, codes, Option, Some, None, Result, Ok, Err, MatchBool, MatchResult, if◌then◌else◌}
-use Rattle.std.specs.List.{list_all}
-use Rattle.index_parts.specs.Id.{id_len, make_id}
+use Rattle.std.specs.Prelude.{◌≡◌, ◌≢◌, ℕ, ◌+◌, ◌<◌, ◌||◌, ◌⊎◌, nat_lt, List, ◌++◌, length, drop, codes, Option, Some, None, Result, Ok, Err, MatchBool, MatchResult, if◌then◌else◌}
+use Rattle.index_parts.specs.Id.{id_len, is_null, make_id}
 use Rattle.index_parts.specs.declared.hash.Kind.{Kind}
 use Rattle.index_parts.specs.declared.hash.ObjectId.{ObjectId}
 use Rattle.index_parts.specs.declared.entry.stat.FileTime.{FileTime}
 use Rattle.index_extensions.specs.EndMarker.{IsMarker}
 use Rattle.index_extensions.specs.Walk.{Item, IsWalk, left_of}
-use Rattle.index_state.specs.declared.Version.{Version}
+use Rattle.index_entries.specs.declared.Version.{Version}
 use Rattle.index_state.specs.declared.decode.Options.{Options}
-use Rattle.index_state.specs.Entries.{AreEntries, LacksEntry}
-use Rattle.index_state.specs.Header.{HeaderFault, Corrupt, header_of, count_of}
-use Rattle.index_state.specs.Limits.{most_entries, is_too_large}
+use Rattle.index_entries.specs.Entries.{AreEntries, LacksEntry}
+use Rattle.index_entries.specs.Header.{HeaderFault, Corrupt, header_len, header_of, count_of}
+use Rattle.index_entries.specs.Limits.{most_entries, is_too_large}
 use Rattle.index_state.specs.Outcome.{Outcome, ExtensionFault, IsFirstFault, AreSound, IsOutcome}
-use Rattle.index_state.specs.Record.{Record, Contents, has_directory}
+use Rattle.index_entries.specs.Record.{Record, has_directory}
+use Rattle.index_state.specs.State.{Contents}
 
 -- why bytes are no index, with what a fault names: the entry's place; the expected and the actual length of the trailer;
 -- the trailer and the expected id
@@ -30,7 +30,7 @@ Answer = Result (Contents × Option ObjectId) Fault
 
 -- the trailer's id, or None where all its bytes are zero
 abbrev pub checksum_of : Kind → List ℕ → Option ObjectId
-checksum_of kind trailer = if list_all (λ b. b == 0) trailer then None else Some (make_id kind trailer)
+checksum_of kind trailer = if is_null trailer then None else Some (make_id kind trailer)
 
 -- the whole answer, unless there are an expected id and a trailer's, and they differ
 abbrev pub IsVerified : Option ObjectId → Option ObjectId → Answer → Answer → Type 0
@@ -44,14 +44,7 @@ value_of kind time version rs o = record {
   time = time;
   version = version;
   records = rs;
-  sparse = o.sparse || has_directory rs;
-  had_end_marker = o.had_end_marker;
-  had_offset_table = o.had_offset_table;
-  tree = o.tree;
-  link = o.link;
-  resolve_undo = o.resolve_undo;
-  untracked = o.untracked;
-  fs_monitor = o.fs_monitor;
+  extensions = record o { sparse = o.sparse || has_directory rs };
 }
 
 -- what follows from the extensions, the bytes that their walk leaves, and the trailer: the first fault of an extension, a
@@ -79,7 +72,7 @@ IsCounted offset kind time options bytes a version =
     (a ≡ Err (Header (Corrupt (codes "Declared entry count exceeds possible entries for file size"))))
     (MatchBool (is_too_large options.alloc_limit_bytes (count_of bytes) (length bytes) offset kind version)
     (a ≡ Err OutOfMemory)
-    (IsBody kind time options version (count_of bytes) (drop 12 bytes) a))
+    (IsBody kind time options version (count_of bytes) (drop header_len bytes) a))
 
 -- the answer to all bytes: the header's fault, or what follows behind it
 abbrev pub IsAnswer : Kind → FileTime → Options → List ℕ → Answer → Type 0

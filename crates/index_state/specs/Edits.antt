@@ -1,17 +1,21 @@
 -- An empty index, and what edits of one leave.
-use Rattle.std.specs.Prelude.{◌≡◌, List, [], ◌∷◌, ◌++◌, length, false, Option, Some, None}
+use Rattle.std.specs.Prelude.{◌≡◌, List, [], ◌∷◌, ◌++◌, length, Option, Some, None}
 use Rattle.std.specs.Borrow.{Lends, LendsIf, MutBor, Fml, Array}
 use Rattle.std.specs.Vec.{with_items}
 use Rattle.index_parts.specs.declared.hash.Kind.{Kind}
 use Rattle.index_parts.specs.declared.entry.stat.FileTime.{FileTime}
-use Rattle.index_state.specs.declared.Version.TheVariants.{V2}
-use Rattle.index_state.specs.declared.Entry.{Entry}
+use Rattle.index_entries.specs.declared.Version.TheVariants.{V2}
+use Rattle.index_entries.specs.declared.Entry.{Entry}
 use Rattle.index_state.specs.declared.State.{State}
 use Rattle.index_extensions.specs.declared.extension.tree.Tree.{Tree}
 use Rattle.index_extensions.specs.contracts.extension.tree.Tree as tree
-use Rattle.index_state.specs.contracts.Entry as entry
+use Rattle.index_entries.specs.contracts.Entry as entry
 use Rattle.index_state.specs.contracts.State as state
-use Rattle.index_state.specs.Record.{Record, Contents, IsPlaced, contents, entries_of, record_in, records, storage_of}
+use Rattle.index_state.specs.declared.extension.decode.Outcome.{Outcome as Kept}
+use Rattle.index_state.specs.contracts.extension.decode.Outcome as kept
+use Rattle.index_entries.specs.Record.{Record, IsPlaced, record_in}
+use Rattle.index_state.specs.Outcome.{no_extension}
+use Rattle.index_state.specs.State.{Contents, contents, entries_of, records, storage_of}
 
 -- an index of version 2 with no entry and no extension
 abbrev pub empty_contents : Kind → FileTime → Contents
@@ -20,15 +24,15 @@ empty_contents kind time = record {
   time = time;
   version = V2;
   records = [];
-  sparse = false;
-  had_end_marker = false;
-  had_offset_table = false;
-  tree = None;
-  link = None;
-  resolve_undo = None;
-  untracked = None;
-  fs_monitor = None;
+  extensions = no_extension;
 }
+
+-- without its cached tree, or without its stages of resolved conflicts; all else stays
+abbrev pub without_tree : Contents → Contents
+without_tree c = record c { extensions = record c.extensions { tree = None } }
+
+abbrev pub without_resolve_undo : Contents → Contents
+without_resolve_undo c = record c { extensions = record c.extensions { resolve_undo = None } }
 
 -- one more record at the end; all else stays
 abbrev pub with_record : Contents → Record → Contents
@@ -57,6 +61,10 @@ with_entries s entries = record s { entries = with_items s.entries entries }
 abbrev pub LendsEntries : MutBor State → MutBor (List Entry) → Fml
 LendsEntries s r = Lends state.the_row (Array entry.the_row 0) s r (with_entries s.now)
 
+-- the same of what is kept of the extensions
+abbrev pub LendsOwnTree : MutBor Kept → Option (MutBor Tree) → Fml
+LendsOwnTree o r = LendsIf kept.the_row tree.the_row o r (λ t. record o.now { tree = Some t }) o.now
+
 -- the state ends with the last cached tree behind the loan, if one is lent; all else stays
 abbrev pub LendsTree : MutBor State → Option (MutBor Tree) → Fml
-LendsTree s r = LendsIf state.the_row tree.the_row s r (λ t. record s.now { tree = Some t }) s.now
+LendsTree s r = LendsIf state.the_row tree.the_row s r (λ t. record s.now { extensions = record s.now.extensions { tree = Some t } }) s.now

@@ -1,28 +1,21 @@
 -- Which fault an error of the code stands for.
-use Rattle.std.specs.Prelude.{ℕ, ◌<◌, List, Option, Some, None, Result, Ok, Err, MatchOption}
+use Rattle.std.specs.Prelude.{Option, Some, None, Result, Ok, Err, MatchOption}
 use Rattle.std.specs.Option.{option_map}
-use Rattle.index_parts.specs.declared.hash.Kind.{Kind}
 use Rattle.index_parts.specs.declared.hash.ObjectId.{ObjectId}
-use Rattle.index_state.specs.declared.Version.{Version}
 use Rattle.index_state.specs.declared.State.{State}
 use Rattle.index_state.specs.declared.decode.Error.{Error}
 use Rattle.index_state.specs.declared.decode.Error.TheVariants as errors
-use Rattle.index_state.specs.declared.decode.header.Error.{Error as HeaderError}
-use Rattle.index_state.specs.declared.decode.header.Error.TheVariants as headers
+use Rattle.index_entries.specs.declared.decode.entries.Error.{Error as EntriesError}
+use Rattle.index_entries.specs.declared.decode.entries.Error.TheVariants as entries
+use Rattle.index_entries.specs.Faults.{header_fault}
 use Rattle.index_state.specs.declared.extension.link.decode.Error.{Error as LinkError}
 use Rattle.index_state.specs.declared.extension.link.decode.Error.TheVariants as links
 use Rattle.index_state.specs.declared.extension.decode.Error.{Error as ExtensionError}
 use Rattle.index_state.specs.declared.extension.decode.Error.TheVariants as extensions
 use Rattle.index_state.specs.Answer.{Fault, Header, OutOfMemory, NoEntry, Extension, TrailerLength, Verify, Answer}
-use Rattle.index_state.specs.Entries.{LacksEntry}
 use Rattle.index_state.specs.Link.{link_fault}
-use Rattle.index_state.specs.Header.{HeaderFault, Corrupt, UnsupportedVersion}
 use Rattle.index_state.specs.Outcome.{ExtensionFault, Unimplemented, Link}
-use Rattle.index_state.specs.Record.{contents}
-
-abbrev pub header_fault : HeaderError → HeaderFault
-header_fault (headers.Corrupt text) = Corrupt text.now
-header_fault (headers.UnsupportedVersion n) = UnsupportedVersion n
+use Rattle.index_state.specs.State.{contents}
 
 -- the fault of an extension that an error stands for, if any: want of memory stands for none
 abbrev pub extension_fault : ExtensionError → Option ExtensionFault
@@ -33,6 +26,11 @@ extension_fault (extensions.Link e) = option_map Link (link_fault e)
 abbrev pub link_error : LinkError → Error
 link_error links.Memory = errors.Memory
 link_error e = errors.Extension (extensions.Link e)
+
+-- the error that one of reading entries becomes
+abbrev pub entries_error : EntriesError → Error
+entries_error (entries.NoEntry i) = errors.Entry i
+entries_error entries.Memory = errors.Memory
 
 -- a fault that is found before any memory is asked for
 abbrev pub IsEarly : Fault → Type 0
@@ -55,9 +53,3 @@ SaysFault errors.Memory P = (fault : Fault) → IsEarly fault → P (Err fault) 
 abbrev pub Says : Result (State × Option ObjectId) Error → (Answer → Type 0) → Type 0
 Says (Ok x) P = P (Ok (contents x.0, x.1))
 Says (Err e) P = SaysFault e P
-
--- what an error of the loop over the entries says: the first place without an entry, or want of memory
-abbrev pub LacksSome : Version → Kind → ℕ → List ℕ → Error → Type 0
-LacksSome version kind count bytes (errors.Entry i) = (i < count) × LacksEntry version kind bytes i
-LacksSome version kind count bytes errors.Memory = Unit {0}
-LacksSome version kind count bytes e = ⊥

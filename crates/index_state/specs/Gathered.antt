@@ -1,38 +1,24 @@
--- What the code's struct of extensions stands for, and what one extension adds to it. Public clauses cite none of these.
-use Rattle.std.specs.Prelude.{◌≡◌, ℕ, ◌+◌, ◌==◌, ◌||◌, true, nat_eq, List, codes, map, Some, Option, Ok, Err, MatchBool}
-use Rattle.std.specs.Option.{option_map}
+-- What one extension adds to what is kept of those before it, and what the loop over them comes to. Public clauses cite none of these.
+use Rattle.std.specs.Prelude.{◌≡◌, ℕ, ◌+◌, ◌==◌, ◌||◌, true, nat_eq, List, codes, Some, Option, Ok, Err, MatchBool}
 use Rattle.std.specs.Cmp.Lexicographic.{pointwise}
 use Rattle.index_parts.specs.declared.hash.Kind.{Kind}
 use Rattle.index_extensions.specs.Contents.{IsRead}
-use Rattle.index_extensions.specs.FsMonitor.{IsMonitor, monitor_of}
-use Rattle.index_extensions.specs.ResolveUndo.{IsResolveUndo, path_stages}
-use Rattle.index_extensions.specs.Tree.{IsTree, node_of}
+use Rattle.index_extensions.specs.FsMonitor.{IsMonitor}
+use Rattle.index_extensions.specs.ResolveUndo.{IsResolveUndo}
+use Rattle.index_extensions.specs.Tree.{IsTree}
 use Rattle.index_extensions.specs.Walk.{Item, IsWalk, left_of}
 use Rattle.index_parts.specs.Id.{id_len}
 use Rattle.index_parts.specs.declared.entry.stat.FileTime.{FileTime}
-use Rattle.index_extensions.specs.Untracked.{IsCache, cache_of}
+use Rattle.index_extensions.specs.Untracked.{IsCache}
 use Rattle.index_state.specs.Answer.{Answer, TrailerLength, IsVerified, checksum_of, value_of}
 use Rattle.index_state.specs.Faults.{extension_fault}
-use Rattle.index_state.specs.Record.{Record}
-use Rattle.index_state.specs.declared.Version.{Version}
+use Rattle.index_entries.specs.Record.{Record}
+use Rattle.index_entries.specs.declared.Version.{Version}
 use Rattle.index_state.specs.declared.decode.Options.{Options}
-use Rattle.index_state.specs.Link.{HasLink, IsLink, link_of}
+use Rattle.index_state.specs.Link.{HasLink, IsLink}
 use Rattle.index_state.specs.Outcome.{Outcome, ExtensionFault, IsFault, AreSound, IsFirstFault, IsOutcome}
 use Rattle.index_state.specs.declared.decode.Error.{Error}
 use Rattle.index_state.specs.declared.decode.Error.TheVariants as errors
-use Rattle.index_state.specs.declared.extension.decode.Outcome.{Outcome as Kept}
-
-abbrev pub outcome_of : Kept → Outcome
-outcome_of o = record {
-  tree = option_map node_of o.tree;
-  link = option_map link_of o.link;
-  resolve_undo = option_map (λ paths. map path_stages paths.items) o.resolve_undo;
-  untracked = option_map cache_of o.untracked;
-  fs_monitor = option_map monitor_of o.fs_monitor;
-  sparse = o.is_sparse;
-  had_end_marker = o.had_end_of_index_marker;
-  had_offset_table = o.had_offset_table;
-}
 
 -- the value of a content with this name; of another the value stays
 abbrev pub Replaces : {A : Type 0} → List ℕ → (List ℕ → A → Type 0) → List ℕ → List ℕ → Option A → Option A → Type 0

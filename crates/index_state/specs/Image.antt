@@ -1,76 +1,22 @@
 -- A whole index as bytes (gitformat-index): the one spelling that is written of a value.
-use Rattle.std.specs.Prelude.{ℕ, ◌-◌, ◌%◌, ◌==◌, Bool, not, min, List, [], ◌++◌, length, replicate, codes, bit_and, bit_or, if◌then◌else◌}
-use Rattle.std.specs.List.{filter, flat_map, list_any}
-use Rattle.std.specs.Int.{w16, w32, to_be_bytes}
+use Rattle.std.specs.Prelude.{ℕ, List, [], ◌++◌, length, replicate, if◌then◌else◌}
+use Rattle.std.specs.List.{flat_map}
 use Rattle.index_parts.specs.Digest.{digest}
-use Rattle.index_parts.specs.Flags.{is_extended, rest_flags, extended_flags}
-use Rattle.index_parts.specs.Id.{id_len, id_bytes}
-use Rattle.index_state.specs.declared.Version.{Version}
-use Rattle.index_state.specs.declared.Version.TheVariants.{V2, V3, V4}
+use Rattle.index_parts.specs.Id.{id_len}
+use Rattle.index_entries.specs.EntryImage.{entry_bytes, header_bytes, needed_version, written}
+use Rattle.index_entries.specs.declared.Version.{Version}
 use Rattle.index_state.specs.declared.write.Options.{Options}
-use Rattle.index_state.specs.Entry.{Front, front_bytes}
-use Rattle.index_state.specs.Record.{Record, Contents}
+use Rattle.index_state.specs.State.{Contents}
 
--- numbers of two and of four bytes, the highest byte first
-abbrev pub be16 : ℕ → List ℕ
-be16 n = to_be_bytes w16 n
+-- ---- header and entries
 
-abbrev pub be32 : ℕ → List ℕ
-be32 n = to_be_bytes w32 n
+-- the version that is written
+abbrev pub image_version : Contents → Options → Version
+image_version v options = needed_version v.records
 
--- ---- one entry ("Index entry")
-
--- the ten numbers before the id; the mode has all its 32 bits
-unfoldable pub numbers_of : Record → List ℕ
-numbers_of r =
-    be32 r.stat.ctime.secs ++ be32 r.stat.ctime.nsecs ++ be32 r.stat.mtime.secs ++ be32 r.stat.mtime.nsecs
-    ++ be32 r.stat.dev ++ be32 r.stat.ino ++ be32 r.mode ++ be32 r.stat.uid ++ be32 r.stat.gid ++ be32 r.stat.size
-
--- the first word of flags: bits 12 to 15, and the path's length as far as 12 bits hold it
-abbrev pub first_word : Record → ℕ
-first_word r = bit_or (rest_flags r.flags) (min (length r.path) 0xfff)
-
--- the second word of flags, where bit 14 of the first is set: bits 13 and 14
-abbrev pub second_word : Record → List ℕ
-second_word r = if is_extended r.flags then be16 (extended_flags r.flags) else []
-
-abbrev pub front_of : Record → Front
-front_of r = record { numbers = numbers_of r; id = id_bytes r.id; word = be16 (first_word r); second = second_word r }
-
--- an entry up to the end of its path
-unfoldable pub unpadded : Record → List ℕ
-unpadded r = front_bytes (front_of r) ++ r.path
-
--- 1 to 8 NULs behind so many bytes, up to a multiple of 8
-abbrev pub padding : ℕ → List ℕ
-padding n = replicate (8 - n % 8) 0
-
--- an entry of version 2 or 3
-abbrev pub entry_bytes : Record → List ℕ
-entry_bytes r = unpadded r ++ padding (length (unpadded r))
-
--- ---- the header ("A 12-byte header")
-
--- marked REMOVE, bit 17 of the flags in memory: a file leaves the entry out
-abbrev pub is_removed : ℕ → Bool
-is_removed flags = bit_and flags 0x20000 == 0x20000
-
--- the records that a file has
-abbrev pub written : List Record → List Record
-written rs = filter (λ r. not (is_removed r.flags)) rs
-
--- version 3 where a record has bit 14, also one that is left out
-abbrev pub needed_version : List Record → Version
-needed_version rs = if list_any (λ r. is_extended r.flags) rs then V3 else V2
-
-abbrev pub version_code : Version → ℕ
-version_code V2 = 2
-version_code V3 = 3
-version_code V4 = 4
-
--- the signature, the version and the number of entries
-abbrev pub header_bytes : Version → ℕ → List ℕ
-header_bytes version count = codes "DIRC" ++ be32 (version_code version) ++ be32 count
+-- the entries that are written, one after another
+abbrev pub entries_bytes : Contents → Options → List ℕ
+entries_bytes v options = flat_map entry_bytes (written v.records)
 
 -- ---- the extensions ("Extensions"), of which none is written
 
@@ -91,7 +37,7 @@ marker_bytes v options = []
 -- all that stands before the end marker
 unfoldable pub unmarked : Contents → Options → List ℕ
 unmarked v options =
-    header_bytes (needed_version v.records) (length (written v.records)) ++ flat_map entry_bytes (written v.records)
+    header_bytes (image_version v options) (length (written v.records)) ++ entries_bytes v options
     ++ tree_bytes v options ++ sdir_bytes v
 
 -- all that stands before the trailer

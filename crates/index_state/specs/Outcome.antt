@@ -1,15 +1,17 @@
 -- What the extensions of a file come to (gitformat-index, "Extensions").
-use Rattle.std.specs.Prelude.{◌≡◌, ℕ, ◌==◌, nat_eq, nat_le, ◌&&◌, ◌||◌, not, Bool, true, false, List, [], ◌∷◌, ◌++◌, All, length, codes, Option, None}
+use Rattle.std.specs.Prelude.{◌≡◌, ℕ, ◌==◌, nat_eq, nat_le, ◌&&◌, ◌||◌, not, Bool, true, false, List, [], ◌∷◌, ◌++◌, All, length, codes, map, Option, None}
 use Rattle.std.specs.List.{list_any}
+use Rattle.std.specs.Option.{option_map}
 use Rattle.std.specs.Cmp.Lexicographic.{pointwise}
 use Rattle.index_parts.specs.declared.hash.Kind.{Kind}
 use Rattle.index_extensions.specs.Contents.{is_named, last_content, IsValue}
-use Rattle.index_extensions.specs.FsMonitor.{Monitor, IsMonitor}
-use Rattle.index_extensions.specs.ResolveUndo.{PathStages, IsResolveUndo}
-use Rattle.index_extensions.specs.Tree.{Node, IsTree}
-use Rattle.index_extensions.specs.Untracked.{Cache, IsCache}
+use Rattle.index_extensions.specs.FsMonitor.{Monitor, IsMonitor, monitor_of}
+use Rattle.index_extensions.specs.ResolveUndo.{PathStages, IsResolveUndo, path_stages}
+use Rattle.index_extensions.specs.Tree.{Node, IsTree, node_of}
+use Rattle.index_extensions.specs.Untracked.{Cache, IsCache, cache_of}
 use Rattle.index_extensions.specs.Walk.{Item}
-use Rattle.index_state.specs.Link.{LinkFault, LinkValue, IsLink, IsLinkFault}
+use Rattle.index_state.specs.Link.{LinkFault, LinkValue, IsLink, IsLinkFault, link_of}
+use Rattle.index_state.specs.declared.extension.decode.Outcome.{Outcome as Kept}
 
 -- what is wrong with an extension that has to be understood: it isn't known, or it is a link with a fault
 pub data ExtensionFault : Type 0 where
@@ -54,6 +56,19 @@ pub record Outcome : Type 0 where
   pub sparse : Bool
   pub had_end_marker : Bool
   pub had_offset_table : Bool
+
+-- what the code keeps of them, as a value
+abbrev pub outcome_of : Kept → Outcome
+outcome_of o = record {
+  tree = option_map node_of o.tree;
+  link = option_map link_of o.link;
+  resolve_undo = option_map (λ paths. map path_stages paths.items) o.resolve_undo;
+  untracked = option_map cache_of o.untracked;
+  fs_monitor = option_map monitor_of o.fs_monitor;
+  sparse = o.is_sparse;
+  had_end_marker = o.had_end_of_index_marker;
+  had_offset_table = o.had_offset_table;
+}
 
 -- what no extensions come to
 abbrev pub no_extension : Outcome

@@ -1,21 +1,24 @@
 //! Asking an index for its entries, and editing them.
 
 mod extensions;
-mod search;
+mod lookup;
 
 ghost use Rattle.std.specs.Borrow.{sem};
 ghost use Rattle.std.specs.Option.{ok_or, option_copied};
 ghost use Rattle.std.specs.Prelude.{◌≡◌, ◌+◌, ◌<◌, ◌≤◌, Contains, length, option_and_then, slice_get, IfOk, IfErr, IfSome, OnOk, OnErr};
 ghost use Rattle.index_parts.specs.Flags.{stage_code};
 ghost use Rattle.index_parts.specs.Id.{id_kind};
-ghost use Rattle.index_state.specs.Digits.{digits};
+ghost use Rattle.index_entries.specs.Digits.{digits};
 ghost use Rattle.index_state.specs.Edits.{AddsEntry, IsUnchanged, LendsEntries, with_record};
-ghost use Rattle.index_state.specs.Lookup.{HasKey, IsKeyAt, IsPathAt, IsPathGap, insertion_of, place_of};
-ghost use Rattle.index_state.specs.Order.{IsOrderedByPath, IsStrictlyOrdered};
-ghost use Rattle.index_state.specs.Record.{IdsAreOf, PathsInStorage, contents, entries_of, record_in, records, storage_of};
+ghost use Rattle.index_entries.specs.Lookup.{HasKey, IsKeyAt, IsPathAt, IsPathGap, insertion_of, place_of};
+ghost use Rattle.index_entries.specs.Order.{IsOrderedByPath, IsStrictlyOrdered};
+ghost use Rattle.index_entries.specs.Record.{IdsAreOf, record_in};
+ghost use Rattle.index_state.specs.State.{PathsInStorage, contents, entries_of, records, storage_of};
 ghost use Rattle.index_parts.specs.declared.hash.Kind.{Kind};
 
-use crate::{Entry, State};
+use crate::State;
+use index_entries::access::search;
+use index_entries::{Entry, make_entry};
 use index_parts::entry::{Flags, Mode, Stage, Stat};
 use index_parts::hash::ObjectId;
 use std::alloc::AllocError;
@@ -76,7 +79,7 @@ impl State {
         ensures count { result.1 ≤ digits (length (records self.now)) + 1 }
         ensures at_least_one { 0 < length (records self.now) → 1 ≤ result.1 }
     {
-        search::search(&self.entries, &self.path_backing, path, None)
+        search::search_path(self.entries(), self.path_backing(), path)
     }
 
     /// The place of the entry at the path and the stage or, as an error, the place where it would be put in: the
@@ -95,7 +98,7 @@ impl State {
         ensures count { result.1 ≤ digits (length (records self.now)) + 1 }
         ensures at_least_one { 0 < length (records self.now) → 1 ≤ result.1 }
     {
-        search::search(&self.entries, &self.path_backing, path, Some(stage))
+        search::search_path_and_stage(self.entries(), self.path_backing(), path, stage)
     }
 }
 
@@ -139,13 +142,8 @@ impl State {
         let start = self.path_backing.len();
         self.path_backing.extend_from_slice(path)?;
         let end = self.path_backing.len();
-        self.entries.push_reserved(Entry {
-            stat,
-            id,
-            flags,
-            mode,
-            path: start..end,
-        });
+        self.entries
+            .push_reserved(make_entry(stat, id, flags, mode, start..end));
         Ok(())
     }
 }

@@ -1,39 +1,48 @@
 //! Reading an index from the bytes of a file.
 
 pub mod entries;
-mod entry;
 pub mod header;
 
-ghost use Rattle.std.specs.List.{list_all};
-ghost use Rattle.std.specs.Prelude.{◌≡◌, ◌≤◌, ◌==◌, ◌+◌, ◌*◌, ◌||◌, length, IfOk, IfErr, OnOk, All};
+ghost use Rattle.std.specs.Prelude.{◌≡◌, ◌≤◌, ◌+◌, ◌*◌, ◌||◌, not, length, IfOk, IfErr, OnOk, All};
 ghost use Rattle.index_parts.specs.Id.{id_len};
+ghost use Rattle.index_state.specs.Outcome.{outcome_of};
 ghost use Rattle.index_state.specs.Answer.{Answer, IsVerified, IsAnswer, IsBody, IsEnding, checksum_of};
-ghost use Rattle.index_state.specs.Faults.{Says, SaysFault, link_error};
-ghost use Rattle.index_extensions.specs.Limit.{passes_limit};
-ghost use Rattle.index_state.specs.Gathered.{IsTaken, outcome_of};
-ghost use Rattle.index_state.specs.Record.{PathsInStorage, IdsAreOf, ExtensionIdsAreOf, IsPlaced, contents, entries_of, records_in, has_directory};
+ghost use Rattle.index_state.specs.Faults.{Says, SaysFault, entries_error, link_error};
+ghost use Rattle.index_parts.specs.Limit.{is_within};
+ghost use Rattle.index_entries.specs.Limits.{entry_cost};
+ghost use Rattle.index_state.specs.Gathered.{IsTaken};
+ghost use Rattle.index_state.specs.Storable.{IsStorable};
+ghost use Rattle.index_state.specs.State.{PathsInStorage, ExtensionIdsAreOf, contents, entries_of};
+ghost use Rattle.index_entries.specs.Record.{IdsAreOf, IsPlaced, records_in, has_directory};
 ghost use Rattle.index_state.specs.declared.decode.Error.TheVariants.{Header, Memory};
 
 use crate::extension::decode::Outcome;
 use crate::extension::link;
-use crate::{State, Version, extension};
+use crate::{State, extension};
+use index_entries::Version;
+use index_entries::decode::entries::{Error as EntriesError, Read, entries_of};
+use index_entries::decode::header::decode as decode_header;
 use index_extensions::extension::end_of_index_entry;
 use index_parts::entry::FileTime;
 use index_parts::hash::{Kind, ObjectId};
+use index_parts::read;
 use std::alloc::{AllocError, AllocFailed, Global};
 use thiserror::Error;
+
+/// How many bytes an entry counts as against [`Options::alloc_limit_bytes`].
+const ENTRY_COST: usize = 96;
 
 /// Why bytes are no index, or that no state could be made of them.
 #[derive(Debug, Drop, Error)]
 pub enum Error {
     /// The first twelve bytes are at fault, or they declare more entries than the file has room for.
-    #[error("the index's header is at fault: {0}")]
+    #[error("{0}")]
     Header(header::Error),
     /// Never given: hashing can't fail here.
     #[error("the index's digest can't be computed")]
     Hasher,
     /// The caller's limit, [`Options::alloc_limit_bytes`], is passed. It is no want of memory.
-    #[error("the index's entries or their paths pass the limit of memory that the caller set")]
+    #[error("the index's entries or their paths take more memory than the caller's limit allows")]
     OutOfMemory,
     /// No entry stands where this one should.
     #[error("entry {index} of the index, counted from 0, can't be read")]
@@ -42,10 +51,10 @@ pub enum Error {
         index: u32,
     },
     /// A mandatory extension is at fault.
-    #[error("a mandatory extension of the index is at fault: {0}")]
+    #[error("{0}")]
     Extension(extension::decode::Error),
     /// The bytes behind all entries and extensions aren't as many as the trailer has.
-    #[error("{actual} bytes are left for the index's trailer, which has {expected}")]
+    #[error("{actual} bytes are left for the index's trailer, which takes {expected}")]
     UnexpectedTrailerLength {
         /// How many bytes an id of the index's kind has.
         expected: usize,
@@ -54,7 +63,7 @@ pub enum Error {
     },
     /// The trailer differs from [`Options::expected_checksum`]. Where a whole file is checked before it is read, the
     /// digest of its bytes differs from its trailer: there `actual` is the digest, and `expected` the trailer.
-    #[error("the index's checksum is {actual}, and {expected} was expected: the file may be damaged")]
+    #[error("the index's digest is {actual} and not {expected}: the file may be damaged, have ids of the other kind, or be no index")]
     Verify {
         /// The trailer, or the digest.
         actual: ObjectId,
@@ -89,6 +98,17 @@ impl From<header::Error> for Error {
     }
 }
 
+impl From<EntriesError> for Error {
+    ghost from_gives = { λ entries e. e ≡ entries_error entries };
+
+    fn from(e: EntriesError) -> Error {
+        match e {
+            EntriesError::NoEntry { index } => Error::Entry { index },
+            EntriesError::Memory => Error::Memory,
+        }
+    }
+}
+
 /// Want of memory is told by the variant of its own.
 impl From<link::decode::Error> for Error {
     ghost from_gives = { λ link e. e ≡ link_error link };
@@ -117,19 +137,12 @@ impl<T: Drop> From<AllocFailed<T>> for Error {
     }
 }
 
-/// Whether all bytes are zero.
-fn is_null(bytes: &[u8]) -> bool
-    ensures { result ≡ list_all (λ b. b == 0) bytes.now }
-{
-    bytes.iter().all(|byte| *byte == 0)
-}
-
 /// The id that a trailer is, or None where all its bytes are zero.
 fn checksum_in(kind: Kind, trailer: &[u8]) -> Option<ObjectId>
     requires { length trailer.now ≡ id_len kind }
     ensures { result ≡ checksum_of kind trailer.now }
 {
-    if is_null(trailer) {
+    if read::is_null(trailer) {
         return None;
     }
     Some(ObjectId::of_kind(kind, trailer))
@@ -154,7 +167,7 @@ fn verify(expected: Option<ObjectId>, actual: Option<ObjectId>) -> Result<(), Er
 
 /// The state of entries and extensions that were read. So many bytes are left before the trailer.
 fn state_of(
-    read: entries::Read<'_>,
+    read: Read<'_>,
     outcome: Outcome,
     left: usize,
     trailer: &[u8],
@@ -165,7 +178,7 @@ fn state_of(
 ) -> Result<(State, Option<ObjectId>), Error>
     requires placed { All (IsPlaced (length read.storage.items)) read.entries.items }
     requires ids { IdsAreOf object_hash read.entries.items }
-    requires extension_ids { ExtensionIdsAreOf object_hash (outcome_of outcome).tree (outcome_of outcome).link (outcome_of outcome).resolve_undo (outcome_of outcome).untracked }
+    requires extension_ids { ExtensionIdsAreOf object_hash (outcome_of outcome) }
     requires sparse { read.sparse ≡ has_directory (records_in read.storage.items read.entries.items) }
     requires trailer { length trailer.now ≡ id_len object_hash }
     requires room { left + id_len object_hash ≤ 0xffffffffffffffff }
@@ -173,7 +186,7 @@ fn state_of(
         (records_in read.entry.storage.items read.entry.entries.items) (outcome_of outcome) left trailer.now) }
     ensures stored { IfOk result (λ x. PathsInStorage x.0) }
     ensures ids { IfOk result (λ x. IdsAreOf object_hash (entries_of x.0)) }
-    ensures extension_ids { IfOk result (λ x. ExtensionIdsAreOf object_hash (contents x.0).tree (contents x.0).link (contents x.0).resolve_undo (contents x.0).untracked) }
+    ensures extension_ids { IfOk result (λ x. ExtensionIdsAreOf object_hash (contents x.0).extensions) }
 {
     if left != 0 {
         let expected = object_hash.len_in_bytes();
@@ -182,24 +195,24 @@ fn state_of(
     }
     let checksum = checksum_in(object_hash, trailer);
     verify(options.expected_checksum, checksum)?;
-    let state = State::of_parts(
+    let state = State {
         object_hash,
         timestamp,
         version,
-        read.entries,
-        read.storage,
-        Outcome {
+        entries: read.entries,
+        path_backing: read.storage,
+        extensions: Outcome {
             is_sparse: outcome.is_sparse || read.sparse,
             ..outcome
         },
-    );
+    };
     Ok((state, checksum))
 }
 
 /// The state of entries that were read, with the extensions and the trailer behind them.
 fn ending_of(
     alloc: Global,
-    read: entries::Read<'_>,
+    read: Read<'_>,
     timestamp: FileTime,
     object_hash: Kind,
     options: Options,
@@ -212,7 +225,7 @@ fn ending_of(
         (records_in read.entry.storage.items read.entry.entries.items) read.entry.rest.now) }
     ensures stored { IfOk result (λ x. PathsInStorage x.0) }
     ensures ids { IfOk result (λ x. IdsAreOf object_hash (entries_of x.0)) }
-    ensures extension_ids { IfOk result (λ x. ExtensionIdsAreOf object_hash (contents x.0).tree (contents x.0).link (contents x.0).resolve_undo (contents x.0).untracked) }
+    ensures extension_ids { IfOk result (λ x. ExtensionIdsAreOf object_hash (contents x.0).extensions) }
 {
     let expected = object_hash.len_in_bytes();
     let actual = read.rest.len();
@@ -234,20 +247,11 @@ fn ending_of(
     )
 }
 
-fn passes_limit(limit: Option<usize>, size: usize) -> bool
-    ensures { result ≡ passes_limit limit size }
-{
-    match limit {
-        None => false,
-        Some(limit) => limit < size,
-    }
-}
-
 /// Whether entries, or the estimate of their paths, pass the limit.
 fn is_too_large(limit: Option<usize>, count: u32, paths: usize) -> bool
-    ensures { result ≡ (passes_limit limit (96 * count) || passes_limit limit paths) }
+    ensures { result ≡ (not (is_within limit (entry_cost * count)) || not (is_within limit paths)) }
 {
-    passes_limit(limit, 96 * count as usize) || passes_limit(limit, paths)
+    !read::is_within(limit, ENTRY_COST * count as usize) || !read::is_within(limit, paths)
 }
 
 /// The state of so many entries at the front of the bytes, and the end behind them.
@@ -264,9 +268,9 @@ fn body_of(
     ensures body { Says result (IsBody object_hash timestamp options version count bytes.now) }
     ensures stored { IfOk result (λ x. PathsInStorage x.0) }
     ensures ids { IfOk result (λ x. IdsAreOf object_hash (entries_of x.0)) }
-    ensures extension_ids { IfOk result (λ x. ExtensionIdsAreOf object_hash (contents x.0).tree (contents x.0).link (contents x.0).resolve_undo (contents x.0).untracked) }
+    ensures extension_ids { IfOk result (λ x. ExtensionIdsAreOf object_hash (contents x.0).extensions) }
 {
-    let read = entries::entries_of(alloc, version, object_hash, count, paths, bytes)?;
+    let read = entries_of(alloc, version, object_hash, count, paths, bytes)?;
     ending_of(alloc, read, timestamp, object_hash, options, version)
 }
 
@@ -277,11 +281,11 @@ impl State {
     /// Of several faults the first is given, in this order: [`Error::Header`] for a file that is too short, has
     /// another signature, a version that can't be read, or a count of entries that its length can't hold;
     /// [`Error::OutOfMemory`] by the caller's limit; [`Error::Entry`]; [`Error::Extension`];
-    /// [`Error::UnexpectedTrailerLength`]; [`Error::Verify`]. [`Error::Memory`] comes only where a growth
-    /// was refused, and never in place of the first two. The digest isn't computed.
+    /// [`Error::UnexpectedTrailerLength`]; [`Error::Verify`]. [`Error::Memory`] is the want of it, and never comes in
+    /// place of the first two. The digest isn't computed.
     ///
-    /// Of the entries nothing is copied but the paths, into one storage; room for them and for the entries is asked
-    /// for once. A malformed optional extension is no fault, and gives no value (gitformat-index).
+    /// The state's paths lie in its storage, its ids are of this kind, and it can be written. A malformed optional
+    /// extension is no fault, and gives no value (gitformat-index, "Extensions").
     pub fn from_bytes(
         alloc: Global,
         data: &[u8],
@@ -293,9 +297,10 @@ impl State {
         ensures answer { Says result (IsAnswer object_hash timestamp options «data».now) }
         ensures stored { IfOk result (λ x. PathsInStorage x.0) }
         ensures ids { IfOk result (λ x. IdsAreOf object_hash (entries_of x.0)) }
-        ensures extension_ids { IfOk result (λ x. ExtensionIdsAreOf object_hash (contents x.0).tree (contents x.0).link (contents x.0).resolve_undo (contents x.0).untracked) }
+        ensures storable { IfOk result (λ x. IsStorable (contents x.0)) }
+        ensures extension_ids { IfOk result (λ x. ExtensionIdsAreOf object_hash (contents x.0).extensions) }
     {
-        let (version, count, rest) = header::decode(data, object_hash)?;
+        let (version, count, rest) = decode_header(data, object_hash)?;
         let offset = end_of_index_entry::decode(data, object_hash);
         let most = entries::max_entries_possible(data.len(), offset, object_hash, version);
         if count as usize > most {

@@ -2,10 +2,12 @@
 
 ghost use Rattle.std.specs.Prelude.{◌≡◌, []};
 ghost use Rattle.index_state.specs.Edits.{empty_contents};
-ghost use Rattle.index_state.specs.Record.{PathsInStorage, contents, storage_of};
+ghost use Rattle.index_state.specs.Storable.{IsStorable};
+ghost use Rattle.index_state.specs.State.{PathsInStorage, contents, storage_of};
 
+use crate::State;
 use crate::extension::decode::Outcome;
-use crate::{State, Version};
+use index_entries::Version;
 use index_parts::entry::FileTime;
 use index_parts::hash::Kind;
 use std::alloc::Global;
@@ -18,14 +20,15 @@ impl State {
         ensures empty { contents result ≡ empty_contents object_hash now }
         ensures storage { storage_of result ≡ [] }
         ensures stored { PathsInStorage result }
+        ensures storable { IsStorable (contents result) }
     {
-        State::of_parts(
+        State {
             object_hash,
-            now,
-            Version::V2,
-            Vec::new(alloc),
-            Vec::new(alloc),
-            Outcome::none(),
-        )
+            timestamp: now,
+            version: Version::V2,
+            entries: Vec::new(alloc),
+            path_backing: Vec::new(alloc),
+            extensions: Outcome::none(),
+        }
     }
 }

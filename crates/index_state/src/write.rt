@@ -1,19 +1,14 @@
 //! Writing an index as the bytes of a file.
 
-mod entry;
-
-ghost use Rattle.std.specs.Prelude.{◌≡◌, ◌+◌, ◌≤◌, ◌<◌, ◌^◌, ◌↔◌, ℕ, List, length, count_by, not, false, is_err, IsTrue, IfOk, OnOk, All};
-ghost use Rattle.std.specs.List.{flat_map, list_any};
-ghost use Rattle.index_parts.specs.Flags.{is_extended};
+ghost use Rattle.std.specs.Prelude.{◌≡◌, ◌≤◌, ◌<◌, ◌^◌, ◌↔◌, length, false, is_err, IsTrue, IfOk, OnOk};
 ghost use Rattle.index_parts.specs.Taking.{Hashes, Puts};
 ghost use Rattle.index_state.specs.declared.write.Error.TheVariants.{Io};
-ghost use Rattle.index_state.specs.Image.{entry_bytes, written, needed_version, header_bytes, is_removed, unmarked, body};
-ghost use Rattle.index_state.specs.Record.{PathsInStorage, IsPlaced, contents, records_in};
+ghost use Rattle.index_state.specs.Image.{image_version, unmarked, body};
+ghost use Rattle.index_state.specs.State.{PathsInStorage, contents};
 ghost use Rattle.index_state.specs.Writing.{Writes};
 
-use crate::{Entry, State, Version};
-use bitflags::Flags as _;
-use index_parts::entry::Flags;
+use crate::State;
+use index_entries::{Version, write};
 use index_parts::hash::io::Out;
 use std::io;
 use thiserror::Error;
@@ -66,107 +61,29 @@ impl From<io::Error> for Error {
     }
 }
 
-/// Whether an entry has a second word of flags, even one that is left out.
-fn has_extended(entries: &[Entry]) -> bool
-    ensures { result ≡ list_any (λ e. is_extended e.flags.0) entries.now }
-{
-    entries
-        .iter()
-        .any(|entry| entry.flags.contains(Flags::EXTENDED))
-}
-
-/// How many of the entries are written.
-fn count_written(entries: &[Entry]) -> usize
-    ensures count { result ≡ count_by (λ e. not (is_removed e.flags.0)) entries.now }
-    ensures bound { result ≤ length entries.now }
-{
-    entries.iter().filter(|entry| !entry.is_removed()).count()
-}
-
-/// The twelve bytes at the front of a file.
-fn header_of(version: Version, count: u32) -> [u8; 12]
-    ensures { result ≡ header_bytes version count }
-{
-    let [a, b, c, d] = (version as u32).to_be_bytes();
-    let [e, f, g, h] = count.to_be_bytes();
-    [b'D', b'I', b'R', b'C', a, b, c, d, e, f, g, h]
-}
-
-/// Writes the entries that are not left out, one after another.
-fn put_entries<W: Out>(entries: &[Entry], storage: &[u8], out: &mut W) -> io::Result<()>
-    requires placed { All (IsPlaced (length storage.now)) entries.now }
-    requires unfailed { W.failed out.old ≡ false }
-    ensures bytes { Puts W.taken W.hashed out.old out.new result (flat_map entry_bytes (written (records_in storage.now entries.now))) }
-    ensures mark { W.failed out.new ≡ is_err result }
-    ensures loan { W.loan out.new ≡ W.loan out.old }
-{
-    for entry in entries {
-        if !entry.is_removed() {
-            entry.put(storage, out)?;
-        }
-    }
-    Ok(())
-}
-
-/// Whether the header and the entries take more bytes than 32 bits can count.
-fn are_too_large(entries: &[Entry], storage: &[u8]) -> bool
-    requires { All (IsPlaced (length storage.now)) entries.now }
-    ensures { IsTrue result ↔ (2 ^ 32 ≤ 12 + length (flat_map entry_bytes (written (records_in storage.now entries.now)))) }
-{
-    let mut total = 12;
-    for entry in entries {
-        if !entry.is_removed() {
-            total += entry.written_len(storage);
-            if total > u64::from(u32::MAX) {
-                return true;
-            }
-        }
-    }
-    false
-}
-
 impl State {
-    /// The version of the format that the entries need.
-    #[tactic(auto, using(crate::proofs::Written::any_record))]
-    fn needed_version(&self) -> Version
-        ensures { result ≡ needed_version (contents self.now).records }
-    {
-        if has_extended(&self.entries) {
-            return Version::V3;
-        }
-        Version::V2
-    }
-
-    /// How many entries are written.
-    #[tactic(auto, using(crate::proofs::Written::count_is))]
-    fn written_count(&self) -> u32
-        requires { length (contents self.now).records < 2 ^ 32 }
-        ensures { result ≡ length (written (contents self.now).records) }
-    {
-        count_written(&self.entries) as u32
-    }
-
     /// Whether all that stands before the end marker takes more bytes than 32 bits can count.
     #[tactic(auto, using(crate::proofs::Bodies::length_unmarked))]
     fn is_too_large(&self, options: Options) -> bool
         requires { PathsInStorage self.now }
         ensures { IsTrue result ↔ (2 ^ 32 ≤ length (unmarked (contents self.now) options)) }
     {
-        are_too_large(&self.entries, &self.path_backing)
+        write::are_too_large(&self.entries, &self.path_backing)
     }
 
     /// Writes all but the trailer.
     fn put_body<W: Out>(&self, version: Version, out: &mut W, options: Options) -> io::Result<()>
         requires few { length (contents self.now).records < 2 ^ 32 }
-        requires version { version ≡ needed_version (contents self.now).records }
+        requires version { version ≡ image_version (contents self.now) options }
         requires placed { PathsInStorage self.now }
         requires unfailed { W.failed out.old ≡ false }
         ensures bytes { Puts W.taken W.hashed out.old out.new result (body (contents self.now) options) }
         ensures mark { W.failed out.new ≡ is_err result }
         ensures loan { W.loan out.new ≡ W.loan out.old }
     {
-        out.put(&header_of(version, self.written_count()))?;
-        put_entries(&self.entries, &self.path_backing, out)
+        let count = write::count_written(&self.entries) as u32;
+        out.put(&write::header(version, count))?;
+        write::put_entries(&self.entries, &self.path_backing, out)
     }
 
     /// Writes the index as the bytes of a file, but for the trailer, and gives the version that they have: 3 where an
@@ -182,7 +99,7 @@ impl State {
     pub fn write_to<W: Out>(&self, out: &mut W, options: Options) -> Result<Version, Error>
         requires placed { PathsInStorage self.now }
         requires unfailed { W.failed out.old ≡ false }
-        ensures version { IfOk result (λ version. version ≡ needed_version (contents self.now).records) }
+        ensures version { IfOk result (λ version. version ≡ image_version (contents self.now) options) }
         ensures bytes { Writes W.taken W.failed out.old out.new result (body (contents self.now) options) }
         ensures hashed { OnOk result (Hashes W.hashed out.old out.new (body (contents self.now) options)) }
         ensures loan { W.loan out.new ≡ W.loan out.old }
@@ -196,7 +113,7 @@ impl State {
         if self.is_too_large(options) {
             return Err(Error::TooLarge);
         }
-        let version = self.needed_version();
+        let version = write::needed_version(&self.entries);
         self.put_body(version, out, options)?;
         Ok(version)
     }

@@ -1,41 +1,32 @@
 //! The commands, from words to a status.
 
-ghost use Rattle.std.specs.Prelude.{◌≡◌, ◌≤◌, ◌↔◌, ◌⊎◌, map, IfOk, IfErr, OnOk, IsSomeAnd, None, string_bytes};
-ghost use Rattle.std.specs.Option.{option_map};
-ghost use Rattle.std.specs.Io.KnownBytes.{Keeps};
-ghost use Rattle.index_state.specs.Record.{PathsInStorage, contents};
-ghost use Rattle.gix_index.specs.File.{state_of};
-ghost use Rattle.index_tool.specs.Command.{kind_named, listed_kind, IsReadFrom, Lists, WasRead, IsOfFile, Refuses};
+pub mod list;
 
-use crate::listing::write_listing;
-use gix_index::entry::FileTime;
+ghost use Rattle.std.specs.Prelude.{◌≡◌, ◌≤◌, ◌↔◌, map, IfErr, OnOk, OnErr, IsSomeAnd, None, string_bytes};
+ghost use Rattle.std.specs.Io.KnownBytes.{Keeps};
+ghost use Rattle.std.specs.Option.{option_map};
+ghost use Rattle.index_tool.specs.Command.{command_named, command_value, kind_named, list_named, Listing, GivesUp, Succeeds};
+
+use crate::failure::Failure;
 use gix_index::hash::Kind;
-use gix_index::{File, decode, file};
+use list::list;
 use std::alloc::Global;
-use std::io::{Read, Write};
-use std::path::PathBuf;
+use std::io::Write;
 use std::rt::Files;
 use std::{fs, io};
-use thiserror::Error;
 
-/// Why a command ended without its result.
-#[derive(Debug, Drop, Error)]
-enum Failure {
-    #[error("usage: index-tool list sha1|sha256 FILE")]
-    Usage,
-    #[error("the index can't be opened or read: {0}")]
-    Read(io::Error),
-    #[error("{0}")]
-    Index(file::init::Error),
-    #[error("the listing can't be written: {0}")]
-    Write(io::Error),
-}
+/// The status of a command that succeeded.
+pub const DONE: u8 = 0;
+/// The status of a command that was refused.
+pub const REFUSED: u8 = 1;
+/// The status of words that are no command.
+pub const WRONG_WORDS: u8 = 2;
 
 /// A command with its words.
 #[derive(Clone, Copy)]
-struct List<'a> {
-    kind: Kind,
-    path: &'a str,
+enum Command<'a> {
+    /// A line for each entry of the index in the file.
+    List { kind: Kind, path: &'a str },
 }
 
 fn kind_of(word: &str) -> Option<Kind>
@@ -50,82 +41,76 @@ fn kind_of(word: &str) -> Option<Kind>
     None
 }
 
-/// The command that these words are, if they are one.
-fn command_of(words: &[String]) -> Option<List<'_>>
-    ensures { option_map (λ list. list.kind) result ≡ listed_kind (map string_bytes words.now) }
+/// What the words behind `list` are.
+fn list_of(words: &[String]) -> Option<Command<'_>>
+    ensures { option_map command_value result ≡ list_named (map string_bytes words.now) }
 {
-    let [command, kind, path] = words else {
+    let [kind, path] = words else {
         return None;
     };
-    if command.as_str() != "list" {
-        return None;
-    }
     let kind = kind_of(kind.as_str())?;
-    Some(List {
+    Some(Command::List {
         kind,
         path: path.as_str(),
     })
 }
 
-/// The bytes of a file, read in room for as many as its metadata says.
-fn bytes_of<R: Files + Alloc>(rt: &R, alloc: Global, path: &str) -> io::Result<Vec<u8>> {
-    let len = fs::metadata(rt, path)?.len() as usize;
-    let mut file = fs::open(rt, path)?;
-    let mut bytes = Vec::with_capacity(alloc, len.saturating_add(1))?;
-    file.read_to_end(&mut bytes)?;
-    Ok(bytes)
-}
-
-/// The index in a file, with the entries of its own where it is split.
-fn index_of<R: Files + Alloc>(rt: &R, alloc: Global, list: List<'_>) -> Result<File, Failure>
-    ensures read { IfOk result (λ file. IsReadFrom list.entry.kind (contents (state_of file))) }
-    ensures stored { IfOk result (λ file. PathsInStorage (state_of file)) }
-    ensures fault { IfErr result IsOfFile }
+/// The command that these words are, if they are one.
+fn command_of(words: &[String]) -> Option<Command<'_>>
+    ensures { option_map command_value result ≡ command_named (map string_bytes words.now) }
 {
-    let bytes = match bytes_of(rt, alloc, list.path) {
-        Ok(bytes) => bytes,
-        Err(e) => return Err(Failure::Read(e)),
+    let [name, rest @ ..] = words else {
+        return None;
     };
-    let path = match PathBuf::from_str(alloc, list.path) {
-        Ok(path) => path,
-        Err(e) => return Err(Failure::Read(io::Error::from(e))),
-    };
-    let time = FileTime::EPOCH;
-    let options = decode::Options::default();
-    match File::decode(alloc, &bytes, path, list.kind, false, time, options) {
-        Ok(file) => Ok(file),
-        Err(e) => Err(Failure::Index(e)),
+    if name.as_str() == "list" {
+        return list_of(rest);
     }
+    None
 }
 
-/// Runs a command, and says whether its result went to `out`.
-fn outcome_of<R: Files + Alloc, W: io::Write>(
+/// Lists the index in a file. Room is made for as many bytes as the file's metadata says.
+fn list_file<'a, R: Files + Alloc, W: io::Write>(
     rt: &R,
     alloc: Global,
-    words: &[String],
+    kind: Kind,
+    path: &'a str,
     out: &mut W,
-) -> Result<(), Failure>
-    ensures done { OnOk result (IsSomeAnd (listed_kind (map string_bytes words.now))
-        (λ kind. Lists kind (W.contents out.old) (W.contents out.new))) }
-    ensures refused { IfErr result (λ failure. Refuses failure (listed_kind (map string_bytes words.now))
-        (W.contents out.old) (W.contents out.new)) }
+) -> Result<(), Failure<'a>>
+    ensures listed { OnOk result (Succeeds (Listing kind path.now) (W.contents out.old) (W.contents out.new)) }
+    ensures refused { OnErr result (GivesUp (Listing kind path.now) (W.contents out.old) (W.contents out.new)) }
 {
-    let Some(list) = command_of(words) else {
-        return Err(Failure::Usage);
+    let size = match fs::metadata(rt, path) {
+        Ok(metadata) => metadata.len() as usize,
+        Err(fault) => return Err(Failure::Read { path, fault }),
     };
-    let index = index_of(rt, alloc, list)?;
-    match write_listing(alloc, &index, out) {
-        Ok(()) => Ok(()),
-        Err(e) => Err(Failure::Write(e)),
+    let mut file = match fs::open(rt, path) {
+        Ok(file) => file,
+        Err(fault) => return Err(Failure::Read { path, fault }),
+    };
+    list(alloc, kind, path, &mut file, size.saturating_add(1), out)
+}
+
+/// Runs a command: Ok where its whole result went to `out`.
+fn run_command<'a, R: Files + Alloc, W: io::Write>(
+    rt: &R,
+    alloc: Global,
+    command: Command<'a>,
+    out: &mut W,
+) -> Result<(), Failure<'a>>
+    ensures done { OnOk result (Succeeds (command_value command.entry) (W.contents out.old) (W.contents out.new)) }
+    ensures refused { OnErr result (GivesUp (command_value command.entry) (W.contents out.old) (W.contents out.new)) }
+{
+    match command {
+        Command::List { kind, path } => list_file(rt, alloc, kind, path, out),
     }
 }
 
 /// Runs the command that these words are, and gives the status that the program ends with.
 ///
 /// `list KIND FILE`, with KIND `sha1` or `sha256`, writes a line to `out` for each entry of the index in FILE.
-/// Status 0: the whole listing was written. Status 1: FILE can't be read or is no index of this kind, or `out`
-/// failed; nothing goes to `out` before FILE was read whole. Status 2: the words are no command; no file is
-/// opened. A status other than 0 comes with one line on `faults`.
+/// [`DONE`]: the whole listing was written. [`REFUSED`]: FILE can't be read or is no index of this kind, or `out`
+/// failed; nothing goes to `out` before FILE was read whole. [`WRONG_WORDS`]: the words are no command; no file is
+/// opened. A status other than [`DONE`] comes with one line on `faults`, which names the file that it concerns.
 pub fn run<R: Files + Alloc, O: io::Write, E: io::Write>(
     rt: &R,
     alloc: Global,
@@ -133,22 +118,26 @@ pub fn run<R: Files + Alloc, O: io::Write, E: io::Write>(
     out: &mut O,
     faults: &mut E,
 ) -> u8
-    ensures status { result ≤ 2 }
-    ensures wrong_words { (result ≡ 2) ↔ (listed_kind (map string_bytes words.now) ≡ None) }
-    ensures nothing_opened { result ≡ 2 → Keeps (O.contents out.old) (O.contents out.new) }
-    // The file's bytes can't be named: what was listed is what some bytes of that kind are read as.
-    ensures listed { result ≡ 0 → IsSomeAnd (listed_kind (map string_bytes words.now))
-        (λ kind. Lists kind (O.contents out.old) (O.contents out.new)) }
-    ensures refused { result ≡ 1 → Keeps (O.contents out.old) (O.contents out.new)
-        ⊎ IsSomeAnd (listed_kind (map string_bytes words.now)) WasRead }
-    ensures no_fault { result ≡ 0 → Keeps (E.contents faults.old) (E.contents faults.new) }
+    ensures status { result ≤ WRONG_WORDS }
+    ensures wrong_words { (result ≡ WRONG_WORDS) ↔ (command_named (map string_bytes words.now) ≡ None) }
+    ensures nothing_opened { result ≡ WRONG_WORDS → Keeps (O.contents out.old) (O.contents out.new) }
+    // The file's bytes can't be named: what goes to `out` is the result for some bytes.
+    ensures done { result ≡ DONE → IsSomeAnd (command_named (map string_bytes words.now))
+        (λ command. Succeeds command (O.contents out.old) (O.contents out.new)) }
+    ensures refused { result ≡ REFUSED → IsSomeAnd (command_named (map string_bytes words.now))
+        (λ command. GivesUp command (O.contents out.old) (O.contents out.new)) }
+    ensures no_fault { result ≡ DONE → Keeps (E.contents faults.old) (E.contents faults.new) }
 {
-    let Err(failure) = outcome_of(rt, alloc, words, out) else {
-        return 0;
+    let Some(command) = command_of(words) else {
+        let _ = writeln!(
+            faults,
+            "index-tool: usage: index-tool list sha1|sha256 FILE"
+        );
+        return WRONG_WORDS;
+    };
+    let Err(failure) = run_command(rt, alloc, command, out) else {
+        return DONE;
     };
     let _ = writeln!(faults, "index-tool: {failure}");
-    match failure {
-        Failure::Usage => 2,
-        _ => 1,
-    }
+    REFUSED
 }

@@ -1,26 +1,32 @@
 //! The listing of an index: a line for each entry.
 
-ghost use Rattle.std.specs.Prelude.{◌≡◌, ◌<◌, ◌*◌, ◌+◌, ◌%◌, ℕ, List, length, OnOk, ◌++◌, slice_index};
+ghost use Rattle.std.specs.Prelude.{◌≡◌, ◌<◌, ◌*◌, ◌%◌, ℕ, List, length, OnOk, OnErr, ◌++◌, slice_index};
 ghost use Rattle.std.specs.Io.KnownBytes.{Appends};
 ghost use Rattle.hex.specs.Hex.{encode_lower, lower_digits};
-ghost use Rattle.index_parts.specs.Id.{id_bytes};
-ghost use Rattle.index_state.specs.Record.{PathsInStorage, contents, IsPlaced, record_in, storage_of};
-ghost use Rattle.index_tool.specs.Line.{octal_six, line_of_parts, line_of, listing};
+ghost use Rattle.gix_index.specs.Id.{id_bytes};
+ghost use Rattle.gix_index.specs.Taking.{AppendsFront};
+ghost use Rattle.gix_index.specs.State.{PathsInStorage, contents, storage_of};
+ghost use Rattle.gix_index.specs.Record.{IsPlaced, record_in};
+ghost use Rattle.index_tool.specs.Line.{digit, octal_six, line_of_parts, line_of, listing};
 
 use bitflags::Flags as _;
 use gix_index::hash::ObjectId;
 use gix_index::{Entry, State};
 use std::alloc::{AllocError, Global};
 use std::io;
-use std::io::Write;
+use std::io::{ErrorKind, Write};
 
 /// How many bytes of lines go out at once, or some more.
 const BLOCK_LEN: usize = 65536;
 
+/// Room behind a block for the line that passes it, unless its path is longer.
+const SPARE_LEN: usize = 8192;
+
+/// The last octal digit.
 fn octal_digit(n: u32) -> u8
-    ensures { result ≡ 48 + n % 8 }
+    ensures { result ≡ digit (n % 8) }
 {
-    48 + (n % 8) as u8
+    b'0' + (n % 8) as u8
 }
 
 /// The six last octal digits of a mode.
@@ -28,23 +34,24 @@ fn octal_six(n: u32) -> [u8; 6]
     ensures { result ≡ octal_six n }
 {
     [
-        octal_digit(n / 32768),
-        octal_digit(n / 4096),
-        octal_digit(n / 512),
-        octal_digit(n / 64),
-        octal_digit(n / 8),
+        octal_digit(n / 0o100000),
+        octal_digit(n / 0o10000),
+        octal_digit(n / 0o1000),
+        octal_digit(n / 0o100),
+        octal_digit(n / 0o10),
         octal_digit(n),
     ]
 }
 
+/// A digit of base 16, in lower case.
 fn hex_digit(n: u8) -> u8
     requires { n < 16 }
     ensures { result ≡ slice_index lower_digits n }
 {
-    if n < 10 { 48 + n } else { 87 + n }
+    if n < 10 { b'0' + n } else { b'a' + (n - 10) }
 }
 
-/// Fills in two digits of base 16 for each byte.
+/// Fills in two digits of base 16 for each byte. By arithmetic it takes fewer instructions than by a table.
 fn fill_hex(bytes: &[u8], digits: &mut [u8])
     requires { length digits.old ≡ 2 * length bytes.now }
     ensures { digits.new ≡ encode_lower bytes.now }
@@ -93,11 +100,11 @@ fn append_parts(
     ensures { OnOk result (lines.new.items ≡ lines.old.items ++ line_of_parts mode (id_bytes id.now) stage path.now) }
 {
     lines.extend_from_slice(&octal_six(mode))?;
-    lines.extend_from_slice(&[32])?;
+    lines.extend_from_slice(b" ")?;
     append_hex(lines, id)?;
-    lines.extend_from_slice(&[32, 48 + stage as u8, 9])?;
+    lines.extend_from_slice(&[b' ', b'0' + stage as u8, b'\t'])?;
     lines.extend_from_slice(path)?;
-    lines.extend_from_slice(&[10])
+    lines.extend_from_slice(b"\n")
 }
 
 /// Appends an entry's line.
@@ -109,12 +116,30 @@ fn append_line(lines: &mut Vec<u8>, state: &State, entry: &Entry) -> Result<(), 
     append_parts(lines, entry.mode.bits(), &entry.id, entry.stage_raw(), path)
 }
 
+/// Writes all bytes, by as many calls as it takes. An error of any kind ends it, and so does a call that takes no byte.
+fn put_all<W: io::Write>(out: &mut W, bytes: &[u8]) -> io::Result<()>
+    ensures ok { OnOk result (Appends (W.contents out.old) (W.contents out.new) bytes.now) }
+    ensures err { OnErr result (AppendsFront (W.contents out.old) (W.contents out.new) bytes.now) }
+{
+    let mut at = 0;
+    while at < bytes.len() {
+        let (_, rest) = bytes.split_at(at);
+        let count = out.write(rest)?;
+        if count == 0 {
+            return Err(io::Error::new(ErrorKind::WriteZero, "the output took no byte"));
+        }
+        at += count;
+    }
+    Ok(())
+}
+
 /// Lets the lines out where they fill a block.
-fn write_block<W: io::Write>(lines: &mut Vec<u8>, out: &mut W) -> io::Result<()>
-    ensures { OnOk result ((done : List ℕ) × Appends (W.contents out.old) (W.contents out.new) done × (done ++ lines.new.items ≡ lines.old.items)) }
+fn put_block<W: io::Write>(lines: &mut Vec<u8>, out: &mut W) -> io::Result<()>
+    ensures ok { OnOk result ((done : List ℕ) × Appends (W.contents out.old) (W.contents out.new) done × (done ++ lines.new.items ≡ lines.old.items)) }
+    ensures err { OnErr result (AppendsFront (W.contents out.old) (W.contents out.new) lines.old.items) }
 {
     if lines.len() >= BLOCK_LEN {
-        out.write_all(lines.as_slice())?;
+        put_all(out, lines.as_slice())?;
         lines.clear();
     }
     Ok(())
@@ -127,12 +152,13 @@ fn write_block<W: io::Write>(lines: &mut Vec<u8>, out: &mut W) -> io::Result<()>
 /// that buffer; what was written by then is a front of the listing.
 pub fn write_listing<W: io::Write>(alloc: Global, state: &State, out: &mut W) -> io::Result<()>
     requires { PathsInStorage state.now }
-    ensures { OnOk result (Appends (W.contents out.old) (W.contents out.new) (listing (contents state.now).records)) }
+    ensures ok { OnOk result (Appends (W.contents out.old) (W.contents out.new) (listing (contents state.now).records)) }
+    ensures err { OnErr result (AppendsFront (W.contents out.old) (W.contents out.new) (listing (contents state.now).records)) }
 {
-    let mut lines = Vec::with_capacity(alloc, BLOCK_LEN + 8192)?;
+    let mut lines = Vec::with_capacity(alloc, BLOCK_LEN + SPARE_LEN)?;
     for entry in state.entries() {
         append_line(&mut lines, state, entry)?;
-        write_block(&mut lines, out)?;
+        put_block(&mut lines, out)?;
     }
-    out.write_all(lines.as_slice())
+    put_all(out, lines.as_slice())
 }

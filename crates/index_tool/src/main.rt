@@ -2,24 +2,28 @@
 #![tactic(auto)]
 
 pub mod command;
+pub mod failure;
 pub mod listing;
 #[cfg(test)]
 mod tests;
 
 pub use command::run;
+use command::{REFUSED, WRONG_WORDS};
 use std::alloc::Global;
 use std::process::ExitCode;
 use std::{env, io};
 
-/// The words behind the program's name, or the status of a call without them: 2 where one isn't UTF-8, 1 for
-/// want of memory.
+/// The words behind the program's name, or the status of a call without them: [`WRONG_WORDS`] where one isn't UTF-8,
+/// [`REFUSED`] for want of memory.
 fn words(rt: &HostRuntime, alloc: Global) -> Result<Vec<String>, u8> {
     let args = match env::args(rt) {
         Ok(args) => args,
-        Err(e) if e.kind() == io::ErrorKind::OutOfMemory => return Err(1),
-        Err(_) => return Err(2),
+        Err(e) if e.kind() == io::ErrorKind::OutOfMemory => return Err(REFUSED),
+        Err(_) => return Err(WRONG_WORDS),
     };
-    args.skip(1).collect::<Vec<String>>(alloc).map_err(|_| 1)
+    args.skip(1)
+        .collect::<Vec<String>>(alloc)
+        .map_err(|_| REFUSED)
 }
 
 fn main(rt: HostRuntime) -> ExitCode {
@@ -27,7 +31,7 @@ fn main(rt: HostRuntime) -> ExitCode {
     match words(&rt, alloc) {
         Ok(words) => ExitCode::from(run(&rt, alloc, &words, &mut rt.stdout(), &mut rt.stderr())),
         Err(status) => {
-            let _ = if status == 2 {
+            let _ = if status == WRONG_WORDS {
                 eprintln!(rt; "index-tool: a word of the command isn't UTF-8")
             } else {
                 eprintln!(rt; "index-tool: out of memory")

@@ -1,6 +1,7 @@
 //! Every status of `run`, over files and writers of the tests.
 
 use super::*;
+use crate::command::{DONE, REFUSED, WRONG_WORDS};
 use std::alloc::AllocError;
 use std::fs;
 use std::io::{ErrorKind, Write};
@@ -40,36 +41,9 @@ fn words_of(alloc: Global, words: &[&str]) -> Result<Vec<String>, AllocError> {
     Ok(all)
 }
 
-fn newlines(bytes: &[u8]) -> usize {
-    bytes.iter().filter(|byte| **byte == b'\n').count()
-}
-
+/// Each status, with what goes to the output and to the faults.
 #[test]
-fn wrong_words(rt: HostRuntime) -> Result<(), Fail> {
-    let alloc = rt.alloc();
-    for words in [
-        [].as_slice(),
-        &["list"],
-        &["list", "sha1"],
-        &["list", "sha1", "a", "b"],
-        &["List", "sha1", "a"],
-        &["check", "sha1", "a"],
-        &["list", "sha512", "a"],
-    ] {
-        let mut out = Vec::new(alloc);
-        let mut faults = Vec::new(alloc);
-        let status = run(&rt, alloc, &words_of(alloc, words)?, &mut out, &mut faults);
-        assert_eq!(rt;
-            (status, out.len(), newlines(&faults)),
-            (2, 0, 1),
-            "at {words:?}"
-        );
-    }
-    Ok(())
-}
-
-#[test]
-fn files(rt: HostRuntime) -> Result<(), Fail> {
+fn statuses(rt: HostRuntime) -> Result<(), Fail> {
     let alloc = rt.alloc();
     fs::write(&rt, "whole.index", ONE)?;
     fs::write(&rt, "cut.index", &ONE[..95])?;
@@ -79,34 +53,90 @@ fn files(rt: HostRuntime) -> Result<(), Fail> {
         *last = 1;
     }
     fs::write(&rt, "sealed.index", sealed.as_slice())?;
-    for (kind, file, status, listed) in [
-        ("sha1", "whole.index", 0, LISTED),
-        ("sha256", "whole.index", 1, b"".as_slice()),
-        ("sha1", "cut.index", 1, b""),
-        ("sha1", "sealed.index", 1, b""),
-        ("sha1", "absent.index", 1, b""),
+    for (words, status, listed, begin) in [
+        (["list", "sha1", "whole.index"].as_slice(), DONE, LISTED, ""),
+        (
+            &["list", "sha256", "whole.index"],
+            REFUSED,
+            b"",
+            "index-tool: whole.index: the index's digest is ",
+        ),
+        (
+            &["list", "sha1", "cut.index"],
+            REFUSED,
+            b"",
+            "index-tool: cut.index: Declared entry count exceeds ",
+        ),
+        (
+            &["list", "sha1", "sealed.index"],
+            REFUSED,
+            b"",
+            "index-tool: sealed.index: the index's digest is ",
+        ),
+        (
+            &["list", "sha1", "no\nfile"],
+            REFUSED,
+            b"",
+            "index-tool: no\\nfile: No such file or directory",
+        ),
+        (&[], WRONG_WORDS, b"", "index-tool: usage: "),
+        (&["list", "sha1"], WRONG_WORDS, b"", "index-tool: usage: "),
+        (
+            &["list", "sha1", "a", "b"],
+            WRONG_WORDS,
+            b"",
+            "index-tool: usage: ",
+        ),
+        (
+            &["List", "sha1", "a"],
+            WRONG_WORDS,
+            b"",
+            "index-tool: usage: ",
+        ),
+        (
+            &["list", "sha512", "a"],
+            WRONG_WORDS,
+            b"",
+            "index-tool: usage: ",
+        ),
     ] {
         let mut out = Vec::new(alloc);
         let mut faults = Vec::new(alloc);
-        let words = words_of(alloc, &["list", kind, file])?;
-        let got = run(&rt, alloc, &words, &mut out, &mut faults);
-        assert_eq!(rt; got, status, "{kind} {file}");
-        assert_eq!(rt; out.as_slice(), listed, "{kind} {file}");
-        assert_eq!(rt; newlines(&faults), usize::from(status), "{kind} {file}");
+        let got = run(&rt, alloc, &words_of(alloc, words)?, &mut out, &mut faults);
+        assert_eq!(rt; (got, out.as_slice()), (status, listed), "{words:?}");
+        assert!(rt; faults.starts_with(begin.as_bytes()), "{words:?}");
+        let lines = faults.iter().filter(|byte| **byte == b'\n').count();
+        assert_eq!(rt; lines, usize::from(status != DONE), "{words:?}");
     }
     Ok(())
 }
 
+/// A writer that fails within the listing, and one that has just enough room.
 #[test]
 fn failing_writer(rt: HostRuntime) -> Result<(), Fail> {
     let alloc = rt.alloc();
     fs::write(&rt, "writer.index", ONE)?;
     let words = words_of(alloc, &["list", "sha1", "writer.index"])?;
-    for (room, status) in [(0, 1), (7, 1), (LISTED.len() - 1, 1), (LISTED.len(), 0)] {
+    for (room, status, said) in [
+        (
+            0,
+            REFUSED,
+            b"index-tool: standard output: the disk is full\n".as_slice(),
+        ),
+        (
+            LISTED.len() - 1,
+            REFUSED,
+            b"index-tool: standard output: the disk is full\n",
+        ),
+        (LISTED.len(), DONE, b""),
+    ] {
         let mut faults = Vec::new(alloc);
         let got = run(&rt, alloc, &words, &mut Short(room), &mut faults);
-        assert_eq!(rt; got, status, "with room for {room} bytes");
-        assert_eq!(rt; newlines(&faults), usize::from(status));
+        assert_eq!(rt;
+            (got, faults.as_slice()),
+            (status, said),
+            "with room for {room} bytes"
+        );
     }
     Ok(())
 }

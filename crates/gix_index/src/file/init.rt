@@ -1,15 +1,17 @@
 //! Making a `File` of the bytes of an index file.
 
-ghost use Rattle.std.specs.Prelude.{◌≡◌, ◌==◌, not, IfOk, IfErr, OnOk, OnErr};
-ghost use Rattle.std.specs.List.{list_any};
+ghost use Rattle.std.specs.Prelude.{◌≡◌, IfOk, IfErr, OnOk, OnErr};
 ghost use Rattle.std.specs.Path.{path_buf_bytes};
-ghost use Rattle.index_state.specs.Record.{PathsInStorage, IdsAreOf, entries_of};
+ghost use Rattle.index_state.specs.Storable.{IsStorable};
+ghost use Rattle.index_state.specs.State.{ExtensionIdsAreOf, PathsInStorage, contents, entries_of};
+ghost use Rattle.index_entries.specs.Record.{IdsAreOf};
 ghost use Rattle.gix_index.specs.Checked.{needs_check, digest_fault, IsIntact, IsBroken, IsFileAnswer, error_of, SaysFile};
 ghost use Rattle.gix_index.specs.File.{state_of, path_of};
 
 use super::File;
 use index_parts::entry::FileTime;
 use index_parts::hash::{Kind, ObjectId, digest};
+use index_parts::read;
 use index_state::extension::link;
 use index_state::{State, decode};
 use std::alloc::Global;
@@ -27,7 +29,7 @@ pub enum Error {
     #[error("{0}")]
     Decode(decode::Error),
     /// The shared index that a split index links to can't be used.
-    #[error("the index's link to a shared index is at fault: {0}")]
+    #[error("{0}")]
     LinkExtension(link::decode::Error),
     /// A growth was refused.
     #[error("out of memory while reading an index file")]
@@ -46,13 +48,6 @@ impl From<decode::Error> for Error {
     }
 }
 
-/// Whether some byte isn't zero.
-fn has_nonzero(bytes: &[u8]) -> bool
-    ensures { result ≡ list_any (λ b. not (b == 0)) bytes.now }
-{
-    bytes.iter().any(|byte| *byte != 0)
-}
-
 /// Whether the trailer is to be compared with the digest: the caller wants it, and there is a trailer that isn't null.
 fn is_to_be_checked(data: &[u8], object_hash: Kind, skip_hash: bool) -> bool
     ensures { result ≡ needs_check skip_hash object_hash «data».now }
@@ -61,7 +56,7 @@ fn is_to_be_checked(data: &[u8], object_hash: Kind, skip_hash: bool) -> bool
     if skip_hash || data.len() < len {
         return false;
     }
-    has_nonzero(&data[data.len() - len..])
+    !read::is_null(&data[data.len() - len..])
 }
 
 /// Compares the trailer with the digest of all bytes before it.
@@ -106,6 +101,8 @@ impl File {
         ensures path { IfOk result (λ file. path_of file ≡ path_buf_bytes path) }
         ensures stored { IfOk result (λ file. PathsInStorage (state_of file)) }
         ensures ids { IfOk result (λ file. IdsAreOf object_hash (entries_of (state_of file))) }
+        ensures storable { IfOk result (λ file. IsStorable (contents (state_of file))) }
+        ensures extension_ids { IfOk result (λ file. ExtensionIdsAreOf object_hash (contents (state_of file)).extensions) }
     {
         check(data, object_hash, skip_hash)?;
         let (state, checksum) = State::from_bytes(alloc, data, timestamp, object_hash, options)?;

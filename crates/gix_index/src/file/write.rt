@@ -1,17 +1,17 @@
 //! Writing a `File`: the state's bytes, and their digest behind them.
 
-ghost use Rattle.std.specs.Prelude.{◌≡◌, ◌↔◌, ◌≤◌, ◌<◌, ◌^◌, length, true, false, IfOk};
-ghost use Rattle.index_parts.specs.Id.{make_id};
-ghost use Rattle.index_state.specs.Image.{body, image, trailer, unmarked, needed_version};
-ghost use Rattle.index_state.specs.Record.{PathsInStorage, contents};
-ghost use Rattle.index_state.specs.Writing.{Writes};
+ghost use Rattle.std.specs.Prelude.{◌≡◌, true, false};
+ghost use Rattle.index_state.specs.Image.{body, image};
+ghost use Rattle.index_state.specs.State.{PathsInStorage, contents};
 ghost use Rattle.gix_index.specs.File.{state_of};
+ghost use Rattle.gix_index.specs.Written.{WritesIndex};
 
 use super::File;
+use index_entries::Version;
 use index_parts::hash::ObjectId;
 use index_parts::hash::io::{Out, Write};
+use index_state::State;
 use index_state::write::{Error, Options};
-use index_state::{State, Version};
 
 /// Writes all but the trailer, and gives the digest of that.
 fn put_hashed<W: Out>(
@@ -22,12 +22,8 @@ fn put_hashed<W: Out>(
     requires placed { PathsInStorage state.now }
     requires unfailed { W.failed out.old ≡ false }
     requires hashed { options.skip_hash ≡ false }
-    ensures version { IfOk result (λ x. x.0 ≡ needed_version (contents state.now).records) }
-    ensures id { IfOk result (λ x. x.1 ≡ make_id (contents state.now).kind (trailer (contents state.now) options)) }
-    ensures bytes { Writes W.taken W.failed out.old out.new result (body (contents state.now) options) }
-    ensures too_many { (result ≡ Err Error.TooManyEntries) ↔ (2 ^ 32 ≤ length (contents state.now).records) }
-    ensures too_large { (result ≡ Err Error.TooLarge)
-        ↔ ((length (contents state.now).records < 2 ^ 32) × (2 ^ 32 ≤ length (unmarked (contents state.now) options))) }
+    ensures { WritesIndex W.taken W.failed out.old out.new result (contents state.now) options
+        (body (contents state.now) options) }
 {
     let mut hashing = Write::new(out, state.object_hash());
     let result = state.write_to(&mut hashing, options);
@@ -49,12 +45,8 @@ fn put_unhashed<W: Out>(
     requires placed { PathsInStorage state.now }
     requires unfailed { W.failed out.old ≡ false }
     requires unhashed { options.skip_hash ≡ true }
-    ensures version { IfOk result (λ x. x.0 ≡ needed_version (contents state.now).records) }
-    ensures id { IfOk result (λ x. x.1 ≡ make_id (contents state.now).kind (trailer (contents state.now) options)) }
-    ensures bytes { Writes W.taken W.failed out.old out.new result (body (contents state.now) options) }
-    ensures too_many { (result ≡ Err Error.TooManyEntries) ↔ (2 ^ 32 ≤ length (contents state.now).records) }
-    ensures too_large { (result ≡ Err Error.TooLarge)
-        ↔ ((length (contents state.now).records < 2 ^ 32) × (2 ^ 32 ≤ length (unmarked (contents state.now) options))) }
+    ensures { WritesIndex W.taken W.failed out.old out.new result (contents state.now) options
+        (body (contents state.now) options) }
 {
     match state.write_to(out, options) {
         Ok(version) => Ok((version, state.object_hash().null())),
@@ -70,12 +62,8 @@ fn put_front<W: Out>(
 ) -> Result<(Version, ObjectId), Error>
     requires placed { PathsInStorage state.now }
     requires unfailed { W.failed out.old ≡ false }
-    ensures version { IfOk result (λ x. x.0 ≡ needed_version (contents state.now).records) }
-    ensures id { IfOk result (λ x. x.1 ≡ make_id (contents state.now).kind (trailer (contents state.now) options)) }
-    ensures bytes { Writes W.taken W.failed out.old out.new result (body (contents state.now) options) }
-    ensures too_many { (result ≡ Err Error.TooManyEntries) ↔ (2 ^ 32 ≤ length (contents state.now).records) }
-    ensures too_large { (result ≡ Err Error.TooLarge)
-        ↔ ((length (contents state.now).records < 2 ^ 32) × (2 ^ 32 ≤ length (unmarked (contents state.now) options))) }
+    ensures { WritesIndex W.taken W.failed out.old out.new result (contents state.now) options
+        (body (contents state.now) options) }
 {
     if options.skip_hash {
         put_unhashed(state, out, options)
@@ -98,16 +86,8 @@ impl File {
     ) -> Result<(Version, ObjectId), Error>
         requires placed { PathsInStorage (state_of self.now) }
         requires unfailed { W.failed out.old ≡ false }
-        ensures version { IfOk result (λ x. x.0 ≡ needed_version (contents (state_of self.now)).records) }
-        ensures id { IfOk result (λ x. x.1 ≡ make_id (contents (state_of self.now)).kind
-            (trailer (contents (state_of self.now)) options)) }
-        ensures bytes { Writes W.taken W.failed out.old out.new result
+        ensures { WritesIndex W.taken W.failed out.old out.new result (contents (state_of self.now)) options
             (image (contents (state_of self.now)) options) }
-        ensures too_many { (result ≡ Err Error.TooManyEntries)
-            ↔ (2 ^ 32 ≤ length (contents (state_of self.now)).records) }
-        ensures too_large { (result ≡ Err Error.TooLarge)
-            ↔ ((length (contents (state_of self.now)).records < 2 ^ 32)
-            × (2 ^ 32 ≤ length (unmarked (contents (state_of self.now)) options))) }
     {
         let (version, id) = match put_front(&self.state, out, options) {
             Ok(front) => front,

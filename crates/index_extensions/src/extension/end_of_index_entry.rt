@@ -1,18 +1,23 @@
 //! The end marker, which names the place where the extensions begin (gitformat-index, "End of Index Entry").
 
-ghost use Rattle.std.specs.Prelude.{◌≡◌, List, [], ◌∷◌, IfSome, IfNone};
+ghost use Rattle.std.specs.Prelude.{◌≡◌, ◌+◌, ◌++◌, codes, List, [], ◌∷◌, false, is_err, IfSome, IfNone};
+ghost use Rattle.std.specs.List.{flat_map};
 ghost use Rattle.std.specs.Option.{option_map};
 ghost use Rattle.index_parts.specs.Digest.{digest};
-ghost use Rattle.index_parts.specs.Id.{id_bytes};
+ghost use Rattle.index_parts.specs.Id.{id_bytes, id_len};
+ghost use Rattle.index_parts.specs.Taking.{Puts};
 ghost use Rattle.index_parts.specs.declared.hash.Kind.TheVariants.{Sha1};
 ghost use Rattle.index_extensions.specs.EndMarker.{heads, IsMarker};
 ghost use Rattle.index_extensions.specs.Reading.{marker_at};
+ghost use Rattle.index_extensions.specs.Spelling.{be32, heads_bytes, item_bytes, marker_item};
 ghost use Rattle.index_extensions.specs.Walk.{Item, AreItems};
 
 use super::Signature;
 use super::iter::item_of;
+use index_parts::hash::io::Out;
 use index_parts::hash::{Hasher, Kind, ObjectId};
 use index_parts::util::from_be_u32;
+use std::io;
 
 /// The signature.
 pub const SIGNATURE: Signature = *b"EOIE";
@@ -100,4 +105,53 @@ fn digest_of_heads(bytes: &[u8]) -> Option<ObjectId>
         return None;
     }
     Some(hasher.finalize())
+}
+
+/// The digest of signatures and sizes.
+fn digest_of_pairs(object_hash: Kind, prior_extensions: &[(Signature, u32)]) -> ObjectId
+    ensures { id_bytes result ≡ digest object_hash (heads_bytes prior_extensions.now) }
+{
+    let mut hasher = Hasher::new(object_hash);
+    for (signature, size) in prior_extensions {
+        hasher.update(signature);
+        hasher.update(&size.to_be_bytes());
+    }
+    hasher.finalize()
+}
+
+/// The twelve bytes before the digest of a marker.
+fn marker_front(object_hash: Kind, offset: u32) -> [u8; 12]
+    ensures { result ≡ codes "EOIE" ++ (be32 (4 + id_len object_hash) ++ be32 offset) }
+{
+    let [a, b, c, d] = (4 + object_hash.len_in_bytes() as u32).to_be_bytes();
+    let [e, f, g, h] = offset.to_be_bytes();
+    [b'E', b'O', b'I', b'E', a, b, c, d, e, f, g, h]
+}
+
+/// Two pieces.
+fn two<'a>(a: &'a [u8], b: &'a [u8]) -> [&'a [u8]; 2]
+    ensures { flat_map (λ p. p.now) result ≡ a.now ++ b.now }
+{
+    [a, b]
+}
+
+/// Writes an end marker behind extensions that begin at this offset and have these signatures and sizes, which may be none
+/// (gitformat-index, "End of Index Entry").
+///
+/// An error comes only where the writer failed, which then took a front of the bytes. No memory is taken.
+pub fn write_to<W: Out>(
+    out: &mut W,
+    object_hash: Kind,
+    offset_to_extensions: u32,
+    prior_extensions: &[(Signature, u32)],
+) -> io::Result<()>
+    requires { W.failed out.old ≡ false }
+    ensures bytes { Puts W.taken W.hashed out.old out.new result (item_bytes (marker_item object_hash offset_to_extensions (heads_bytes prior_extensions.now))) }
+    ensures mark { W.failed out.new ≡ is_err result }
+    ensures loan { W.loan out.new ≡ W.loan out.old }
+{
+    let id = digest_of_pairs(object_hash, prior_extensions);
+    let front = marker_front(object_hash, offset_to_extensions);
+    let pieces = two(&front, id.as_bytes());
+    out.put_each(&pieces)
 }

@@ -3,7 +3,7 @@
 ghost use Rattle.std.specs.Prelude.{◌≡◌, ◌<◌, List, [], length, Some, IfOk, IfErr, IfSome, IfNone};
 ghost use Rattle.std.specs.Option.{option_map};
 ghost use Rattle.index_extensions.specs.Contents.{IsRead};
-ghost use Rattle.index_extensions.specs.OffsetTable.{HasTable, IsBlock, AreBlocks, IsTable, IsFound};
+ghost use Rattle.index_extensions.specs.OffsetTable.{HasTable, IsEntryBlock, AreEntryBlocks, IsTable, IsFound};
 
 use super::{Iter, Signature};
 use index_parts::hash::Kind;
@@ -17,7 +17,7 @@ pub const SIGNATURE: Signature = *b"IEOT";
 const VERSION: u32 = 1;
 
 /// The bytes of a block: its place and its count, of four bytes each.
-const BLOCK_LEN: usize = 8;
+const ENTRY_BLOCK_LEN: usize = 8;
 
 /// A block of entries.
 #[derive(Clone, Copy, Debug, PartialEq, Eq)]
@@ -42,7 +42,7 @@ pub fn decode(alloc: Global, data: &[u8]) -> Result<Option<Vec<Offset>>, AllocEr
     if version != VERSION || rest.is_empty() {
         return Ok(None);
     }
-    blocks_of(alloc, rest)
+    entry_blocks_of(alloc, rest)
 }
 
 /// The blocks of the first offset table in bytes from the first extension to the end of the file, trailer included. None
@@ -70,16 +70,16 @@ pub fn find(
 }
 
 /// Blocks that are all of the bytes. None where a part of a block is left.
-fn blocks_of(alloc: Global, bytes: &[u8]) -> Result<Option<Vec<Offset>>, AllocError>
-    ensures read { IfOk result (λ found. IsRead (λ all blocks. AreBlocks all blocks []) bytes.now (option_map (λ v. v.items) found)) }
-    ensures memory { IfErr result (λ _. (blocks : List Offset) × AreBlocks bytes.now blocks []) }
+fn entry_blocks_of(alloc: Global, bytes: &[u8]) -> Result<Option<Vec<Offset>>, AllocError>
+    ensures read { IfOk result (λ found. IsRead (λ all blocks. AreEntryBlocks all blocks []) bytes.now (option_map (λ v. v.items) found)) }
+    ensures memory { IfErr result (λ _. (blocks : List Offset) × AreEntryBlocks bytes.now blocks []) }
 {
-    if bytes.len() % BLOCK_LEN != 0 {
+    if bytes.len() % ENTRY_BLOCK_LEN != 0 {
         return Ok(None);
     }
-    let mut offsets = Vec::with_capacity(alloc, bytes.len() / BLOCK_LEN)?;
+    let mut offsets = Vec::with_capacity(alloc, bytes.len() / ENTRY_BLOCK_LEN)?;
     let mut rest = bytes;
-    while let Some((offset, after)) = block_of(rest) {
+    while let Some((offset, after)) = entry_block_of(rest) {
         offsets.push(offset)?;
         rest = after;
     }
@@ -87,8 +87,8 @@ fn blocks_of(alloc: Global, bytes: &[u8]) -> Result<Option<Vec<Offset>>, AllocEr
 }
 
 /// The block at the front, and the bytes behind it; None where there are fewer than a block has.
-fn block_of(bytes: &[u8]) -> Option<(Offset, &[u8])>
-    ensures found { IfSome result (λ x. IsBlock bytes.now x.0 x.1.now) }
+fn entry_block_of(bytes: &[u8]) -> Option<(Offset, &[u8])>
+    ensures found { IfSome result (λ x. IsEntryBlock bytes.now x.0 x.1.now) }
     ensures none { IfNone result (length bytes.now < 8) }
 {
     let (from_beginning_of_file, rest) = read_u32(bytes)?;

@@ -5,7 +5,7 @@ ghost use Rattle.std.specs.Iterator.{at_most};
 ghost use Rattle.std.specs.Option.{option_map};
 ghost use Rattle.index_parts.specs.Id.{id_len};
 ghost use Rattle.index_extensions.specs.Reading.{item_at};
-ghost use Rattle.index_extensions.specs.Walk.{Steps, unread};
+ghost use Rattle.index_extensions.specs.Walk.{Steps, cursor, unread};
 
 use super::{MIN_SIZE, Signature};
 use index_parts::hash::Kind;
@@ -56,7 +56,7 @@ impl<'a> Iter<'a> {
 impl<'a> Iterator for Iter<'a> {
     type Item = (Signature, &'a [u8]);
 
-    ghost next_gives = { λ s r t. Steps (unread s) s.consumed (option_map (λ x. (x.0, x.1.now)) r) (unread t) t.consumed };
+    ghost next_gives = { λ s r t. Steps (cursor s) (option_map (λ x. (x.0, x.1.now)) r) (cursor t) };
 
     ghost remaining = { λ s. at_most (length (unread s)) };
 

@@ -4,7 +4,7 @@ ghost use Rattle.std.specs.Prelude.{◌≡◌, map, IfOk, IfErr};
 ghost use Rattle.std.specs.Option.{option_map};
 ghost use Rattle.bstr.specs.Owned.{bstring_bytes};
 ghost use Rattle.index_extensions.specs.Contents.{IsRead};
-ghost use Rattle.index_extensions.specs.ResolveUndo.{HasPath, path_stages, IsResolveUndo};
+ghost use Rattle.index_extensions.specs.ResolveUndo.{HasResolvePath, path_stages, IsResolveUndo};
 
 use super::Signature;
 use bstr::BString;
@@ -44,10 +44,22 @@ impl Stage {
 }
 
 /// A path that was in conflict, and the sides that the conflict had.
-#[derive(Clone, Debug, Drop, PartialEq, Eq)]
+#[derive(Debug, Drop, PartialEq, Eq)]
 pub struct ResolvePath {
     name: BString,
     stages: [Option<Stage>; 3],
+}
+
+/// The clone has the same path and the same sides. An error is want of memory for the path.
+impl Clone for ResolvePath {
+    ghost is_clone = { λ a b. path_stages b ≡ path_stages a };
+
+    fn clone(&self) -> Result<ResolvePath, AllocError> {
+        Ok(ResolvePath {
+            name: self.name.clone()?,
+            stages: self.stages,
+        })
+    }
 }
 
 impl ResolvePath {
@@ -72,7 +84,7 @@ impl ResolvePath {
 /// path by path, once all of it was read; an error is the want of it.
 pub fn decode(alloc: Global, data: &[u8], object_hash: Kind) -> Result<Option<Paths>, AllocError>
     ensures read { IfOk result (λ found. IsRead (IsResolveUndo object_hash) «data».now (option_map (λ paths. map path_stages paths.items) found)) }
-    ensures memory { IfErr result (λ _. HasPath object_hash «data».now) }
+    ensures memory { IfErr result (λ _. HasResolvePath object_hash «data».now) }
 {
     let mut paths = Vec::new(alloc);
     let mut rest = data;

@@ -3,7 +3,7 @@
 ghost use Rattle.std.specs.Prelude.{◌≡◌, IfOk, IfErr};
 ghost use Rattle.std.specs.Option.{option_map};
 ghost use Rattle.index_extensions.specs.Contents.{IsRead};
-ghost use Rattle.index_extensions.specs.Tree.{HasHead, IsTree, node_of};
+ghost use Rattle.index_extensions.specs.Tree.{HasNodeHead, IsTree, node_of};
 
 use super::Signature;
 use index_parts::hash::{Kind, ObjectId};
@@ -14,6 +14,8 @@ use std::alloc::{AllocError, Global};
 mod decimal;
 mod head;
 mod nodes;
+pub mod verify;
+pub mod write;
 
 /// The signature.
 pub const SIGNATURE: Signature = *b"TREE";
@@ -64,9 +66,10 @@ fn copy_of(tree: &Tree) -> Result<Tree, AllocError>
 
 /// The cached tree that the content of its extension spells, with the children of each node sorted by name.
 ///
-/// None where the bytes spell no tree, where two siblings have one name, where a node lies more than 2048 levels below the
-/// root, or where the children of a node pass the limit at 104 bytes each. No memory is asked for by a declared number, and none
-/// before all that the root says of itself was read; an error is the want of it.
+/// None where the bytes spell no tree, where a node declares more children than the bytes behind it can hold at six bytes each, where
+/// two siblings have one name, where a node lies more than 2048 levels below the root, or where the children of a node pass the
+/// limit at 104 bytes each. No memory is asked for before all that the root says of itself was read, with room for its children;
+/// an error is the want of it.
 pub fn decode(
     alloc: Global,
     data: &[u8],
@@ -74,7 +77,7 @@ pub fn decode(
     alloc_limit_bytes: Option<usize>,
 ) -> Result<Option<Tree>, AllocError>
     ensures read { IfOk result (λ found. IsRead (IsTree object_hash alloc_limit_bytes) «data».now (option_map node_of found)) }
-    ensures memory { IfErr result (λ _. HasHead object_hash alloc_limit_bytes «data».now) }
+    ensures memory { IfErr result (λ _. HasNodeHead object_hash alloc_limit_bytes «data».now) }
 {
     let mut roots = Vec::new(alloc);
     let Some(rest) = push_node(

@@ -3,22 +3,22 @@
 ghost use Rattle.std.specs.Prelude.{◌≡◌, IfOk, IfErr, map};
 ghost use Rattle.std.specs.Option.{option_map};
 ghost use Rattle.bstr.specs.Owned.{bstring_bytes};
-ghost use Rattle.index_extensions.specs.Blocks.{value_of};
+ghost use Rattle.index_extensions.specs.Blocks.{directory_value};
 ghost use Rattle.index_extensions.specs.Contents.{IsRead};
-ghost use Rattle.index_extensions.specs.Untracked.{AreDirectories, IsCache, HasFirst, HasStart, cache_of};
+ghost use Rattle.index_extensions.specs.Untracked.{AreDirectories, IsCache, HasFirstHead, HasStart, cache_of};
 
 use super::Signature;
 use blocks::read_block;
 use bstr::BString;
-use front::{count_of, ends_with_nul, front_of};
 use index_parts::entry::Stat;
 use index_parts::hash::{Kind, ObjectId};
 use marks::read_marks;
+use preamble::{directory_count_of, ends_with_nul, preamble_of};
 use std::alloc::{AllocError, Global};
 
 mod blocks;
-mod front;
 mod marks;
+mod preamble;
 mod stat;
 
 /// The signature.
@@ -71,7 +71,7 @@ pub struct Directory {
 
 /// The clone has the same value. It takes as much memory as its source, and fails where there isn't as much.
 impl Clone for Directory {
-    ghost is_clone = { λ d e. value_of e ≡ value_of d };
+    ghost is_clone = { λ d e. directory_value e ≡ directory_value d };
 
     fn clone(&self) -> Result<Directory, AllocError> {
         Ok(Directory {
@@ -88,42 +88,42 @@ impl Clone for Directory {
 impl Directory {
     /// The directory's name in the one that it is in; the root has none.
     pub fn name(&self) -> &[u8]
-        ensures { result.now ≡ (value_of self.now).name }
+        ensures { result.now ≡ (directory_value self.now).name }
     {
         self.name.as_bytes()
     }
 
     /// The names of untracked files and directories in it.
     pub fn untracked_entries(&self) -> &[BString]
-        ensures { map bstring_bytes result.now ≡ (value_of self.now).untracked }
+        ensures { map bstring_bytes result.now ≡ (directory_value self.now).untracked }
     {
         &self.untracked_entries
     }
 
     /// The directories in it, by their places in the list of all directories, counted from 0.
     pub fn sub_directories(&self) -> &[usize]
-        ensures { result.now ≡ (value_of self.now).subs }
+        ensures { result.now ≡ (directory_value self.now).subs }
     {
         &self.sub_directories
     }
 
     /// What the file system said of the directory. None where that isn't valid.
     pub fn stat(&self) -> Option<&Stat>
-        ensures { option_map (λ s. s.now) result ≡ (value_of self.now).stat }
+        ensures { option_map (λ s. s.now) result ≡ (directory_value self.now).stat }
     {
         self.stat.as_ref()
     }
 
     /// The id of its own file of exclude patterns. None where that isn't valid.
     pub fn exclude_file_oid(&self) -> Option<ObjectId>
-        ensures { result ≡ (value_of self.now).exclude }
+        ensures { result ≡ (directory_value self.now).exclude }
     {
         self.exclude_file_oid
     }
 
     /// The mark of a directory that was only looked at to learn whether it holds untracked files.
     pub fn check_only(&self) -> bool
-        ensures { result ≡ (value_of self.now).check_only }
+        ensures { result ≡ (directory_value self.now).check_only }
     {
         self.check_only
     }
@@ -159,42 +159,42 @@ impl Clone for UntrackedCache {
 impl UntrackedCache {
     /// What names the place and the machine that the cache is for.
     pub fn identifier(&self) -> &[u8]
-        ensures { result.now ≡ (cache_of self.now).front.identifier }
+        ensures { result.now ≡ (cache_of self.now).preamble.identifier }
     {
         self.identifier.as_bytes()
     }
 
     /// The stat and the id of `info/exclude` in the repository. None where its id is null.
     pub fn info_exclude(&self) -> Option<&OidStat>
-        ensures { option_map (λ x. x.now) result ≡ (cache_of self.now).front.info_exclude }
+        ensures { option_map (λ x. x.now) result ≡ (cache_of self.now).preamble.info_exclude }
     {
         self.info_exclude.as_ref()
     }
 
     /// The stat and the id of the file that `core.excludesFile` names. None where its id is null.
     pub fn excludes_file(&self) -> Option<&OidStat>
-        ensures { option_map (λ x. x.now) result ≡ (cache_of self.now).front.excludes_file }
+        ensures { option_map (λ x. x.now) result ≡ (cache_of self.now).preamble.excludes_file }
     {
         self.excludes_file.as_ref()
     }
 
     /// The name of the file of exclude patterns that a directory may have, mostly `.gitignore`.
     pub fn exclude_filename_per_dir(&self) -> &[u8]
-        ensures { result.now ≡ (cache_of self.now).front.exclude_filename }
+        ensures { result.now ≡ (cache_of self.now).preamble.exclude_filename }
     {
         self.exclude_filename_per_dir.as_bytes()
     }
 
     /// The flags by which the directories were read.
     pub fn dir_flags(&self) -> u32
-        ensures { result ≡ (cache_of self.now).front.dir_flags }
+        ensures { result ≡ (cache_of self.now).preamble.dir_flags }
     {
         self.dir_flags
     }
 
     /// The directories in preorder, the root first. There may be none.
     pub fn directories(&self) -> &[Directory]
-        ensures { map value_of result.now ≡ (cache_of self.now).directories }
+        ensures { map directory_value result.now ≡ (cache_of self.now).directories }
     {
         &self.directories
     }
@@ -208,8 +208,8 @@ fn directories_of(
     count: usize,
     bytes: &[u8],
 ) -> Result<Option<Vec<Directory>>, AllocError>
-    ensures read { IfOk result (λ found. IsRead (AreDirectories kind limit count) bytes.now (option_map (λ v. map value_of v.items) found)) }
-    ensures memory { IfErr result (λ _. HasFirst limit count bytes.now) }
+    ensures read { IfOk result (λ found. IsRead (AreDirectories kind limit count) bytes.now (option_map (λ v. map directory_value v.items) found)) }
+    ensures memory { IfErr result (λ _. HasFirstHead limit count bytes.now) }
 {
     let mut directories = Vec::new(alloc);
     if count == 0 {
@@ -248,10 +248,10 @@ pub fn decode(
     if !ends_with_nul(data) {
         return Ok(None);
     }
-    let Some((front, rest)) = front_of(object_hash, data) else {
+    let Some((preamble, rest)) = preamble_of(object_hash, data) else {
         return Ok(None);
     };
-    let Some((count, rest)) = count_of(alloc_limit_bytes, rest) else {
+    let Some((count, rest)) = directory_count_of(alloc_limit_bytes, rest) else {
         return Ok(None);
     };
     let Some(directories) = directories_of(alloc, object_hash, alloc_limit_bytes, count, rest)?
@@ -259,11 +259,11 @@ pub fn decode(
         return Ok(None);
     };
     Ok(Some(UntrackedCache {
-        identifier: BString::from_slice(alloc, front.identifier)?,
-        info_exclude: front.info_exclude,
-        excludes_file: front.excludes_file,
-        exclude_filename_per_dir: BString::from_slice(alloc, front.exclude_filename)?,
-        dir_flags: front.dir_flags,
+        identifier: BString::from_slice(alloc, preamble.identifier)?,
+        info_exclude: preamble.info_exclude,
+        excludes_file: preamble.excludes_file,
+        exclude_filename_per_dir: BString::from_slice(alloc, preamble.exclude_filename)?,
+        dir_flags: preamble.dir_flags,
         directories,
     }))
 }

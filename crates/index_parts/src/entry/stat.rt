@@ -81,3 +81,5 @@ impl FileTime {
         self.nanoseconds
     }
 }
+
+const _: () = prove!(FileTime::EPOCH.seconds == 0 && FileTime::EPOCH.nanoseconds == 0);

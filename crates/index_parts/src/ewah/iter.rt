@@ -2,7 +2,8 @@
 
 ghost use Rattle.std.specs.Prelude.{◌≡◌, ◌≤◌, ◌<◌, ◌^◌, [], ◌∷◌, length, Some};
 ghost use Rattle.std.specs.Iterator.{YieldsFirst, item_count};
-ghost use Rattle.index_parts.specs.Bits.{set, places};
+ghost use Rattle.index_parts.specs.Ascending.{Ascends};
+ghost use Rattle.index_parts.specs.Bits.{set, places, ListPlaces};
 ghost use Rattle.index_parts.specs.Unpacking.{unpacked, place_of, bits_left, items_left, IsBetweenChunks, IsPlaceAfter};
 
 use thiserror::Error;
@@ -49,7 +50,8 @@ fn next_place(place: u64) -> Option<u64>
 impl<'a> Positions<'a> {
     /// The places in words of which none is begun.
     pub(super) fn new(words: &'a [u64]) -> Self
-        ensures { items_left result ≡ places 0 (unpacked words.now) }
+        ensures places { ListPlaces (items_left result) words.now }
+        ensures ascending { Ascends 0 (items_left result) }
     {
         Positions {
             words,

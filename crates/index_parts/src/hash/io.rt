@@ -1,11 +1,11 @@
 //! Writers that say how much they took, and hash it.
 
-ghost use Rattle.std.specs.Prelude.{◌≡◌, ℕ, List, [], Option, Bool, false, ⊤, is_err, OnOk, OnErr};
+ghost use Rattle.std.specs.Prelude.{◌≡◌, ℕ, List, [], Option, Bool, false, ⊤, is_err, OnOk, OnErr, map};
 ghost use Rattle.std.specs.List.{flat_map};
 ghost use Rattle.std.specs.Io.KnownBytes.{Appends};
 ghost use Rattle.index_parts.specs.declared.hash.Kind.{Kind};
 ghost use Rattle.index_parts.specs.Digest.{Holds, hasher_kind};
-ghost use Rattle.index_parts.specs.Taking.{Puts, AppendsFront};
+ghost use Rattle.index_parts.specs.Taking.{Puts, AppendsFront, Breaks, KeepsHashed};
 
 use super::{Hasher, Kind};
 use std::io;
@@ -25,11 +25,12 @@ pub trait Out {
     // The loan through which it writes, where there is one.
     ghost loan: { Self → ℕ } = { λ _. 0 };
 
-    /// Takes the whole piece. An error took a front of it, maybe none or all, and sets the mark; no piece can
-    /// be put behind it.
+    /// Takes the whole piece. An error took a front of it, maybe none or all, hashed nothing of it, and sets the
+    /// mark; no piece can be put behind it.
     fn put(&mut self, piece: &[u8]) -> io::Result<()>
         requires { failed self.old ≡ false }
         ensures bytes { Puts taken hashed self.old self.new result piece.now }
+        ensures unhashed { OnErr result (KeepsHashed hashed self.old self.new) }
         ensures mark { failed self.new ≡ is_err result }
         ensures loan { loan self.new ≡ loan self.old };
 
@@ -37,12 +38,14 @@ pub trait Out {
     fn has_failed(&self) -> bool
         ensures { result ≡ failed self.now };
 
-    /// Takes these pieces in turn. The first error ends it, and took a front of the pieces joined.
+    /// Takes these pieces in turn. The first error ends it, and took a front of its piece; the pieces before that one
+    /// were taken whole, and they alone were hashed.
     final fn put_each(&mut self, pieces: &[&[u8]]) -> io::Result<()>
     where
         Self: Sized,
         requires { failed self.old ≡ false }
         ensures bytes { Puts taken hashed self.old self.new result (flat_map (λ p. p.now) pieces.now) }
+        ensures failure { OnErr result (Breaks taken hashed self.old self.new (map (λ p. p.now) pieces.now)) }
         ensures mark { failed self.new ≡ is_err result }
         ensures loan { loan self.new ≡ loan self.old }
     {
@@ -165,7 +168,8 @@ impl<W: Out> Out for Write<W> {
         ensures bytes { Puts ⟦<Write<W> as Out>⟧.taken ⟦<Write<W> as Out>⟧.hashed self.old self.new result piece.now }
         ensures mark { ⟦<Write<W> as Out>⟧.failed self.new ≡ is_err result }
         ensures loan { ⟦<Write<W> as Out>⟧.loan self.new ≡ ⟦<Write<W> as Out>⟧.loan self.old }
-        ensures unhashed { OnErr result (self.new.hash ≡ self.old.hash) }
+        ensures unhashed { OnErr result (KeepsHashed ⟦<Write<W> as Out>⟧.hashed self.old self.new) }
+        ensures hash { OnErr result (self.new.hash ≡ self.old.hash) }
     {
         self.inner.put(piece)?;
         self.hash.update(piece);

@@ -2,14 +2,14 @@
 
 ghost use Rattle.std.specs.Borrow.{sem};
 ghost use Rattle.std.specs.Option.{option_map, option_copied_mut};
-ghost use Rattle.std.specs.Prelude.{◌≡◌, None, map};
+ghost use Rattle.std.specs.Prelude.{◌≡◌, map};
 ghost use Rattle.index_extensions.specs.FsMonitor.{monitor_of};
 ghost use Rattle.index_extensions.specs.ResolveUndo.{path_stages};
 ghost use Rattle.index_extensions.specs.Tree.{node_of};
 ghost use Rattle.index_extensions.specs.Untracked.{cache_of};
-ghost use Rattle.index_state.specs.Edits.{LendsTree};
+ghost use Rattle.index_state.specs.Edits.{LendsTree, without_resolve_undo, without_tree};
 ghost use Rattle.index_state.specs.Link.{link_of};
-ghost use Rattle.index_state.specs.Record.{contents, entries_of, storage_of};
+ghost use Rattle.index_state.specs.State.{contents, entries_of, storage_of};
 
 use crate::State;
 use crate::extension::link::Link;
@@ -19,81 +19,81 @@ impl State {
     /// The cached tree, where the file had one that could be read (gitformat-index, "Cache tree"). Edits of entries leave
     /// it as it was.
     pub fn tree(&self) -> Option<&Tree>
-        ensures { option_map (λ t. node_of t.now) result ≡ (contents self.now).tree }
+        ensures { option_map (λ t. node_of t.now) result ≡ (contents self.now).extensions.tree }
     {
-        self.tree.as_ref()
+        self.extensions.tree.as_ref()
     }
 
     /// The same, to be changed in place. All else stays.
     pub fn tree_mut(&mut self) -> Option<&mut Tree>
         ensures* writes_back { sem 𝓛 (LendsTree self.entry result) }
-        ensures value { option_map node_of (option_copied_mut result) ≡ (contents self.old).tree }
+        ensures value { option_map node_of (option_copied_mut result) ≡ (contents self.old).extensions.tree }
     {
-        self.tree.as_mut()
+        self.extensions.tree_mut()
     }
 
     /// Takes the cached tree out, and leaves none. All else stays.
     pub fn remove_tree(&mut self) -> Option<Tree>
-        ensures given { option_map node_of result ≡ (contents self.old).tree }
-        ensures removed { contents self.new ≡ record (contents self.old) { tree = None } }
+        ensures given { option_map node_of result ≡ (contents self.old).extensions.tree }
+        ensures removed { contents self.new ≡ without_tree (contents self.old) }
         ensures entries { entries_of self.new ≡ entries_of self.old }
         ensures storage { storage_of self.new ≡ storage_of self.old }
     {
-        self.tree.take()
+        self.extensions.tree.take()
     }
 
     /// The link to a shared index, where the file was a split index (gitformat-index, "Split index").
     pub fn link(&self) -> Option<&Link>
-        ensures { option_map (λ l. link_of l.now) result ≡ (contents self.now).link }
+        ensures { option_map (λ l. link_of l.now) result ≡ (contents self.now).extensions.link }
     {
-        self.link.as_ref()
+        self.extensions.link.as_ref()
     }
 
     /// The stages of conflicts that were resolved, path by path, where the file had them and they could be read
     /// (gitformat-index, "Resolve undo").
     pub fn resolve_undo(&self) -> Option<&resolve_undo::Paths>
-        ensures { option_map (λ paths. map path_stages paths.now.items) result ≡ (contents self.now).resolve_undo }
+        ensures { option_map (λ paths. map path_stages paths.now.items) result ≡ (contents self.now).extensions.resolve_undo }
     {
-        self.resolve_undo.as_ref()
+        self.extensions.resolve_undo.as_ref()
     }
 
     /// Takes these out, and leaves none. All else stays.
     pub fn remove_resolve_undo(&mut self) -> Option<resolve_undo::Paths>
-        ensures given { option_map (λ paths. map path_stages paths.items) result ≡ (contents self.old).resolve_undo }
-        ensures removed { contents self.new ≡ record (contents self.old) { resolve_undo = None } }
+        ensures given { option_map (λ paths. map path_stages paths.items) result ≡ (contents self.old).extensions.resolve_undo }
+        ensures removed { contents self.new ≡ without_resolve_undo (contents self.old) }
         ensures entries { entries_of self.new ≡ entries_of self.old }
         ensures storage { storage_of self.new ≡ storage_of self.old }
     {
-        self.resolve_undo.take()
+        self.extensions.resolve_undo.take()
     }
 
     /// What was known of untracked files, where the file had it and it could be read (gitformat-index, "Untracked
     /// cache").
     pub fn untracked(&self) -> Option<&UntrackedCache>
-        ensures { option_map (λ cache. cache_of cache.now) result ≡ (contents self.now).untracked }
+        ensures { option_map (λ cache. cache_of cache.now) result ≡ (contents self.now).extensions.untracked }
     {
-        self.untracked.as_ref()
+        self.extensions.untracked.as_ref()
     }
 
     /// What a monitor of the file system had said, where the file had it and it could be read (gitformat-index, "File
     /// System Monitor cache").
     pub fn fs_monitor(&self) -> Option<&FsMonitor>
-        ensures { option_map (λ monitor. monitor_of monitor.now) result ≡ (contents self.now).fs_monitor }
+        ensures { option_map (λ monitor. monitor_of monitor.now) result ≡ (contents self.now).extensions.fs_monitor }
     {
-        self.fs_monitor.as_ref()
+        self.extensions.fs_monitor.as_ref()
     }
 
     /// Whether the file had an end marker, whatever it said (gitformat-index, "End of Index Entry").
     pub fn had_end_of_index_marker(&self) -> bool
-        ensures { result ≡ (contents self.now).had_end_marker }
+        ensures { result ≡ (contents self.now).extensions.had_end_marker }
     {
-        self.had_end_of_index_marker
+        self.extensions.had_end_of_index_marker
     }
 
     /// Whether the file had an offset table, whatever it said (gitformat-index, "Index Entry Offset Table").
     pub fn had_offset_table(&self) -> bool
-        ensures { result ≡ (contents self.now).had_offset_table }
+        ensures { result ≡ (contents self.now).extensions.had_offset_table }
     {
-        self.had_offset_table
+        self.extensions.had_offset_table
     }
 }

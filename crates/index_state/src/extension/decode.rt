@@ -1,16 +1,18 @@
 //! Reading the extensions behind the last entry.
 
 ghost use Rattle.std.specs.Cmp.Lexicographic.{pointwise};
-ghost use Rattle.std.specs.Option.{option_map};
+ghost use Rattle.std.specs.Borrow.{sem};
+ghost use Rattle.std.specs.Option.{option_map, option_copied_mut};
 ghost use Rattle.std.specs.Prelude.{◌≡◌, ◌≤◌, ℕ, true, List, length, map, nat_eq, codes, IfOk, IfErr, OnOk, OnErr};
 ghost use Rattle.index_extensions.specs.FsMonitor.{IsMonitor, monitor_of};
 ghost use Rattle.index_extensions.specs.ResolveUndo.{IsResolveUndo, path_stages};
 ghost use Rattle.index_extensions.specs.Tree.{IsTree, node_of};
 ghost use Rattle.index_extensions.specs.Untracked.{IsCache, cache_of};
-ghost use Rattle.index_state.specs.Gathered.{Adds, IsGathered, Replaces, SaysExtension, SaysItem, outcome_of};
+ghost use Rattle.index_state.specs.Edits.{LendsOwnTree};
+ghost use Rattle.index_state.specs.Gathered.{Adds, IsGathered, Replaces, SaysExtension, SaysItem};
 ghost use Rattle.index_state.specs.Link.{HasLink, IsLink, SaysLink, link_of};
-ghost use Rattle.index_state.specs.Outcome.{is_mandatory, is_understood, no_extension};
-ghost use Rattle.index_state.specs.Record.{ExtensionIdsAreOf};
+ghost use Rattle.index_state.specs.Outcome.{is_mandatory, is_understood, no_extension, outcome_of};
+ghost use Rattle.index_state.specs.State.{ExtensionIdsAreOf};
 
 use crate::decode;
 use crate::extension::link::{self, Link};
@@ -20,20 +22,47 @@ use index_extensions::extension::{
 };
 use index_parts::hash::Kind;
 use std::alloc::{AllocError, Global};
+use std::fmt;
 use thiserror::Error;
 
 /// The first fault of a mandatory extension.
 #[derive(Debug, Drop, Error)]
 pub enum Error {
     /// A reader must know this extension, and this one doesn't.
-    #[error("the mandatory extension with the signature {signature:?} isn't known")]
+    #[error("{}", Refused(*.signature))]
     MandatoryUnimplemented {
         /// Its four bytes.
         signature: Signature,
     },
     /// The link to a shared index is at fault.
-    #[error("extension `link`: {0}")]
+    #[error("{0}")]
     Link(link::decode::Error),
+}
+
+/// A mandatory extension that isn't understood, in words: its signature as text where it is text, else in base 16.
+#[derive(Clone, Copy)]
+struct Refused(Signature);
+
+impl fmt::Display for Refused {
+    fn fmt<W: fmt::Write>(&self, f: &mut fmt::Formatter<W>) -> fmt::Result {
+        if self.0 == sparse::SIGNATURE {
+            return f.write_str(
+                "the mandatory extension `sdir` has content, which it must not have",
+            );
+        }
+        match str::from_utf8(&self.0) {
+            Ok(text) if self.0.iter().all(|byte| byte.is_ascii_graphic()) => {
+                write!(f, "the mandatory extension `{text}` isn't supported")
+            }
+            _ => {
+                let [a, b, c, d] = self.0;
+                write!(
+                    f,
+                    "the mandatory extension with the signature {a:02x} {b:02x} {c:02x} {d:02x} isn't supported"
+                )
+            }
+        }
+    }
 }
 
 /// What is kept of the extensions.
@@ -47,6 +76,24 @@ pub(crate) struct Outcome {
     pub(crate) is_sparse: bool,
     pub(crate) had_end_of_index_marker: bool,
     pub(crate) had_offset_table: bool,
+}
+
+/// The clone keeps the same of each extension. An error is want of memory.
+impl Clone for Outcome {
+    ghost is_clone = { λ a b. outcome_of b ≡ outcome_of a };
+
+    fn clone(&self) -> Result<Outcome, AllocError> {
+        Ok(Outcome {
+            tree: self.tree.clone()?,
+            link: self.link.clone()?,
+            resolve_undo: self.resolve_undo.clone()?,
+            untracked: self.untracked.clone()?,
+            fs_monitor: self.fs_monitor.clone()?,
+            is_sparse: self.is_sparse,
+            had_end_of_index_marker: self.had_end_of_index_marker,
+            had_offset_table: self.had_offset_table,
+        })
+    }
 }
 
 /// Whether a reader must understand the extension.
@@ -167,6 +214,14 @@ impl Outcome {
         }
     }
 
+    /// The cached tree, to be changed in place. All else stays.
+    pub(crate) fn tree_mut(&mut self) -> Option<&mut Tree>
+        ensures* writes_back { sem 𝓛 (LendsOwnTree self.entry result) }
+        ensures value { option_copied_mut result ≡ self.old.tree }
+    {
+        self.tree.as_mut()
+    }
+
     /// Adds what one extension says; a later one of the same signature takes the place of an earlier one.
     fn add(
         &mut self,
@@ -222,7 +277,7 @@ pub(crate) fn all(
     alloc_limit_bytes: Option<usize>,
 ) -> Result<(Outcome, usize), decode::Error>
     ensures ok { IfOk result (λ x. IsGathered object_hash alloc_limit_bytes extensions.now (outcome_of x.0) x.1) }
-    ensures ids { IfOk result (λ x. ExtensionIdsAreOf object_hash (outcome_of x.0).tree (outcome_of x.0).link (outcome_of x.0).resolve_undo (outcome_of x.0).untracked) }
+    ensures ids { IfOk result (λ x. ExtensionIdsAreOf object_hash (outcome_of x.0)) }
     ensures small { IfOk result (λ x. x.1 ≤ length extensions.now) }
     ensures err { IfErr result (SaysExtension object_hash extensions.now) }
 {

@@ -2,10 +2,9 @@
 
 ghost use Rattle.std.specs.Prelude.{◌≡◌};
 ghost use Rattle.std.specs.Option.{option_map};
-ghost use Rattle.index_extensions.specs.ReadingMonitor.{number_at, token_at, parts_at, lent_token};
+ghost use Rattle.index_extensions.specs.ReadingMonitor.{token_at, parts_at, lent_token};
 
-use super::super::pieces::split_of;
-use index_parts::util::{read_u32, read_u64};
+use index_parts::read;
 
 /// A token whose text is lent.
 #[derive(Clone, Copy)]
@@ -22,29 +21,17 @@ pub(super) struct Parts<'a> {
     pub(super) rest: &'a [u8],
 }
 
-fn u32_of(bytes: &[u8]) -> Option<(u32, &[u8])>
-    ensures { option_map (λ x. (x.0, x.1.now)) result ≡ number_at 4 bytes.now }
-{
-    read_u32(bytes)
-}
-
-fn u64_of(bytes: &[u8]) -> Option<(u64, &[u8])>
-    ensures { option_map (λ x. (x.0, x.1.now)) result ≡ number_at 8 bytes.now }
-{
-    read_u64(bytes)
-}
-
 /// The token of a version, and the bytes behind it.
 #[tactic(auto, unfolding(crate::specs::ReadingMonitor::token_at))]
 fn token_of(version: u32, bytes: &[u8]) -> Option<(LentToken<'_>, &[u8])>
     ensures { option_map (λ x. (lent_token x.0, x.1.now)) result ≡ token_at version bytes.now }
 {
     if version == 1 {
-        let (nanos, rest) = u64_of(bytes)?;
+        let (nanos, rest) = read::u64(bytes)?;
         return Some((LentToken::V1(nanos), rest));
     }
     if version == 2 {
-        let (text, rest) = split_of(bytes, 0)?;
+        let (text, rest) = read::up_to(bytes, 0)?;
         return Some((LentToken::V2(text), rest));
     }
     None
@@ -55,8 +42,8 @@ fn token_of(version: u32, bytes: &[u8]) -> Option<(LentToken<'_>, &[u8])>
 pub(super) fn parts_of(bytes: &[u8]) -> Option<Parts<'_>>
     ensures { option_map (λ p. (lent_token p.token, p.size, p.rest.now)) result ≡ parts_at bytes.now }
 {
-    let (version, rest) = u32_of(bytes)?;
+    let (version, rest) = read::u32(bytes)?;
     let (token, rest) = token_of(version, rest)?;
-    let (size, rest) = u32_of(rest)?;
+    let (size, rest) = read::u32(rest)?;
     Some(Parts { token, size, rest })
 }

@@ -2,12 +2,12 @@
 
 ghost use Rattle.std.specs.Prelude.{◌≡◌};
 ghost use Rattle.std.specs.Option.{option_map};
-ghost use Rattle.index_extensions.specs.ReadingPaths.{mode_at, stage_at, path_at, lent_path};
+ghost use Rattle.index_extensions.specs.ReadingPaths.{mode_at, stage_at, resolve_path_at, lent_path};
 
-use super::super::pieces::{piece_of, split_of};
 use super::Stage;
 use super::octal::mode_of;
-use index_parts::hash::{Kind, ObjectId};
+use index_parts::hash::Kind;
+use index_parts::read;
 
 /// A path whose name is lent.
 #[derive(Clone, Copy)]
@@ -21,7 +21,7 @@ pub(super) struct LentPath<'a> {
 fn split_mode(bytes: &[u8]) -> Option<(u32, &[u8])>
     ensures { option_map (λ x. (x.0, x.1.now)) result ≡ mode_at bytes.now }
 {
-    let (text, rest) = split_of(bytes, 0)?;
+    let (text, rest) = read::up_to(bytes, 0)?;
     let mode = mode_of(text)?;
     Some((mode, rest))
 }
@@ -34,20 +34,16 @@ fn stage_of(kind: Kind, mode: u32, bytes: &[u8]) -> Option<(Option<Stage>, &[u8]
     if mode == 0 {
         return Some((None, bytes));
     }
-    let (id, rest) = piece_of(kind.len_in_bytes(), bytes)?;
-    let stage = Stage {
-        mode,
-        id: ObjectId::of_kind(kind, id),
-    };
-    Some((Some(stage), rest))
+    let (id, rest) = read::id(bytes, kind)?;
+    Some((Some(Stage { mode, id }), rest))
 }
 
 /// The path at the front of the bytes, and those behind it.
-#[tactic(auto, unfolding(crate::specs::ReadingPaths::path_at))]
+#[tactic(auto, unfolding(crate::specs::ReadingPaths::resolve_path_at))]
 pub(super) fn path_of(kind: Kind, bytes: &[u8]) -> Option<(LentPath<'_>, &[u8])>
-    ensures { option_map (λ x. (lent_path x.0, x.1.now)) result ≡ path_at kind bytes.now }
+    ensures { option_map (λ x. (lent_path x.0, x.1.now)) result ≡ resolve_path_at kind bytes.now }
 {
-    let (name, rest) = split_of(bytes, 0)?;
+    let (name, rest) = read::up_to(bytes, 0)?;
     let (base, rest) = split_mode(rest)?;
     let (ours, rest) = split_mode(rest)?;
     let (theirs, rest) = split_mode(rest)?;

@@ -1,7 +1,7 @@
 //! Numbers in decimal digits, as text.
 
 ghost use Rattle.std.specs.Prelude.{◌≡◌};
-ghost use Rattle.index_extensions.specs.Reading.{decimal_of, count_of, nonnegative_count, negated_count};
+ghost use Rattle.index_extensions.specs.Reading.{decimal_of, entry_count_of, nonnegative_count, negated_count};
 
 /// The number of one digit or more; None where another byte stands among them, and where it has more than 64 bits.
 pub(super) fn decimal_of(text: &[u8]) -> Option<u64>
@@ -45,8 +45,8 @@ fn negated_count(n: u64) -> Option<Option<u32>>
 }
 
 /// A count of 32 signed bits, with a sign or none before the digits. A negative one is None within Some.
-pub(super) fn count_of(text: &[u8]) -> Option<Option<u32>>
-    ensures { result ≡ count_of text.now }
+pub(super) fn entry_count_of(text: &[u8]) -> Option<Option<u32>>
+    ensures { result ≡ entry_count_of text.now }
 {
     let [sign, digits @ ..] = text else {
         return None;

@@ -2,15 +2,16 @@
 
 ghost use Rattle.std.specs.Prelude.{◌≡◌};
 ghost use Rattle.std.specs.Option.{option_map};
-ghost use Rattle.index_extensions.specs.Reading.{id_at, limited_id_at, head_at, lent_head};
+ghost use Rattle.index_extensions.specs.Reading.{id_at, limited_id_at, node_head_at, roomy_head_at, lent_node_head};
 
-use super::decimal::{count_of, decimal_of};
-use crate::extension::pieces::{passes_limit, piece_of, split_of};
+use super::decimal::{decimal_of, entry_count_of};
+use crate::extension::limit::are_within;
 use index_parts::hash::{Kind, ObjectId};
+use index_parts::read;
 
 /// What a node says of itself, and how many children it declares.
 #[derive(Clone, Copy)]
-pub(super) struct Head<'a> {
+pub(super) struct NodeHead<'a> {
     pub(super) name: &'a [u8],
     pub(super) count: Option<u32>,
     pub(super) id: ObjectId,
@@ -20,6 +21,9 @@ pub(super) struct Head<'a> {
 /// How many bytes of the limit a child takes.
 const CHILD_SIZE: u64 = 104;
 
+/// The fewest bytes that a node has: a NUL, `-1`, a space, `0`, and a newline.
+const MIN_NODE_LEN: u64 = 6;
+
 /// The id of a node with this count, and the bytes behind it. A node without a count has none, and so the null id.
 fn id_of(kind: Kind, count: Option<u32>, bytes: &[u8]) -> Option<(ObjectId, &[u8])>
     ensures { option_map (λ x. (x.0, x.1.now)) result ≡ id_at kind count bytes.now }
@@ -27,8 +31,7 @@ fn id_of(kind: Kind, count: Option<u32>, bytes: &[u8]) -> Option<(ObjectId, &[u8
     if count.is_none() {
         return Some((kind.null(), bytes));
     }
-    let (id, rest) = piece_of(kind.len_in_bytes(), bytes)?;
-    Some((ObjectId::of_kind(kind, id), rest))
+    read::id(bytes, kind)
 }
 
 /// The same, where so many children are within the limit.
@@ -41,25 +44,25 @@ fn limited_id_of(
 ) -> Option<(ObjectId, &[u8])>
     ensures { option_map (λ x. (x.0, x.1.now)) result ≡ limited_id_at kind limit number count bytes.now }
 {
-    if passes_limit(limit, CHILD_SIZE, number) {
-        return None;
+    if are_within(limit, CHILD_SIZE, number) {
+        return id_of(kind, count, bytes);
     }
-    id_of(kind, count, bytes)
+    None
 }
 
 /// The head at the front of the bytes, and those behind it.
-#[tactic(auto, unfolding(crate::specs::Reading::head_at))]
-pub(super) fn head_of(kind: Kind, limit: Option<usize>, bytes: &[u8]) -> Option<(Head<'_>, &[u8])>
-    ensures { option_map (λ x. (lent_head x.0, x.1.now)) result ≡ head_at kind limit bytes.now }
+#[tactic(auto, unfolding(crate::specs::Reading::node_head_at))]
+fn node_head_of(kind: Kind, limit: Option<usize>, bytes: &[u8]) -> Option<(NodeHead<'_>, &[u8])>
+    ensures { option_map (λ x. (lent_node_head x.0, x.1.now)) result ≡ node_head_at kind limit bytes.now }
 {
-    let (name, rest) = split_of(bytes, 0)?;
-    let (text, rest) = split_of(rest, b' ')?;
-    let count = count_of(text)?;
-    let (digits, rest) = split_of(rest, b'\n')?;
+    let (name, rest) = read::up_to(bytes, 0)?;
+    let (text, rest) = read::up_to(rest, b' ')?;
+    let count = entry_count_of(text)?;
+    let (digits, rest) = read::up_to(rest, b'\n')?;
     let number = decimal_of(digits)?;
     let (id, rest) = limited_id_of(kind, limit, number, count, rest)?;
     Some((
-        Head {
+        NodeHead {
             name,
             count,
             id,
@@ -67,4 +70,20 @@ pub(super) fn head_of(kind: Kind, limit: Option<usize>, bytes: &[u8]) -> Option<
         },
         rest,
     ))
+}
+
+/// The same, where the bytes behind it have room for the children that it declares.
+#[tactic(auto, unfolding(crate::specs::Reading::roomy_head_at))]
+pub(super) fn roomy_head_of(
+    kind: Kind,
+    limit: Option<usize>,
+    bytes: &[u8],
+) -> Option<(NodeHead<'_>, &[u8])>
+    ensures { option_map (λ x. (lent_node_head x.0, x.1.now)) result ≡ roomy_head_at kind limit bytes.now }
+{
+    let (head, tail) = node_head_of(kind, limit, bytes)?;
+    if head.number > tail.len() as u64 / MIN_NODE_LEN {
+        return None;
+    }
+    Some((head, tail))
 }

@@ -2,17 +2,17 @@
 
 ghost use Rattle.std.specs.List.Sorted.{IsPermutation};
 ghost use Rattle.std.specs.Prelude.{◌≡◌, ℕ, false, List, [], ◌∷◌, ◌++◌, map, IsTrue, IfOk, IfErr, IfSome, IfNone};
-ghost use Rattle.index_extensions.specs.Tree.{Node, node, nodes_from, node_of, name_cmp, NamesRise, IsNode, HasHead};
+ghost use Rattle.index_extensions.specs.Tree.{Node, node, nodes_from, node_of, name_cmp, NamesRise, IsNode, HasNodeHead};
 
 use super::Tree;
-use super::head::{Head, head_of};
+use super::head::{NodeHead, roomy_head_of};
 use index_parts::hash::Kind;
 use smallvec::SmallVec;
 use std::alloc::{AllocError, Global};
 use std::cmp::Ordering;
 
 /// The order of two nodes by the bytes of their names.
-fn compare_names(a: &Tree, b: &Tree) -> Ordering
+pub(super) fn compare_names(a: &Tree, b: &Tree) -> Ordering
     ensures { result ≡ name_cmp (node_of a.now) (node_of b.now) }
 {
     a.name.as_slice().cmp(&b.name.as_slice())
@@ -38,7 +38,7 @@ fn sort_siblings(siblings: &mut Vec<Tree>) -> bool
 /// one name.
 fn push_tree(
     alloc: Global,
-    head: Head<'_>,
+    head: NodeHead<'_>,
     mut children: Vec<Tree>,
     siblings: &mut Vec<Tree>,
 ) -> Result<bool, AllocError>
@@ -74,9 +74,9 @@ pub(super) fn push_node<'a>(
     ensures some { IfOk result (λ found. IfSome found (λ rest. (t : Node) × (map node_of siblings.new.items ≡ map node_of siblings.old.items ++ t ∷ [])
         × IsNode kind limit levels bytes.now t rest.now)) }
     ensures none { IfOk result (λ found. IfNone found ((t : Node) (rest : List ℕ) → IsNode kind limit levels bytes.now t rest → ⊥)) }
-    ensures memory { IfErr result (λ _. HasHead kind limit bytes.now) }
+    ensures memory { IfErr result (λ _. HasNodeHead kind limit bytes.now) }
 {
-    let Some((head, tail)) = head_of(kind, limit, bytes) else {
+    let Some((head, tail)) = roomy_head_of(kind, limit, bytes) else {
         return Ok(None);
     };
     let mut children = Vec::new(alloc);

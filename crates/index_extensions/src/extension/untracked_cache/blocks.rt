@@ -3,18 +3,19 @@
 ghost use Rattle.std.specs.Prelude.{◌≡◌, ◌<◌, ◌≤◌, ◌++◌, ℕ, List, map, length, IfOk, IfErr, IfSome, IfNone};
 ghost use Rattle.std.specs.Option.{option_map};
 ghost use Rattle.bstr.specs.Owned.{bstring_bytes};
-ghost use Rattle.index_extensions.specs.Blocks.{Block, HasHead, IsBlock, block_depth, value_of, listed};
-ghost use Rattle.index_extensions.specs.UntrackedReading.{is_allowed, head_at, lent_head, names_at, start_at, own_start};
+ghost use Rattle.index_extensions.specs.Blocks.{Block, HasBlockHead, IsBlock, block_depth, directory_value, listed};
+ghost use Rattle.index_extensions.specs.UntrackedReading.{is_allowed, block_head_at, lent_block_head, names_at, start_at, own_start};
 ghost use Rattle.index_extensions.specs.Marking.{change, with_subs};
 
 use super::Directory;
-use crate::extension::pieces::{offset_of, passes_limit, split_of};
+use crate::extension::limit::are_within;
 use bstr::BString;
+use index_parts::read;
 use std::alloc::{AllocError, Global};
 
 /// How a block begins.
 #[derive(Clone, Copy)]
-struct Head<'a> {
+struct BlockHead<'a> {
     untracked: u64,
     subs: u64,
     name: &'a [u8],
@@ -35,25 +36,25 @@ const NAME_SIZE: u64 = 24;
 const PLACE_SIZE: u64 = 8;
 
 /// Whether so many bytes, and the limit, have room for what a head declares.
-fn is_allowed(limit: Option<usize>, head: &Head<'_>, left: usize) -> bool
-    ensures { result ≡ is_allowed limit (lent_head head.now) left }
+fn is_allowed(limit: Option<usize>, head: &BlockHead<'_>, left: usize) -> bool
+    ensures { result ≡ is_allowed limit (lent_block_head head.now) left }
 {
     let half = left as u64 / 2;
     head.untracked <= half
         && head.subs <= half
-        && !passes_limit(limit, NAME_SIZE, head.untracked)
-        && !passes_limit(limit, PLACE_SIZE, head.subs)
+        && are_within(limit, NAME_SIZE, head.untracked)
+        && are_within(limit, PLACE_SIZE, head.subs)
 }
 
 /// The head at the front of bytes, and those behind it.
-#[tactic(auto, unfolding(crate::specs::UntrackedReading::head_at))]
-fn head_of(limit: Option<usize>, bytes: &[u8]) -> Option<(Head<'_>, &[u8])>
-    ensures { option_map (λ x. (lent_head x.0, x.1.now)) result ≡ head_at limit bytes.now }
+#[tactic(auto, unfolding(crate::specs::UntrackedReading::block_head_at))]
+fn block_head_of(limit: Option<usize>, bytes: &[u8]) -> Option<(BlockHead<'_>, &[u8])>
+    ensures { option_map (λ x. (lent_block_head x.0, x.1.now)) result ≡ block_head_at limit bytes.now }
 {
-    let (untracked, rest) = offset_of(bytes)?;
-    let (subs, rest) = offset_of(rest)?;
-    let (name, rest) = split_of(rest, 0)?;
-    let head = Head {
+    let (untracked, rest) = read::offset(bytes)?;
+    let (subs, rest) = read::offset(rest)?;
+    let (name, rest) = read::up_to(rest, 0)?;
+    let head = BlockHead {
         untracked,
         subs,
         name,
@@ -75,7 +76,7 @@ fn names_of(
     let mut names = Vec::new(alloc);
     let mut rest = bytes;
     for _i in 0..count {
-        let Some((name, after)) = split_of(rest, 0) else {
+        let Some((name, after)) = read::up_to(rest, 0) else {
             return Ok(None);
         };
         names.push(BString::from_slice(alloc, name)?)?;
@@ -92,9 +93,9 @@ fn start_of(
     bytes: &[u8],
 ) -> Result<Option<(Start, &[u8])>, AllocError>
     ensures found { IfOk result (λ found. option_map (λ x. (own_start x.0, x.1.now)) found ≡ start_at limit bytes.now) }
-    ensures memory { IfErr result (λ _. HasHead limit bytes.now) }
+    ensures memory { IfErr result (λ _. HasBlockHead limit bytes.now) }
 {
-    let Some((head, rest)) = head_of(limit, bytes) else {
+    let Some((head, rest)) = block_head_of(limit, bytes) else {
         return Ok(None);
     };
     let Some((untracked, rest)) = names_of(alloc, head.untracked, rest)? else {
@@ -111,7 +112,7 @@ fn start_of(
 /// Sets the places of the directories in the one at this place.
 fn set_subs(directories: &mut Vec<Directory>, place: usize, subs: Vec<usize>)
     requires { place < length directories.old.items }
-    ensures { map value_of directories.new.items ≡ change (with_subs subs.items) place (map value_of directories.old.items) }
+    ensures { map directory_value directories.new.items ≡ change (with_subs subs.items) place (map directory_value directories.old.items) }
 {
     let directory = &mut directories[place];
     directory.sub_directories = subs;
@@ -126,9 +127,9 @@ pub(super) fn read_block<'a>(
     bytes: &'a [u8],
     directories: &mut Vec<Directory>,
 ) -> Result<Option<&'a [u8]>, AllocError>
-    ensures some { IfOk result (λ found. IfSome found (λ rest. (b : Block) × IsBlock limit bytes.now b rest.now × (block_depth b ≤ levels) × (map value_of directories.new.items ≡ map value_of directories.old.items ++ listed (length directories.old.items) b))) }
+    ensures some { IfOk result (λ found. IfSome found (λ rest. (b : Block) × IsBlock limit bytes.now b rest.now × (block_depth b ≤ levels) × (map directory_value directories.new.items ≡ map directory_value directories.old.items ++ listed (length directories.old.items) b))) }
     ensures none { IfOk result (λ found. IfNone found ((b : Block) (rest : List ℕ) → IsBlock limit bytes.now b rest → block_depth b ≤ levels → ⊥)) }
-    ensures memory { IfErr result (λ _. HasHead limit bytes.now) }
+    ensures memory { IfErr result (λ _. HasBlockHead limit bytes.now) }
 {
     let Some((start, tail)) = start_of(alloc, limit, bytes)? else {
         return Ok(None);

@@ -5,17 +5,16 @@ ghost use Rattle.std.specs.List.{AllByRecursion, list_any};
 ghost use Rattle.index_parts.specs.Bitmap.{Bitmap, IsBitmap, bitmap};
 ghost use Rattle.index_parts.specs.Bits.{ListPlaces};
 ghost use Rattle.index_parts.specs.Id.{id_len};
-ghost use Rattle.index_extensions.specs.Blocks.{DirectoryValue, value_of};
-ghost use Rattle.index_extensions.specs.Marking.{change, with_stat, with_exclude, checked, by_some, by_true, each, IsUnmarked};
-ghost use Rattle.index_extensions.specs.Marks.{Marks as Places, ListsBelow, AreMarks, ArePieces, value_at, IsTail};
+ghost use Rattle.index_extensions.specs.Blocks.{DirectoryValue, directory_value};
+ghost use Rattle.index_extensions.specs.Marking.{change, with_stat, with_exclude, checked, last_at, by_some, by_true, each, IsBare};
+ghost use Rattle.index_extensions.specs.Marks.{Marks as Places, ListsBelow, AreMarks, ArePieces, IsTail};
 ghost use Rattle.index_extensions.specs.UntrackedReading.{own_marks};
 
 use super::Directory;
-use super::stat::{SIZE, stat_of};
-use crate::extension::pieces::piece_of;
-use index_parts::ewah;
+use super::stat::{SIZE, cached_stat};
 use index_parts::ewah::decode::{Error, decode};
 use index_parts::hash::{Kind, ObjectId};
+use index_parts::{ewah, read};
 use std::alloc::{AllocError, Global};
 
 /// The places that three bitmaps have.
@@ -111,18 +110,18 @@ fn marks_of(alloc: Global, count: usize, bytes: &[u8]) -> Result<Option<(Marks, 
 fn set_stat(directories: &mut Vec<Directory>, place: usize, piece: &[u8])
     requires place { place < length directories.old.items }
     requires size { length piece.now ≡ 36 }
-    ensures value { map value_of directories.new.items ≡ change (with_stat piece.now) place (map value_of directories.old.items) }
+    ensures value { map directory_value directories.new.items ≡ change (with_stat piece.now) place (map directory_value directories.old.items) }
     ensures len { length directories.new.items ≡ length directories.old.items }
 {
     let directory = &mut directories[place];
-    directory.stat = Some(stat_of(piece));
+    directory.stat = Some(cached_stat(piece));
 }
 
 /// Sets the id of the directory at a place.
 fn set_exclude(directories: &mut Vec<Directory>, place: usize, kind: Kind, piece: &[u8])
     requires place { place < length directories.old.items }
     requires size { length piece.now ≡ id_len kind }
-    ensures value { map value_of directories.new.items ≡ change (with_exclude kind piece.now) place (map value_of directories.old.items) }
+    ensures value { map directory_value directories.new.items ≡ change (with_exclude kind piece.now) place (map directory_value directories.old.items) }
     ensures len { length directories.new.items ≡ length directories.old.items }
 {
     let directory = &mut directories[place];
@@ -132,7 +131,7 @@ fn set_exclude(directories: &mut Vec<Directory>, place: usize, kind: Kind, piece
 /// Sets the mark of the directory at a place.
 fn set_check_only(directories: &mut Vec<Directory>, place: usize)
     requires place { place < length directories.old.items }
-    ensures value { map value_of directories.new.items ≡ change checked place (map value_of directories.old.items) }
+    ensures value { map directory_value directories.new.items ≡ change checked place (map directory_value directories.old.items) }
     ensures len { length directories.new.items ≡ length directories.old.items }
 {
     let directory = &mut directories[place];
@@ -142,7 +141,7 @@ fn set_check_only(directories: &mut Vec<Directory>, place: usize)
 /// Sets the mark of the directories at these places.
 fn check_each(directories: &mut Vec<Directory>, places: &[usize])
     requires { All (λ place. place < length directories.old.items) places.now }
-    ensures value { map value_of directories.new.items ≡ each (λ i. by_true checked (list_any (λ p. p == i) places.now)) (map value_of directories.old.items) }
+    ensures value { map directory_value directories.new.items ≡ each (λ i. by_true checked (list_any (λ p. p == i) places.now)) (map directory_value directories.old.items) }
     ensures len { length directories.new.items ≡ length directories.old.items }
 {
     for place in places {
@@ -158,13 +157,13 @@ fn read_stats<'a>(
 ) -> Option<&'a [u8]>
     requires { All (λ place. place < length directories.old.items) places.now }
     ensures found { IfSome result (λ rest. (stats : List (List ℕ)) × ArePieces 36 (length places.now) bytes.now stats rest.now
-        × (map value_of directories.new.items ≡ each (λ i. by_some with_stat (value_at places.now stats i)) (map value_of directories.old.items))) }
+        × (map directory_value directories.new.items ≡ each (λ i. by_some with_stat (last_at places.now stats i)) (map directory_value directories.old.items))) }
     ensures none { IfNone result (length bytes.now < 36 * length places.now) }
     ensures len { length directories.new.items ≡ length directories.old.items }
 {
     let mut rest = bytes;
     for place in places {
-        let (piece, after) = piece_of(SIZE, rest)?;
+        let (piece, after) = read::piece(rest, SIZE)?;
         set_stat(directories, *place, piece);
         rest = after;
     }
@@ -180,14 +179,14 @@ fn read_excludes<'a>(
 ) -> Option<&'a [u8]>
     requires { All (λ place. place < length directories.old.items) places.now }
     ensures found { IfSome result (λ rest. (ids : List (List ℕ)) × ArePieces (id_len kind) (length places.now) bytes.now ids rest.now
-        × (map value_of directories.new.items ≡ each (λ i. by_some (with_exclude kind) (value_at places.now ids i)) (map value_of directories.old.items))) }
+        × (map directory_value directories.new.items ≡ each (λ i. by_some (with_exclude kind) (last_at places.now ids i)) (map directory_value directories.old.items))) }
     ensures none { IfNone result (length bytes.now < id_len kind * length places.now) }
     ensures len { length directories.new.items ≡ length directories.old.items }
 {
     let len = kind.len_in_bytes();
     let mut rest = bytes;
     for place in places {
-        let (piece, after) = piece_of(len, rest)?;
+        let (piece, after) = read::piece(rest, len)?;
         set_exclude(directories, *place, kind, piece);
         rest = after;
     }
@@ -201,9 +200,9 @@ pub(super) fn read_marks(
     bytes: &[u8],
     directories: &mut Vec<Directory>,
 ) -> Result<bool, AllocError>
-    requires { AllByRecursion IsUnmarked (map value_of directories.old.items) }
-    ensures whole { IfOk result (λ whole. IsTrue whole → IsTail kind (map value_of directories.old.items) bytes.now (map value_of directories.new.items)) }
-    ensures torn { IfOk result (λ whole. whole ≡ false → (ds : List DirectoryValue) → IsTail kind (map value_of directories.old.items) bytes.now ds → ⊥) }
+    requires { AllByRecursion IsBare (map directory_value directories.old.items) }
+    ensures whole { IfOk result (λ whole. IsTrue whole → IsTail kind (map directory_value directories.old.items) bytes.now (map directory_value directories.new.items)) }
+    ensures torn { IfOk result (λ whole. whole ≡ false → (ds : List DirectoryValue) → IsTail kind (map directory_value directories.old.items) bytes.now ds → ⊥) }
 {
     let Some((marks, rest)) = marks_of(alloc, directories.len(), bytes)? else {
         return Ok(false);

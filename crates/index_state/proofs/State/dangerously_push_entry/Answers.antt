@@ -1,7 +1,8 @@
 use Rattle.std.proofs.Common.{◌≡◌, ℕ, List, refl, [], ◌∷◌, ◌++◌, length, ap, ◌∙◌}
-use Rattle.index_state.specs.declared.Entry.{Entry}
-use Rattle.index_state.specs.Record.{Record, contents, entries_of, records_in, storage_of}
-use Rattle.index_state.proofs.Storing.{own_place, own_record, records_push}
+use Rattle.index_entries.specs.declared.Entry.{Entry}
+use Rattle.index_entries.specs.Record.{Record, records_in}
+use Rattle.index_state.specs.State.{contents, entries_of, storage_of}
+use Rattle.index_entries.proofs.Storing.{own_place, own_record, records_push}
 use Rattle.index_state.proofs.State.dangerously_push_entry.Goals as goal
 
 pub returns-clause-added : goal.returns-clause-added
@@ -11,7 +12,7 @@ returns-clause-added c =
     let path = c.args.path.now in
     let e : Entry = record { stat = c.args.stat; id = c.args.id; flags = c.args.flags; mode = c.args.mode; path = record { start = c.len-start.result; end = c.len-end.result } } in
     let grown : c.extend_from_slice.new.self.items ≡ s ++ path = c.in_ok-extend_from_slice.ensures.items ∙ ap (λ (l : List ℕ). l ++ path) c.reserve.ensures.items in
-    let added : c.push_reserved.new.self.items ≡ entries_of old ++ e ∷ [] = c.push_reserved.ensures.items ∙ ap (λ (l : List Entry). l ++ e ∷ []) c.reserve-2.ensures.items in
+    let added : c.push_reserved.new.self.items ≡ entries_of old ++ e ∷ [] = c.push_reserved.ensures.items ∙ ap (λ (x : Entry). c.reserve-2.new.self.items ++ x ∷ []) c.make_entry.ensures ∙ ap (λ (l : List Entry). l ++ e ∷ []) c.reserve-2.ensures.items in
     let start : c.len-start.result ≡ length s = c.len-start.ensures ∙ c.reserve.ensures.len ∙ old.path_backing.ok.0 in
     let end : c.len-end.result ≡ length (s ++ path) = c.len-end.ensures ∙ c.extend_from_slice.new.self.ok.0 ∙ ap length grown in
     record {
@@ -31,7 +32,7 @@ returns-clause-pushed c = λ placed.
     let path = c.args.path.now in
     let e : Entry = record { stat = c.args.stat; id = c.args.id; flags = c.args.flags; mode = c.args.mode; path = record { start = c.len-start.result; end = c.len-end.result } } in
     let grown : c.extend_from_slice.new.self.items ≡ s ++ path = c.in_ok-extend_from_slice.ensures.items ∙ ap (λ (l : List ℕ). l ++ path) c.reserve.ensures.items in
-    let added : c.push_reserved.new.self.items ≡ es ++ e ∷ [] = c.push_reserved.ensures.items ∙ ap (λ (l : List Entry). l ++ e ∷ []) c.reserve-2.ensures.items in
+    let added : c.push_reserved.new.self.items ≡ es ++ e ∷ [] = c.push_reserved.ensures.items ∙ ap (λ (x : Entry). c.reserve-2.new.self.items ++ x ∷ []) c.make_entry.ensures ∙ ap (λ (l : List Entry). l ++ e ∷ []) c.reserve-2.ensures.items in
     let start : c.len-start.result ≡ length s = c.len-start.ensures ∙ c.reserve.ensures.len ∙ old.path_backing.ok.0 in
     let end : c.len-end.result ≡ length (s ++ path) = c.len-end.ensures ∙ c.extend_from_slice.new.self.ok.0 ∙ ap length grown in
     let pushed : records_in c.extend_from_slice.new.self.items c.push_reserved.new.self.items ≡ _ = rw (grown, added) (records_push s path es e placed start end) in

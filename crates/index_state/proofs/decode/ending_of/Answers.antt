@@ -2,8 +2,8 @@ use Rattle.std.proofs.Common.{rules, ◌≡◌, ◌++◌, ◌-◌, Err, length, 
 use Rattle.std.proofs.lemmas.List.{length-append, take-append-drop}
 use Rattle.std.proofs.lemmas.Result.{err_from_is_err_and}
 use Rattle.index_parts.specs.Id.{id_len}
-use Rattle.index_state.specs.Gathered.{outcome_of}
-use Rattle.index_state.specs.Record.{records_in}
+use Rattle.index_state.specs.Outcome.{outcome_of}
+use Rattle.index_entries.specs.Record.{records_in}
 use Rattle.index_state.proofs.Answers.{ending_from, says_extension}
 use Rattle.index_state.proofs.decode.ending_of.Goals as goal
 

@@ -1,8 +1,8 @@
 use Rattle.std.proofs.Common.{rules, ◌≡◌, Err, length}
 use Rattle.std.proofs.lemmas.Result.{err_from_is_err_and}
 use Rattle.index_state.specs.Answer.{Answer}
-use Rattle.index_state.specs.Gathered.{outcome_of}
-use Rattle.index_state.specs.Record.{records_in}
+use Rattle.index_state.specs.Outcome.{outcome_of}
+use Rattle.index_entries.specs.Record.{records_in}
 use Rattle.index_state.proofs.Answers.{taken_from}
 use Rattle.index_state.proofs.decode.state_of.Goals as goal
 

@@ -15,10 +15,10 @@ use thiserror::Error;
 #[derive(Debug, Drop, Error)]
 pub enum Error {
     /// What is wrong, in words.
-    #[error("the link to the shared index is corrupt: {0}")]
+    #[error("{0}")]
     Corrupt(&'static str),
     /// A bitmap of places couldn't be read.
-    #[error("the link's {kind} bitmap can't be read: {err}")]
+    #[error("the {kind} bitmap of the link to a shared index can't be read, as {err}")]
     BitmapDecode {
         /// Why.
         err: ewah::decode::Error,

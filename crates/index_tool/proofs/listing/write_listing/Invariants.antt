@@ -2,7 +2,8 @@ use Rattle.std.proofs.Common.{◌≡◌, ℕ, List, ◌++◌, take}
 use Rattle.std.specs.Prelude.{flat_map}
 use Rattle.std.specs.Io.KnownBytes.{Appends}
 use Rattle.index_tool.specs.Line.{line_of}
-use Rattle.index_state.specs.Record.{record_in, storage_of}
+use Rattle.gix_index.specs.Record.{record_in}
+use Rattle.gix_index.specs.State.{storage_of}
 use Rattle.index_tool.proofs.listing.write_listing.Given as goal
 
 abbrev pub invariant-loop-entry : goal.invariant-loop-entry

@@ -1,9 +1,9 @@
-use Rattle.std.proofs.Common.{[], sym, subst}
-use Rattle.index_parts.specs.Bitmap.{bitmap, HasBitmap}
+use Rattle.std.proofs.Common.{sym, subst}
+use Rattle.index_parts.specs.Bitmap.{bitmap}
 use Rattle.index_extensions.specs.FsMonitor.{TokenValue, IsMonitor}
 use Rattle.index_extensions.specs.ReadingMonitor.{lent_token}
 use Rattle.index_extensions.proofs.Errors.{at_err}
-use Rattle.index_extensions.proofs.Monitors.{no_monitor, monitor_parts, monitor_from, has_parts}
+use Rattle.index_extensions.proofs.Monitors.{no_monitor, monitor_parts, monitor_from, has_monitor}
 use Rattle.index_extensions.proofs.extension.fs_monitor.decode.Goals as goal
 
 pub returns-in_default-clause-read : goal.returns-in_default-clause-read
@@ -28,11 +28,10 @@ pub returns-in_err-entry_dirty-clause-memory : goal.returns-in_err-entry_dirty-c
 returns-in_err-entry_dirty-clause-memory c =
     let parts = c.in-Some.parts in
     let sized = c.in_err-entry_dirty.ensures.memory in
-    at_err c.from_residual.result (has_parts c.args.data.now (lent_token parts.token) parts.size parts.rest.now (sym c.in-Some.ensures) sized.0 sized.1)
+    at_err c.from_residual.result (has_monitor c.args.data.now (lent_token parts.token) parts.size parts.rest.now sized.0 (sym c.in-Some.ensures) sized.1)
 
 pub returns-in_err-token-clause-memory : goal.returns-in_err-token-clause-memory
 returns-in_err-token-clause-memory c =
     let parts = c.in-Some.parts in
     let sized = rw c.in-Some-2.is at c.in_ok-entry_dirty.ensures.read in
-    let has : HasBitmap parts.rest.now = record { value = bitmap c.in-Some-2.entry_dirty; rest = []; is_bitmap = sized.is_bitmap } in
-    at_err c.from_residual-in_err-token.result (has_parts c.args.data.now (lent_token parts.token) parts.size parts.rest.now (sym c.in-Some.ensures) sized.len has)
+    at_err c.from_residual-in_err-token.result (has_monitor c.args.data.now (lent_token parts.token) parts.size parts.rest.now (bitmap c.in-Some-2.entry_dirty) (sym c.in-Some.ensures) sized)

@@ -1,7 +1,7 @@
 use Rattle.std.proofs.Common.{rules, ◌≡◌, [], map, sym}
 use Rattle.std.proofs.lemmas.List.{map-append}
 use Rattle.index_extensions.specs.ReadingPaths.{lent_path}
-use Rattle.index_extensions.specs.ResolveUndo.{PathStages, path_stages, IsPath}
+use Rattle.index_extensions.specs.ResolveUndo.{PathStages, path_stages, IsResolvePath}
 use Rattle.index_extensions.proofs.Errors.{at_err}
 use Rattle.index_extensions.proofs.Paths.{path_takes, path_fewer}
 use Rattle.index_extensions.proofs.ResolveUndo.{front_path, no_paths, paths_push}
@@ -20,7 +20,7 @@ loop-rest-smaller c =
 pub loop-rest-preserved : goal.loop-rest-preserved
 loop-rest-preserved c =
     let p : PathStages = lent_path c.in-Some.path in
-    let is_path : IsPath c.args.object_hash c.loop-rest.rest.now p c.in-Some.after.now = path_takes c.args.object_hash c.loop-rest.rest.now (p, c.in-Some.after.now) (sym c.in-Some.ensures) in
+    let is_path : IsResolvePath c.args.object_hash c.loop-rest.rest.now p c.in-Some.after.now = path_takes c.args.object_hash c.loop-rest.rest.now (p, c.in-Some.after.now) (sym c.in-Some.ensures) in
     rw (c.in_ok-push.ensures.items, map-append, c.in_ok-from_slice.ensures) (paths_push c.args.object_hash c.args.data.now (map path_stages c.loop-rest.paths.items) p c.loop-rest.rest.now c.in-Some.after.now c.loop-rest.invariant is_path)
 
 pub returns-in_err-from_slice-clause-memory : goal.returns-in_err-from_slice-clause-memory

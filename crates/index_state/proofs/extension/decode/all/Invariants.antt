@@ -1,6 +1,6 @@
 use Rattle.std.proofs.Common.{◌≡◌, ◌+◌, List, length}
 use Rattle.index_extensions.specs.Walk.{Item, AreItems, unread}
-use Rattle.index_state.specs.Gathered.{outcome_of}
+use Rattle.index_state.specs.Outcome.{outcome_of}
 use Rattle.index_state.specs.Outcome.{AreSound, IsOutcome}
 use Rattle.index_state.proofs.extension.decode.all.Given as goal
 

@@ -1,9 +1,9 @@
 use Rattle.std.proofs.Common.{arith, ◌≡◌, ◌-◌, ◌+◌, [], ◌∷◌, ◌++◌, add-one, map, sym}
 use Rattle.std.specs.List.Sorted.{IsPermutation}
-use Rattle.index_extensions.specs.Reading.{lent_head}
+use Rattle.index_extensions.specs.Reading.{lent_node_head}
 use Rattle.index_extensions.specs.Tree.{node_of}
 use Rattle.index_extensions.proofs.Errors.{at_err}
-use Rattle.index_extensions.proofs.Heads.{head_there}
+use Rattle.index_extensions.proofs.NodeHeads.{node_head_there}
 use Rattle.index_extensions.proofs.Rows.{IsRow, none_at, row_of, row_push, first_of, others_of, same_row, node_from}
 use Rattle.index_extensions.proofs.extension.tree.nodes.+push_node.Goals as goal
 
@@ -12,14 +12,14 @@ returns-in_default-clause-none t c = none_at c.args.kind c.args.limit c.args.lev
 
 pub returns-then-levels-eq0-clause-none : goal.returns-then-levels-eq0-clause-none
 returns-then-levels-eq0-clause-none t c = λ u rest p.
-    let r = row_of c.args.kind c.args.limit c.args.levels c.args.bytes.now c.in-Some.tail.now rest (lent_head c.in-Some.head) u (sym c.in-Some.ensures) p in
+    let r = row_of c.args.kind c.args.limit c.args.levels c.args.bytes.now c.in-Some.tail.now rest (lent_node_head c.in-Some.head) u (sym c.in-Some.ensures) p in
     let g = c.loop-i.invariant.1 r.nodes rest r.row in
     let f = first_of c.args.kind c.args.limit c.args.levels (c.in-Some.head.number - c.loop-i._i) c.loop-i.rest.now rest g.0 (omega arith) g.1 in
     omega (arith, f.level)
 
 pub returns-in_default-2-clause-none : goal.returns-in_default-2-clause-none
 returns-in_default-2-clause-none t c = λ u rest p.
-    let r = row_of c.args.kind c.args.limit c.args.levels c.args.bytes.now c.in-Some.tail.now rest (lent_head c.in-Some.head) u (sym c.in-Some.ensures) p in
+    let r = row_of c.args.kind c.args.limit c.args.levels c.args.bytes.now c.in-Some.tail.now rest (lent_node_head c.in-Some.head) u (sym c.in-Some.ensures) p in
     let g = c.loop-i.invariant.1 r.nodes rest r.row in
     let f = first_of c.args.kind c.args.limit c.args.levels (c.in-Some.head.number - c.loop-i._i) c.loop-i.rest.now rest g.0 (omega arith) g.1 in
     let none = rw c.in_default-2.is at c.in_ok-after.ensures.none in
@@ -45,7 +45,7 @@ loop-i-preserved t c =
 pub returns-then-not-branch-clause-none : goal.returns-then-not-branch-clause-none
 returns-then-not-branch-clause-none t c = λ u rest p.
     let children = map node_of c.loop-i.children.items in
-    let r = row_of c.args.kind c.args.limit c.args.levels c.args.bytes.now c.in-Some.tail.now rest (lent_head c.in-Some.head) u (sym c.in-Some.ensures) p in
+    let r = row_of c.args.kind c.args.limit c.args.levels c.args.bytes.now c.in-Some.tail.now rest (lent_node_head c.in-Some.head) u (sym c.in-Some.ensures) p in
     let all : c.loop-i._i ≡ c.in-Some.head.number = omega arith in
     let row : IsRow c.args.kind c.args.limit c.args.levels c.in-Some.head.number c.in-Some.tail.now children c.loop-i.rest.now = rw (← all) c.loop-i.invariant.0 in
     let same : r.nodes ≡ children = same_row c.args.kind c.args.limit c.args.levels c.in-Some.head.number c.in-Some.tail.now rest c.loop-i.rest.now r.nodes children r.row row in
@@ -58,10 +58,10 @@ returns-clause-some t c =
     let made = c.in_ok-push_tree.ensures.pushed c.if-not-branch.false in
     let all : c.loop-i._i ≡ c.in-Some.head.number = omega arith in
     let row : IsRow c.args.kind c.args.limit c.args.levels c.in-Some.head.number c.in-Some.tail.now children c.loop-i.rest.now = rw (← all) c.loop-i.invariant.0 in
-    (_, made.3, node_from c.args.kind c.args.limit c.args.levels c.args.bytes.now c.in-Some.tail.now c.loop-i.rest.now (lent_head c.in-Some.head) children made.0 (sym c.in-Some.ensures) row made.1 made.2)
+    (_, made.3, node_from c.args.kind c.args.limit c.args.levels c.args.bytes.now c.in-Some.tail.now c.loop-i.rest.now (lent_node_head c.in-Some.head) children made.0 (sym c.in-Some.ensures) row made.1 made.2)
 
 pub returns-in_err-after-clause-memory : goal.returns-in_err-after-clause-memory
-returns-in_err-after-clause-memory t c = at_err c.from_residual.result (head_there c.args.kind c.args.limit c.args.bytes.now (lent_head c.in-Some.head) c.in-Some.tail.now (sym c.in-Some.ensures))
+returns-in_err-after-clause-memory t c = at_err c.from_residual.result (node_head_there c.args.kind c.args.limit c.args.bytes.now (lent_node_head c.in-Some.head) c.in-Some.tail.now (sym c.in-Some.ensures))
 
 pub returns-in_err-push_tree-clause-memory : goal.returns-in_err-push_tree-clause-memory
-returns-in_err-push_tree-clause-memory t c = at_err c.from_residual-in_err-push_tree.result (head_there c.args.kind c.args.limit c.args.bytes.now (lent_head c.in-Some.head) c.in-Some.tail.now (sym c.in-Some.ensures))
+returns-in_err-push_tree-clause-memory t c = at_err c.from_residual-in_err-push_tree.result (node_head_there c.args.kind c.args.limit c.args.bytes.now (lent_node_head c.in-Some.head) c.in-Some.tail.now (sym c.in-Some.ensures))

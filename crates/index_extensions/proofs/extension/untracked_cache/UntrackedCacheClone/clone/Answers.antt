@@ -1,6 +1,6 @@
 use Rattle.std.proofs.Common.{◌≡◌, map, refl}
 use Rattle.bstr.specs.Owned.{bstring_bytes}
-use Rattle.index_extensions.specs.Blocks.{value_of}
+use Rattle.index_extensions.specs.Blocks.{directory_value}
 use Rattle.index_extensions.proofs.Clones.{same_values, same_numbers}
 use Rattle.index_extensions.proofs.extension.untracked_cache.UntrackedCacheClone.clone.Goals as goal
 
@@ -9,5 +9,5 @@ returns c =
     let u = c.args.self.now in
     let identifier : bstring_bytes c.in_ok-clone.field-0 ≡ bstring_bytes u.identifier = same_numbers u.identifier.bytes.items c.in_ok-clone.field-0.bytes.items c.in_ok-clone.ensures.cases.0 in
     let name : bstring_bytes c.in_ok-clone-2.field-0 ≡ bstring_bytes u.exclude_filename_per_dir = same_numbers u.exclude_filename_per_dir.bytes.items c.in_ok-clone-2.field-0.bytes.items c.in_ok-clone-2.ensures.cases.0 in
-    let directories : map value_of c.in_ok-clone-3.field-0.items ≡ map value_of u.directories.items = same_values _ value_of (λ x y h. h) u.directories.items c.in_ok-clone-3.field-0.items c.in_ok-clone-3.ensures.cases.0 in
+    let directories : map directory_value c.in_ok-clone-3.field-0.items ≡ map directory_value u.directories.items = same_values _ directory_value (λ x y h. h) u.directories.items c.in_ok-clone-3.field-0.items c.in_ok-clone-3.ensures.cases.0 in
     record { cases = rw (identifier, name, directories) refl }

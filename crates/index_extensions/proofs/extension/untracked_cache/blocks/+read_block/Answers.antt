@@ -1,10 +1,10 @@
 use Rattle.std.proofs.Common.{rules, arith, ◌≡◌, ℕ, ◌+◌, List, [], ◌∷◌, ◌++◌, length, length-append, map, refl, sym, ap, ◌∙◌}
 use Rattle.std.proofs.lemmas.List.{map-append}
-use Rattle.index_extensions.specs.Blocks.{block, how_many, blocks_size, unmarked, places_from, value_of}
+use Rattle.index_extensions.specs.Blocks.{block, how_many_blocks, blocks_size, bare_directory, places_from, directory_value}
 use Rattle.index_extensions.specs.UntrackedReading.{own_start}
 use Rattle.index_extensions.proofs.BlockHeads.{start_there}
 use Rattle.index_extensions.proofs.Errors.{at_err}
-use Rattle.index_extensions.proofs.Nests.{blocks_from, next_block, no_block, block_from, row_push, number_of_row, depth_push, places_push, directories_len, directories_push, directories_done}
+use Rattle.index_extensions.proofs.Nests.{blocks_from, next_block, no_block, block_from, block_row_push, number_of_row, block_depth_push, places_push, directories_len, directories_push, directories_done}
 use Rattle.index_extensions.proofs.extension.untracked_cache.blocks.+read_block.Goals as goal
 
 pub returns-in_default-clause-none : goal.returns-in_default-clause-none
@@ -37,9 +37,9 @@ loop-i-preserved t c =
     let n : length dirs ≡ place + 1 + blocks_size (blocks_from us) = directories_len dirs pushed place (blocks_from us) inv.4 pushed_len in
     let len_is : c.len.result ≡ length dirs = search rules in (
       us ++ h.0 ∷ [],
-      row_push c.args.limit us h.0 c.in-Some.tail.now c.loop-i.rest.now c.in-Some-2.after.now inv.1 h.1,
+      block_row_push c.args.limit us h.0 c.in-Some.tail.now c.loop-i.rest.now c.in-Some-2.after.now inv.1 h.1,
       length-append us (h.0 ∷ []) ∙ ap (λ (k : ℕ). k + 1) inv.2,
-      omega (arith, depth_push us h.0, h.2, inv.3, c.if-levels-eq0.false),
+      omega (arith, block_depth_push us h.0, h.2, inv.3, c.if-levels-eq0.false),
       directories_push _ dirs pushed place (length dirs) us h.0 h.3 n inv.4,
       c.in_ok-push-2.ensures.items ∙ ap (λ (l : List ℕ). l ++ c.len.result ∷ []) inv.5 ∙ ap (λ (m : ℕ). places_from (place + 1) (blocks_from us) ++ m ∷ []) (len_is ∙ n) ∙ sym (places_push (place + 1) us h.0),
     )
@@ -49,10 +49,10 @@ returns-clause-some t c =
     let inv = c.loop-i.invariant in
     let place = c.len-place.result in
     let start = own_start c.in-Some.start in
-    let number : how_many (blocks_from inv.0) ≡ c.in-Some.start.subs = number_of_row inv.0 ∙ inv.2 ∙ omega arith in
+    let number : how_many_blocks (blocks_from inv.0) ≡ c.in-Some.start.subs = number_of_row inv.0 ∙ inv.2 ∙ omega arith in
     let place_is : place ≡ length c.args.directories.now.items = search rules in
     let bs = blocks_from inv.0 in
-    let pushed_is : map value_of c.push.new.self.items ≡ map value_of c.args.directories.now.items ++ unmarked start.name start.untracked [] ∷ [] = rw (c.in_ok-push.ensures.items, map-append, c.new.ensures.items) refl in (
+    let pushed_is : map directory_value c.push.new.self.items ≡ map directory_value c.args.directories.now.items ++ bare_directory start.name start.untracked [] ∷ [] = rw (c.in_ok-push.ensures.items, map-append, c.new.ensures.items) refl in (
       block start.name start.untracked bs,
       block_from c.args.limit start c.in-Some.tail.now c.loop-i.rest.now c.args.bytes.now inv.0 (sym (rw c.in-Some.is at c.in_ok-start.ensures.found)) inv.1 number,
       inv.3,

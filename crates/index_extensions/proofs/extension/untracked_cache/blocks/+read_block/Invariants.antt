@@ -1,5 +1,5 @@
 use Rattle.std.proofs.Common.{◌≡◌, ◌++◌, ◌+◌, ◌≤◌, length, map, List}
-use Rattle.index_extensions.specs.Blocks.{Block, AreBlocks, blocks_depth, value_of, places_from, all_listed}
+use Rattle.index_extensions.specs.Blocks.{Block, AreBlocks, blocks_depth, directory_value, places_from, all_listed}
 use Rattle.index_extensions.proofs.Nests.{blocks_from}
 use Rattle.index_extensions.proofs.extension.untracked_cache.blocks.+read_block.Given as goal
 
@@ -10,5 +10,5 @@ decreases-read_block l = l.levels
 abbrev pub invariant-loop-i : goal.invariant-loop-i
 invariant-loop-i l =
     (us : List Block) × AreBlocks l.limit l.initial.rest (blocks_from us) l.rest × (length us ≡ l._i) × (blocks_depth (blocks_from us) ≤ l.levels)
-    × (map value_of l.directories.items ≡ map value_of l.initial.directories.items ++ all_listed (l.place + 1) (blocks_from us))
+    × (map directory_value l.directories.items ≡ map directory_value l.initial.directories.items ++ all_listed (l.place + 1) (blocks_from us))
     × (l.subs.items ≡ places_from (l.place + 1) (blocks_from us))

@@ -1,0 +1,83 @@
+-- Entries as bytes (gitformat-index, "Index entry"): the one spelling that is written of a record, and what it keeps.
+use Rattle.std.specs.Prelude.{ℕ, ◌-◌, ◌%◌, ◌==◌, Bool, not, min, List, [], ◌++◌, length, map, replicate, bit_and, bit_or, if◌then◌else◌}
+use Rattle.std.specs.List.{filter, list_any}
+use Rattle.std.specs.Int.{w16, w32, to_be_bytes}
+use Rattle.index_parts.specs.Flags.{is_extended, kept_flags, rest_flags, extended_flags}
+use Rattle.index_parts.specs.Id.{id_bytes}
+use Rattle.index_parts.specs.Mode.{kept_mode}
+use Rattle.index_entries.specs.declared.Version.{Version}
+use Rattle.index_entries.specs.declared.Version.TheVariants.{V2, V3, V4}
+use Rattle.index_entries.specs.Entry.{Front, front_bytes}
+use Rattle.index_entries.specs.Header.{signature}
+use Rattle.index_entries.specs.Record.{Record}
+
+-- numbers of two and of four bytes, the highest byte first
+abbrev pub be16 : ℕ → List ℕ
+be16 n = to_be_bytes w16 n
+
+abbrev pub be32 : ℕ → List ℕ
+be32 n = to_be_bytes w32 n
+
+-- ---- one entry
+
+-- the ten numbers before the id; the mode has all its 32 bits
+unfoldable pub numbers_of : Record → List ℕ
+numbers_of r =
+    be32 r.stat.ctime.secs ++ be32 r.stat.ctime.nsecs ++ be32 r.stat.mtime.secs ++ be32 r.stat.mtime.nsecs
+    ++ be32 r.stat.dev ++ be32 r.stat.ino ++ be32 r.mode ++ be32 r.stat.uid ++ be32 r.stat.gid ++ be32 r.stat.size
+
+-- the first word of flags: bits 12 to 15, and the path's length as far as 12 bits hold it
+abbrev pub first_word : Record → ℕ
+first_word r = bit_or (rest_flags r.flags) (min (length r.path) 0xfff)
+
+-- the second word of flags, where bit 14 of the first is set: bits 13 and 14
+abbrev pub second_word : Record → List ℕ
+second_word r = if is_extended r.flags then be16 (extended_flags r.flags) else []
+
+abbrev pub front_of : Record → Front
+front_of r = record { numbers = numbers_of r; id = id_bytes r.id; word = be16 (first_word r); second = second_word r }
+
+-- an entry up to the end of its path
+unfoldable pub unpadded : Record → List ℕ
+unpadded r = front_bytes (front_of r) ++ r.path
+
+-- 1 to 8 NULs behind so many bytes, up to a multiple of 8
+abbrev pub padding : ℕ → List ℕ
+padding n = replicate (8 - n % 8) 0
+
+-- an entry of version 2 or 3
+abbrev pub entry_bytes : Record → List ℕ
+entry_bytes r = unpadded r ++ padding (length (unpadded r))
+
+-- ---- all entries
+
+-- marked REMOVE, bit 17 of the flags in memory: a file leaves the entry out
+abbrev pub is_removed : ℕ → Bool
+is_removed flags = bit_and flags 0x20000 == 0x20000
+
+-- the records that a file has
+abbrev pub written : List Record → List Record
+written rs = filter (λ r. not (is_removed r.flags)) rs
+
+-- version 3 where a record has bit 14, also one that is left out
+abbrev pub needed_version : List Record → Version
+needed_version rs = if list_any (λ r. is_extended r.flags) rs then V3 else V2
+
+abbrev pub version_code : Version → ℕ
+version_code V2 = 2
+version_code V3 = 3
+version_code V4 = 4
+
+-- the signature, the version and the number of entries ("A 12-byte header")
+abbrev pub header_bytes : Version → ℕ → List ℕ
+header_bytes version count = signature ++ be32 (version_code version) ++ be32 count
+
+-- ---- what a file keeps
+
+-- the bits of a record that have a place in a file
+abbrev pub stored_record : Record → Record
+stored_record r = record r { flags = kept_flags r.flags; mode = kept_mode r.mode }
+
+-- the records that a file has, as it has them
+abbrev pub stored_records : List Record → List Record
+stored_records rs = map stored_record (written rs)

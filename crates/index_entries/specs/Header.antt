@@ -1,0 +1,42 @@
+-- The first twelve bytes of a file (gitformat-index, "A 12-byte header").
+use Rattle.std.specs.Prelude.{ℕ, ◌+◌, ◌==◌, nat_eq, nat_lt, List, length, take, drop, codes, Option, Some, None, Result, Ok, Err, if◌then◌else◌}
+use Rattle.std.specs.List.{starts_with}
+use Rattle.index_parts.specs.Front.{be}
+use Rattle.index_parts.specs.Id.{id_len}
+use Rattle.index_parts.specs.declared.hash.Kind.{Kind}
+use Rattle.index_entries.specs.declared.Version.{Version}
+use Rattle.index_entries.specs.declared.Version.TheVariants.{V2, V3, V4}
+
+-- how many bytes a header has, and the first four of them
+abbrev pub header_len : ℕ
+header_len = 12
+
+abbrev pub signature : List ℕ
+signature = codes "DIRC"
+
+-- what can be wrong with a header, with its text
+pub data HeaderFault : Type 0 where
+  Corrupt : List ℕ → HeaderFault
+  UnsupportedVersion : ℕ → HeaderFault
+
+-- a version that is read
+abbrev pub version_of : ℕ → Option Version
+version_of n = if n == 2 then Some V2 else (if n == 3 then Some V3 else (if n == 4 then Some V4 else None))
+
+abbrev pub version_number : List ℕ → ℕ
+version_number bytes = be (take 4 (drop 4 bytes))
+
+-- the declared number of entries
+abbrev pub count_of : List ℕ → ℕ
+count_of bytes = be (take 4 (drop 8 bytes))
+
+abbrev pub version_or_fault : ℕ → Option Version → Result Version HeaderFault
+version_or_fault n None = Err (UnsupportedVersion n)
+version_or_fault n (Some version) = Ok version
+
+-- the version, or the first fault of the header: its length with that of a trailer, its signature, its version
+abbrev pub header_of : Kind → List ℕ → Result Version HeaderFault
+header_of kind bytes =
+    if nat_lt (length bytes) (header_len + id_len kind) then Err (Corrupt (codes "File is too small even for header with zero entries and smallest hash"))
+    else (if starts_with nat_eq bytes signature then version_or_fault (version_number bytes) (version_of (version_number bytes))
+    else Err (Corrupt (codes "Signature mismatch - this doesn't claim to be a header file")))

@@ -1,0 +1,46 @@
+-- How many entries a file can hold, and how much memory they are counted as.
+use Rattle.std.specs.Prelude.{ℕ, ◌-◌, ◌*◌, ◌+◌, ◌/◌, ◌||◌, not, min, Bool, Option, Some, None}
+use Rattle.index_parts.specs.Limit.{is_within}
+use Rattle.index_parts.specs.Id.{id_len}
+use Rattle.index_parts.specs.declared.hash.Kind.{Kind}
+use Rattle.index_parts.specs.declared.hash.Kind.TheVariants as kinds
+use Rattle.index_entries.specs.Header.{header_len}
+use Rattle.index_entries.specs.declared.Version.{Version}
+use Rattle.index_entries.specs.declared.Version.TheVariants.{V4}
+
+-- the bytes behind the header: up to the extensions, where an end marker names their offset, or up to the trailer
+abbrev pub block_len : ℕ → Option ℕ → Kind → ℕ
+block_len len None kind = len - id_len kind - header_len
+block_len len (Some offset) kind = offset - header_len
+
+-- the fewest bytes that an entry takes
+abbrev pub smallest_entry : Kind → Version → ℕ
+smallest_entry kinds.Sha1 version = 64
+smallest_entry kinds.Sha256 V4 = 76
+smallest_entry kinds.Sha256 version = 80
+
+-- the most entries that a file of so many bytes can hold
+abbrev pub most_entries : ℕ → Option ℕ → Kind → Version → ℕ
+most_entries len offset kind version = block_len len offset kind / smallest_entry kind version
+
+-- the bytes of an entry but for its second word, its path and its padding
+abbrev pub fixed_len : Kind → ℕ
+fixed_len kinds.Sha1 = 62
+fixed_len kinds.Sha256 = 74
+
+-- how many bytes of its path an entry of version 4 is taken to spell
+abbrev pub average_delta_len : ℕ
+average_delta_len = 80
+
+-- how many bytes the paths of so many entries may take
+abbrev pub path_estimate : ℕ → ℕ → Option ℕ → Kind → Version → ℕ
+path_estimate count len offset kind V4 = min (block_len len offset kind - count * (fixed_len kind + 2)) (average_delta_len * count)
+path_estimate count len offset kind version = block_len len offset kind - count * fixed_len kind
+
+-- what an entry is counted as
+abbrev pub entry_cost : ℕ
+entry_cost = 96
+
+-- the entries, or the estimate of their paths, pass the limit
+abbrev pub is_too_large : Option ℕ → ℕ → ℕ → Option ℕ → Kind → Version → Bool
+is_too_large limit count len offset kind version = not (is_within limit (entry_cost * count)) || not (is_within limit (path_estimate count len offset kind version))

@@ -1,0 +1,61 @@
+-- An entry as a value: what it says, apart from where its path lies in memory (gitformat-index, "Index entry").
+use Rattle.std.specs.Prelude.{◌≡◌, ℕ, ◌<◌, ◌≤◌, ◌==◌, ◌^◌, Bool, List, All, length, map, slice_range}
+use Rattle.std.specs.List.{list_any}
+use Rattle.index_parts.specs.Id.{id_len, id_bytes, id_kind}
+use Rattle.index_parts.specs.Mode.{directory_mode}
+use Rattle.index_parts.specs.declared.hash.Kind.{Kind}
+use Rattle.index_parts.specs.declared.hash.ObjectId.{ObjectId}
+use Rattle.index_parts.specs.declared.entry.flags.Flags.{Flags}
+use Rattle.index_parts.specs.declared.entry.mode.Mode.{Mode}
+use Rattle.index_parts.specs.declared.entry.stat.Stat.{Stat}
+use Rattle.index_entries.specs.declared.Entry.{Entry}
+
+-- an entry with its whole path; its stage is in the flags
+pub record Record : Type 0 where
+  pub path : List ℕ
+  pub stat : Stat
+  pub id : ObjectId
+  pub flags : ℕ
+  pub mode : ℕ
+
+-- the record of an entry whose path lies in this storage
+abbrev pub record_in : List ℕ → Entry → Record
+record_in storage e = record { path = slice_range storage e.path.start e.path.end; stat = e.stat; id = e.id; flags = e.flags.0; mode = e.mode.0 }
+
+abbrev pub records_in : List ℕ → List Entry → List Record
+records_in storage entries = map (record_in storage) entries
+
+-- the entry's path lies inside a storage of so many bytes
+pub record IsPlaced (len : ℕ) (e : Entry) : Type 0 where
+  pub forward : e.path.start ≤ e.path.end
+  pub inside : e.path.end ≤ len
+
+-- the entry of these parts, whose path is the bytes of a storage from one place up to another
+abbrev pub made_entry : Stat → ObjectId → Flags → Mode → ℕ → ℕ → Entry
+made_entry stat id flags mode start end = record { stat = stat; id = id; flags = flags; mode = mode; path = record { start = start; end = end } }
+
+-- each entry's id is of this kind
+abbrev pub IdsAreOf : Kind → List Entry → Type 0
+IdsAreOf kind entries = All (λ e. id_kind e.id ≡ kind) entries
+
+-- some record stands for a whole directory
+abbrev pub has_directory : List Record → Bool
+has_directory rs = list_any (λ r. r.mode == directory_mode) rs
+
+-- The numbers of a record have at most 32 bits, and its id has as many bytes as its kind: so is each entry in memory.
+pub record IsSized (r : Record) : Type 0 where
+  pub ctime_secs : r.stat.ctime.secs < 2 ^ 32
+  pub ctime_nsecs : r.stat.ctime.nsecs < 2 ^ 32
+  pub mtime_secs : r.stat.mtime.secs < 2 ^ 32
+  pub mtime_nsecs : r.stat.mtime.nsecs < 2 ^ 32
+  pub dev : r.stat.dev < 2 ^ 32
+  pub ino : r.stat.ino < 2 ^ 32
+  pub uid : r.stat.uid < 2 ^ 32
+  pub gid : r.stat.gid < 2 ^ 32
+  pub size : r.stat.size < 2 ^ 32
+  pub mode : r.mode < 2 ^ 32
+  pub id : length (id_bytes r.id) ≡ id_len (id_kind r.id)
+
+-- numbers below 256
+abbrev pub AreBytes : List ℕ → Type 0
+AreBytes l = All (λ b. b < 256) l

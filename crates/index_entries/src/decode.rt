@@ -1,0 +1,6 @@
+//! Reading the header and the entries of a file.
+
+pub mod entries;
+mod entry;
+pub mod header;
+pub mod limits;

@@ -1,0 +1,163 @@
+//! One entry as bytes.
+
+ghost use Rattle.std.specs.Prelude.{◌≡◌, ◌+◌, ◌<◌, ◌^◌, ◌++◌, ◌∷◌, [], ℕ, List, length, false, is_err, if◌then◌else◌};
+ghost use Rattle.std.specs.List.{flat_map};
+ghost use Rattle.index_parts.specs.Flags.{is_extended};
+ghost use Rattle.index_parts.specs.Taking.{Puts};
+ghost use Rattle.index_entries.specs.EntryImage.{be16, numbers_of, first_word, second_word, unpadded, padding, entry_bytes, is_removed};
+ghost use Rattle.index_entries.specs.Record.{IsPlaced, record_in};
+
+use crate::{Entry, PathBacking};
+use bitflags::Flags as _;
+use index_parts::entry::{Flags, at_rest};
+use index_parts::hash::io::Out;
+use std::io;
+
+const NULS: [u8; 8] = [0; 8];
+
+/// 1 to 8 NULs behind so many bytes.
+fn padding_behind(len: u64) -> &'static [u8]
+    ensures { result.now ≡ padding len }
+{
+    &NULS[..(8 - len % 8) as usize]
+}
+
+/// The word where the flags ask for a second one.
+fn second_of<'a>(flags: Flags, word: &'a [u8; 2]) -> &'a [u8]
+    ensures { result.now ≡ (if is_extended flags.0 then word.now else []) }
+{
+    if flags.contains(Flags::EXTENDED) {
+        return word;
+    }
+    &[]
+}
+
+/// The six pieces of an entry.
+fn six<'a>(
+    a: &'a [u8],
+    b: &'a [u8],
+    c: &'a [u8],
+    d: &'a [u8],
+    e: &'a [u8],
+    f: &'a [u8],
+) -> [&'a [u8]; 6]
+    ensures { flat_map (λ p. p.now) result ≡ a.now ++ (b.now ++ (c.now ++ d.now)) ++ e.now ++ f.now }
+{
+    [a, b, c, d, e, f]
+}
+
+impl Entry {
+    /// Whether a file leaves the entry out.
+    pub(super) fn is_removed(&self) -> bool
+        ensures { result ≡ is_removed self.now.flags.0 }
+    {
+        self.flags.contains(Flags::REMOVE)
+    }
+
+    /// The ten numbers before the id.
+    #[tactic(auto, unfolding(crate::specs::EntryImage::numbers_of))]
+    fn numbers(&self) -> [u8; 40]
+        ensures { (storage : List ℕ) → result ≡ numbers_of (record_in storage self.now) }
+    {
+        let [a0, a1, a2, a3] = self.stat.ctime.secs.to_be_bytes();
+        let [b0, b1, b2, b3] = self.stat.ctime.nsecs.to_be_bytes();
+        let [c0, c1, c2, c3] = self.stat.mtime.secs.to_be_bytes();
+        let [d0, d1, d2, d3] = self.stat.mtime.nsecs.to_be_bytes();
+        let [e0, e1, e2, e3] = self.stat.dev.to_be_bytes();
+        let [f0, f1, f2, f3] = self.stat.ino.to_be_bytes();
+        let [g0, g1, g2, g3] = self.mode.bits().to_be_bytes();
+        let [h0, h1, h2, h3] = self.stat.uid.to_be_bytes();
+        let [i0, i1, i2, i3] = self.stat.gid.to_be_bytes();
+        let [j0, j1, j2, j3] = self.stat.size.to_be_bytes();
+        [
+            a0, a1, a2, a3, b0, b1, b2, b3, c0, c1, c2, c3, d0, d1, d2, d3, e0, e1, e2, e3, f0, f1,
+            f2, f3, g0, g1, g2, g3, h0, h1, h2, h3, i0, i1, i2, i3, j0, j1, j2, j3,
+        ]
+    }
+
+    /// The first word of flags: with the path's length, or 0xfff where it is longer than that.
+    fn first_word(&self, storage: &[u8]) -> u16
+        requires { IsPlaced (length storage.now) self.now }
+        ensures { result ≡ first_word (record_in storage.now self.now) }
+    {
+        let len = self.path_in(storage).len().min(0xfff) as u16;
+        self.flags.to_storage().bits() | len
+    }
+
+    /// How many bytes the entry has up to the end of its path.
+    #[tactic(auto, using(crate::proofs::Lengths::length_unpadded))]
+    fn unpadded_len(&self, storage: &[u8]) -> u64
+        requires { IsPlaced (length storage.now) self.now }
+        ensures len { result ≡ length (unpadded (record_in storage.now self.now)) }
+        ensures small { result < 2 ^ 63 + 2 ^ 9 }
+    {
+        let words = if self.flags.contains(Flags::EXTENDED) {
+            4
+        } else {
+            2
+        };
+        40 + words + self.id.as_bytes().len() as u64 + self.path_in(storage).len() as u64
+    }
+
+    /// How many bytes the entry has in a file, with its padding.
+    pub(super) fn written_len(&self, storage: &[u8]) -> u64
+        requires { IsPlaced (length storage.now) self.now }
+        ensures len { result ≡ length (entry_bytes (record_in storage.now self.now)) }
+        ensures small { result < 2 ^ 63 + 2 ^ 10 }
+    {
+        let len = self.unpadded_len(storage);
+        len - len % 8 + 8
+    }
+
+    /// Writes the entry up to the end of its path, and these bytes behind it.
+    #[tactic(auto, using(crate::proofs::Lengths::pieces_are))]
+    fn put_with<W: Out>(&self, storage: &[u8], end: &[u8], out: &mut W) -> io::Result<()>
+        requires placed { IsPlaced (length storage.now) self.now }
+        requires unfailed { W.failed out.old ≡ false }
+        ensures bytes { Puts W.taken W.hashed out.old out.new result (unpadded (record_in storage.now self.now) ++ end.now) }
+        ensures mark { W.failed out.new ≡ is_err result }
+        ensures loan { W.loan out.new ≡ W.loan out.old }
+    {
+        let numbers = self.numbers();
+        let first = self.first_word(storage).to_be_bytes();
+        let extended = at_rest::FlagsExtended::from_flags(self.flags)
+            .bits()
+            .to_be_bytes();
+        let second = second_of(self.flags, &extended);
+        let pieces = six(
+            &numbers,
+            self.id.as_bytes(),
+            &first,
+            second,
+            self.path_in(storage),
+            end,
+        );
+        out.put_each(&pieces)
+    }
+
+    /// Writes the entry with its padding.
+    pub(super) fn put<W: Out>(&self, storage: &[u8], out: &mut W) -> io::Result<()>
+        requires placed { IsPlaced (length storage.now) self.now }
+        requires unfailed { W.failed out.old ≡ false }
+        ensures bytes { Puts W.taken W.hashed out.old out.new result (entry_bytes (record_in storage.now self.now)) }
+        ensures mark { W.failed out.new ≡ is_err result }
+        ensures loan { W.loan out.new ≡ W.loan out.old }
+    {
+        let end = padding_behind(self.unpadded_len(storage));
+        self.put_with(storage, end, out)
+    }
+
+    /// Writes the entry up to the end of its path, as an entry of version 2 or 3 begins, and one NUL behind it in place of the
+    /// padding (gitformat-index, "Index entry"). Its path lies in the storage of this state.
+    ///
+    /// An error comes only where the writer failed, which then took a front of the bytes. No memory is taken.
+    pub fn write_to<W: Out, S: PathBacking>(&self, out: &mut W, state: &S) -> io::Result<()>
+        requires placed { IsPlaced (length (S.paths state.now)) self.now }
+        requires unfailed { W.failed out.old ≡ false }
+        ensures bytes { Puts W.taken W.hashed out.old out.new result (unpadded (record_in (S.paths state.now) self.now) ++ 0 ∷ []) }
+        ensures mark { W.failed out.new ≡ is_err result }
+        ensures loan { W.loan out.new ≡ W.loan out.old }
+    {
+        self.put_with(state.backing(), b"\0", out)
+    }
+}

@@ -1,0 +1,194 @@
+-- A cached tree without a fault is sound, and a sound one has none; and what loops over siblings say of the first fault.
+use Rattle.std.proofs.Common.{◌≡◌, ℕ, suc, ◌+◌, ◌^◌, ◌<◌, ◌≤◌, Bool, true, false, cond, ltb, leb, List, [], ◌∷◌, length, map, drop, get_or, Option, Some, None, refl, sym, ap, subst, ◌∙◌, arith}
+use Rattle.std.specs.Prelude.{IfSome, Result, Ok, Err, IfOk, IfErr, IsOk}
+use Rattle.std.specs.Ordering.{is_lt}
+use Rattle.std.proofs.Math.Seq.{drop-cons}
+use Rattle.std.proofs.lemmas.List.{length-drop, nil_from_length}
+use Rattle.std.proofs.lemmas.Bool.{ltb-true, lt-ltb, leb-true, le-leb}
+use Rattle.index_parts.specs.declared.hash.ObjectId.{ObjectId}
+use Rattle.index_extensions.specs.Contents.{or_else}
+use Rattle.index_extensions.specs.Sound.{entries_of, entries_sum, RiseFrom, IsSoundNode, AreSoundNodes, IsSoundTree, TreeFault, root_with_name, too_many_entries, out_of_order, name_fault, sum_fault, order_fault, count_fault, row_fault, node_fault, nodes_fault, tree_fault, Says}
+use Rattle.index_extensions.specs.Tree.{Node, Nodes, node, none, more, nodes_from, node_of, name_of, name_cmp}
+use Rattle.index_extensions.specs.declared.extension.tree.Tree.{Tree}
+use Rattle.index_extensions.specs.declared.extension.tree.Tree.TheViews.{out-Tree}
+use Rattle.index_extensions.specs.declared.extension.tree.verify.Error.{Error}
+use Rattle.index_extensions.specs.declared.extension.tree.verify.Error.TheVariants as errors
+use Rattle.index_extensions.proofs.Sorted.{less_from}
+use Rattle.index_extensions.proofs.Spelled.{node_of-out}
+
+-- ---- the first of two faults
+
+none_both : (o p : Option TreeFault) → o ≡ None → p ≡ None → or_else o p ≡ None
+none_both o p a b = ap (λ (x : Option TreeFault). or_else x p) a ∙ b
+
+or_none : (o p : Option TreeFault) → or_else o p ≡ None → (o ≡ None) × (p ≡ None)
+or_none None p e = (refl, e)
+or_none (Some f) p e = absurd cc
+
+pub says_is : (e : Error) (o p : Option TreeFault) → p ≡ o → Says e o → Says e p
+says_is e o p same h = (h.0, same ∙ h.1, h.2)
+
+pub says_first : (e : Error) (o p : Option TreeFault) → Says e o → Says e (or_else o p)
+says_first e o p h = (h.0, ap (λ (x : Option TreeFault). or_else x p) h.1, h.2)
+
+pub says_after : (e : Error) (o p : Option TreeFault) → o ≡ None → Says e p → Says e (or_else o p)
+says_after e o p a h = (h.0, ap (λ (x : Option TreeFault). or_else x p) a ∙ h.1, h.2)
+
+-- ---- sound, or a fault
+
+sum_fits : (n : ℕ) → sum_fault n ≡ None → n < 2 ^ 32
+sum_fits n e = by (ltb n (2 ^ 32)) refl e
+  where
+    by : (b : Bool) → ltb n (2 ^ 32) ≡ b → cond b None (Some too_many_entries) ≡ None → n < 2 ^ 32
+    by true h k = ltb-true n (2 ^ 32) h
+    by false h k = absurd cc
+
+fits_sum : (n : ℕ) → n < 2 ^ 32 → sum_fault n ≡ None
+fits_sum n lt = rw (lt-ltb n (2 ^ 32) lt) refl
+
+rises : (parent : ObjectId) (before : Option Node) (t : Node) (ts : Nodes) → order_fault parent before t ≡ None → RiseFrom (Some t) ts → RiseFrom before (more t ts)
+rises parent None t ts e h = h
+rises parent (Some u) t ts e h = (less_from (name_cmp u t) (by (is_lt (name_cmp u t)) _ e), h)
+  where
+    by : (b : Bool) (f : TreeFault) → cond b None (Some f) ≡ None → b ≡ true
+    by true f k = refl
+    by false f k = absurd cc
+
+in_order : (parent : ObjectId) (before : Option Node) (t : Node) (ts : Nodes) → RiseFrom before (more t ts) → (order_fault parent before t ≡ None) × RiseFrom (Some t) ts
+in_order parent None t ts h = (refl, h)
+in_order parent (Some u) t ts h = (rw h.0 refl, h.1)
+
+row_sound : (ts : Nodes) (parent : ObjectId) (sum : ℕ) (before : Option Node) → sum < 2 ^ 32 → row_fault parent sum before ts ≡ None → (sum + entries_sum ts < 2 ^ 32) × RiseFrom before ts
+row_sound none parent sum before lt e = (omega (arith, lt), tt)
+row_sound (more t ts) parent sum before lt e =
+    let a = or_none (sum_fault (sum + entries_of t)) _ e in
+    let b = or_none (order_fault parent before t) _ a.1 in
+    let r = row_sound ts parent (sum + entries_of t) (Some t) (sum_fits (sum + entries_of t) a.0) b.1 in
+    (omega (arith, r.0), rises parent before t ts b.0 r.1)
+
+row_none : (ts : Nodes) (parent : ObjectId) (sum : ℕ) (before : Option Node) → sum + entries_sum ts < 2 ^ 32 → RiseFrom before ts → row_fault parent sum before ts ≡ None
+row_none none parent sum before lt h = refl
+row_none (more t ts) parent sum before lt h =
+    let o = in_order parent before t ts h in
+    let fits : sum_fault (sum + entries_of t) ≡ None = fits_sum (sum + entries_of t) (omega (arith, lt)) in
+    none_both (sum_fault (sum + entries_of t)) _ fits (none_both (order_fault parent before t) _ o.0 (row_none ts parent (sum + entries_of t) (Some t) (omega (arith, lt)) o.1))
+
+counted : (count : Option ℕ) (sum : ℕ) → count_fault count sum ≡ None → IfSome count (λ own. sum ≤ own)
+counted None sum e = tt
+counted (Some own) sum e = by (leb sum own) _ refl e
+  where
+    by : (b : Bool) (f : TreeFault) → leb sum own ≡ b → cond b None (Some f) ≡ None → sum ≤ own
+    by true f h k = leb-true sum own h
+    by false f h k = absurd cc
+
+counts : (count : Option ℕ) (sum : ℕ) → IfSome count (λ own. sum ≤ own) → count_fault count sum ≡ None
+counts None sum h = refl
+counts (Some own) sum h = rw (le-leb sum own h) refl
+
+mutual
+  sound_node : (t : Node) → node_fault t ≡ None → IsSoundNode t
+  sound_node (node name id count ts) e =
+      let a = or_none (row_fault id 0 None ts) _ e in
+      let b = or_none (nodes_fault ts) _ a.1 in
+      let r = row_sound ts id 0 None (omega arith) a.0 in
+      (omega (arith, r.0), r.1, counted count (entries_sum ts) b.1, sound_nodes ts b.0)
+
+  sound_nodes : (ts : Nodes) → nodes_fault ts ≡ None → AreSoundNodes ts
+  sound_nodes none e = tt
+  sound_nodes (more t ts) e = let a = or_none (node_fault t) _ e in (sound_node t a.0, sound_nodes ts a.1)
+
+mutual
+  no_fault_in : (t : Node) → IsSoundNode t → node_fault t ≡ None
+  no_fault_in (node name id count ts) h =
+      let row : row_fault id 0 None ts ≡ None = row_none ts id 0 None (omega (arith, h.0)) h.1 in
+      none_both (row_fault id 0 None ts) _ row (none_both (nodes_fault ts) _ (no_fault_among ts h.3) (counts count (entries_sum ts) h.2))
+
+  no_fault_among : (ts : Nodes) → AreSoundNodes ts → nodes_fault ts ≡ None
+  no_fault_among none h = refl
+  no_fault_among (more t ts) h = none_both (node_fault t) _ (no_fault_in t h.0) (no_fault_among ts h.1)
+
+unnamed : (name : List ℕ) → name_fault name ≡ None → name ≡ []
+unnamed [] e = refl
+unnamed (b ∷ name) e = absurd cc
+
+-- a tree without a fault is sound
+pub sound_tree : (t : Node) → tree_fault t ≡ None → IsSoundTree t
+sound_tree t e = let a = or_none (name_fault (name_of t)) _ e in (unnamed (name_of t) a.0, sound_node t a.1)
+
+-- and a sound one has none
+pub no_fault_of : (t : Node) (e : Error) → IsSoundTree t → Says e (tree_fault t) → ⊥
+no_fault_of t e h s =
+    let none : tree_fault t ≡ None = none_both (name_fault (name_of t)) (node_fault t) (ap name_fault h.0) (no_fault_in t h.1) in
+    absurd (cc (none, s.1))
+
+-- ---- the fields of a tree
+
+pub name_out : (t : Tree) → name_of (node_of t) ≡ (out-Tree t).name.items
+name_out t = ap name_of (node_of-out t)
+
+-- ---- siblings, of which those before a place have no fault
+
+abbrev pub row_of_trees : List Tree → Nodes
+row_of_trees ts = nodes_from (map node_of ts)
+
+cut_at : (xs : List Tree) (i : ℕ) (x : Tree) → i < length xs → x ≡ get_or xs i x → drop i xs ≡ x ∷ drop (i + 1) xs
+cut_at xs i x lt is =
+    let next : suc i ≡ i + 1 = omega arith in
+    drop-cons xs i x lt ∙ ap (λ (y : Tree). y ∷ drop (suc i) xs) (sym is) ∙ ap (λ (n : ℕ). x ∷ drop n xs) next
+
+-- ---- a node
+
+pub children_go : (xs : List Tree) (i : ℕ) (x : Tree) → i < length xs → x ≡ get_or xs i x → nodes_fault (row_of_trees (drop i xs)) ≡ or_else (node_fault (node_of x)) (nodes_fault (row_of_trees (drop (i + 1) xs)))
+children_go xs i x lt is = ap (λ (ts : List Tree). nodes_fault (row_of_trees ts)) (cut_at xs i x lt is)
+
+pub node_fault_out : (t : Tree) → node_fault (node_of t)
+    ≡ or_else (row_fault (out-Tree t).id 0 None (row_of_trees (out-Tree t).children.items)) (or_else (nodes_fault (row_of_trees (out-Tree t).children.items)) (count_fault (out-Tree t).num_entries (entries_sum (row_of_trees (out-Tree t).children.items))))
+node_fault_out t = ap node_fault (node_of-out t)
+
+-- ---- want of memory for a fault with a name
+
+pub no_memory_for_name : (name : List ℕ) → (length name ≡ 0 → ⊥) → Says errors.Memory (name_fault name)
+no_memory_for_name [] some = absurd (some refl)
+no_memory_for_name (b ∷ name) some = (root_with_name (b ∷ name), refl, tt)
+
+pub no_memory_for_order : (parent : ObjectId) (u t : Node) → is_lt (name_cmp u t) ≡ false → Says errors.Memory (order_fault parent (Some u) t)
+no_memory_for_order parent u t h = (out_of_order parent (name_of t) (name_of u), rw h refl, tt)
+
+-- ---- a node by what was read of it: its children twice, as one list and another
+
+module _ (t : Tree) (a b : List Tree) (first : a ≡ (out-Tree t).children.items) (again : b ≡ (out-Tree t).children.items) where
+  node_at : node_fault (node_of t)
+      ≡ or_else (row_fault (out-Tree t).id 0 None (row_of_trees a)) (or_else (nodes_fault (row_of_trees b)) (count_fault (out-Tree t).num_entries (entries_sum (row_of_trees a))))
+  node_at =
+      let by : List Tree → List Tree → Option TreeFault = λ xs ys. or_else (row_fault (out-Tree t).id 0 None (row_of_trees xs)) (or_else (nodes_fault (row_of_trees ys)) (count_fault (out-Tree t).num_entries (entries_sum (row_of_trees xs)))) in
+      node_fault_out t ∙ ap (λ (xs : List Tree). by xs (out-Tree t).children.items) (sym first) ∙ ap (λ (ys : List Tree). by a ys) (sym again)
+
+  pub row_said : (e : Error) → Says e (row_fault (out-Tree t).id 0 None (row_of_trees a)) → Says e (node_fault (node_of t))
+  row_said e s = says_is e _ (node_fault (node_of t)) node_at (says_first e (row_fault (out-Tree t).id 0 None (row_of_trees a)) _ s)
+
+  module _ (row : row_fault (out-Tree t).id 0 None (row_of_trees a) ≡ None) (i : ℕ) (so_far : nodes_fault (row_of_trees b) ≡ nodes_fault (row_of_trees (drop i b))) where
+    pub child_said : (e : Error) (x : Tree) → i < length b → x ≡ get_or b i x → Says e (node_fault (node_of x)) → Says e (node_fault (node_of t))
+    child_said e x lt is s =
+        let below : Says e (nodes_fault (row_of_trees b)) = says_is e _ (nodes_fault (row_of_trees b)) (so_far ∙ children_go b i x lt is) (says_first e (node_fault (node_of x)) _ s) in
+        says_is e _ (node_fault (node_of t)) node_at (says_after e (row_fault (out-Tree t).id 0 None (row_of_trees a)) _ row (says_first e (nodes_fault (row_of_trees b)) _ below))
+
+    children_none : (i < length b → ⊥) → nodes_fault (row_of_trees b) ≡ None
+    children_none over =
+        let left : drop i b ≡ [] = nil_from_length (drop i b) (omega (arith, over, length-drop i b)) in
+        so_far ∙ ap (λ (ts : List Tree). nodes_fault (row_of_trees ts)) left
+
+    pub count_said : (sum : ℕ) (e : Error) → (i < length b → ⊥) → sum ≡ entries_sum (row_of_trees a) → Says e (count_fault (out-Tree t).num_entries sum) → Says e (node_fault (node_of t))
+    count_said sum e over is s =
+        let counted : Says e (count_fault (out-Tree t).num_entries (entries_sum (row_of_trees a))) = subst (λ (n : ℕ). Says e (count_fault (out-Tree t).num_entries n)) is s in
+        says_is e _ (node_fault (node_of t)) node_at (says_after e (row_fault (out-Tree t).id 0 None (row_of_trees a)) _ row (says_after e (nodes_fault (row_of_trees b)) _ (children_none over) counted))
+
+    pub none_there : (sum : ℕ) → (i < length b → ⊥) → sum ≡ entries_sum (row_of_trees a) → count_fault (out-Tree t).num_entries sum ≡ None → node_fault (node_of t) ≡ None
+    none_there sum over is e =
+        let counted : count_fault (out-Tree t).num_entries (entries_sum (row_of_trees a)) ≡ None = subst (λ (n : ℕ). count_fault (out-Tree t).num_entries n ≡ None) is e in
+        node_at ∙ none_both (row_fault (out-Tree t).id 0 None (row_of_trees a)) _ row (none_both (nodes_fault (row_of_trees b)) _ (children_none over) counted)
+
+-- ---- the whole
+
+pub sound_by : {T : Type 0} (r : Result T Error) (t : Node) → name_fault (name_of t) ≡ None → IfOk r (λ _. node_fault t ≡ None) → IfErr r (λ e. Says e (node_fault t)) → (IsOk r → IsSoundTree t) × (IsSoundTree t → IsOk r)
+sound_by (Ok x) t name ok err = (λ _. sound_tree t (none_both (name_fault (name_of t)) (node_fault t) name ok), λ _. refl)
+sound_by (Err e) t name ok err = (λ h. let no : false ≡ true = h in absurd cc, λ h. absurd (no_fault_of t e h (says_after e (name_fault (name_of t)) (node_fault t) name err)))

@@ -1,0 +1,157 @@
+//! Whether a cached tree holds together.
+
+ghost use Rattle.std.specs.Prelude.{◌≡◌, ◌↔◌, ℕ, Some, None, IfOk, IfErr, IsOk, map};
+ghost use Rattle.std.specs.Option.{option_map};
+ghost use Rattle.index_extensions.specs.Sound.{entries_of, entries_sum, IsSoundTree, name_fault, sum_fault, order_fault, count_fault, row_fault, node_fault, tree_fault, Says};
+ghost use Rattle.index_extensions.specs.Tree.{node_of, nodes_from};
+ghost use Rattle.index_extensions.specs.declared.extension.tree.verify.Error.TheVariants.{Memory};
+
+use super::Tree;
+use super::nodes::compare_names;
+use bstr::BString;
+use index_parts::hash::ObjectId;
+use std::alloc::{AllocError, Global};
+use thiserror::Error;
+
+/// Why a cached tree doesn't hold together.
+#[derive(Debug, Drop, Error)]
+pub enum Error {
+    /// The root has a name.
+    #[error("the root of the cached tree is named '{name}', and a root has no name")]
+    RootWithName {
+        /// Its name.
+        name: BString,
+    },
+    /// The children of a node count more entries than the node.
+    #[error("the children of a node of the cached tree count {actual} entries, but the node counts {expected}")]
+    EntriesCount {
+        /// What the children count together.
+        actual: u32,
+        /// What the node counts.
+        expected: u32,
+    },
+    /// The children of a node count more than 2^32 - 1 entries.
+    #[error("the children of a node of the cached tree count more than 4294967295 entries")]
+    EntriesCountOverflow,
+    /// The name of a child isn't above the one before it.
+    #[error("in the cached tree '{current_path}' follows '{previous_path}' below the tree {parent_id}, but names increase")]
+    OutOfOrder {
+        /// The id of the node that they are children of.
+        parent_id: ObjectId,
+        /// The child's name.
+        current_path: BString,
+        /// The name before it.
+        previous_path: BString,
+    },
+    /// There is no memory for the names of a fault.
+    #[error("no memory is left to name a fault of the cached tree")]
+    Memory,
+}
+
+impl From<AllocError> for Error {
+    ghost from_gives = { λ e error. error ≡ Memory };
+
+    fn from(_e: AllocError) -> Error {
+        Error::Memory
+    }
+}
+
+/// Fails where there is a name.
+fn check_root(alloc: Global, name: &[u8]) -> Result<(), Error>
+    ensures ok { IfOk result (λ _. name_fault name.now ≡ None) }
+    ensures err { IfErr result (λ e. Says e (name_fault name.now)) }
+{
+    if name.is_empty() {
+        return Ok(());
+    }
+    let name = BString::from_slice(alloc, name)?;
+    Err(Error::RootWithName { name })
+}
+
+/// Fails where the name isn't above the one before.
+fn check_order(
+    alloc: Global,
+    parent_id: ObjectId,
+    before: Option<&Tree>,
+    tree: &Tree,
+) -> Result<(), Error>
+    ensures ok { IfOk result (λ _. order_fault parent_id (option_map (λ t. node_of t.now) before.entry) (node_of tree.now) ≡ None) }
+    ensures err { IfErr result (λ e. Says e (order_fault parent_id (option_map (λ t. node_of t.now) before.entry) (node_of tree.now))) }
+{
+    let Some(previous) = before else {
+        return Ok(());
+    };
+    if compare_names(previous, tree).is_lt() {
+        return Ok(());
+    }
+    let current_path = BString::from_slice(alloc, tree.name.as_slice())?;
+    let previous_path = BString::from_slice(alloc, previous.name.as_slice())?;
+    Err(Error::OutOfOrder {
+        parent_id,
+        current_path,
+        previous_path,
+    })
+}
+
+/// What siblings count together, where each name is above the one before.
+fn sum_of(alloc: Global, parent_id: ObjectId, siblings: &[Tree]) -> Result<u32, Error>
+    ensures sum { IfOk result (λ sum. sum ≡ entries_sum (nodes_from (map node_of siblings.now))) }
+    ensures ok { IfOk result (λ _. row_fault parent_id 0 None (nodes_from (map node_of siblings.now)) ≡ None) }
+    ensures err { IfErr result (λ e. Says e (row_fault parent_id 0 None (nodes_from (map node_of siblings.now)))) }
+{
+    let mut sum = 0u32;
+    let mut before = None;
+    for tree in siblings {
+        let Some(more) = sum.checked_add(tree.num_entries.unwrap_or(0)) else {
+            return Err(Error::EntriesCountOverflow);
+        };
+        check_order(alloc, parent_id, before, tree)?;
+        sum = more;
+        before = Some(tree);
+    }
+    Ok(sum)
+}
+
+/// Fails where the children count more than the node, if it counts.
+fn check_count(count: Option<u32>, sum: u32) -> Result<(), Error>
+    ensures ok { IfOk result (λ _. count_fault count sum ≡ None) }
+    ensures err { IfErr result (λ e. Says e (count_fault count sum)) }
+{
+    let Some(expected) = count else {
+        return Ok(());
+    };
+    if sum <= expected {
+        return Ok(());
+    }
+    Err(Error::EntriesCount {
+        actual: sum,
+        expected,
+    })
+}
+
+/// Fails at the first fault of a node and of all below it.
+fn verify_node(alloc: Global, tree: &Tree) -> Result<(), Error>
+    ensures ok { IfOk result (λ _. node_fault (node_of tree.now) ≡ None) }
+    ensures err { IfErr result (λ e. Says e (node_fault (node_of tree.now))) }
+{
+    let sum = sum_of(alloc, tree.id, &tree.children)?;
+    for child in &tree.children {
+        verify_node(alloc, child)?;
+    }
+    check_count(tree.num_entries, sum)
+}
+
+impl Tree {
+    /// Whether the tree holds together (gitformat-index, "Cache tree"): the root has no name, and at each node the names of its
+    /// children increase, and their counts come together to at most 2^32 - 1 and to no more than the node's own, where it has one.
+    ///
+    /// The first fault is answered: the root's name; then at a node its children together, each child and all below it in turn,
+    /// and its own count. Ids and objects aren't looked at. [`Error::Memory`] comes in place of a fault that has a name.
+    pub fn verify(&self, alloc: Global) -> Result<(), Error>
+        ensures sound { IsOk result ↔ IsSoundTree (node_of self.now) }
+        ensures fault { IfErr result (λ e. Says e (tree_fault (node_of self.now))) }
+    {
+        check_root(alloc, self.name.as_slice())?;
+        verify_node(alloc, self)
+    }
+}

@@ -1,6 +1,0 @@
-use Rattle.std.proofs.Common.{◌≡◌, drop}
-use Rattle.index_parts.specs.Reading.{offset_from, offset_at}
-use Rattle.index_parts.proofs.util.offset_of.Given as goal
-
-abbrev pub invariant-loop-i : goal.invariant-loop-i
-invariant-loop-i l = offset_from l.value (drop l.i l.bytes) ≡ offset_at l.bytes

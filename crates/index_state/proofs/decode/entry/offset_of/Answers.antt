@@ -1,5 +1,0 @@
-use Rattle.index_parts.proofs.Offsets.{offset_exact}
-use Rattle.index_state.proofs.decode.entry.offset_of.Goals as goal
-
-pub returns : goal.returns
-returns c = offset_exact (λ x. (x.0, x.1.now)) c.args.bytes.now c.var_int.result c.var_int.ensures.found c.var_int.ensures.none

@@ -1,0 +1,291 @@
+//! Ranges, directories and folded lookups of a state's entries.
+
+ghost use Rattle.std.specs.Bool.{OnTrue};
+ghost use Rattle.std.specs.List.{list_any};
+ghost use Rattle.std.specs.Option.{option_copied, option_map};
+ghost use Rattle.std.specs.Prelude.{◌≡◌, ◌↔◌, ℕ, ◌+◌, ◌<◌, ◌≤◌, Contains, List, Option, length, take, is_some, option_and_then, slice_get, true, IfOk, IfSome, IsTrue};
+ghost use Rattle.std.specs.declared.ops.Range.{Range};
+ghost use Rattle.index_parts.specs.Flags.{stage_code};
+ghost use Rattle.index_entries.specs.Closest.{closest, stands_in};
+ghost use Rattle.index_entries.specs.Digits.{digits};
+ghost use Rattle.index_entries.specs.FilterMap.{closure_of, entries_left, storage_left};
+ghost use Rattle.index_entries.specs.Folded.{IsNamed, folded_closest, folded_place};
+ghost use Rattle.index_entries.specs.Lookup.{IsKeyAt, insertion_of_path, place_of};
+ghost use Rattle.index_entries.specs.Order.{IsOrderedByPath, IsStrictlyOrdered};
+ghost use Rattle.index_entries.specs.Range.{HasStageOf, IsPart, IsPrefixRange, IsRange, IsWithin, is_at, part_at, place_of_path};
+ghost use Rattle.index_entries.specs.Record.{record_in};
+ghost use Rattle.index_state.specs.State.{PathsInStorage, entries_of, records, storage_of};
+
+use crate::State;
+use index_entries::Entry;
+use index_entries::access::folded::{self, AccelerateLookup};
+use index_entries::access::paths::{self, FilterMapPaths};
+use index_entries::access::tables::{self, DirectoryTable, PathSearch};
+use index_entries::access::{directory, range};
+use index_parts::entry::Stage;
+use std::alloc::{AllocError, Global};
+use std::ops::Range;
+
+impl State {
+    /// The paths of the entries with what the closure gives of them. It gets each entry once, in their order, and
+    /// one that it gives nothing of is left out.
+    pub fn entries_with_paths_by_filter_map<'a, T, F: FnMut(&'a [u8], &'a Entry) -> Option<T>>(
+        &'a self,
+        filter_map: F,
+    ) -> FilterMapPaths<'a, F>
+        ensures entries { entries_left result ≡ entries_of self.now }
+        ensures storage { storage_left result ≡ storage_of self.now }
+        ensures closure { closure_of result ≡ filter_map }
+    {
+        paths::entries_with_paths_by_filter_map(self.entries(), self.path_backing(), filter_map)
+    }
+
+    /// The place of the entry at the path and the stage among the first `upper_bound` entries, counted from 0, or
+    /// None.
+    ///
+    /// Where these strictly increase by path, then stage, it is the one place, and None says that there is none.
+    /// Else a place still has that path and stage.
+    pub fn entry_index_by_path_and_stage_bounded(
+        &self,
+        path: &[u8],
+        stage: Stage,
+        upper_bound: usize,
+    ) -> Option<usize>
+        requires placed { PathsInStorage self.now }
+        requires bound { upper_bound ≤ length (entries_of self.now) }
+        ensures found { IfSome result (IsKeyAt path.now (stage_code stage) (take upper_bound (records self.now))) }
+        ensures answer { IsStrictlyOrdered (take upper_bound (records self.now))
+            → result ≡ place_of path.now (stage_code stage) (take upper_bound (records self.now)) }
+    {
+        range::entry_index_by_path_and_stage_bounded(
+            self.entries(),
+            self.path_backing(),
+            path,
+            stage,
+            upper_bound,
+        )
+    }
+
+    /// The entry at the path: that at stage 0, or else that at stage 2, our side of a merge, or else None.
+    ///
+    /// It is promised over entries that strictly increase by path, then stage. Over other entries an entry that is
+    /// given still has that path and one of both stages.
+    pub fn entry_by_path(&self, path: &[u8]) -> Option<&Entry>
+        requires { PathsInStorage self.now }
+        ensures found { IfSome result (λ e. Contains (entries_of self.now) e.now) }
+        ensures key { IfSome result (λ e. HasStageOf path.now (record_in (storage_of self.now) e.now)) }
+        ensures answer { IsStrictlyOrdered (records self.now) → option_copied result
+            ≡ option_and_then (slice_get (entries_of self.now)) (place_of_path path.now (records self.now)) }
+    {
+        range::entry_by_path(self.entries(), self.path_backing(), path)
+    }
+
+    /// The places of the entries at the path, counted from 0, or None where there are none.
+    ///
+    /// Over entries whose paths never fall they are all such places. Over other entries they are places of the list,
+    /// and no more is said.
+    pub fn entry_range(&self, path: &[u8]) -> Option<Range<usize>>
+        requires { PathsInStorage self.now }
+        ensures in_range { IfSome result (IsPart (records self.now)) }
+        ensures exactly { IsOrderedByPath (records self.now)
+            → IsRange (is_at path.now) (records self.now) result }
+    {
+        range::entry_range(self.entries(), self.path_backing(), path)
+    }
+
+    /// The entries whose path begins with the bytes of the prefix, or None where there are none, as
+    /// [`prefixed_entries_range`](State::prefixed_entries_range) has their places.
+    pub fn prefixed_entries(&self, prefix: &[u8]) -> Option<&[Entry]>
+        requires { PathsInStorage self.now }
+        ensures in_range { (range : Option (Range ℕ)) × IfSome range (IsWithin (entries_of self.now))
+            × (option_copied result ≡ option_map (part_at (entries_of self.now)) range) }
+        ensures exactly { IsOrderedByPath (records self.now)
+            → (range : Option (Range ℕ)) × IsPrefixRange prefix.now (records self.now) range
+            × (option_copied result ≡ option_map (part_at (entries_of self.now)) range) }
+    {
+        range::prefixed_entries(self.entries(), self.path_backing(), prefix)
+    }
+
+    /// The places of the entries whose path begins with the bytes of the prefix, counted from 0, or None where there
+    /// are none. The empty prefix has all places, also of no entries: `0..0`.
+    ///
+    /// Over entries whose paths never fall they are all such places. Over other entries they are places of the list.
+    pub fn prefixed_entries_range(&self, prefix: &[u8]) -> Option<Range<usize>>
+        requires { PathsInStorage self.now }
+        ensures in_range { IfSome result (IsWithin (records self.now)) }
+        ensures exactly { IsOrderedByPath (records self.now)
+            → IsPrefixRange prefix.now (records self.now) result }
+        ensures empty { length prefix.now ≡ 0 → IsPrefixRange prefix.now (records self.now) result }
+    {
+        range::prefixed_entries_range(self.entries(), self.path_backing(), prefix)
+    }
+
+    /// Where the range of the prefix begins, that is how many paths are below it; and how many times the prefix was
+    /// compared with a path: over n entries, in any order, at most one more than n has binary digits.
+    ///
+    /// The number is promised over entries whose paths never fall. Over other entries it is at most their number.
+    pub fn search_prefix(&self, prefix: &[u8]) -> (usize, usize)
+        requires { PathsInStorage self.now }
+        ensures in_range { result.0 ≤ length (records self.now) }
+        ensures place { IsOrderedByPath (records self.now)
+            → result.0 ≡ insertion_of_path prefix.now (records self.now) }
+        ensures count { result.1 ≤ digits (length (records self.now)) + 1 }
+    {
+        range::search_prefix(self.entries(), self.path_backing(), prefix)
+    }
+
+    /// Where entries stand at the directory, the first that stands for a directory itself, a sparse one or a
+    /// submodule, or None. Else the first entry below the directory: its path goes on behind the directory and a
+    /// slash.
+    ///
+    /// It is promised over entries whose paths never fall. Over other entries an entry that is given still is the
+    /// directory or stands below it.
+    pub fn entry_closest_to_directory_or_directory(&self, directory: &[u8]) -> Option<&Entry>
+        requires { PathsInStorage self.now }
+        ensures found { IfSome result (λ e. Contains (entries_of self.now) e.now) }
+        ensures place { IfSome result (λ e. stands_in directory.now (record_in (storage_of self.now) e.now) ≡ true) }
+        ensures answer { IsOrderedByPath (records self.now) → option_copied result
+            ≡ option_and_then (slice_get (entries_of self.now)) (closest directory.now (records self.now)) }
+    {
+        directory::entry_closest_to_directory_or_directory(
+            self.entries(),
+            self.path_backing(),
+            directory,
+        )
+    }
+
+    /// Whether the path is a directory: one that an entry stands for, or one that entries are below.
+    ///
+    /// It is promised over entries whose paths never fall. Over other entries the answer true still says that there
+    /// is such an entry.
+    pub fn path_is_directory(&self, path: &[u8]) -> bool
+        requires { PathsInStorage self.now }
+        ensures found { OnTrue result (list_any (stands_in path.now) (records self.now) ≡ true) }
+        ensures answer { IsOrderedByPath (records self.now)
+            → result ≡ is_some (closest path.now (records self.now)) }
+    {
+        directory::path_is_directory(self.entries(), self.path_backing(), path)
+    }
+
+    /// The table by which the folded lookups find entries of this state. It borrows the state, asks for memory, and
+    /// nothing is left of it after a refusal; the lookups by it ask for none.
+    pub fn prepare_icase_backing(&self, alloc: Global) -> Result<AccelerateLookup<'_>, AllocError>
+        requires { PathsInStorage self.now }
+        ensures { IfOk result (λ lookup. lookup ≡ records self.now) }
+    {
+        AccelerateLookup::new(alloc, self.entries(), self.path_backing())
+    }
+
+    /// The first entry at the path, in the order of the entries, or None; the case of ASCII letters is ignored where
+    /// asked. The table is one that was made from these entries, which may be in any order.
+    pub fn entry_by_path_icase(
+        &self,
+        path: &[u8],
+        ignore_case: bool,
+        lookup: &AccelerateLookup<'_>,
+    ) -> Option<&Entry>
+        requires { lookup.now ≡ records self.now }
+        ensures { option_copied result
+            ≡ option_and_then (slice_get (entries_of self.now)) (folded_place ignore_case path.now (records self.now)) }
+    {
+        folded::entry_by_path_icase(self.entries(), path, ignore_case, lookup)
+    }
+
+    /// The place of that entry, and how many paths were compared: of n entries at most one more than n has binary
+    /// digits.
+    pub fn search_path_icase(
+        &self,
+        path: &[u8],
+        ignore_case: bool,
+        lookup: &AccelerateLookup<'_>,
+    ) -> (Option<usize>, usize)
+        requires { lookup.now ≡ records self.now }
+        ensures answer { result.0 ≡ folded_place ignore_case path.now (records self.now) }
+        ensures count { result.1 ≤ digits (length (records self.now)) + 1 }
+    {
+        lookup.search_path_icase(path, ignore_case)
+    }
+
+    /// The first entry, in the order of the entries, that stands for the directory or below it, or None; the case of
+    /// ASCII letters is ignored where asked. The table is one that was made from these entries, in any order.
+    pub fn entry_closest_to_directory_or_directory_icase(
+        &self,
+        directory: &[u8],
+        ignore_case: bool,
+        lookup: &AccelerateLookup<'_>,
+    ) -> Option<&Entry>
+        requires { lookup.now ≡ records self.now }
+        ensures { option_copied result
+            ≡ option_and_then (slice_get (entries_of self.now)) (folded_closest ignore_case directory.now (records self.now)) }
+    {
+        folded::entry_closest_to_directory_or_directory_icase(
+            self.entries(),
+            directory,
+            ignore_case,
+            lookup,
+        )
+    }
+
+    /// The place of that entry, and how many names were compared: of m directories at most one more than m has
+    /// binary digits.
+    pub fn search_directory_icase(
+        &self,
+        directory: &[u8],
+        ignore_case: bool,
+        lookup: &AccelerateLookup<'_>,
+    ) -> (Option<usize>, usize)
+        requires { lookup.now ≡ records self.now }
+        ensures answer { result.0 ≡ folded_closest ignore_case directory.now (records self.now) }
+        ensures count { (names : List (List ℕ)) × IsNamed ignore_case (records self.now) names
+            × (result.1 ≤ digits (length names) + 1) }
+    {
+        lookup.search_directory_icase(directory, ignore_case)
+    }
+
+    /// Whether the path is a directory: one that an entry stands for, or one that entries are below.
+    pub fn path_is_directory_icase(
+        &self,
+        path: &[u8],
+        ignore_case: bool,
+        lookup: &AccelerateLookup<'_>,
+    ) -> bool
+        requires { lookup.now ≡ records self.now }
+        ensures { result ≡ is_some (folded_closest ignore_case path.now (records self.now)) }
+    {
+        lookup.path_is_directory_icase(path, ignore_case)
+    }
+
+    /// Whether the paths of the entries never fall. It takes no memory.
+    pub fn is_ordered_by_path(&self) -> bool
+        requires { PathsInStorage self.now }
+        ensures { IsTrue result ↔ IsOrderedByPath (records self.now) }
+    {
+        tables::is_ordered_by_path(self.entries(), self.path_backing())
+    }
+
+    /// The table of the directories that entries stand below, for searches by way of them. It borrows the state, asks
+    /// for memory, and nothing is left of it after a refusal; searches by it ask for none.
+    ///
+    /// [`is_ordered_by_path`](State::is_ordered_by_path) tells whether it may be made.
+    pub fn prepare_directory_table(&self, alloc: Global) -> Result<DirectoryTable<'_>, AllocError>
+        requires placed { PathsInStorage self.now }
+        requires ordered { IsOrderedByPath (records self.now) }
+        ensures { IfOk result (λ table. table ≡ records self.now) }
+    {
+        DirectoryTable::new(alloc, self.entries(), self.path_backing())
+    }
+}
+
+impl PathSearch for State {
+    ghost list = { records };
+
+    ghost can_search = { λ s. PathsInStorage s };
+
+    fn search_path(&self, path: &[u8]) -> (Result<usize, usize>, usize) {
+        State::search_path(self, path)
+    }
+
+    fn search_path_and_stage(&self, path: &[u8], stage: Stage) -> (Result<usize, usize>, usize) {
+        State::search_path_and_stage(self, path, stage)
+    }
+}
