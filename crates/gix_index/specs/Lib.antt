@@ -14,13 +14,13 @@ pub use Rattle.index_parts.specs.Mode
 pub use Rattle.index_parts.specs.Offset
 pub use Rattle.index_parts.specs.Stat
 pub use Rattle.index_parts.specs.Taking
-pub use Rattle.index_entries.specs.Digits
+pub use Rattle.index_lookups.specs.Digits
 pub use Rattle.index_entries.specs.Entries
 pub use Rattle.index_entries.specs.Entry
 pub use Rattle.index_entries.specs.EntryImage
 pub use Rattle.index_entries.specs.Header
 pub use Rattle.index_entries.specs.Limits
-pub use Rattle.index_entries.specs.Lookup
+pub use Rattle.index_lookups.specs.Lookup
 pub use Rattle.index_entries.specs.Order
 pub use Rattle.index_entries.specs.Record
 pub use Rattle.index_extensions.specs.Contents

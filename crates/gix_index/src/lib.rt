@@ -11,9 +11,9 @@ pub mod laws;
 mod tests;
 
 pub use file::File;
-pub use index_entries::access::folded::AccelerateLookup;
-pub use index_entries::access::paths::FilterMapPaths;
-pub use index_entries::access::tables::{DirectoryTable, PathSearch, count_present};
 pub use index_entries::{Entry, PathBacking, PathStorage, PathStorageRef, Version};
+pub use index_lookups::folded::AccelerateLookup;
+pub use index_lookups::paths::FilterMapPaths;
+pub use index_lookups::tables::{DirectoryTable, PathSearch, count_present};
 pub use index_parts::{entry, ewah, hash, util};
 pub use index_state::{State, decode, write};

@@ -1,0 +1,18 @@
+use Rattle.std.proofs.Common.{◌≡◌, List, ◌++◌, None, length}
+use Rattle.std.specs.List.{FoldsTo, All}
+use Rattle.index_entries.specs.declared.Entry.{Entry}
+use Rattle.index_entries.specs.Record.{IsPlaced}
+use Rattle.index_lookups.specs.FilterMap.{LooksAt}
+use Rattle.index_lookups.proofs.paths.FilterMapPathsIterator.next.Given as goal
+
+abbrev pub invariant-loop-entry : goal.invariant-loop-entry
+invariant-loop-entry g l =
+    goal.F-IsAlwaysCallable g l.self.filter_map
+    × All (IsPlaced (length l.self.backing.now)) l.self.entries.now
+    × (l.self.backing.now ≡ l.initial.self.backing.now)
+    × ((skipped : List Entry)
+    × (l.initial.self.entries.now ≡ skipped ++ l.self.entries.now)
+    × FoldsTo (λ h e k. LooksAt (λ f p b o j. goal.F-step g f p b o j) l.initial.self.backing.now h e None k) l.initial.self.filter_map skipped l.self.filter_map)
+
+abbrev pub decreases-loop-entry : goal.decreases-loop-entry
+decreases-loop-entry g l = length l.self.entries.now

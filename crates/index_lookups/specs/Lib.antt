@@ -1,0 +1,11 @@
+pub mod Closest
+pub mod Digits
+pub mod FilterMap
+pub mod Folded
+pub mod Lookup
+pub mod Names
+pub mod Range
+pub mod Search
+pub mod Spans
+pub mod Tables
+pub mod Wanted

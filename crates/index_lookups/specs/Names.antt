@@ -1,0 +1,78 @@
+-- Tables of names in their order, each with the place of a record that has it. Public clauses cite none of these.
+use Rattle.std.specs.Prelude.{◌≡◌, ◌≢◌, ℕ, zero, suc, ◌<◌, ◌≤◌, ◌+◌, ◌==◌, Bool, true, false, cond, List, [], ◌∷◌, ◌++◌, length, map, take, All, Contains, slice_index, slice_index_or}
+use Rattle.std.specs.List.{AllPairs}
+use Rattle.std.specs.Ordering.{nat_cmp, ordering_then}
+use Rattle.std.specs.declared.cmp.Ordering.{Ordering}
+use Rattle.std.specs.declared.cmp.Ordering.TheVariants.{Less, Greater}
+use Rattle.index_entries.specs.Order.{path_cmp}
+use Rattle.index_entries.specs.Record.{Record}
+use Rattle.index_lookups.specs.Closest.{is_directory}
+use Rattle.index_lookups.specs.Folded.{folded, is_at_folded, stands_in_folded}
+use Rattle.index_lookups.specs.declared.names.Named.{Named}
+
+-- a name and the place of a record that has it
+pub record Key : Type 0 where
+  pub name : List ℕ
+  pub place : ℕ
+
+abbrev pub key_of : Named → Key
+key_of n = record { name = n.name.now; place = n.place }
+
+abbrev pub key_at : ℕ → List ℕ → Key
+key_at place name = record { name = name; place = place }
+
+-- by name, with case ignored where asked, and then by place
+abbrev pub key_cmp : Bool → Key → Key → Ordering
+key_cmp ignore_case a b = ordering_then (path_cmp (folded ignore_case a.name) (folded ignore_case b.name)) (nat_cmp a.place b.place)
+
+-- the fronts before a slash that stands in front of place n
+abbrev pub fronts_upto : ℕ → List ℕ → List (List ℕ)
+fronts_upto zero path = []
+fronts_upto (suc n) path = fronts_upto n path ++ cond (slice_index path n == 47) (take n path ∷ []) []
+
+-- the directories that a record stands for, or below
+abbrev pub directory_names : Record → List (List ℕ)
+directory_names r = fronts_upto (length r.path) r.path ++ cond (is_directory r) (r.path ∷ []) []
+
+-- the directories that a record stands below
+abbrev pub front_names : Record → List (List ℕ)
+front_names r = fronts_upto (length r.path) r.path
+
+-- a record's path alone
+abbrev pub path_names : Record → List (List ℕ)
+path_names r = r.path ∷ []
+
+-- the names of records, the first of which is at i, each with its place
+abbrev pub keys_from : (Record → List (List ℕ)) → ℕ → List Record → List Key
+keys_from names i [] = []
+keys_from names i (r ∷ rs) = map (key_at i) (names r) ++ keys_from names (i + 1) rs
+
+-- a table by which the records that pass the test of a name are found
+pub record IsTableOf (ignore_case : Bool) (test : List ℕ → Record → Bool) (rs : List Record) (ks : List Key) : Type 0 where
+  pub within : All (λ k. k.place < length rs) ks
+  pub sound : (j : ℕ) (d : Key) (q : Record) → j < length ks → test (slice_index_or ks j d).name (slice_index_or rs (slice_index_or ks j d).place q) ≡ true
+  pub complete : (name : List ℕ) (i : ℕ) (q : Record) → i < length rs → test name (slice_index_or rs i q) ≡ true
+      → (k : Key) × Contains ks k × (folded ignore_case k.name ≡ folded ignore_case name) × (k.place ≤ i)
+  pub alike : (a b : List ℕ) (r : Record) → folded ignore_case a ≡ folded ignore_case b → test a r ≡ test b r
+  pub ordered : AllPairs (λ a b. key_cmp ignore_case a b ≢ Greater) ks
+
+-- of the names ks, the first of each run that are the same
+pub record IsFirstOfEach (ignore_case : Bool) (ks kept : List Key) : Type 0 where
+  pub taken : (j : ℕ) (d : Key) → j < length kept → Contains ks (slice_index_or kept j d)
+  pub covers : (k : Key) → Contains ks k → (f : Key) × Contains kept f × (folded ignore_case f.name ≡ folded ignore_case k.name) × (f.place ≤ k.place)
+  pub rises : AllPairs (λ a b. path_cmp (folded ignore_case a.name) (folded ignore_case b.name) ≡ Less) kept
+
+-- the tables of paths and of directories, with case kept or ignored, that records have
+abbrev pub IsPathTable : Bool → List Record → List Named → Type 0
+IsPathTable ignore_case rs names = IsTableOf ignore_case (is_at_folded ignore_case) rs (map key_of names) × (length names ≡ length rs)
+
+abbrev pub IsDirectoryTable : Bool → List Record → List Named → Type 0
+IsDirectoryTable ignore_case rs names =
+    IsTableOf ignore_case (stands_in_folded ignore_case) rs (map key_of names) × AllPairs (λ a b. path_cmp (folded ignore_case a.name) (folded ignore_case b.name) ≡ Less) (map key_of names)
+
+-- the four tables that records have
+pub record AreNames (rs : List Record) (paths folded_paths directories folded_directories : List Named) : Type 0 where
+  pub paths_is : IsPathTable false rs paths
+  pub folded_paths_is : IsPathTable true rs folded_paths
+  pub directories_is : IsDirectoryTable false rs directories
+  pub folded_directories_is : IsDirectoryTable true rs folded_directories

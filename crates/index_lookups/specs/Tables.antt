@@ -1,0 +1,41 @@
+-- The directories that records stand below, and how far a search by way of them goes. Each definition speaks of any
+-- list; a table of directories is made of records ordered by path.
+use Rattle.std.specs.Prelude.{◌≡◌, ◌↔◌, ℕ, zero, suc, ◌≤◌, ◌+◌, ◌==◌, true, List, length, take, Contains, Option, Some, None, slice_index, count_by, if◌then◌else◌}
+use Rattle.std.specs.List.{AllPairs, list_any}
+use denote.Ref.{Bor}
+use Rattle.std.specs.declared.cmp.Ordering.TheVariants.{Less}
+use Rattle.index_lookups.specs.Digits.{digits}
+use Rattle.index_entries.specs.Order.{path_cmp}
+use Rattle.index_entries.specs.Record.{Record}
+use Rattle.index_lookups.specs.Closest.{is_below}
+use Rattle.index_lookups.specs.Range.{is_at}
+
+-- the directories that records stand below: what comes before each slash of a path, rising, each once
+pub record IsDirs (rs : List Record) (names : List (List ℕ)) : Type 0 where
+  pub once : AllPairs (λ a b. path_cmp a b ≡ Less) names
+  pub each : (name : List ℕ) → Contains names name ↔ (list_any (is_below name) rs ≡ true)
+
+-- the place of the last slash in front of place n
+abbrev pub slash_upto : ℕ → List ℕ → Option ℕ
+slash_upto zero path = None
+slash_upto (suc n) path = if slice_index path n == 47 then Some n else slash_upto n path
+
+-- the place of the last slash; what stands in front of it is the path's directory
+abbrev pub last_slash : List ℕ → Option ℕ
+last_slash path = slash_upto (length path) path
+
+-- how many names and paths are compared at most, where the last slash stands here and there are so many directories
+abbrev pub search_bound : Option ℕ → List ℕ → List Record → ℕ → ℕ
+search_bound None path rs dirs = digits (length rs) + 1
+search_bound (Some slash) path rs dirs =
+    if list_any (is_below (take slash path)) rs then digits dirs + digits (count_by (is_below (take slash path)) rs) + 2 else digits dirs + digits (length rs) + 2
+
+-- by way of the directories of these records a search of the path compares so many names and paths
+pub record IsBounded (rs : List Record) (path : List ℕ) (count : ℕ) : Type 0 where
+  pub names : List (List ℕ)
+  pub dirs : IsDirs rs names
+  pub at_most : count ≤ search_bound (last_slash path) path rs (length names)
+
+-- of the paths, those that some record has
+abbrev pub present_count : List (Bor (List ℕ)) → List Record → ℕ
+present_count paths rs = count_by (λ p. list_any (is_at p.now) rs) paths

@@ -1,0 +1,138 @@
+//! Lookups with the case of ASCII letters ignored where asked, over entries in any order.
+
+ghost use Rattle.std.specs.Prelude.{◌≡◌, ◌≤◌, ◌+◌, ℕ, List, All, length, IfOk, is_some, option_and_then, slice_get, false, true};
+ghost use Rattle.std.specs.Option.{option_copied};
+ghost use Rattle.index_lookups.specs.Digits.{digits};
+ghost use Rattle.index_entries.specs.Record.{IsPlaced, Record, records_in};
+ghost use Rattle.index_lookups.specs.Folded.{IsNamed, folded_closest, folded_place};
+ghost use Rattle.index_lookups.specs.Names.{AreNames};
+
+use crate::names::{Named, directory_table, find, path_table};
+use index_entries::Entry;
+use std::alloc::{AllocError, Global};
+use std::marker::Model;
+
+/// The paths and directories of entries in their orders, with case kept and with case ignored. It borrows the
+/// entries that it was made from.
+#[derive(Drop)]
+pub struct AccelerateLookup<'a> {
+    entries: &'a [Entry],
+    backing: &'a [u8],
+    paths: Vec<Named<'a>>,
+    folded_paths: Vec<Named<'a>>,
+    directories: Vec<Named<'a>>,
+    folded_directories: Vec<Named<'a>>,
+}
+
+impl<'a> Model for AccelerateLookup<'a> {
+    ghost Value = { List Record };
+
+    ghost view = { λ t. records_in t.backing.now t.entries.now };
+
+    ghost invariant = { λ t. AreNames (records_in t.backing.now t.entries.now)
+        t.paths.items t.folded_paths.items t.directories.items t.folded_directories.items };
+}
+
+impl<'a> AccelerateLookup<'a> {
+    /// The table by which the folded lookups find entries: 24 bytes for each entry and order, and for each
+    /// directory and order. It asks for memory, and nothing is left of it after a refusal.
+    pub fn new(
+        alloc: Global,
+        entries: &'a [Entry],
+        backing: &'a [u8],
+    ) -> Result<AccelerateLookup<'a>, AllocError>
+        requires { All (IsPlaced (length backing.now)) entries.now }
+        ensures { IfOk result (λ lookup. lookup ≡ records_in backing.now entries.now) }
+    {
+        let paths = path_table(alloc, entries, backing, false)?;
+        let folded_paths = path_table(alloc, entries, backing, true)?;
+        let directories = directory_table(alloc, entries, backing, false)?;
+        let folded_directories = directory_table(alloc, entries, backing, true)?;
+        Ok(AccelerateLookup {
+            entries,
+            backing,
+            paths,
+            folded_paths,
+            directories,
+            folded_directories,
+        })
+    }
+
+    /// How many directories there are: those that entries stand for or below, each name once, folded where asked.
+    pub fn directories(&self, ignore_case: bool) -> usize
+        ensures { (names : List (List ℕ)) × IsNamed ignore_case self.now names × (result ≡ length names) }
+    {
+        if ignore_case {
+            self.folded_directories.len()
+        } else {
+            self.directories.len()
+        }
+    }
+
+    /// The place of the first entry at the path, in the order of the entries, or None; and how many paths were
+    /// compared: of n entries at most one more than n has binary digits.
+    pub fn search_path_icase(&self, path: &[u8], ignore_case: bool) -> (Option<usize>, usize)
+        ensures answer { result.0 ≡ folded_place ignore_case path.now self.now }
+        ensures count { result.1 ≤ digits (length self.now) + 1 }
+    {
+        if ignore_case {
+            find(&self.folded_paths, path, true)
+        } else {
+            find(&self.paths, path, false)
+        }
+    }
+
+    /// The place of the first entry that is the directory or stands below it, in the order of the entries, or None;
+    /// and how many names were compared: of m directories at most one more than m has binary digits.
+    pub fn search_directory_icase(
+        &self,
+        directory: &[u8],
+        ignore_case: bool,
+    ) -> (Option<usize>, usize)
+        ensures answer { result.0 ≡ folded_closest ignore_case directory.now self.now }
+        ensures count { (names : List (List ℕ)) × IsNamed ignore_case self.now names
+            × (result.1 ≤ digits (length names) + 1) }
+    {
+        if ignore_case {
+            find(&self.folded_directories, directory, true)
+        } else {
+            find(&self.directories, directory, false)
+        }
+    }
+
+    /// Whether the path is a directory: one that an entry stands for, or one that entries are below.
+    pub fn path_is_directory_icase(&self, path: &[u8], ignore_case: bool) -> bool
+        ensures { result ≡ is_some (folded_closest ignore_case path.now self.now) }
+    {
+        self.search_directory_icase(path, ignore_case).0.is_some()
+    }
+}
+
+/// The first entry at the path, in their order, or None.
+pub fn entry_by_path_icase<'a>(
+    entries: &'a [Entry],
+    path: &[u8],
+    ignore_case: bool,
+    lookup: &AccelerateLookup<'_>,
+) -> Option<&'a Entry>
+    requires { length lookup.now ≡ length entries.now }
+    ensures { option_copied result ≡ option_and_then (slice_get entries.now) (folded_place ignore_case path.now lookup.now) }
+{
+    let place = lookup.search_path_icase(path, ignore_case).0?;
+    Some(&entries[place])
+}
+
+/// The first entry that is the directory or stands below it, in their order, or None.
+pub fn entry_closest_to_directory_or_directory_icase<'a>(
+    entries: &'a [Entry],
+    directory: &[u8],
+    ignore_case: bool,
+    lookup: &AccelerateLookup<'_>,
+) -> Option<&'a Entry>
+    requires { length lookup.now ≡ length entries.now }
+    ensures { option_copied result
+        ≡ option_and_then (slice_get entries.now) (folded_closest ignore_case directory.now lookup.now) }
+{
+    let place = lookup.search_directory_icase(directory, ignore_case).0?;
+    Some(&entries[place])
+}

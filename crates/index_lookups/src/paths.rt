@@ -1,0 +1,56 @@
+//! What a closure gives of entries and their paths.
+
+ghost use Rattle.std.specs.Prelude.{◌≡◌, All, length};
+ghost use Rattle.std.specs.Iterator.{at_most};
+ghost use Rattle.index_entries.specs.Record.{IsPlaced};
+ghost use Rattle.index_lookups.specs.FilterMap.{GivesNext, closure_of, entries_left, storage_left};
+
+use index_entries::Entry;
+
+/// The paths of entries with what a closure gives of them, in order, without those where it gives nothing. It ends
+/// where there are no entries left, and takes no memory.
+#[derive(Drop)]
+pub struct FilterMapPaths<'a, F> {
+    entries: &'a [Entry],
+    backing: &'a [u8],
+    filter_map: F,
+}
+
+/// The paths of the entries with what the closure gives of them. It gets each entry once, in their order, and one that
+/// it gives nothing of is left out.
+pub fn entries_with_paths_by_filter_map<'a, T, F: FnMut(&'a [u8], &'a Entry) -> Option<T>>(
+    entries: &'a [Entry],
+    backing: &'a [u8],
+    filter_map: F,
+) -> FilterMapPaths<'a, F>
+    ensures entries { entries_left result ≡ entries.now }
+    ensures backing { storage_left result ≡ backing.now }
+    ensures closure { closure_of result ≡ filter_map }
+{
+    FilterMapPaths {
+        entries,
+        backing,
+        filter_map,
+    }
+}
+
+impl<'a, T, F: FnMut(&'a [u8], &'a Entry) -> Option<T>> Iterator for FilterMapPaths<'a, F> {
+    type Item = (&'a [u8], T);
+
+    ghost can_next = { λ s. All (IsPlaced (length (storage_left s))) (entries_left s) × F.IsAlwaysCallable (closure_of s) };
+
+    ghost next_gives = { λ s r t. GivesNext (λ f p b o g. F.step f p b o g) (storage_left s) (entries_left s) (closure_of s) r (entries_left t) (closure_of t) × (storage_left t ≡ storage_left s) };
+
+    ghost remaining = { λ s. at_most (length (entries_left s)) };
+
+    fn next(&mut self) -> Option<(&'a [u8], T)> {
+        while let Some((entry, rest)) = self.entries.split_first() {
+            self.entries = rest;
+            let path = entry.path_in(self.backing);
+            if let Some(value) = (self.filter_map)(path, entry) {
+                return Some((path, value));
+            }
+        }
+        None
+    }
+}
