@@ -6,6 +6,7 @@ pub mod OnceEntries
 pub mod Order
 pub mod Pieces
 pub mod ReadRecords
+pub mod SharedFronts
 pub mod SomeEntries
 pub mod Storing
 pub mod Words

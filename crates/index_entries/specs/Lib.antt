@@ -8,3 +8,4 @@ pub mod Limits
 pub mod Order
 pub mod Reading
 pub mod Record
+pub mod Shared

@@ -11,6 +11,7 @@ use std::cmp::Ordering;
 use std::ops::Range;
 
 pub mod decode;
+pub mod paths;
 pub mod write;
 
 /// The version of a file's format (gitformat-index, "The Git index file has the following format").

@@ -1,5 +1,5 @@
 -- How tables of names are gathered and put in order.
-use Rattle.std.proofs.Common.{◌≡◌, ◌≢◌, ℕ, suc, ◌+◌, ◌<◌, Bool, true, false, Bor, List, [], ◌∷◌, ◌++◌, length, get_or, take, map, cond, refl, sym, ap, ◌∙◌, arith, append_assoc, length-take}
+use Rattle.std.proofs.Common.{◌≡◌, ◌≢◌, ℕ, suc, ◌+◌, ◌<◌, Bool, true, false, Bor, List, [], ◌∷◌, ◌++◌, length, get_or, take, map, refl, sym, ap, ◌∙◌, arith, append_assoc, length-take}
 use Rattle.std.specs.Cmp.{IsTotalOrder}
 use Rattle.std.specs.Fn.{Called}
 use Rattle.std.specs.List.{AllPairs}
@@ -15,9 +15,8 @@ use denote.Param.Members.{Mut}
 use Rattle.index_entries.specs.declared.Entry.{Entry}
 use Rattle.index_entries.specs.Record.{Record, record_in, records_in}
 use Rattle.index_lookups.specs.declared.names.Named.{Named}
-use Rattle.index_lookups.specs.Closest.{is_directory_mode}
 use Rattle.index_lookups.specs.Folded.{folded}
-use Rattle.index_lookups.specs.Names.{Key, key_of, key_at, key_cmp, keys_from, path_names, directory_names, front_names, fronts_upto}
+use Rattle.index_lookups.specs.Names.{Key, key_of, key_at, key_cmp, keys_from, path_names}
 use Rattle.index_lookups.proofs.RunsFound.{pairs_map}
 
 -- ---- one record more
@@ -45,27 +44,6 @@ paths_more storage es place z old new x within pushed name at before =
     ∙ ap (λ (ks : List Key). ks ++ key_of x ∷ []) before
     ∙ ap (λ (k : Key). keys_from path_names 0 (take place (records_in storage es)) ++ k ∷ []) (ap (λ (p : ℕ). record { name = x.name.now; place = p }) at ∙ ap (key_at place) name)
     ∙ sym (keys_more path_names storage es place z within)
-
-pub directories_more : (storage : List ℕ) (es : List Entry) (place : ℕ) (z : Entry) (path : List ℕ) (old mid new : List Key) (b : Bool) → place < length es → path ≡ (record_in storage (get_or es place z)).path
-    → mid ≡ old ++ map (key_at place) (fronts_upto (length path) path) → b ≡ is_directory_mode (get_or es place z).mode.0 → new ≡ mid ++ map (key_at place) (cond b (path ∷ []) [])
-    → old ≡ keys_from directory_names 0 (take place (records_in storage es)) → new ≡ keys_from directory_names 0 (take (place + 1) (records_in storage es))
-directories_more storage es place z path old mid new b within name fronts told pushed before =
-    let r : Record = record_in storage (get_or es place z) in
-    let both : map (key_at place) (fronts_upto (length path) path ++ cond b (path ∷ []) []) ≡ map (key_at place) (directory_names r) = ap (λ (p : List ℕ). map (key_at place) (fronts_upto (length p) p ++ cond b (p ∷ []) [])) name ∙ ap (λ (d : Bool). map (key_at place) (fronts_upto (length r.path) r.path ++ cond d (r.path ∷ []) [])) told in
-    pushed
-    ∙ ap (λ (ks : List Key). ks ++ map (key_at place) (cond b (path ∷ []) [])) fronts
-    ∙ append_assoc old (map (key_at place) (fronts_upto (length path) path)) (map (key_at place) (cond b (path ∷ []) []))
-    ∙ ap (λ (ks : List Key). old ++ ks) (sym (map-append (key_at place) (fronts_upto (length path) path) (cond b (path ∷ []) [])) ∙ both)
-    ∙ ap (λ (ks : List Key). ks ++ map (key_at place) (directory_names r)) before
-    ∙ sym (keys_more directory_names storage es place z within)
-
-pub fronts_more : (storage : List ℕ) (es : List Entry) (place : ℕ) (z : Entry) (path : List ℕ) (old new : List Key) → place < length es → path ≡ (record_in storage (get_or es place z)).path → new ≡ old ++ map (key_at place) (fronts_upto (length path) path)
-    → old ≡ keys_from front_names 0 (take place (records_in storage es)) → new ≡ keys_from front_names 0 (take (place + 1) (records_in storage es))
-fronts_more storage es place z path old new within name pushed before =
-    pushed
-    ∙ ap (λ (ks : List Key). ks ++ map (key_at place) (fronts_upto (length path) path)) before
-    ∙ ap (λ (p : List ℕ). keys_from front_names 0 (take place (records_in storage es)) ++ map (key_at place) (fronts_upto (length p) p)) name
-    ∙ sym (keys_more front_names storage es place z within)
 
 -- ---- order
 

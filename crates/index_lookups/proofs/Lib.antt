@@ -7,6 +7,7 @@ pub mod Halving
 pub mod Insertion
 pub mod Keys
 pub mod Lookup
+pub mod NamesMore
 pub mod Parting
 pub mod PathOrder
 pub mod PresentCount

@@ -16,7 +16,7 @@ use Rattle.std.proofs.lemmas.List.Sorted.{Contains-permutation, IsPermutation-sy
 use Rattle.index_entries.specs.Record.{Record}
 use Rattle.index_lookups.specs.Closest.{is_directory, is_below}
 use Rattle.index_lookups.specs.Folded.{folded, is_same, stands_in_folded}
-use Rattle.index_lookups.specs.Names.{Key, key_at, key_cmp, keys_from, path_names, directory_names, front_names, fronts_upto, IsTableOf}
+use Rattle.index_lookups.specs.Names.{Key, key_at, key_cmp, keys_from, path_names, directory_names, fronts_upto, AreKeysOf, IsTableOf}
 
 -- ---- elements of what is put together
 
@@ -45,7 +45,7 @@ contains_map {X} f (x ∷ xs) y c = by (contains_map f xs y) (contains_cases (f 
 pub contains_map_in : {X Y : Type 0} (f : X → Y) (xs : List X) (x : X) → Contains xs x → Contains (map f xs) (f x)
 contains_map_in f xs x c = (c.0, omega (arith, c.1, length-map xs f), get_or-map f xs c.0 x ∙ ap f c.2)
 
-contains_none : {X : Type 0} (z : X) → Contains [] z → ⊥
+pub contains_none : {X : Type 0} (z : X) → Contains [] z → ⊥
 contains_none z c = absurd (omega (arith, c.1))
 
 -- ---- names with their places
@@ -75,27 +75,34 @@ key_complete names b (r ∷ rs) (suc i) q n within c =
     let e : b + suc i ≡ b + 1 + i = omega arith in
     rw e (Contains-append_right (map (key_at b) (names r)) (keys_from names (b + 1) rs) (key_at (b + 1 + i) n) (key_complete names (b + 1) rs i q n (omega arith) c))
 
-pub table_made : (ignore_case : Bool) (names : Record → List (List ℕ)) (test : List ℕ → Record → Bool) (rs : List Record) (made ks : List Key) → made ≡ keys_from names 0 rs → IsPermutation made ks
+pub keys_are : (names : Record → List (List ℕ)) (rs : List Record) → AreKeysOf names rs (keys_from names 0 rs)
+keys_are names rs = record {
+  sound = λ k c. told k (key_sound names 0 rs k c);
+  complete = λ i q n within c. (key_at (0 + i) n, key_complete names 0 rs i q n within c, refl, omega arith);
+}
+  where
+    told : (k : Key) → (0 ≤ k.place) × (k.place < 0 + length rs) × ((q : Record) → Contains (names (get_or rs (k.place - 0) q)) k.name) → (k.place < length rs) × ((q : Record) → Contains (names (get_or rs k.place q)) k.name)
+    told k h = let e : k.place - 0 ≡ k.place = omega arith in (omega (arith, h.1), λ q. rw e at (h.2 q))
+
+pub table_made : (ignore_case : Bool) (names : Record → List (List ℕ)) (test : List ℕ → Record → Bool) (rs : List Record) (made ks : List Key) → AreKeysOf names rs made → IsPermutation made ks
     → AllPairs (λ a b. key_cmp ignore_case a b ≢ Greater) ks
     → ((n : List ℕ) (r : Record) → Contains (names r) n → test n r ≡ true)
     → ((name : List ℕ) (r : Record) → test name r ≡ true → (n : List ℕ) × Contains (names r) n × (folded ignore_case n ≡ folded ignore_case name))
     → ((a b : List ℕ) (r : Record) → folded ignore_case a ≡ folded ignore_case b → test a r ≡ test b r)
     → IsTableOf ignore_case test rs ks
 table_made ignore_case names test rs made ks is moved ordered passes has alike = record {
-  within = λ j d l. omega (arith, (told j d l).1);
-  sound = λ j d q l. passes (get_or ks j d).name (get_or rs (get_or ks j d).place q) (let e : (get_or ks j d).place - 0 ≡ (get_or ks j d).place = omega arith in rw e at ((told j d l).2 q));
-  complete = λ name i q within t. let h = has name (get_or rs i q) t in (key_at (0 + i) h.0, put (key_at (0 + i) h.0) (key_complete names 0 rs i q h.0 within h.1), h.2, omega arith);
+  within = λ j d l. (told j d l).0;
+  sound = λ j d q l. passes (get_or ks j d).name (get_or rs (get_or ks j d).place q) ((told j d l).1 q);
+  complete = λ name i q within t.
+      let h = has name (get_or rs i q) t in
+      let k = is.complete i q h.0 within h.1 in
+      (k.0, Contains-permutation made ks k.0 moved k.1, ap (folded ignore_case) k.2 ∙ h.2, k.3);
   alike = alike;
   ordered = ordered;
 }
   where
-    told : (j : ℕ) (d : Key) → j < length ks → (0 ≤ (get_or ks j d).place) × ((get_or ks j d).place < 0 + length rs) × ((q : Record) → Contains (names (get_or rs ((get_or ks j d).place - 0) q)) (get_or ks j d).name)
-    told j d l =
-        let back = Contains-permutation ks made (get_or ks j d) (IsPermutation-sym made ks moved) (Contains-get_or ks j d l) in
-        key_sound names 0 rs (get_or ks j d) (subst (λ (xs : List Key). Contains xs (get_or ks j d)) is back)
-
-    put : (k : Key) → Contains (keys_from names 0 rs) k → Contains ks k
-    put k c = Contains-permutation made ks k moved (subst (λ (xs : List Key). Contains xs k) (sym is) c)
+    told : (j : ℕ) (d : Key) → j < length ks → ((get_or ks j d).place < length rs) × ((q : Record) → Contains (names (get_or rs (get_or ks j d).place q)) (get_or ks j d).name)
+    told j d l = is.sound (get_or ks j d) (Contains-permutation ks made (get_or ks j d) (IsPermutation-sym made ks moved) (Contains-get_or ks j d l))
 
 -- ---- paths
 
@@ -150,7 +157,7 @@ begins_to [] m c within e = absurd (omega arith)
 begins_to (x ∷ xs) zero c within e = let t : nat_eq c x ≡ true = grind (arith, nat_tests, e) in rw t refl
 begins_to (x ∷ xs) (suc m) c within e = let t : nat_eq x x ≡ true = grind (arith, nat_tests) in rw t (begins_to xs m c (omega arith) e)
 
-front_sound : (n : ℕ) (path f : List ℕ) → Contains (fronts_upto n path) f → (m : ℕ) × (m < n) × (get_or path m 0 ≡ 47) × (f ≡ take m path)
+pub front_sound : (n : ℕ) (path f : List ℕ) → Contains (fronts_upto n path) f → (m : ℕ) × (m < n) × (get_or path m 0 ≡ 47) × (f ≡ take m path)
 front_sound zero path f c = absurd (contains_none f c)
 front_sound (suc n) path f c = by (front_sound n path f) (Contains-append_cases (fronts_upto n path) (cond (get_or path n 0 == 47) (take n path ∷ []) []) f c)
   where
@@ -162,7 +169,7 @@ front_sound (suc n) path f c = by (front_sound n path f) (Contains-append_cases 
     by earlier (inl d) = let h = earlier d in (h.0, omega (arith, h.1), h.2, h.3)
     by earlier (inr d) = here (get_or path n 0 == 47) refl d
 
-front_complete : (n : ℕ) (path : List ℕ) (m : ℕ) → m < n → get_or path m 0 ≡ 47 → Contains (fronts_upto n path) (take m path)
+pub front_complete : (n : ℕ) (path : List ℕ) (m : ℕ) → m < n → get_or path m 0 ≡ 47 → Contains (fronts_upto n path) (take m path)
 front_complete zero path m l e = absurd (omega arith)
 front_complete (suc n) path m l e = by (λ a. front_complete n path m a e) (cases_lt m n)
   where
@@ -191,7 +198,7 @@ and_both false b e = cc
 and_to : (a b : Bool) → a ≡ true → b ≡ true → (a && b) ≡ true
 and_to a b e f = rw (e, f) refl
 
-pub directories_pass : (ignore_case : Bool) (n : List ℕ) (r : Record) → Contains (directory_names r) n → stands_in_folded ignore_case n r ≡ true
+pub directories_pass : (ignore_case : Bool) (n : List ℕ) (r : Record) → Contains (directory_names true r) n → stands_in_folded ignore_case n r ≡ true
 directories_pass ignore_case n r c = by (Contains-append_cases (fronts_upto (length r.path) r.path) (cond (is_directory r) (r.path ∷ []) []) n c)
   where
     itself : (b : Bool) → is_directory r ≡ b → Contains (cond b (r.path ∷ []) []) n → stands_in_folded ignore_case n r ≡ true
@@ -206,10 +213,10 @@ directories_pass ignore_case n r c = by (Contains-append_cases (fronts_upto (len
         or_right _ _ (ap (λ (x : List ℕ). starts_with nat_eq (folded ignore_case r.path) (x ++ 47 ∷ [])) name ∙ t)
     by (inr d) = itself (is_directory r) refl d
 
-pub directories_have : (ignore_case : Bool) (name : List ℕ) (r : Record) → stands_in_folded ignore_case name r ≡ true → (n : List ℕ) × Contains (directory_names r) n × (folded ignore_case n ≡ folded ignore_case name)
+pub directories_have : (ignore_case : Bool) (name : List ℕ) (r : Record) → stands_in_folded ignore_case name r ≡ true → (n : List ℕ) × Contains (directory_names true r) n × (folded ignore_case n ≡ folded ignore_case name)
 directories_have ignore_case name r t = by (or_cases _ _ t)
   where
-    by : ((is_directory r && is_same ignore_case r.path name) ≡ true) ⊎ (starts_with nat_eq (folded ignore_case r.path) (folded ignore_case name ++ 47 ∷ []) ≡ true) → (n : List ℕ) × Contains (directory_names r) n × (folded ignore_case n ≡ folded ignore_case name)
+    by : ((is_directory r && is_same ignore_case r.path name) ≡ true) ⊎ (starts_with nat_eq (folded ignore_case r.path) (folded ignore_case name ++ 47 ∷ []) ≡ true) → (n : List ℕ) × Contains (directory_names true r) n × (folded ignore_case n ≡ folded ignore_case name)
     by (inl e) =
         let both = and_both (is_directory r) (is_same ignore_case r.path name) e in
         let there : Contains (cond (is_directory r) (r.path ∷ []) []) r.path = rw both.0 (0, omega arith, refl) in
@@ -229,16 +236,24 @@ path_keys_length i (r ∷ rs) = ap suc (path_keys_length (i + 1) rs)
 
 -- ---- directories that records stand below
 
-pub fronts_pass : (n : List ℕ) (r : Record) → Contains (front_names r) n → is_below n r ≡ true
+below_alone : (r : Record) (n : List ℕ) → Contains (directory_names false r) n → Contains (fronts_upto (length r.path) r.path) n
+below_alone r n c = by (Contains-append_cases (fronts_upto (length r.path) r.path) [] n c)
+  where
+    by : Contains (fronts_upto (length r.path) r.path) n ⊎ Contains [] n → Contains (fronts_upto (length r.path) r.path) n
+    by (inl d) = d
+    by (inr d) = absurd (contains_none n d)
+
+pub fronts_pass : (n : List ℕ) (r : Record) → Contains (directory_names false r) n → is_below n r ≡ true
 fronts_pass n r c =
-    let h = front_sound (length r.path) r.path n c in
+    let h = front_sound (length r.path) r.path n (below_alone r n c) in
     let t = begins_to r.path h.0 47 h.1 h.2 in
     ap (λ (x : List ℕ). starts_with nat_eq r.path (x ++ 47 ∷ [])) h.3 ∙ t
 
-pub fronts_have : (name : List ℕ) (r : Record) → is_below name r ≡ true → (n : List ℕ) × Contains (front_names r) n × (n ≡ name)
+pub fronts_have : (name : List ℕ) (r : Record) → is_below name r ≡ true → (n : List ℕ) × Contains (directory_names false r) n × (n ≡ name)
 fronts_have name r t =
     let b = begins_at name r.path 47 t in
-    (take (length name) r.path, front_complete (length r.path) r.path (length name) b.0 b.1, b.2)
+    let there = front_complete (length r.path) r.path (length name) b.0 b.1 in
+    (take (length name) r.path, Contains-append_left (fronts_upto (length r.path) r.path) [] (take (length name) r.path) there, b.2)
 
 pub fronts_alike : (a b : List ℕ) (r : Record) → a ≡ b → is_below a r ≡ is_below b r
 fronts_alike a b r e = ap (λ (x : List ℕ). is_below x r) e

@@ -1,11 +1,12 @@
 -- Tables of names in their order, each with the place of a record that has it. Public clauses cite none of these.
-use Rattle.std.specs.Prelude.{◌≡◌, ◌≢◌, ℕ, zero, suc, ◌<◌, ◌≤◌, ◌+◌, ◌==◌, Bool, true, false, cond, List, [], ◌∷◌, ◌++◌, length, map, take, All, Contains, slice_index, slice_index_or}
+use Rattle.std.specs.Prelude.{◌≡◌, ◌≢◌, ℕ, zero, suc, ◌<◌, ◌≤◌, ◌+◌, ◌-◌, ◌==◌, nat_lt, ◌&&◌, Bool, true, false, cond, List, [], ◌∷◌, ◌++◌, length, map, take, All, Contains, slice_index, slice_index_or}
 use Rattle.std.specs.List.{AllPairs}
 use Rattle.std.specs.Ordering.{nat_cmp, ordering_then}
 use Rattle.std.specs.declared.cmp.Ordering.{Ordering}
 use Rattle.std.specs.declared.cmp.Ordering.TheVariants.{Less, Greater}
 use Rattle.index_entries.specs.Order.{path_cmp}
 use Rattle.index_entries.specs.Record.{Record}
+use Rattle.index_entries.specs.Shared.{shared_len}
 use Rattle.index_lookups.specs.Closest.{is_directory}
 use Rattle.index_lookups.specs.Folded.{folded, is_at_folded, stands_in_folded}
 use Rattle.index_lookups.specs.declared.names.Named.{Named}
@@ -30,13 +31,18 @@ abbrev pub fronts_upto : ℕ → List ℕ → List (List ℕ)
 fronts_upto zero path = []
 fronts_upto (suc n) path = fronts_upto n path ++ cond (slice_index path n == 47) (take n path ∷ []) []
 
--- the directories that a record stands for, or below
-abbrev pub directory_names : Record → List (List ℕ)
-directory_names r = fronts_upto (length r.path) r.path ++ cond (is_directory r) (r.path ∷ []) []
+-- those of them that are so long or longer
+abbrev pub fronts_between : ℕ → ℕ → List ℕ → List (List ℕ)
+fronts_between from zero path = []
+fronts_between from (suc n) path = cond (nat_lt n from) [] (fronts_between from n path ++ cond (slice_index path n == 47) (take n path ∷ []) [])
 
--- the directories that a record stands below
-abbrev pub front_names : Record → List (List ℕ)
-front_names r = fronts_upto (length r.path) r.path
+-- the directories that a record stands below and, where asked, the one that it stands for
+abbrev pub directory_names : Bool → Record → List (List ℕ)
+directory_names own r = fronts_upto (length r.path) r.path ++ cond (own && is_directory r) (r.path ∷ []) []
+
+-- the path at a place begins with so many bytes of the path before it, and is the first or has no more of them
+abbrev pub IsSharedFront : List Record → ℕ → ℕ → Type 0
+IsSharedFront rs place n = (q : Record) → n ≡ cond (nat_lt 0 place) (shared_len (slice_index_or rs (place - 1) q).path (slice_index_or rs place q).path) 0
 
 -- a record's path alone
 abbrev pub path_names : Record → List (List ℕ)
@@ -46,6 +52,11 @@ path_names r = r.path ∷ []
 abbrev pub keys_from : (Record → List (List ℕ)) → ℕ → List Record → List Key
 keys_from names i [] = []
 keys_from names i (r ∷ rs) = map (key_at i) (names r) ++ keys_from names (i + 1) rs
+
+-- names of records with their places: no other, and each with the place of a record that has it and stands no later
+pub record AreKeysOf (names : Record → List (List ℕ)) (rs : List Record) (ks : List Key) : Type 0 where
+  pub sound : (k : Key) → Contains ks k → (k.place < length rs) × ((q : Record) → Contains (names (slice_index_or rs k.place q)) k.name)
+  pub complete : (i : ℕ) (q : Record) (n : List ℕ) → i < length rs → Contains (names (slice_index_or rs i q)) n → (k : Key) × Contains ks k × (k.name ≡ n) × (k.place ≤ i)
 
 -- a table by which the records that pass the test of a name are found
 pub record IsTableOf (ignore_case : Bool) (test : List ℕ → Record → Bool) (rs : List Record) (ks : List Key) : Type 0 where

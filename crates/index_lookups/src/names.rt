@@ -1,6 +1,6 @@
 //! Names in their order, with the case of ASCII letters ignored where asked, each with the place of an entry.
 
-ghost use Rattle.std.specs.Prelude.{◌≡◌, ◌≢◌, ◌++◌, ◌+◌, ◌≤◌, ℕ, ⊤, Bool, List, All, AllPairs, length, map, position, OnOk, IfOk, false, true};
+ghost use Rattle.std.specs.Prelude.{◌≡◌, ◌≢◌, ◌++◌, ◌+◌, ◌<◌, ◌≤◌, ℕ, ⊤, Bool, List, All, AllPairs, length, map, position, slice_index_or, OnOk, IfOk, false, true};
 ghost use Rattle.std.specs.List.Sorted.{IsPermutation};
 ghost use Rattle.std.specs.declared.cmp.Ordering.TheVariants.{Greater, Less};
 ghost use Rattle.index_lookups.specs.Digits.{digits};
@@ -8,11 +8,12 @@ ghost use Rattle.index_entries.specs.Order.{path_cmp};
 ghost use Rattle.index_entries.specs.Record.{IsPlaced, Record, records_in};
 ghost use Rattle.index_lookups.specs.Closest.{is_below};
 ghost use Rattle.index_lookups.specs.Folded.{folded};
-ghost use Rattle.index_lookups.specs.Names.{IsDirectoryTable, IsFirstOfEach, IsPathTable, IsTableOf, directory_names, front_names, fronts_upto, key_at, key_cmp, key_of, keys_from, path_names};
+ghost use Rattle.index_lookups.specs.Names.{AreKeysOf, IsDirectoryTable, IsFirstOfEach, IsPathTable, IsSharedFront, IsTableOf, directory_names, fronts_between, key_at, key_cmp, key_of, keys_from, path_names};
 
 use crate::range::{Wanted, is_wanted};
 use crate::search::{Row, search_within};
 use index_entries::Entry;
+use index_entries::paths::shared_len;
 use std::alloc::{AllocError, Global};
 use std::cmp::Ordering;
 
@@ -90,16 +91,18 @@ fn first_of_each<'a>(
     Ok(kept)
 }
 
-/// Puts each front before a slash behind the names.
+/// Puts each front before a slash, of those that are so long or longer, behind the names.
 fn push_fronts<'a>(
     names: &mut Vec<Named<'a>>,
     path: &'a [u8],
+    from: usize,
     place: usize,
 ) -> Result<(), AllocError>
+    requires { from ≤ length path.now }
     ensures { OnOk result (map key_of names.new.items ≡ map key_of names.old.items
-        ++ map (key_at place) (fronts_upto (length path.now) path.now)) }
+        ++ map (key_at place) (fronts_between from (length path.now) path.now)) }
 {
-    for i in 0..path.len() {
+    for i in from..path.len() {
         if path[i] == b'/' {
             names.push(Named {
                 name: &path[..i],
@@ -108,6 +111,22 @@ fn push_fronts<'a>(
         }
     }
     Ok(())
+}
+
+/// How many bytes a path begins with as the path before it does; none of the first.
+fn shared_with_last(entries: &[Entry], backing: &[u8], place: usize) -> usize
+    requires placed { All (IsPlaced (length backing.now)) entries.now }
+    requires inside { place < length entries.now }
+    ensures shared { IsSharedFront (records_in backing.now entries.now) place result }
+    ensures within { (q : Record) → result ≤ length (slice_index_or (records_in backing.now entries.now) place q).path }
+{
+    if place == 0 {
+        return 0;
+    }
+    shared_len(
+        entries[place - 1].path_in(backing),
+        entries[place].path_in(backing),
+    )
 }
 
 /// The paths of the entries.
@@ -128,21 +147,25 @@ fn paths_of<'a>(
     Ok(names)
 }
 
-/// The directories that the entries stand for, or below.
+/// The directories that the entries stand below and, where asked, those that they stand for. What a path has in
+/// common with the one before it has been named there.
 fn directories_of<'a>(
     alloc: Global,
     entries: &'a [Entry],
     backing: &'a [u8],
+    own: bool,
 ) -> Result<Vec<Named<'a>>, AllocError>
     requires { All (IsPlaced (length backing.now)) entries.now }
-    ensures { IfOk result (λ names. map key_of names.items
-        ≡ keys_from directory_names 0 (records_in backing.now entries.now)) }
+    ensures { IfOk result (λ names. AreKeysOf (directory_names own)
+        (records_in backing.now entries.now) (map key_of names.items)) }
 {
     let mut names = Vec::new(alloc);
     for place in 0..entries.len() {
         let name = entries[place].path_in(backing);
-        push_fronts(&mut names, name, place)?;
-        if is_wanted(&entries[place], Wanted::Directory) {
+        let shared = shared_with_last(entries, backing, place);
+        push_fronts(&mut names, name, shared, place)?;
+        let stands = own && is_wanted(&entries[place], Wanted::Directory);
+        if stands {
             names.push(Named { name, place })?;
         }
     }
@@ -214,26 +237,9 @@ pub(crate) fn directory_table<'a>(
     requires { All (IsPlaced (length backing.now)) entries.now }
     ensures { IfOk result (λ names. IsDirectoryTable ignore_case (records_in backing.now entries.now) names.items) }
 {
-    let mut names = directories_of(alloc, entries, backing)?;
+    let mut names = directories_of(alloc, entries, backing, true)?;
     sort_names(&mut names, ignore_case);
     first_of_each(alloc, &names, ignore_case)
-}
-
-/// The fronts of the entries' paths that stand before a slash.
-fn fronts_of<'a>(
-    alloc: Global,
-    entries: &'a [Entry],
-    backing: &'a [u8],
-) -> Result<Vec<Named<'a>>, AllocError>
-    requires { All (IsPlaced (length backing.now)) entries.now }
-    ensures { IfOk result (λ names. map key_of names.items
-        ≡ keys_from front_names 0 (records_in backing.now entries.now)) }
-{
-    let mut names = Vec::new(alloc);
-    for place in 0..entries.len() {
-        push_fronts(&mut names, entries[place].path_in(backing), place)?;
-    }
-    Ok(names)
 }
 
 /// The table of the directories that entries stand below.
@@ -248,7 +254,7 @@ pub(crate) fn front_table<'a>(
     ensures once { IfOk result (λ names. AllPairs (λ a b. path_cmp a.name b.name ≡ Less)
         (map key_of names.items)) }
 {
-    let mut names = fronts_of(alloc, entries, backing)?;
+    let mut names = directories_of(alloc, entries, backing, false)?;
     sort_names(&mut names, false);
     first_of_each(alloc, &names, false)
 }

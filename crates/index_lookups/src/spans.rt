@@ -31,13 +31,14 @@ pub(crate) struct Span<'a> {
 pub(crate) fn last_slash(path: &[u8]) -> Option<usize>
     ensures { result ≡ last_slash path.now }
 {
-    let mut found = None;
-    for i in 0..path.len() {
-        if path[i] == b'/' {
-            found = Some(i);
+    let mut end = path.len();
+    while end > 0 {
+        end -= 1;
+        if path[end] == b'/' {
+            return Some(end);
         }
     }
-    found
+    None
 }
 
 /// Which entries stand below the directory.

@@ -1,0 +1,29 @@
+-- What two paths begin with alike.
+use Rattle.std.proofs.Common.{◌≡◌, ℕ, ◌≤◌, ◌⊎◌, inl, inr, Bool, true, false, List, [], ◌∷◌, length, take, refl, ap, arith}
+use Rattle.std.specs.Prelude.{◌==◌}
+use Rattle.std.proofs.lemmas.Bool.Decides.{nat_tests}
+use Rattle.index_entries.specs.Shared.{shared_len}
+
+pub shared_end : (xs ys : List ℕ) → (length xs ≡ 0) ⊎ (length ys ≡ 0) → shared_len xs ys ≡ 0
+shared_end [] ys h = refl
+shared_end (x ∷ xs) [] h = refl
+shared_end (x ∷ xs) (y ∷ ys) h = elim h [ inl e ↦ absurd (omega arith) | inr e ↦ absurd (omega arith) ]
+
+-- the front that both have is the same of each
+pub shared_front : (xs ys : List ℕ) → take (shared_len xs ys) xs ≡ take (shared_len xs ys) ys
+shared_front [] ys = refl
+shared_front (x ∷ xs) [] = refl
+shared_front (x ∷ xs) (y ∷ ys) = by (shared_front xs ys) (x == y) refl
+  where
+    by : take (shared_len xs ys) xs ≡ take (shared_len xs ys) ys → (b : Bool) → (x == y) ≡ b → take (shared_len (x ∷ xs) (y ∷ ys)) (x ∷ xs) ≡ take (shared_len (x ∷ xs) (y ∷ ys)) (y ∷ ys)
+    by tails true e = let same : x ≡ y = grind (arith, nat_tests, e) in rw (e, same) (ap (λ (zs : List ℕ). y ∷ zs) tails)
+    by tails false e = rw e refl
+
+pub shared_within : (xs ys : List ℕ) → shared_len xs ys ≤ length xs
+shared_within [] ys = omega arith
+shared_within (x ∷ xs) [] = omega arith
+shared_within (x ∷ xs) (y ∷ ys) = by (shared_within xs ys) (x == y) refl
+  where
+    by : shared_len xs ys ≤ length xs → (b : Bool) → (x == y) ≡ b → shared_len (x ∷ xs) (y ∷ ys) ≤ length (x ∷ xs)
+    by tails true e = rw e (omega (arith, tails))
+    by tails false e = rw e (omega arith)
