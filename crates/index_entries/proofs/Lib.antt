@@ -1,13 +1,17 @@
 pub mod Again
 pub mod Deltas
+pub mod Falls
 pub mod Kept
 pub mod Lengths
 pub mod OnceEntries
 pub mod Order
 pub mod Pieces
 pub mod ReadRecords
+pub mod Removing
 pub mod SharedFronts
 pub mod SomeEntries
+pub mod Sorting
 pub mod Storing
+pub mod Thirdly
 pub mod Words
 pub mod Written

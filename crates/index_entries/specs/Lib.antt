@@ -8,4 +8,6 @@ pub mod Limits
 pub mod Order
 pub mod Reading
 pub mod Record
+pub mod Removed
 pub mod Shared
+pub mod Sorted

@@ -1,4 +1,4 @@
-//! The entries of a git index: how a file spells them, and in which order they stand.
+//! The entries of a git index: how a file spells them, in which order they stand, and how they are put in order.
 //!
 //! What is here speaks of entries as a slice, and of the storage in which their paths lie as bytes.
 #![tactic(auto)]
@@ -10,6 +10,7 @@ use index_parts::hash::ObjectId;
 use std::cmp::Ordering;
 use std::ops::Range;
 
+pub mod access;
 pub mod decode;
 pub mod paths;
 pub mod write;

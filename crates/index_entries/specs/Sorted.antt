@@ -1,0 +1,59 @@
+-- Entries in order, by path and then by stage, and where a list of records isn't so (gitformat-index, "Index entries are
+-- sorted in ascending order").
+use Rattle.std.specs.Prelude.{◌≡◌, ◌≢◌, ℕ, ◌-◌, ◌<◌, Bool, true, false, List, length, take, slice_index_or, Option, Some, None}
+use denote.Param.Members.{Mut}
+use denote.Ref.{Bor}
+use Rattle.std.specs.Cmp.{IsStrictWeakOrder}
+use Rattle.std.specs.Fn.{ComparesAs}
+use Rattle.std.specs.List.Sorted.{IsSorted, IsSortedBy, IsStableBy}
+use Rattle.std.specs.Ordering.{is_lt}
+use Rattle.std.specs.declared.cmp.Ordering.{Ordering}
+use Rattle.std.specs.declared.cmp.Ordering.TheVariants.{Less, Equal, Greater}
+use Rattle.index_entries.specs.declared.Entry.{Entry}
+use Rattle.index_entries.specs.Order.{record_cmp, IsStrictlyOrdered}
+use Rattle.index_entries.specs.Record.{Record, record_in}
+
+-- the first entry is below the second, by path and stage
+abbrev pub is_entry_before : List ℕ → Entry → Entry → Bool
+is_entry_before storage a b = is_lt (record_cmp (record_in storage a) (record_in storage b))
+
+-- no record is below the one before it, by path and stage
+abbrev pub IsOrdered : List Record → Type 0
+IsOrdered rs = IsSorted record_cmp rs
+
+-- below, or as the second test says where both are equal
+abbrev pub is_below_or : Ordering → Bool → Bool
+is_below_or Less b = true
+is_below_or Equal b = b
+is_below_or Greater b = false
+
+-- the first entry is below the second: by path, then by stage, then by a test of the caller's
+abbrev pub is_before_by : List ℕ → (Entry → Entry → Bool) → Entry → Entry → Bool
+is_before_by storage by a b = is_below_or (record_cmp (record_in storage a) (record_in storage b)) (by a b)
+
+-- Where each call of the closure answers by an order, entries of the same path and stage stand in that order, and those
+-- that it doesn't tell apart stand as they stood.
+abbrev pub TiesFollow : {F : Type 0} → Mut F (Bor Entry × (Bor Entry × Unit {0})) Ordering → F → List ℕ → List Entry → List Entry → Type 0
+TiesFollow g f storage old new = (by : Entry → Entry → Bool) → IsStrictWeakOrder by → ComparesAs g by f
+    → IsSortedBy (is_before_by storage by) new × IsStableBy (is_before_by storage by) old new
+
+-- the record at a place isn't above the one before it
+pub record IsFall (rs : List Record) (place : ℕ) : Type 0 where
+  pub behind_one : 0 < place
+  pub in_range : place < length rs
+  pub falls : (d : Record) → record_cmp (slice_index_or rs (place - 1) d) (slice_index_or rs place d) ≢ Less
+
+-- the first place that doesn't increase, or None where path and stage strictly increase throughout
+abbrev pub IsFirstFall : List Record → Option ℕ → Type 0
+IsFirstFall rs None = IsStrictlyOrdered rs
+IsFirstFall rs (Some place) = IsFall rs place × IsStrictlyOrdered (take place rs)
+
+-- the answer to a question is the first order, without a change of the closure; where that is equal, it is the closure's
+abbrev pub IsOrElse : {F : Type 0} → Ordering → (Ordering → F → Type 0) → F → Ordering → F → Type 0
+IsOrElse Less asks f r g = (r ≡ Less) × (g ≡ f)
+IsOrElse Equal asks f r g = asks r g
+IsOrElse Greater asks f r g = (r ≡ Greater) × (g ≡ f)
+
+-- Where an entry stands to another: by path, by stage, and then as a call of the closure answers. No public clause cites it.
+abbrev pub AsksThird : {F : Type 0} → (F → Bor Entry → Bor Entry → Ordering → F → Type 0) → List ℕ → F → Bor Entry → Bor Entry → Ordering → F → Type 0
+AsksThird step storage f a b r g = IsOrElse (record_cmp (record_in storage a.now) (record_in storage b.now)) (step f a b) f r g
