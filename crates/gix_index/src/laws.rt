@@ -1,6 +1,7 @@
-//! Laws of the definitions that the contracts of `State::from_bytes` and `File::decode` cite. A law computes nothing.
+//! Laws of the definitions that the contracts of `State::from_bytes`, `State::write_to` and those of `File` cite. A law
+//! computes nothing.
 
-ghost use Rattle.std.specs.Prelude.{◌≡◌, ℕ, List, Option};
+ghost use Rattle.std.specs.Prelude.{◌≡◌, ℕ, List, Option, Ok, None};
 ghost use Rattle.index_parts.specs.declared.hash.Kind.{Kind};
 ghost use Rattle.index_parts.specs.declared.entry.stat.FileTime.{FileTime};
 ghost use Rattle.index_extensions.specs.EndMarker.{IsMarked};
@@ -10,8 +11,15 @@ ghost use Rattle.index_extensions.specs.ResolveUndo.{IsResolveUndo};
 ghost use Rattle.index_extensions.specs.Tree.{IsTree};
 ghost use Rattle.index_extensions.specs.Untracked.{IsCache};
 ghost use Rattle.index_state.specs.Link.{LinkFault, IsLink, IsLinkFault};
+ghost use Rattle.index_parts.specs.declared.hash.ObjectId.{ObjectId};
+ghost use Rattle.index_entries.specs.Record.{AreBytes};
 ghost use Rattle.index_state.specs.declared.decode.Options.{Options};
-ghost use Rattle.index_state.specs.Answer.{Answer, IsAnswer};
+ghost use Rattle.index_state.specs.declared.write.Options.{Options as WriteOptions};
+ghost use Rattle.index_state.specs.Answer.{Answer, IsAnswer, checksum_of};
+ghost use Rattle.index_state.specs.Image.{image, trailer};
+ghost use Rattle.index_state.specs.State.{Contents};
+ghost use Rattle.index_state.specs.Storable.{IsStorable, IsWritable, IsUnmistakable};
+ghost use Rattle.index_state.specs.Stored.{expected, stored};
 ghost use Rattle.gix_index.specs.Laws.{HasOneReading, HasOneWalk, HasOneBitmap};
 
 /// All bytes have an answer, for each kind of id, time and options, and no second: an index as a value with the
@@ -34,4 +42,26 @@ pub fn one_reading()
     ensures end_marker { (kind : Kind) → HasOneReading (IsMarked kind) }
     ensures walk { HasOneWalk }
     ensures bitmap { HasOneBitmap }
+{}
+
+/// Reading what is written of a storable index gives what a file keeps of it, and the trailer: for either kind of id and all
+/// choices of writing, by a reader of the same kind that has no limit and expects no trailer. The index has no more entries and
+/// bytes than a file counts, and a SHA-1 file that has no end marker doesn't end as if it had one.
+pub fn written_reads_back()
+    ensures { (v : Contents) (options : WriteOptions) (time : FileTime) (reading : Options) → IsStorable v → IsWritable v options → IsUnmistakable v options
+        → reading.alloc_limit_bytes ≡ None → reading.expected_checksum ≡ None
+        → IsAnswer v.kind time reading (image v options) (Ok (expected v options time, checksum_of v.kind (trailer v options))) }
+{}
+
+/// What a file keeps of what it kept is the same.
+pub fn stored_twice()
+    ensures { (v : Contents) (options : WriteOptions) → stored (stored v options) options ≡ stored v options }
+{}
+
+/// An index that was read, of whatever version, is written as the same bytes again once these have been read: by the same options, and
+/// with the premises of [`written_reads_back`], but that it is storable, as each index that was read of bytes is.
+pub fn rewrite_is_canonical()
+    ensures { (kind : Kind) (time again : FileTime) (first second : Options) (bytes : List ℕ) (v w : Contents) (c d : Option ObjectId) (options : WriteOptions) → AreBytes bytes
+        → IsAnswer kind time first bytes (Ok (v, c)) → IsWritable v options → IsUnmistakable v options → second.alloc_limit_bytes ≡ None → second.expected_checksum ≡ None
+        → IsAnswer kind again second (image v options) (Ok (w, d)) → image w options ≡ image v options }
 {}

@@ -1,10 +1,8 @@
 -- The records that are written, one after another.
 use Rattle.std.proofs.Common.{◌≡◌, ℕ, ◌+◌, ◌<◌, ◌≤◌, Bool, true, false, not, ◌||◌, cond, List, [], ◌∷◌, ◌++◌, Option, length, take, get_or, refl, ap, ◌∙◌, arith}
-use Rattle.std.specs.List.{flat_map, filter, list_any}
-use Rattle.std.specs.Prelude.{count_by}
+use Rattle.std.specs.List.{flat_map, list_any}
 use Rattle.std.specs.Io.KnownBytes.{Appends}
 use Rattle.std.proofs.lemmas.List.Folds.{length-flat_map-take}
-use Rattle.std.proofs.lemmas.List.Sums.{length-filter}
 use Rattle.index_parts.proofs.Taking.{front_at}
 use Rattle.index_parts.specs.Flags.{is_extended}
 use Rattle.index_parts.specs.Taking.{AppendsFront}
@@ -16,24 +14,6 @@ use Rattle.index_entries.specs.Record.{Record, record_in, records_in}
 pub any_record : (storage : List ℕ) (es : List Entry) → list_any (λ r. is_extended r.flags) (records_in storage es) ≡ list_any (λ e. is_extended e.flags.0) es
 any_record storage [] = refl
 any_record storage (e ∷ es) = ap (λ b. is_extended e.flags.0 || b) (any_record storage es)
-
--- as many records are written as entries
-record_more : (b : Bool) (r : Record) (rs : List Record) → length (cond b (r ∷ rs) rs) ≡ cond b 1 0 + length rs
-record_more true r rs = omega arith
-record_more false r rs = omega arith
-
-entry_more : (b : Bool) (e : Entry) (es : List Entry) → length (cond b (e ∷ es) es) ≡ cond b 1 0 + length es
-entry_more true e es = omega arith
-entry_more false e es = omega arith
-
-as_many : (storage : List ℕ) (es : List Entry) → length (written (records_in storage es)) ≡ length (filter (λ e. not (is_removed e.flags.0)) es)
-as_many storage [] = refl
-as_many storage (e ∷ es) =
-    let b : Bool = not (is_removed e.flags.0) in
-    omega (arith, record_more b (record_in storage e) (written (records_in storage es)), entry_more b e (filter (λ x. not (is_removed x.flags.0)) es), as_many storage es)
-
-pub count_is : (storage : List ℕ) (es : List Entry) → length (written (records_in storage es)) ≡ count_by (λ e. not (is_removed e.flags.0)) es
-count_is storage es = as_many storage es ∙ length-filter (λ e. not (is_removed e.flags.0)) es
 
 -- what is written of an entry
 abbrev pub bytes_of : List ℕ → Entry → List ℕ

@@ -2,12 +2,13 @@
 
 mod entry;
 
-ghost use Rattle.std.specs.Prelude.{◌≡◌, ◌+◌, ◌≤◌, ◌^◌, ◌↔◌, ℕ, List, length, false, is_err, IsTrue, All};
-ghost use Rattle.std.specs.List.{flat_map, list_any};
-ghost use Rattle.index_parts.specs.Flags.{is_extended};
+ghost use Rattle.std.specs.Prelude.{◌≡◌, ◌+◌, ◌<◌, ◌≤◌, ◌^◌, length, false, is_err, All, IfSome, IfNone, if◌then◌else◌};
+ghost use Rattle.std.specs.List.{flat_map};
 ghost use Rattle.index_parts.specs.Taking.{Puts};
 ghost use Rattle.index_entries.specs.EntryImage.{entry_bytes, written, needed_version, header_bytes};
+ghost use Rattle.index_entries.specs.Header.{header_len};
 ghost use Rattle.index_entries.specs.Record.{IsPlaced, records_in};
+ghost use Rattle.index_entries.specs.declared.Version.TheVariants.{V2, V3};
 
 use crate::decode::header::HEADER_LEN;
 use crate::{Entry, Version};
@@ -16,33 +17,15 @@ use index_parts::entry::Flags;
 use index_parts::hash::io::Out;
 use std::io;
 
-/// Whether an entry has a second word of flags, even one that is left out.
-fn has_extended(entries: &[Entry]) -> bool
-    ensures { result ≡ list_any (λ e. is_extended e.flags.0) entries.now }
-{
-    entries
-        .iter()
-        .any(|entry| entry.flags.contains(Flags::EXTENDED))
-}
-
-/// The version of the format that the entries need: 3 where one has a second word of flags, even one that is left out.
-#[tactic(auto, using(crate::proofs::Written::any_record))]
-pub fn needed_version(entries: &[Entry]) -> Version
-    ensures { (storage : List ℕ) → result ≡ needed_version (records_in storage entries.now) }
-{
-    if has_extended(entries) {
-        return Version::V3;
-    }
-    Version::V2
-}
-
-/// How many of the entries are written.
-#[tactic(auto, using(crate::proofs::Written::count_is))]
-pub fn count_written(entries: &[Entry]) -> usize
-    ensures count { (storage : List ℕ) → result ≡ length (written (records_in storage entries.now)) }
-    ensures bound { result ≤ length entries.now }
-{
-    entries.iter().filter(|entry| !entry.is_removed()).count()
+/// What entries come to in a file.
+#[derive(Clone, Copy)]
+pub struct Totals {
+    /// The version that they need: 3 where one has a second word of flags, even one that is left out.
+    pub version: Version,
+    /// How many of them are written.
+    pub count: u32,
+    /// The bytes of the header and of those that are written.
+    pub end: u32,
 }
 
 /// The bytes at the front of a file.
@@ -70,19 +53,41 @@ pub fn put_entries<W: Out>(entries: &[Entry], storage: &[u8], out: &mut W) -> io
     Ok(())
 }
 
-/// Whether the header and the entries take more bytes than 32 bits can count.
-pub fn are_too_large(entries: &[Entry], storage: &[u8]) -> bool
-    requires { All (IsPlaced (length storage.now)) entries.now }
-    ensures { IsTrue result ↔ (2 ^ 32 ≤ 12 + length (flat_map entry_bytes (written (records_in storage.now entries.now)))) }
+/// The version that entries need where one has a second word of flags, or none has.
+fn version_for(is_extended: bool) -> Version
+    ensures { result ≡ (if is_extended then V3 else V2) }
 {
-    let mut total = HEADER_LEN as u64;
+    if is_extended {
+        return Version::V3;
+    }
+    Version::V2
+}
+
+/// What the entries come to, by one pass over them; None where 32 bits can't count the bytes.
+pub fn totals_of(entries: &[Entry], storage: &[u8]) -> Option<Totals>
+    requires placed { All (IsPlaced (length storage.now)) entries.now }
+    requires few { length entries.now < 2 ^ 32 }
+    ensures version { IfSome result (λ t. t.version ≡ needed_version (records_in storage.now entries.now)) }
+    ensures count { IfSome result (λ t. t.count ≡ length (written (records_in storage.now entries.now))) }
+    ensures end { IfSome result (λ t. t.end ≡ header_len + length (flat_map entry_bytes (written (records_in storage.now entries.now)))) }
+    ensures none { IfNone result (2 ^ 32 ≤ header_len + length (flat_map entry_bytes (written (records_in storage.now entries.now)))) }
+{
+    let mut is_extended = false;
+    let mut count = 0;
+    let mut end = HEADER_LEN as u64;
     for entry in entries {
+        is_extended |= entry.flags.contains(Flags::EXTENDED);
         if !entry.is_removed() {
-            total += entry.written_len(storage);
-            if total > u64::from(u32::MAX) {
-                return true;
+            count += 1;
+            end += entry.written_len(storage);
+            if end > u64::from(u32::MAX) {
+                return None;
             }
         }
     }
-    false
+    Some(Totals {
+        version: version_for(is_extended),
+        count,
+        end: end as u32,
+    })
 }

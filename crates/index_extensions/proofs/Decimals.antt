@@ -25,7 +25,7 @@ whole high text = high * 10 ^ length text + decimal_value text
 regroup : (high digit power value next : ℕ) → next ≡ 10 * power → high * next + (digit * power + value) ≡ (high * 10 + digit) * power + value
 regroup high digit power value next e = rw e (omega arith)
 
-next_power : (n : ℕ) → 10 ^ suc n ≡ 10 * 10 ^ n
+pub next_power : (n : ℕ) → 10 ^ suc n ≡ 10 * 10 ^ n
 next_power n = simp unary_clauses (omega arith)
 
 whole_next : (high b : ℕ) (text : List ℕ) → whole high (b ∷ text) ≡ whole (high * 10 + (b - 48)) text

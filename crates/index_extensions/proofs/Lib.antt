@@ -13,6 +13,7 @@ pub mod Errors
 pub mod FirstContent
 pub mod NodeHeads
 pub mod Items
+pub mod KeptTrees
 pub mod Limits
 pub mod MarkerReadings
 pub mod Marking
@@ -35,3 +36,4 @@ pub mod TreeReadings
 pub mod Trees
 pub mod Walks
 pub mod WrittenItems
+pub mod WrittenTrees

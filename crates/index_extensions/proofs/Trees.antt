@@ -37,7 +37,7 @@ one_subtree kind limit levels bytes t v rest end p q =
 pub one_tree : (kind : Kind) (limit : Option ℕ) (bytes : List ℕ) (t v : Node) → IsTree kind limit bytes t → IsTree kind limit bytes v → t ≡ v
 one_tree kind limit bytes t v p q = (one_subtree kind limit 2048 bytes t v [] [] p q).0
 
-moved : (P : Node → Type 0) (ts vs : List Node) → IsPermutation ts vs → AllByRecursion P ts → AllByRecursion P vs
+pub moved : (P : Node → Type 0) (ts vs : List Node) → IsPermutation ts vs → AllByRecursion P ts → AllByRecursion P vs
 moved P ts vs h a = recursion_from_All P vs (All-permutation P ts vs h (All-from_recursion P ts a))
 
 -- ---- the kind of ids

@@ -14,6 +14,7 @@ pub mod ReadingPaths
 pub mod ResolveUndo
 pub mod Sound
 pub mod Spelling
+pub mod StoredTree
 pub mod Tree
 pub mod TreeImage
 pub mod Untracked

@@ -1,5 +1,6 @@
 pub mod Answers
 pub mod Bodies
+pub mod Canonical
 pub mod Clones
 pub mod Edits
 pub mod Extensions
@@ -14,3 +15,4 @@ pub mod RoundTrip
 pub mod SomeAnswers
 pub mod Storables
 pub mod Twice
+pub mod WrittenOutcomes

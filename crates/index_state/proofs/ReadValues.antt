@@ -1,19 +1,23 @@
 -- A value that was read is storable.
-use Rattle.std.proofs.Common.{◌≡◌, ℕ, ◌<◌, ◌≤◌, Bool, true, false, ltb, List, [], ◌∷◌, length, drop, Option, Some, None, Result, Ok, Err, All, sym, ap, subst, inl, inr}
-use Rattle.std.specs.Prelude.{◌≢◌, MatchBool, MatchResult, codes, IfOk}
+use Rattle.std.proofs.Common.{◌≡◌, ℕ, ◌<◌, ◌≤◌, Bool, true, false, ltb, List, [], ◌∷◌, length, drop, Option, Some, None, Result, Ok, Err, All, refl, sym, ap, subst, inl, inr}
+use Rattle.std.specs.Prelude.{◌≢◌, ◌||◌, MatchBool, MatchResult, codes, IfOk, IfSome}
 use Rattle.std.specs.List.{AllByRecursion}
 use Rattle.std.proofs.lemmas.List.Elements.{All-nil, All-cons, All-drop, All-from_recursion}
 use Rattle.index_parts.specs.Id.{id_kind}
 use Rattle.index_parts.specs.declared.hash.Kind.{Kind}
 use Rattle.index_parts.specs.declared.hash.ObjectId.{ObjectId}
 use Rattle.index_parts.specs.declared.entry.stat.FileTime.{FileTime}
+use Rattle.index_extensions.specs.Contents.{last_content, IsValue}
+use Rattle.index_extensions.specs.StoredTree.{stored_node, IsStorableTree}
+use Rattle.index_extensions.specs.Tree.{Node, IsTree}
 use Rattle.index_extensions.specs.Walk.{Item}
+use Rattle.index_extensions.proofs.KeptTrees.{read_stays, read_storable}
 use Rattle.index_entries.specs.declared.Version.{Version}
 use Rattle.index_entries.specs.Entries.{AreEntries}
 use Rattle.index_entries.specs.Header.{HeaderFault, Corrupt, header_of, count_of}
 use Rattle.index_entries.specs.Limits.{most_entries, is_too_large}
-use Rattle.index_entries.specs.Record.{Record, AreBytes, IsSized}
-use Rattle.index_entries.proofs.ReadRecords.{IsKept, all_read}
+use Rattle.index_entries.specs.Record.{Record, AreBytes, IsSized, has_directory}
+use Rattle.index_entries.proofs.ReadRecords.{IsKept, AreKept, all_read}
 use Rattle.index_state.specs.declared.State.{State}
 use Rattle.index_state.specs.declared.decode.Error.{Error}
 use Rattle.index_state.specs.declared.decode.Options.{Options}
@@ -85,20 +89,46 @@ each_of : {A : Type 0} (P Q : A → Type 0) → ((x : A) → P x → Q x) → (x
 each_of P Q f [] h = All-nil Q
 each_of P Q f (x ∷ xs) h = All-cons Q x xs (f x h.0) (each_of P Q f xs h.1)
 
--- a value that was read of bytes is storable
-value_storable : (kind : Kind) (time : FileTime) (options : Options) (bytes : List ℕ) (v : Contents) → AreBytes bytes → HasValue kind time options bytes v → IsStorable v
-value_storable kind time options bytes v b h =
+tree_value : (kind : Kind) (limit : Option ℕ) (P : Node → Type 0) → ((bytes : List ℕ) (t : Node) → IsTree kind limit bytes t → P t) → (content : Option (List ℕ)) (value : Option Node) → IsValue (IsTree kind limit) content value → IfSome value P
+tree_value kind limit P each content None h = tt
+tree_value kind limit P each None (Some t) h = absurd cc
+tree_value kind limit P each (Some bytes) (Some t) h = each bytes t h
+
+-- what a value that was read is: of this kind, a file keeps all of its records and its tree, and it is storable where bytes are
+pub record IsReadValue (kind : Kind) (bytes : List ℕ) (v : Contents) : Type 0 where
+  pub is_kind : v.kind ≡ kind
+  pub kept : AreKept kind v.records
+  pub tree : IfSome v.extensions.tree (λ t. stored_node kind t ≡ t)
+  pub sparse : (v.extensions.sparse || has_directory v.records) ≡ v.extensions.sparse
+  pub storable : AreBytes bytes → IsStorable v
+
+or_same : (a b : Bool) → ((a || b) || b) ≡ (a || b)
+or_same true b = refl
+or_same false true = refl
+or_same false false = refl
+
+value_read : (kind : Kind) (time : FileTime) (options : Options) (bytes : List ℕ) (v : Contents) → HasValue kind time options bytes v → IsReadValue kind bytes v
+value_read kind time options bytes v h =
+    let limit = options.alloc_limit_bytes in
+    let content = last_content (codes "TREE") h.items in
     let rs = all_read h.version kind (drop 12 bytes) h.records h.rest h.read in
-    subst IsStorable (sym h.is) (record {
-      ids = each_of (IsKept kind) (λ r. id_kind r.id ≡ kind) (λ r k. k.id) h.records rs.kept;
-      paths = each_of (IsKept kind) (λ r. 4095 ≤ length r.path → All (λ b. b ≢ 0) r.path) (λ r k. k.path) h.records rs.kept;
-      fits = All-from_recursion IsSized h.records (rs.fit (All-drop (λ x. x < 256) 12 bytes b));
+    subst (IsReadValue kind bytes) (sym h.is) (record {
+      is_kind = refl;
+      kept = rs.kept;
+      tree = tree_value kind limit (λ t. stored_node kind t ≡ t) (λ b t. read_stays kind limit b t) content h.outcome.tree h.is_outcome.tree;
+      sparse = or_same h.outcome.sparse (has_directory h.records);
+      storable = λ b. record {
+        ids = each_of (IsKept kind) (λ r. id_kind r.id ≡ kind) (λ r k. k.id) h.records rs.kept;
+        paths = each_of (IsKept kind) (λ r. 4095 ≤ length r.path → All (λ b. b ≢ 0) r.path) (λ r k. k.path) h.records rs.kept;
+        fits = All-from_recursion IsSized h.records (rs.fit (All-drop (λ x. x < 256) 12 bytes b));
+        tree = tree_value kind limit (IsStorableTree kind) (λ b t. read_storable kind limit b t) content h.outcome.tree h.is_outcome.tree;
+      };
     })
 
-pub answer_storable : (kind : Kind) (time : FileTime) (options : Options) (bytes : List ℕ) (v : Contents) (c : Option ObjectId) → AreBytes bytes → IsAnswer kind time options bytes (Ok (v, c)) → IsStorable v
-answer_storable kind time options bytes v c b h = value_storable kind time options bytes v b (value_is kind time options bytes v c h)
+pub answer_read : (kind : Kind) (time : FileTime) (options : Options) (bytes : List ℕ) (v : Contents) (c : Option ObjectId) → IsAnswer kind time options bytes (Ok (v, c)) → IsReadValue kind bytes v
+answer_read kind time options bytes v c h = value_read kind time options bytes v (value_is kind time options bytes v c h)
 
 -- a state that was read is storable
 pub says_storable : (kind : Kind) (time : FileTime) (options : Options) (bytes : List ℕ) (r : Result (State × Option ObjectId) Error) → AreBytes bytes → Says r (IsAnswer kind time options bytes) → IfOk r (λ x. IsStorable (contents x.0))
-says_storable kind time options bytes (Ok x) b h = answer_storable kind time options bytes (contents x.0) x.1 b h
+says_storable kind time options bytes (Ok x) b h = (answer_read kind time options bytes (contents x.0) x.1 h).storable b
 says_storable kind time options bytes (Err e) b h = tt

@@ -1,8 +1,9 @@
 -- The answer to the bytes that are written is what a file keeps.
-use Rattle.std.proofs.Common.{◌≡◌, ℕ, ◌+◌, ◌-◌, ◌/◌, ◌^◌, ◌<◌, ◌≤◌, Bool, true, false, not, cond, ltb, List, [], ◌∷◌, ◌++◌, length, map, drop, Option, None, Result, Ok, All, refl, sym, ap, subst, ◌∙◌, append_assoc, append-nil, length-append, arith}
-use Rattle.std.specs.Prelude.{◌≢◌, MatchBool, MatchResult, replicate}
+use Rattle.std.proofs.Common.{◌≡◌, ℕ, ◌+◌, ◌-◌, ◌*◌, ◌/◌, ◌^◌, ◌<◌, ◌≤◌, Bool, true, false, not, cond, ltb, List, [], ◌∷◌, ◌++◌, length, map, drop, Option, Some, None, Ok, All, refl, sym, ap, subst, ◌∙◌, append_assoc, append-nil, length-append, arith}
+use Rattle.std.specs.Prelude.{◌≢◌, replicate, codes, IfSome}
 use Rattle.std.specs.List.{flat_map, list_any, AllByRecursion}
-use Rattle.std.proofs.lemmas.Bool.{le-ltb, eq-eqb}
+use Rattle.std.proofs.lemmas.Bool.{le-ltb, and_parts}
+use Rattle.std.proofs.lemmas.Grind.{flat_map-append}
 use Rattle.std.proofs.lemmas.List.{length-map, length-replicate}
 use Rattle.std.proofs.lemmas.List.Elements.{All-head, All-tail}
 use Rattle.std.proofs.lemmas.Nat.{le-div}
@@ -14,28 +15,33 @@ use Rattle.index_parts.specs.declared.hash.Kind.{Kind}
 use Rattle.index_parts.specs.declared.hash.Kind.TheVariants as kinds
 use Rattle.index_parts.specs.declared.hash.ObjectId.{ObjectId}
 use Rattle.index_parts.specs.declared.entry.stat.FileTime.{FileTime}
-use Rattle.index_extensions.specs.EndMarker.{IsMarker}
+use Rattle.index_extensions.specs.EndMarker.{heads, IsMarked, IsMarker}
+use Rattle.index_extensions.specs.Spelling.{be32, item_bytes, marker_item}
+use Rattle.index_extensions.specs.StoredTree.{stored_node, IsStorableTree}
+use Rattle.index_extensions.specs.Tree.{Node, IsTree}
+use Rattle.index_extensions.specs.TreeImage.{node_bytes}
+use Rattle.index_extensions.specs.Walk.{Item, AreItems}
 use Rattle.index_extensions.proofs.Walks.{no_empty}
+use Rattle.index_extensions.proofs.WrittenItems.{IsWhole, items_there, marker_there}
+use Rattle.index_extensions.proofs.WrittenTrees.{tree_again}
 use Rattle.index_entries.specs.declared.Version.{Version}
-use Rattle.index_entries.specs.declared.Version.TheVariants.{V2, V3}
+use Rattle.index_entries.specs.declared.Version.TheVariants.{V2, V3, V4}
+use Rattle.index_entries.specs.Entries.{AreEntries}
+use Rattle.index_entries.specs.EntryImage.{is_removed, written, header_bytes, stored_record}
+use Rattle.index_entries.specs.Header.{header_of, count_of}
+use Rattle.index_entries.specs.Limits.{block_len, most_entries, smallest_entry, is_too_large}
+use Rattle.index_entries.specs.Record.{Record, IsSized}
+use Rattle.index_entries.proofs.Again.{IsStorableIn, entries_again, smallest_entries}
+use Rattle.index_entries.proofs.Words.{be_be32}
 use Rattle.index_state.specs.declared.decode.Options.{Options as ReadOptions}
 use Rattle.index_state.specs.declared.write.Options.{Options}
 use Rattle.index_state.specs.Answer.{Answer, checksum_of, IsVerified, value_of, whole, IsEnding, walked, IsBody, has, IsCounted, IsAnswer}
-use Rattle.index_entries.specs.Entries.{AreEntries}
-use Rattle.index_entries.specs.Header.{HeaderFault, header_of, count_of}
-use Rattle.index_entries.specs.EntryImage.{entry_bytes, is_removed, written, needed_version, header_bytes}
-use Rattle.index_state.specs.Image.{unmarked, body, trailer, image}
-use Rattle.index_entries.specs.Limits.{most_entries, smallest_entry, is_too_large}
-use Rattle.index_state.specs.Outcome.{no_extension}
-use Rattle.index_entries.specs.Record.{Record, has_directory}
+use Rattle.index_state.specs.Image.{asks_for, image_version, entries_bytes, entries_end, items_of, has_marker, marker_of, unmarked, body, trailer, image}
+use Rattle.index_state.specs.Outcome.{Outcome, AreSound, IsOutcome}
 use Rattle.index_state.specs.State.{Contents}
-use Rattle.index_state.specs.Storable.{IsStorable}
-use Rattle.index_entries.specs.Record.{IsSized}
-use Rattle.index_entries.specs.EntryImage.{stored_record, stored_records}
-use Rattle.index_state.specs.Stored.{stored, expected}
-use Rattle.index_entries.proofs.Again.{IsStorableIn, entries_again, smallest_entries}
-use Rattle.index_state.proofs.Extensions.{none_sound, no_outcome}
-use Rattle.index_entries.proofs.Words.{be_be32}
+use Rattle.index_state.specs.Storable.{IsStorable, IsWritable, IsUnmistakable}
+use Rattle.index_state.specs.Stored.{expected}
+use Rattle.index_state.proofs.WrittenOutcomes.{marker_items, written_outcome, outcome_there, all_sound, some_whole, all_whole, content_small, first_item}
 
 -- ---- the records that are written can be read again
 
@@ -54,64 +60,97 @@ fewer_by : (b : Bool) (r : Record) (rs : List Record) → length (cond b (r ∷ 
 fewer_by true r rs = omega arith
 fewer_by false r rs = omega arith
 
-pub fewer_written : (rs : List Record) → length (written rs) ≤ length rs
+fewer_written : (rs : List Record) → length (written rs) ≤ length rs
 fewer_written [] = omega arith
 fewer_written (r ∷ rs) = omega (arith, fewer_by (not (is_removed r.flags)) r (written rs), fewer_written rs)
 
--- ---- the header, in version 3 (true) as in version 2 (false)
+-- Of these bytes these records are read as entries of a version, whatever stands behind them, and none has fewer bytes than the
+-- smallest entry.
+record AreWritten (version : Version) (kind : Kind) (rs : List Record) (es : List ℕ) : Type 0 where
+  read : (rest : List ℕ) → 1 ≤ length rest → AreEntries version kind None (es ++ rest) (map stored_record rs) rest
+  room : length rs * smallest_entry kind version ≤ length es
 
-header_again : (b : Bool) (kind : Kind) (n : ℕ) (rest : List ℕ) → id_len kind ≤ length rest → header_of kind (header_bytes (cond b V3 V2) n ++ rest) ≡ Ok (cond b V3 V2)
-header_again true kind n rest le = let long : ltb (length (header_bytes V3 n ++ rest)) (12 + id_len kind) ≡ false = le-ltb _ _ (omega arith) in rw long refl
-header_again false kind n rest le = let long : ltb (length (header_bytes V2 n ++ rest)) (12 + id_len kind) ≡ false = le-ltb _ _ (omega arith) in rw long refl
+-- the entries of an image, in the version that it has
+entries_there : (v : Contents) (options : Options) → IsStorable v → AreWritten (image_version v options) v.kind (written v.records) (entries_bytes v options)
+entries_there v options h =
+    let b : Bool = list_any (λ r. is_extended r.flags) v.records in
+    let each = storable_from v.kind v.records h.ids h.paths h.fits in
+    record {
+      read = λ rest some. entries_again b v.kind None (written v.records) rest each;
+      room = smallest_entries b v.kind (written v.records) each;
+    }
 
-count_again : (b : Bool) (n : ℕ) (rest : List ℕ) → n < 2 ^ 32 → count_of (header_bytes (cond b V3 V2) n ++ rest) ≡ n
-count_again true n rest lt = be_be32 n lt
-count_again false n rest lt = be_be32 n lt
+-- ---- the header
 
-behind_header : (b : Bool) (n : ℕ) (rest : List ℕ) → (drop 12 (header_bytes (cond b V3 V2) n ++ rest) ≡ rest) × (length (header_bytes (cond b V3 V2) n ++ rest) ≡ 12 + length rest)
-behind_header true n rest = (refl, omega arith)
-behind_header false n rest = (refl, omega arith)
+header_again : (version : Version) (kind : Kind) (n : ℕ) (rest : List ℕ) → id_len kind ≤ length rest → header_of kind (header_bytes version n ++ rest) ≡ Ok version
+header_again V2 kind n rest le = let long : ltb (length (header_bytes V2 n ++ rest)) (12 + id_len kind) ≡ false = le-ltb _ _ (omega arith) in rw long refl
+header_again V3 kind n rest le = let long : ltb (length (header_bytes V3 n ++ rest)) (12 + id_len kind) ≡ false = le-ltb _ _ (omega arith) in rw long refl
+header_again V4 kind n rest le = let long : ltb (length (header_bytes V4 n ++ rest)) (12 + id_len kind) ≡ false = le-ltb _ _ (omega arith) in rw long refl
+
+count_again : (version : Version) (n : ℕ) (rest : List ℕ) → n < 2 ^ 32 → count_of (header_bytes version n ++ rest) ≡ n
+count_again version n rest lt = be_be32 n lt
+
+behind_header : (version : Version) (n : ℕ) (rest : List ℕ) → (drop 12 (header_bytes version n ++ rest) ≡ rest) × (length (header_bytes version n ++ rest) ≡ 12 + length rest)
+behind_header version n rest = (refl, omega arith)
 
 -- ---- the parts of an answer
 
-some_entry : (b : Bool) (kind : Kind) → 0 < smallest_entry kind (cond b V3 V2)
-some_entry true kinds.Sha1 = omega arith
-some_entry true kinds.Sha256 = omega arith
-some_entry false kinds.Sha1 = omega arith
-some_entry false kinds.Sha256 = omega arith
+some_entry : (version : Version) (kind : Kind) → 0 < smallest_entry kind version
+some_entry V2 kinds.Sha1 = omega arith
+some_entry V3 kinds.Sha1 = omega arith
+some_entry V4 kinds.Sha1 = omega arith
+some_entry V2 kinds.Sha256 = omega arith
+some_entry V3 kinds.Sha256 = omega arith
+some_entry V4 kinds.Sha256 = omega arith
 
-no_limit : (limit : Option ℕ) (count len : ℕ) (kind : Kind) (version : Version) → limit ≡ None → is_too_large limit count len None kind version ≡ false
-no_limit limit count len kind version e = rw e refl
+no_limit : (limit : Option ℕ) (count len : ℕ) (offset : Option ℕ) (kind : Kind) (version : Version) → limit ≡ None → is_too_large limit count len offset kind version ≡ false
+no_limit limit count len offset kind version e = rw e refl
 
 unchecked : (expected_id actual : Option ObjectId) (a : Answer) → expected_id ≡ None → IsVerified expected_id actual a a
 unchecked expected_id actual a e = rw e refl
 
--- a trailer alone, behind no extension
-trailer_alone : (kind : Kind) (time : FileTime) (options : ReadOptions) (version : Version) (rs : List Record) (ending : List ℕ) (a : Answer) → length ending ≡ id_len kind → IsVerified options.expected_checksum (checksum_of kind ending) (Ok (value_of kind time version rs no_extension, checksum_of kind ending)) a → IsEnding kind time options version rs ending a
-trailer_alone kind time options version rs ending a len h = walked [] ending [] [] refl len (record { items_are = refl; ended = no_empty }) (whole no_extension (none_sound kind) refl (no_outcome kind options.alloc_limit_bytes) h)
+-- the parts of a file
+record AreParts (version : Version) (kind : Kind) (rs : List Record) (es : List ℕ) (items : List Item) (ending : List ℕ) : Type 0 where
+  entries : AreWritten version kind rs es
+  few : length rs < 2 ^ 32
+  whole_items : AllByRecursion IsWhole items
+  sound : AreSound kind items
+  len : length ending ≡ id_len kind
 
--- a header, entries that can be read, and as many bytes as an id has, among which no end marker is found
-pub file_again : (b : Bool) (kind : Kind) (time : FileTime) (options : ReadOptions) (rs : List Record) (ending : List ℕ) → AllByRecursion (IsStorableIn kind) rs → length rs < 2 ^ 32 → length ending ≡ id_len kind → options.alloc_limit_bytes ≡ None → options.expected_checksum ≡ None
-    → IsMarker kind (header_bytes (cond b V3 V2) (length rs) ++ (flat_map entry_bytes rs ++ ending)) None
-    → IsAnswer kind time options (header_bytes (cond b V3 V2) (length rs) ++ (flat_map entry_bytes rs ++ ending)) (Ok (value_of kind time (cond b V3 V2) (map stored_record rs) no_extension, checksum_of kind ending))
-file_again b kind time options rs ending h few len limit check unmarked_end =
-    let version : Version = cond b V3 V2 in
-    let rest : List ℕ = flat_map entry_bytes rs ++ ending in
-    let bytes : List ℕ = header_bytes version (length rs) ++ rest in
-    let a : Answer = Ok (value_of kind time version (map stored_record rs) no_extension, checksum_of kind ending) in
-    let both : length rest ≡ length (flat_map entry_bytes rs) + length ending = length-append (flat_map entry_bytes rs) ending in
-    let behind = behind_header b (length rs) rest in
-    let total : length bytes ≡ 12 + length rest = behind.1 in
-    let count : count_of bytes ≡ length rs = count_again b (length rs) rest few in
-    let header : header_of kind bytes ≡ Ok version = header_again b kind (length rs) rest (omega arith) in
-    let wide : length rs ≤ (length bytes - id_len kind - 12) / smallest_entry kind version = le-div (length rs) (length bytes - id_len kind - 12) (smallest_entry kind version) (some_entry b kind) (omega (arith, smallest_entries b kind rs h)) in
-    let room : ltb (most_entries (length bytes) None kind version) (count_of bytes) ≡ false = le-ltb _ _ (omega arith) in
-    let small = no_limit options.alloc_limit_bytes (count_of bytes) (length bytes) kind version limit in
-    let last : IsEnding kind time options version (map stored_record rs) ending a = trailer_alone kind time options version (map stored_record rs) ending a len (unchecked options.expected_checksum (checksum_of kind ending) a check) in
-    let read = subst (λ (l : List ℕ). AreEntries version kind None l (map stored_record rs) ending) (sym behind.0) (entries_again b kind None rs ending h) in
-    let entries : IsBody kind time options version (count_of bytes) (drop 12 bytes) a = has (map stored_record rs) ending read (length-map rs stored_record ∙ sym count) last in
-    let counted : IsCounted None kind time options bytes a version = rw (room, small) entries in
-    rw header (None, unmarked_end, counted)
+abbrev bytes_of : Version → List Record → List ℕ → List Item → List ℕ → List ℕ
+bytes_of version rs es items ending = header_bytes version (length rs) ++ (es ++ (flat_map item_bytes items ++ ending))
+
+some_id : (kind : Kind) → 1 ≤ id_len kind
+some_id kinds.Sha1 = omega arith
+some_id kinds.Sha256 = omega arith
+
+-- a file of such parts has the answer that they come to, where a marker leaves the entries their room
+file_again : (version : Version) (kind : Kind) (time : FileTime) (options : ReadOptions) (rs : List Record) (es : List ℕ) (items : List Item) (ending : List ℕ) (o : Outcome) (offset : Option ℕ) → AreParts version kind rs es items ending
+    → IsOutcome kind None items o → options.alloc_limit_bytes ≡ None → options.expected_checksum ≡ None
+    → IsMarker kind (bytes_of version rs es items ending) offset → length es ≤ block_len (length (bytes_of version rs es items ending)) offset kind
+    → IsAnswer kind time options (bytes_of version rs es items ending) (Ok (value_of kind time version (map stored_record rs) o, checksum_of kind ending))
+file_again version kind time options rs es items ending o offset h out limit check marker room =
+    let xs : List ℕ = flat_map item_bytes items in
+    let behind : List ℕ = xs ++ ending in
+    let rest : List ℕ = es ++ behind in
+    let bytes : List ℕ = bytes_of version rs es items ending in
+    let a : Answer = Ok (value_of kind time version (map stored_record rs) o, checksum_of kind ending) in
+    let after = behind_header version (length rs) rest in
+    let rest_len : length rest ≡ length es + length behind = length-append es behind in
+    let behind_len : length behind ≡ length xs + length ending = length-append xs ending in
+    let some : 1 ≤ length behind = omega (arith, h.len, some_id kind) in
+    let count : count_of bytes ≡ length rs = count_again version (length rs) rest h.few in
+    let header : header_of kind bytes ≡ Ok version = header_again version kind (length rs) rest (omega (arith, h.len)) in
+    let wide : length rs ≤ block_len (length bytes) offset kind / smallest_entry kind version = le-div (length rs) (block_len (length bytes) offset kind) (smallest_entry kind version) (some_entry version kind) (omega (arith, h.entries.room)) in
+    let enough : ltb (most_entries (length bytes) offset kind version) (count_of bytes) ≡ false = le-ltb _ _ (omega arith) in
+    let small = no_limit options.alloc_limit_bytes (count_of bytes) (length bytes) offset kind version limit in
+    let outcome : IsOutcome kind options.alloc_limit_bytes items o = rw limit out in
+    let walk = subst (λ (l : List ℕ). AreItems l items []) (append-nil xs) (items_there items [] h.whole_items) in
+    let last : IsEnding kind time options version (map stored_record rs) behind a = walked xs ending items [] refl h.len (record { items_are = walk; ended = no_empty }) (whole o h.sound refl outcome (unchecked options.expected_checksum (checksum_of kind ending) a check)) in
+    let read = subst (λ (l : List ℕ). AreEntries version kind None l (map stored_record rs) behind) (sym after.0) (h.entries.read behind some) in
+    let entries : IsBody kind time options version (count_of bytes) (drop 12 bytes) a = has (map stored_record rs) behind read (length-map rs stored_record ∙ sym count) last in
+    let counted : IsCounted offset kind time options bytes a version = rw (enough, small) entries in
+    rw header (offset, marker, counted)
 
 -- ---- the image of a value
 
@@ -119,29 +158,101 @@ trailer_len : (b : Bool) (kind : Kind) (l : List ℕ) → length (cond b (replic
 trailer_len true kind l = length-replicate (id_len kind) 0
 trailer_len false kind l = length-digest kind l
 
-pub length-trailer : (v : Contents) (options : Options) → length (trailer v options) ≡ id_len v.kind
+length-trailer : (v : Contents) (options : Options) → length (trailer v options) ≡ id_len v.kind
 length-trailer v options = trailer_len options.skip_hash v.kind (body v options)
 
-regroup : (h es t : List ℕ) → ((((h ++ es) ++ []) ++ []) ++ []) ++ t ≡ h ++ (es ++ t)
-regroup h es t = simp (append-nil, append_assoc) refl
+regroup : (h es x m t : List ℕ) → ((h ++ (es ++ x)) ++ m) ++ t ≡ h ++ (es ++ ((x ++ m) ++ t))
+regroup h es x m t = simp append_assoc refl
 
-body_parts : (v : Contents) (options : Options) (t : List ℕ) → body v options ++ t ≡ header_bytes (needed_version v.records) (length (written v.records)) ++ (flat_map entry_bytes (written v.records) ++ t)
+body_parts : (v : Contents) (options : Options) (t : List ℕ) → body v options ++ t ≡ bytes_of (image_version v options) (written v.records) (entries_bytes v options) (items_of v options ++ marker_of v options) t
 unfolding body unmarked
-body_parts v options t = regroup (header_bytes (needed_version v.records) (length (written v.records))) (flat_map entry_bytes (written v.records)) t
+body_parts v options t =
+    let xs : List Item = items_of v options in
+    let ms : List Item = marker_of v options in
+    let h : List ℕ = header_bytes (image_version v options) (length (written v.records)) in
+    let es : List ℕ = entries_bytes v options in
+    regroup h es (flat_map item_bytes xs) (flat_map item_bytes ms) t ∙ ap (λ (l : List ℕ). h ++ (es ++ (l ++ t))) (sym (flat_map-append item_bytes xs ms))
 
-pub image_is : (v : Contents) (options : Options) → image v options ≡ header_bytes (needed_version v.records) (length (written v.records)) ++ (flat_map entry_bytes (written v.records) ++ trailer v options)
-image_is v options = body_parts v options (trailer v options)
+unmarked_len : (v : Contents) (options : Options) → length (unmarked v options) ≡ 12 + (length (entries_bytes v options) + length (flat_map item_bytes (items_of v options)))
+unfolding unmarked
+unmarked_len v options = omega (arith, length-append (entries_bytes v options) (flat_map item_bytes (items_of v options)))
 
--- reading the image of a storable value gives what is expected, and the trailer, where the image doesn't imitate an end marker; a mark
--- of a sparse index that no mode shows is not written
-pub written_reads_back : (v : Contents) (options : Options) (time : FileTime) (reading : ReadOptions) → IsStorable v → length v.records < 2 ^ 32 → reading.alloc_limit_bytes ≡ None → reading.expected_checksum ≡ None
-    → IsMarker v.kind (image v options) None → (stored v options).extensions.sparse ≡ has_directory (stored v options).records → IsAnswer v.kind time reading (image v options) (Ok (expected v options time, checksum_of v.kind (trailer v options)))
-written_reads_back v options time reading storable few limit check unmarked_end shown =
-    let rs : List Record = written v.records in
-    let b : Bool = list_any (λ r. is_extended r.flags) v.records in
-    let each : AllByRecursion (IsStorableIn v.kind) rs = storable_from v.kind v.records storable.ids storable.paths storable.fits in
-    let same : expected v options time ≡ value_of v.kind time (needed_version v.records) (stored_records v.records) no_extension = ap (λ (s : Bool). record (value_of v.kind time (needed_version v.records) (stored_records v.records) no_extension) { extensions = record no_extension { sparse = s } }) shown in
+-- ---- the end marker of an image
+
+front_parts : (h es x m t : List ℕ) → h ++ (es ++ ((x ++ m) ++ t)) ≡ (h ++ es) ++ (x ++ (m ++ t))
+front_parts h es x m t = simp append_assoc refl
+
+-- where it has one, it names the place behind the entries
+marked : (v : Contents) (options : Options) → v.kind ≡ kinds.Sha1 → has_marker v options ≡ true → AllByRecursion IsWhole (items_of v options) → entries_end v options < 2 ^ 32
+    → IsMarked v.kind (image v options) (entries_end v options)
+marked v options e b each low =
     let t : List ℕ = trailer v options in
-    let read = file_again b v.kind time reading rs t each (omega (arith, fewer_written v.records)) (length-trailer v options) limit check (subst (λ (l : List ℕ). IsMarker v.kind l None) (image_is v options) unmarked_end) in
-    let at = subst (λ (l : List ℕ). IsAnswer v.kind time reading l (Ok (value_of v.kind time (needed_version v.records) (stored_records v.records) no_extension, checksum_of v.kind t))) (sym (image_is v options)) read in
-    subst (λ (c : Contents). IsAnswer v.kind time reading (image v options) (Ok (c, checksum_of v.kind t))) (sym same) at
+    let items : List Item = items_of v options in
+    let h : List ℕ = header_bytes (image_version v options) (length (written v.records)) in
+    let es : List ℕ = entries_bytes v options in
+    let n : ℕ = entries_end v options in
+    let m : Item = marker_item v.kind n (heads items) in
+    let one : marker_of v options ≡ m ∷ [] = rw b refl in
+    let some = first_item items (and_parts _ _ (and_parts _ _ b).1).1 in
+    let len : length (h ++ es) ≡ n = omega (arith, length-append h es) in
+    let made = marker_there (h ++ es) t some.0 some.1 (omega (arith, len)) (omega (arith, len)) (subst (AllByRecursion IsWhole) some.2 each) (length-trailer v options ∙ ap id_len e) in
+    let listed = subst (λ (is : List Item). IsMarked kinds.Sha1 ((h ++ es) ++ (flat_map item_bytes is ++ (item_bytes (marker_item kinds.Sha1 (length (h ++ es)) (heads is)) ++ t))) (length (h ++ es))) (sym some.2) made in
+    let named = subst (λ (k : ℕ). IsMarked kinds.Sha1 ((h ++ es) ++ (flat_map item_bytes items ++ (item_bytes (marker_item kinds.Sha1 k (heads items)) ++ t))) k) len listed in
+    let kinded = subst (λ (k : Kind). IsMarked k ((h ++ es) ++ (flat_map item_bytes items ++ (item_bytes (marker_item k n (heads items)) ++ t))) n) (sym e) named in
+    let flat : flat_map item_bytes (marker_of v options) ≡ item_bytes m = ap (flat_map item_bytes) one ∙ append-nil (item_bytes m) in
+    let whole_image : image v options ≡ (h ++ es) ++ (flat_map item_bytes items ++ (item_bytes m ++ t)) =
+    body_parts v options t ∙ ap (λ (l : List ℕ). h ++ (es ++ (l ++ t))) (flat_map-append item_bytes items (marker_of v options) ∙ ap (λ (l : List ℕ). flat_map item_bytes items ++ l) flat) ∙ front_parts h es (flat_map item_bytes items) (item_bytes m) t in
+    subst (λ (l : List ℕ). IsMarked v.kind l n) (sym whole_image) kinded
+
+-- the marker that is read in an image, and the entries have room before it
+record HasRoom (v : Contents) (options : Options) : Type 0 where
+  offset : Option ℕ
+  marker : IsMarker v.kind (image v options) offset
+  room : length (entries_bytes v options) ≤ block_len (length (image v options)) offset v.kind
+
+room_by : (v : Contents) (options : Options) (kind : Kind) (b : Bool) → v.kind ≡ kind → has_marker v options ≡ b → AllByRecursion IsWhole (items_of v options) → entries_end v options < 2 ^ 32 → IsUnmistakable v options
+    → length (entries_bytes v options) ≤ length (image v options) - id_len v.kind - 12 → HasRoom v options
+room_by v options kinds.Sha256 b e m each low u room = record { offset = None; marker = λ place h. (let f = h.is_sha1 in absurd cc); room = room }
+room_by v options kinds.Sha1 true e m each low u room = record { offset = Some (entries_end v options); marker = marked v options e m each low; room = omega arith }
+room_by v options kinds.Sha1 false e m each low u room = record { offset = None; marker = u e m; room = room }
+
+-- ---- the answer to an image
+
+tree_read : (kind : Kind) (tree : Option Node) → IfSome tree (IsStorableTree kind) → IfSome tree (λ t. IsTree kind None (node_bytes t) (stored_node kind t))
+tree_read kind None h = tt
+tree_read kind (Some t) h = tree_again kind t h
+
+-- reading the image of a storable value gives what is expected, and the trailer
+pub written_reads_back : (v : Contents) (options : Options) (time : FileTime) (reading : ReadOptions) → IsStorable v → IsWritable v options → IsUnmistakable v options
+    → reading.alloc_limit_bytes ≡ None → reading.expected_checksum ≡ None
+    → IsAnswer v.kind time reading (image v options) (Ok (expected v options time, checksum_of v.kind (trailer v options)))
+unfolding items_of
+written_reads_back v options time reading storable writable unmistakable limit check =
+    let version : Version = image_version v options in
+    let rs : List Record = written v.records in
+    let es : List ℕ = entries_bytes v options in
+    let t : List ℕ = trailer v options in
+    let asked : Bool = asks_for options.extensions (codes "TREE") in
+    let tree : Option Node = v.extensions.tree in
+    let sparse : Bool = v.extensions.sparse in
+    let m : Bool = has_marker v options in
+    let content : List ℕ = be32 (entries_end v options) ++ digest v.kind (heads (items_of v options)) in
+    let items : List Item = items_of v options ++ marker_items m content in
+    let o : Outcome = written_outcome v.kind asked tree sparse m in
+    let small : 12 + (length es + length (flat_map item_bytes (items_of v options))) < 2 ^ 32 = omega (arith, writable.small, unmarked_len v options) in
+    let each = some_whole asked tree sparse (omega (arith, small)) in
+    let image_is : image v options ≡ bytes_of version rs es items t = body_parts v options t in
+    let parts : AreParts version v.kind rs es items t = record {
+      entries = entries_there v options storable;
+      few = omega (arith, fewer_written v.records, writable.few);
+      whole_items = all_whole asked tree sparse m content (omega (arith, small)) (content_small v.kind (entries_end v options) (heads (items_of v options)));
+      sound = all_sound v.kind asked tree sparse m content;
+      len = length-trailer v options;
+    } in
+    let out = outcome_there v.kind asked tree sparse m content (tree_read v.kind tree storable.tree) in
+    let long : length (image v options) ≡ 12 + (length es + (length (flat_map item_bytes items) + length t)) = ap length image_is ∙ omega (arith, length-append es (flat_map item_bytes items ++ t), length-append (flat_map item_bytes items) t) in
+    let room = room_by v options v.kind m refl refl each (omega (arith, small)) unmistakable (omega (arith, long, length-trailer v options)) in
+    let marker = subst (λ (l : List ℕ). IsMarker v.kind l room.offset) image_is room.marker in
+    let fits = subst (λ (l : List ℕ). length es ≤ block_len (length l) room.offset v.kind) image_is room.room in
+    let read = file_again version v.kind time reading rs es items t o room.offset parts out limit check marker fits in
+    subst (λ (l : List ℕ). IsAnswer v.kind time reading l (Ok (expected v options time, checksum_of v.kind t))) (sym image_is) read

@@ -3,6 +3,7 @@ pub mod Edits
 pub mod Faults
 pub mod Gathered
 pub mod Image
+pub mod Layout
 pub mod Link
 pub mod Outcome
 pub mod State

@@ -1,15 +1,21 @@
 //! Writing an index as the bytes of a file.
 
-ghost use Rattle.std.specs.Prelude.{◌≡◌, ◌≤◌, ◌<◌, ◌^◌, ◌↔◌, length, false, is_err, IsTrue, IfOk, OnOk};
+mod behind;
+mod layout;
+
+ghost use Rattle.std.specs.Prelude.{◌≡◌, ◌≤◌, ◌<◌, ◌^◌, ◌↔◌, length, false, is_err, IfOk, OnOk, Some, None, if◌then◌else◌};
 ghost use Rattle.index_parts.specs.Taking.{Hashes, Puts};
 ghost use Rattle.index_state.specs.declared.write.Error.TheVariants.{Io};
-ghost use Rattle.index_state.specs.Image.{image_version, unmarked, body};
+ghost use Rattle.index_state.specs.Image.{asks_for, image_version, unmarked, body};
+ghost use Rattle.index_state.specs.Layout.{front_bytes_of, IsLayout};
 ghost use Rattle.index_state.specs.State.{PathsInStorage, contents};
 ghost use Rattle.index_state.specs.Writing.{Writes};
 
 use crate::State;
 use index_entries::{Version, write};
+use index_extensions::extension::{Signature, end_of_index_entry, tree};
 use index_parts::hash::io::Out;
+use layout::Layout;
 use std::io;
 use thiserror::Error;
 
@@ -61,29 +67,57 @@ impl From<io::Error> for Error {
     }
 }
 
-impl State {
-    /// Whether all that stands before the end marker takes more bytes than 32 bits can count.
-    #[tactic(auto, using(crate::proofs::Bodies::length_unmarked))]
-    fn is_too_large(&self, options: Options) -> bool
-        requires { PathsInStorage self.now }
-        ensures { IsTrue result ↔ (2 ^ 32 ≤ length (unmarked (contents self.now) options)) }
+impl Extensions {
+    /// The signature, where the extension with it is to be written. It speaks of those that a reader can do without: `sdir` is
+    /// written wherever the index is sparse, though the answer to it is None with any choice but [`Extensions::All`].
+    pub fn should_write(&self, signature: Signature) -> Option<Signature>
+        ensures { result ≡ (if asks_for self.now signature then Some signature else None) }
     {
-        write::are_too_large(&self.entries, &self.path_backing)
+        let asked = match *self {
+            Extensions::All => true,
+            Extensions::Given {
+                tree_cache,
+                end_of_index_entry,
+            } => {
+                if signature == tree::SIGNATURE {
+                    tree_cache
+                } else if signature == end_of_index_entry::SIGNATURE {
+                    end_of_index_entry
+                } else {
+                    false
+                }
+            }
+            Extensions::None => false,
+        };
+        if asked { Some(signature) } else { None }
+    }
+}
+
+impl State {
+    /// Writes the header and the entries.
+    fn put_front<W: Out>(&self, layout: Layout, out: &mut W, options: Options) -> io::Result<()>
+        requires layout { IsLayout layout.entries.version layout.entries.count layout.entries.end layout.tree (contents self.now) options }
+        requires placed { PathsInStorage self.now }
+        requires unfailed { W.failed out.old ≡ false }
+        ensures bytes { Puts W.taken W.hashed out.old out.new result (front_bytes_of (contents self.now) options) }
+        ensures mark { W.failed out.new ≡ is_err result }
+        ensures loan { W.loan out.new ≡ W.loan out.old }
+    {
+        out.put(&write::header(layout.entries.version, layout.entries.count))?;
+        write::put_entries(&self.entries, &self.path_backing, out)
     }
 
     /// Writes all but the trailer.
-    fn put_body<W: Out>(&self, version: Version, out: &mut W, options: Options) -> io::Result<()>
-        requires few { length (contents self.now).records < 2 ^ 32 }
-        requires version { version ≡ image_version (contents self.now) options }
+    fn put_body<W: Out>(&self, layout: Layout, out: &mut W, options: Options) -> io::Result<()>
+        requires layout { IsLayout layout.entries.version layout.entries.count layout.entries.end layout.tree (contents self.now) options }
         requires placed { PathsInStorage self.now }
         requires unfailed { W.failed out.old ≡ false }
         ensures bytes { Puts W.taken W.hashed out.old out.new result (body (contents self.now) options) }
         ensures mark { W.failed out.new ≡ is_err result }
         ensures loan { W.loan out.new ≡ W.loan out.old }
     {
-        let count = write::count_written(&self.entries) as u32;
-        out.put(&write::header(version, count))?;
-        write::put_entries(&self.entries, &self.path_backing, out)
+        self.put_front(layout, out, options)?;
+        self.put_extensions(layout, out, options)
     }
 
     /// Writes the index as the bytes of a file, but for the trailer, and gives the version that they have: 3 where an
@@ -92,7 +126,9 @@ impl State {
     ///
     /// Entries marked `REMOVE` are left out, and the header doesn't count them. The others have their place and
     /// their mode's 32 bits as they are, the bits of their flags that a file keeps, and their id's own bytes, of
-    /// whichever kind. No extension is written, whatever the options say.
+    /// whichever kind. Behind them come the cached tree, where there is one and the options ask for it; the mark of a
+    /// sparse index; and, behind one of these, an end marker, where there are entries, even ones that are left out, and the
+    /// options ask for it.
     ///
     /// [`Error::TooManyEntries`], then [`Error::TooLarge`], come before any byte and leave the writer as it was.
     /// [`Error::Io`] comes only where the writer failed, which then took a front of the bytes. No memory is taken.
@@ -110,11 +146,10 @@ impl State {
         if self.entries.len() > u32::MAX as usize {
             return Err(Error::TooManyEntries);
         }
-        if self.is_too_large(options) {
+        let Some(layout) = self.layout(options) else {
             return Err(Error::TooLarge);
-        }
-        let version = write::needed_version(&self.entries);
-        self.put_body(version, out, options)?;
-        Ok(version)
+        };
+        self.put_body(layout, out, options)?;
+        Ok(layout.entries.version)
     }
 }

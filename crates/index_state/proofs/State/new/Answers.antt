@@ -1,6 +1,6 @@
 use Rattle.std.proofs.Common.{◌≡◌, rules, sym, subst}
 use Rattle.index_state.specs.Edits.{empty_contents}
-use Rattle.index_state.specs.State.{Contents, contents}
+use Rattle.index_state.specs.State.{contents}
 use Rattle.index_state.specs.Storable.{IsStorable}
 use Rattle.index_entries.specs.declared.Version.TheVariants.{V2}
 use Rattle.index_state.proofs.Storables.{empty_storable}
