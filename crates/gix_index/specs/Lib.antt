@@ -11,9 +11,12 @@ pub use Rattle.index_parts.specs.Front
 pub use Rattle.index_parts.specs.Id
 pub use Rattle.index_parts.specs.Limit
 pub use Rattle.index_parts.specs.Mode
+pub use Rattle.index_parts.specs.Object
+pub use Rattle.index_parts.specs.Octal
 pub use Rattle.index_parts.specs.Offset
 pub use Rattle.index_parts.specs.Stat
 pub use Rattle.index_parts.specs.Taking
+pub use Rattle.index_parts.specs.TreeObject
 pub use Rattle.index_lookups.specs.Digits
 pub use Rattle.index_entries.specs.Entries
 pub use Rattle.index_entries.specs.Entry
@@ -28,7 +31,9 @@ pub use Rattle.index_extensions.specs.EndMarker
 pub use Rattle.index_extensions.specs.FsMonitor
 pub use Rattle.index_extensions.specs.OffsetTable
 pub use Rattle.index_extensions.specs.ResolveUndo
+pub use Rattle.index_extensions.specs.Sound
 pub use Rattle.index_extensions.specs.Tree
+pub use Rattle.index_extensions.specs.TreeFaults
 pub use Rattle.index_extensions.specs.Untracked
 pub use Rattle.index_extensions.specs.Walk
 pub use Rattle.index_state.specs.Answer

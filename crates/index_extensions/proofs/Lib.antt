@@ -1,17 +1,17 @@
 pub mod BitmapPlaces
 pub mod BlockHeads
 pub mod BlockReadings
-pub mod EntryBlocks
 pub mod CacheIds
 pub mod CacheReadings
 pub mod Caches
 pub mod Clones
 pub mod Decimals
 pub mod EndMarks
+pub mod EntryBlocks
 pub mod EqualPieces
 pub mod Errors
+pub mod Excesses
 pub mod FirstContent
-pub mod NodeHeads
 pub mod Items
 pub mod KeptTrees
 pub mod Limits
@@ -19,6 +19,7 @@ pub mod MarkerReadings
 pub mod Marking
 pub mod Monitors
 pub mod Nests
+pub mod NodeHeads
 pub mod Octals
 pub mod Orders
 pub mod Paths

@@ -7,8 +7,9 @@ use Rattle.std.proofs.lemmas.List.{length-drop, nil_from_length}
 use Rattle.std.proofs.lemmas.Bool.{ltb-true, lt-ltb, leb-true, le-leb}
 use Rattle.index_parts.specs.declared.hash.ObjectId.{ObjectId}
 use Rattle.index_extensions.specs.Contents.{or_else}
-use Rattle.index_extensions.specs.Sound.{entries_of, entries_sum, RiseFrom, IsSoundNode, AreSoundNodes, IsSoundTree, TreeFault, root_with_name, too_many_entries, out_of_order, name_fault, sum_fault, order_fault, count_fault, row_fault, node_fault, nodes_fault, tree_fault, Says}
+use Rattle.index_extensions.specs.Sound.{entries_of, entries_sum, RiseFrom, IsSoundNode, AreSoundNodes, IsSoundTree}
 use Rattle.index_extensions.specs.Tree.{Node, Nodes, node, none, more, nodes_from, node_of, name_of, name_cmp}
+use Rattle.index_extensions.specs.TreeFaults.{TreeFault, root_with_name, too_many_entries, out_of_order, name_fault, sum_fault, order_fault, count_fault, row_fault, node_fault, nodes_fault, tree_fault, Says}
 use Rattle.index_extensions.specs.declared.extension.tree.Tree.{Tree}
 use Rattle.index_extensions.specs.declared.extension.tree.Tree.TheViews.{out-Tree}
 use Rattle.index_extensions.specs.declared.extension.tree.verify.Error.{Error}
@@ -18,10 +19,10 @@ use Rattle.index_extensions.proofs.Spelled.{node_of-out}
 
 -- ---- the first of two faults
 
-none_both : (o p : Option TreeFault) → o ≡ None → p ≡ None → or_else o p ≡ None
+pub none_both : (o p : Option TreeFault) → o ≡ None → p ≡ None → or_else o p ≡ None
 none_both o p a b = ap (λ (x : Option TreeFault). or_else x p) a ∙ b
 
-or_none : (o p : Option TreeFault) → or_else o p ≡ None → (o ≡ None) × (p ≡ None)
+pub or_none : (o p : Option TreeFault) → or_else o p ≡ None → (o ≡ None) × (p ≡ None)
 or_none None p e = (refl, e)
 or_none (Some f) p e = absurd cc
 
@@ -131,7 +132,7 @@ name_out t = ap name_of (node_of-out t)
 abbrev pub row_of_trees : List Tree → Nodes
 row_of_trees ts = nodes_from (map node_of ts)
 
-cut_at : (xs : List Tree) (i : ℕ) (x : Tree) → i < length xs → x ≡ get_or xs i x → drop i xs ≡ x ∷ drop (i + 1) xs
+pub cut_at : (xs : List Tree) (i : ℕ) (x : Tree) → i < length xs → x ≡ get_or xs i x → drop i xs ≡ x ∷ drop (i + 1) xs
 cut_at xs i x lt is =
     let next : suc i ≡ i + 1 = omega arith in
     drop-cons xs i x lt ∙ ap (λ (y : Tree). y ∷ drop (suc i) xs) (sym is) ∙ ap (λ (n : ℕ). x ∷ drop n xs) next

@@ -16,6 +16,7 @@ pub mod Sound
 pub mod Spelling
 pub mod StoredTree
 pub mod Tree
+pub mod TreeFaults
 pub mod TreeImage
 pub mod Untracked
 pub mod UntrackedReading

@@ -1,21 +1,6 @@
--- Numbers in octal digits (ASCII), as resolve-undo has modes.
-use Rattle.std.specs.Prelude.{◌≡◌, ◌≢◌, ℕ, ◌+◌, ◌-◌, ◌*◌, ◌^◌, ◌<◌, ◌≤◌, List, [], ◌∷◌, All, length}
-
--- `0` to `7`
-abbrev pub IsOctalDigit : ℕ → Type 0
-IsOctalDigit b = (48 ≤ b) × (b ≤ 55)
-
--- what octal digits stand for, by their places
-abbrev pub octal_value : List ℕ → ℕ
-octal_value [] = 0
-octal_value (b ∷ text) = (b - 48) * 8 ^ length text + octal_value text
-
--- text is one or more octal digits that stand for n, which has at most 32 bits
-pub record IsOctal (text : List ℕ) (n : ℕ) : Type 0 where
-  pub some : text ≢ []
-  pub digits : All IsOctalDigit text
-  pub value : n ≡ octal_value text
-  pub fits : n < 2 ^ 32
+-- Modes in octal digits (ASCII), as resolve-undo has them.
+use Rattle.std.specs.Prelude.{◌≡◌, ℕ, List, ◌∷◌}
+use Rattle.index_parts.specs.Octal.{IsOctal}
 
 -- text is a mode: an octal number, with a plus or nothing before it
 pub data IsMode (text : List ℕ) (n : ℕ) : Type 0 where

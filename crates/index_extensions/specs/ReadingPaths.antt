@@ -1,27 +1,11 @@
 -- What the readers of resolve-undo find at the front of bytes, as functions: a value and the rest, or nothing. Public clauses
 -- cite none of these.
-use Rattle.std.specs.Prelude.{ℕ, ◌+◌, ◌-◌, ◌*◌, ◌^◌, ◌==◌, ◌&&◌, nat_le, nat_lt, List, [], ◌∷◌, Option, Some, None, Bool, if◌then◌else◌}
-use Rattle.index_parts.specs.Reading.{◌>>=◌, split_at_byte, object_id_at}
+use Rattle.std.specs.Prelude.{ℕ, ◌==◌, List, [], ◌∷◌, Option, Some, None, if◌then◌else◌}
+use Rattle.index_parts.specs.Reading.{◌>>=◌, split_at_byte, octal_of, object_id_at}
 use Rattle.index_parts.specs.declared.hash.Kind.{Kind}
 use Rattle.index_extensions.specs.ResolveUndo.{PathStages}
 use Rattle.index_extensions.specs.declared.extension.resolve_undo.Stage.{Stage}
 use Rattle.index_extensions.specs.declared.extension.resolve_undo.path.LentPath.{LentPath}
-
-abbrev pub is_octal_digit : ℕ → Bool
-is_octal_digit b = nat_le 48 b && nat_le b 55
-
--- the number that octal digits spell, where the digits before them stand for so much
-abbrev pub octal_from : ℕ → List ℕ → Option ℕ
-octal_from high [] = Some high
-octal_from high (b ∷ text) =
-    if is_octal_digit b then
-    (if nat_lt (high * 8 + (b - 48)) (2 ^ 32) then octal_from (high * 8 + (b - 48)) text else None)
-    else None
-
--- the number of one octal digit or more
-abbrev pub octal_of : List ℕ → Option ℕ
-octal_of [] = None
-octal_of (b ∷ text) = octal_from 0 (b ∷ text)
 
 -- the mode that a plus or nothing and octal digits spell
 abbrev pub mode_of : List ℕ → Option ℕ

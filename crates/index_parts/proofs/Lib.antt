@@ -2,10 +2,12 @@ pub mod BitmapFaults
 pub mod Bitmaps
 pub mod Digests
 pub mod Ids
+pub mod Octals
 pub mod Offsets
 pub mod Places
 pub mod Readers
 pub mod Splits
 pub mod Steps
 pub mod Taking
+pub mod TreeObjects
 pub mod Unpackings

@@ -7,8 +7,12 @@ pub mod Front
 pub mod Id
 pub mod Limit
 pub mod Mode
+pub mod Object
+pub mod Octal
 pub mod Offset
 pub mod Reading
+pub mod ReadingTree
 pub mod Stat
 pub mod Taking
+pub mod TreeObject
 pub mod Unpacking

@@ -4,5 +4,6 @@
 pub mod entry;
 pub mod ewah;
 pub mod hash;
+pub mod object;
 pub mod read;
 pub mod util;

@@ -8,7 +8,7 @@ ghost use Rattle.std.specs.Option.{option_map};
 ghost use Rattle.index_parts.specs.Front.{be, number};
 ghost use Rattle.index_parts.specs.Id.{is_null};
 ghost use Rattle.index_parts.specs.Limit.{IsWithin, is_within};
-ghost use Rattle.index_parts.specs.Reading.{piece_at, split_at_byte, offset_at, number_at, object_id_at};
+ghost use Rattle.index_parts.specs.Reading.{piece_at, split_at_byte, offset_at, number_at, object_id_at, is_octal_digit, octal_of};
 ghost use Rattle.index_parts.specs.Stat.{stat_of};
 
 use crate::entry::Stat;
@@ -71,6 +71,29 @@ pub fn u32(bytes: &[u8]) -> Option<(u32, &[u8])>
 {
     let (front, rest) = piece(bytes, 4)?;
     Some((from_be_u32(front), rest))
+}
+
+fn is_octal_digit(b: u8) -> bool
+    ensures { result ≡ is_octal_digit b }
+{
+    b >= b'0' && b <= b'7'
+}
+
+/// The number of one octal digit or more; None where another byte stands among them, and where it has more than 32 bits.
+pub fn octal(text: &[u8]) -> Option<u32>
+    ensures { result ≡ octal_of text.now }
+{
+    if text.is_empty() {
+        return None;
+    }
+    let mut value = 0u32;
+    for b in text {
+        if !is_octal_digit(*b) {
+            return None;
+        }
+        value = value.checked_mul(8)?.checked_add(u32::from(*b - b'0'))?;
+    }
+    Some(value)
 }
 
 /// The number that eight bytes spell.

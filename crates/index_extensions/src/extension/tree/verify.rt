@@ -1,8 +1,9 @@
 //! Whether a cached tree holds together.
 
-ghost use Rattle.std.specs.Prelude.{◌≡◌, ◌↔◌, ℕ, Some, None, IfOk, IfErr, IsOk, map};
+ghost use Rattle.std.specs.Prelude.{◌≡◌, ◌↔◌, ℕ, false, Some, None, IfOk, IfErr, IsOk, map};
 ghost use Rattle.std.specs.Option.{option_map};
-ghost use Rattle.index_extensions.specs.Sound.{entries_of, entries_sum, IsSoundTree, name_fault, sum_fault, order_fault, count_fault, row_fault, node_fault, tree_fault, Says};
+ghost use Rattle.index_extensions.specs.Sound.{entries_of, entries_sum, IsSoundTree, CountsAtMost};
+ghost use Rattle.index_extensions.specs.TreeFaults.{name_fault, sum_fault, order_fault, count_fault, row_fault, node_fault, tree_fault, excess_fault, excess_in, Says};
 ghost use Rattle.index_extensions.specs.Tree.{node_of, nodes_from};
 ghost use Rattle.index_extensions.specs.declared.extension.tree.verify.Error.TheVariants.{Memory};
 
@@ -10,6 +11,7 @@ use super::Tree;
 use super::nodes::compare_names;
 use bstr::BString;
 use index_parts::hash::ObjectId;
+use index_parts::object::Find;
 use std::alloc::{AllocError, Global};
 use thiserror::Error;
 
@@ -42,6 +44,16 @@ pub enum Error {
         current_path: BString,
         /// The name before it.
         previous_path: BString,
+    },
+    /// A node counts more entries than the index has.
+    #[error("the tree '{name}' of the cached tree counts {actual} entries, but the index has {expected}")]
+    EntriesCountExceedsIndex {
+        /// The node's name; the root has none.
+        name: BString,
+        /// What the node counts.
+        actual: u32,
+        /// How many entries the index has.
+        expected: usize,
     },
     /// There is no memory for the names of a fault.
     #[error("no memory is left to name a fault of the cached tree")]
@@ -141,17 +153,64 @@ fn verify_node(alloc: Global, tree: &Tree) -> Result<(), Error>
     check_count(tree.num_entries, sum)
 }
 
+/// Fails where a node with this name counts more than so many entries, if it counts.
+fn check_excess(alloc: Global, name: &[u8], count: Option<u32>, entries: usize) -> Result<(), Error>
+    ensures ok { IfOk result (λ _. excess_fault entries name.now count ≡ None) }
+    ensures err { IfErr result (λ e. Says e (excess_fault entries name.now count)) }
+{
+    let Some(actual) = count else {
+        return Ok(());
+    };
+    if actual as usize <= entries {
+        return Ok(());
+    }
+    let name = BString::from_slice(alloc, name)?;
+    Err(Error::EntriesCountExceedsIndex {
+        name,
+        actual,
+        expected: entries,
+    })
+}
+
+/// Fails at the first node, each before all below it, that counts more than so many entries.
+fn check_counts(alloc: Global, tree: &Tree, entries: usize) -> Result<(), Error>
+    ensures ok { IfOk result (λ _. excess_in entries (node_of tree.now) ≡ None) }
+    ensures err { IfErr result (λ e. Says e (excess_in entries (node_of tree.now))) }
+{
+    check_excess(alloc, tree.name.as_slice(), tree.num_entries, entries)?;
+    for child in &tree.children {
+        check_counts(alloc, child, entries)?;
+    }
+    Ok(())
+}
+
 impl Tree {
     /// Whether the tree holds together (gitformat-index, "Cache tree"): the root has no name, and at each node the names of its
     /// children increase, and their counts come together to at most 2^32 - 1 and to no more than the node's own, where it has one.
     ///
     /// The first fault is answered: the root's name; then at a node its children together, each child and all below it in turn,
     /// and its own count. Ids and objects aren't looked at. [`Error::Memory`] comes in place of a fault that has a name.
-    pub fn verify(&self, alloc: Global) -> Result<(), Error>
+    pub fn verify<F: Find>(
+        &self,
+        alloc: Global,
+        use_objects: bool,
+        objects: &F,
+    ) -> Result<(), Error>
+        requires without_objects { use_objects ≡ false }
         ensures sound { IsOk result ↔ IsSoundTree (node_of self.now) }
         ensures fault { IfErr result (λ e. Says e (tree_fault (node_of self.now))) }
     {
         check_root(alloc, self.name.as_slice())?;
         verify_node(alloc, self)
+    }
+
+    /// Whether no node counts more than so many entries, which are those of the index.
+    ///
+    /// The first node that does is answered, each before all below it; [`Error::Memory`] comes in its place.
+    pub fn verify_counts(&self, alloc: Global, entries: usize) -> Result<(), Error>
+        ensures within { IsOk result ↔ CountsAtMost entries (node_of self.now) }
+        ensures fault { IfErr result (λ e. Says e (excess_in entries (node_of self.now))) }
+    {
+        check_counts(alloc, self, entries)
     }
 }

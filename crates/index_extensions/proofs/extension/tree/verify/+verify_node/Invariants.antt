@@ -1,5 +1,5 @@
 use Rattle.std.proofs.Common.{◌≡◌, drop}
-use Rattle.index_extensions.specs.Sound.{nodes_fault}
+use Rattle.index_extensions.specs.TreeFaults.{nodes_fault}
 use Rattle.index_extensions.proofs.Sounds.{row_of_trees}
 use Rattle.index_extensions.proofs.extension.tree.verify.+verify_node.Given as goal
 

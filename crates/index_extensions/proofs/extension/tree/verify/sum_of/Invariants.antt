@@ -1,7 +1,8 @@
 use Rattle.std.proofs.Common.{◌≡◌, ◌+◌, drop, None}
 use Rattle.std.specs.Option.{option_map}
-use Rattle.index_extensions.specs.Sound.{entries_sum, row_fault}
+use Rattle.index_extensions.specs.Sound.{entries_sum}
 use Rattle.index_extensions.specs.Tree.{node_of}
+use Rattle.index_extensions.specs.TreeFaults.{row_fault}
 use Rattle.index_extensions.proofs.Sounds.{row_of_trees}
 use Rattle.index_extensions.proofs.extension.tree.verify.sum_of.Given as goal
 

@@ -1,6 +1,6 @@
 use Rattle.std.proofs.Common.{◌≡◌, drop}
-use Rattle.index_extensions.specs.ReadingPaths.{octal_from, octal_of}
-use Rattle.index_extensions.proofs.extension.resolve_undo.octal.octal_of.Given as goal
+use Rattle.index_parts.specs.Reading.{octal_from, octal_of}
+use Rattle.index_parts.proofs.read.octal.Given as goal
 
 abbrev pub invariant-loop-b : goal.invariant-loop-b
 invariant-loop-b l = octal_from l.value (drop l.b-index l.text) ≡ octal_of l.text

@@ -1,0 +1,84 @@
+-- Which fault of a cached tree comes first (gitformat-index, "Cache tree").
+use Rattle.std.specs.Prelude.{◌≡◌, ℕ, ◌+◌, ◌^◌, nat_le, nat_lt, List, [], ◌∷◌, Option, Some, None, if◌then◌else◌}
+use Rattle.std.specs.Ordering.{is_lt}
+use Rattle.bstr.specs.Owned.{bstring_bytes}
+use Rattle.index_parts.specs.declared.hash.ObjectId.{ObjectId}
+use Rattle.index_extensions.specs.Contents.{or_else}
+use Rattle.index_extensions.specs.Sound.{entries_of, entries_sum}
+use Rattle.index_extensions.specs.Tree.{Node, Nodes, node, none, more, name_of, name_cmp}
+use Rattle.index_extensions.specs.declared.extension.tree.verify.Error.{Error}
+use Rattle.index_extensions.specs.declared.extension.tree.verify.Error.TheVariants as errors
+
+pub data TreeFault : Type 0 where
+  root_with_name : (name : List ℕ) → TreeFault
+  too_many_entries : TreeFault
+  out_of_order : (parent : ObjectId) (current previous : List ℕ) → TreeFault
+  too_few_counted : (actual expected : ℕ) → TreeFault
+  too_many_counted : (name : List ℕ) (actual expected : ℕ) → TreeFault
+
+abbrev pub name_fault : List ℕ → Option TreeFault
+name_fault [] = None
+name_fault (b ∷ name) = Some (root_with_name (b ∷ name))
+
+abbrev pub sum_fault : ℕ → Option TreeFault
+sum_fault sum = if nat_lt sum (2 ^ 32) then None else Some too_many_entries
+
+abbrev pub order_fault : ObjectId → Option Node → Node → Option TreeFault
+order_fault parent None t = None
+order_fault parent (Some u) t = if is_lt (name_cmp u t) then None else Some (out_of_order parent (name_of t) (name_of u))
+
+abbrev pub count_fault : Option ℕ → ℕ → Option TreeFault
+count_fault None sum = None
+count_fault (Some own) sum = if nat_le sum own then None else Some (too_few_counted sum own)
+
+-- child by child, where those before count so much and the last of them is this one: their sum, then the order of their names
+abbrev pub row_fault : ObjectId → ℕ → Option Node → Nodes → Option TreeFault
+row_fault parent sum before none = None
+row_fault parent sum before (more t ts) =
+    or_else (sum_fault (sum + entries_of t)) (or_else (order_fault parent before t) (row_fault parent (sum + entries_of t) (Some t) ts))
+
+abbrev mutual
+  -- at a node the children together, then each child and all below it in turn, and last its own count
+  pub node_fault : Node → Option TreeFault
+  node_fault (node name id count children) = or_else (row_fault id 0 None children) (or_else (nodes_fault children) (count_fault count (entries_sum children)))
+
+  pub nodes_fault : Nodes → Option TreeFault
+  nodes_fault none = None
+  nodes_fault (more t ts) = or_else (node_fault t) (nodes_fault ts)
+
+-- the root's name comes before all else
+abbrev pub tree_fault : Node → Option TreeFault
+tree_fault t = or_else (name_fault (name_of t)) (node_fault t)
+
+-- ---- the first node, each before all below it, that counts more than so many entries
+
+abbrev pub excess_fault : ℕ → List ℕ → Option ℕ → Option TreeFault
+excess_fault most name None = None
+excess_fault most name (Some count) = if nat_le count most then None else Some (too_many_counted name count most)
+
+abbrev mutual
+  pub excess_in : ℕ → Node → Option TreeFault
+  excess_in most (node name id count children) = or_else (excess_fault most name count) (excess_among most children)
+
+  pub excess_among : ℕ → Nodes → Option TreeFault
+  excess_among most none = None
+  excess_among most (more t ts) = or_else (excess_in most t) (excess_among most ts)
+
+-- ---- errors
+
+-- an error names its fault; want of memory comes in place of a fault that has a name
+abbrev pub IsErrorOf : Error → TreeFault → Type 0
+IsErrorOf (errors.RootWithName name) fault = fault ≡ root_with_name (bstring_bytes name)
+IsErrorOf (errors.EntriesCount actual expected) fault = fault ≡ too_few_counted actual expected
+IsErrorOf errors.EntriesCountOverflow fault = fault ≡ too_many_entries
+IsErrorOf (errors.OutOfOrder parent current previous) fault = fault ≡ out_of_order parent (bstring_bytes current) (bstring_bytes previous)
+IsErrorOf (errors.EntriesCountExceedsIndex name actual expected) fault = fault ≡ too_many_counted (bstring_bytes name) actual expected
+IsErrorOf errors.Memory (root_with_name name) = Unit {0}
+IsErrorOf errors.Memory (too_many_counted name actual expected) = Unit {0}
+IsErrorOf errors.Memory (out_of_order parent current previous) = Unit {0}
+IsErrorOf errors.Memory too_many_entries = ⊥
+IsErrorOf errors.Memory (too_few_counted actual expected) = ⊥
+
+-- there is a fault, and the error is its
+abbrev pub Says : Error → Option TreeFault → Type 0
+Says e found = (fault : TreeFault) × (found ≡ Some fault) × IsErrorOf e fault
