@@ -3,6 +3,8 @@ pub mod Deltas
 pub mod Falls
 pub mod Kept
 pub mod Lengths
+pub mod Merged
+pub mod Merging
 pub mod OnceEntries
 pub mod Order
 pub mod Pieces

@@ -5,6 +5,8 @@ pub mod Faults
 pub mod Header
 pub mod Lent
 pub mod Limits
+pub mod Merge
+pub mod Merging
 pub mod Order
 pub mod Reading
 pub mod Record

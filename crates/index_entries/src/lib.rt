@@ -1,4 +1,4 @@
-//! The entries of a git index: how a file spells them, in which order they stand, and how they are put in order.
+//! The entries of a git index: how a file spells them, in which order they stand, how they are put in order and merged.
 //!
 //! What is here speaks of entries as a slice, and of the storage in which their paths lie as bytes.
 #![tactic(auto)]
@@ -12,6 +12,7 @@ use std::ops::Range;
 
 pub mod access;
 pub mod decode;
+pub mod merge;
 pub mod paths;
 pub mod write;
 

@@ -6,6 +6,7 @@ pub mod Edits
 pub mod Extensions
 pub mod LinkErrors
 pub mod Links
+pub mod Merges
 pub mod OnceAnswers
 pub mod OnceLinkFaults
 pub mod OnceLinks

@@ -4,6 +4,7 @@ use Rattle.std.specs.Borrow.{Lends, LendsIf, MutBor, Fml, Array}
 use Rattle.std.specs.Vec.{with_items}
 use Rattle.index_parts.specs.declared.hash.Kind.{Kind}
 use Rattle.index_parts.specs.declared.entry.stat.FileTime.{FileTime}
+use Rattle.index_entries.specs.declared.Version.{Version}
 use Rattle.index_entries.specs.declared.Version.TheVariants.{V2}
 use Rattle.index_entries.specs.declared.Entry.{Entry}
 use Rattle.index_state.specs.declared.State.{State}
@@ -33,6 +34,14 @@ without_tree c = record c { extensions = record c.extensions { tree = None } }
 
 abbrev pub without_resolve_undo : Contents → Contents
 without_resolve_undo c = record c { extensions = record c.extensions { resolve_undo = None } }
+
+-- without its link to a shared index; all else stays
+abbrev pub without_link : Contents → Contents
+without_link c = record c { extensions = record c.extensions { link = None } }
+
+-- with another version; all else stays
+abbrev pub with_version : Contents → Version → Contents
+with_version c version = record c { version = version }
 
 -- one more record at the end; all else stays
 abbrev pub with_record : Contents → Record → Contents

@@ -5,6 +5,7 @@ pub mod Gathered
 pub mod Image
 pub mod Layout
 pub mod Link
+pub mod Merge
 pub mod Outcome
 pub mod State
 pub mod Storable

@@ -1,6 +1,7 @@
 //! Asking an index for its entries, and editing them.
 
 mod extensions;
+mod link;
 mod lookup;
 
 ghost use Rattle.std.specs.Borrow.{sem};

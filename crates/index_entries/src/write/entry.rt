@@ -48,7 +48,7 @@ fn six<'a>(
 
 impl Entry {
     /// Whether a file leaves the entry out.
-    pub(super) fn is_removed(&self) -> bool
+    pub(crate) fn is_removed(&self) -> bool
         ensures { result ≡ is_removed self.now.flags.0 }
     {
         self.flags.contains(Flags::REMOVE)

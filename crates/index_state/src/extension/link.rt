@@ -1,6 +1,7 @@
 //! A split index's link to its shared index (gitformat-index, "Split index").
 
 pub mod decode;
+mod dissolve;
 
 ghost use Rattle.std.specs.Prelude.{◌≡◌};
 ghost use Rattle.index_state.specs.Link.{link_of, pair_of};

@@ -1,0 +1,38 @@
+-- What becomes of a split index whose link is dissolved (gitformat-index, "Split index").
+use Rattle.std.specs.Prelude.{◌≡◌, List, ℕ, codes, Option, Some, None, IsSome, IfSome}
+use Rattle.index_entries.specs.Merge.{IsMerge, IsMergeFault}
+use Rattle.index_entries.specs.declared.merge.Error.{Error as MergeError}
+use Rattle.index_entries.specs.declared.merge.Error.TheVariants as merges
+use Rattle.index_state.specs.declared.extension.link.decode.Error.{Error}
+use Rattle.index_state.specs.declared.extension.link.decode.Error.TheVariants as errors
+use Rattle.index_state.specs.Link.{BitmapPair, LinkFault, Corrupt, LinkValue, link_fault}
+use Rattle.index_state.specs.State.{Contents}
+
+-- the records are those of the shared index and its own, merged by the bitmaps; all else stays
+pub record IsMerged (b : BitmapPair) (shared old new : Contents) : Type 0 where
+  pub is : IsMerge b.delete.words b.replace.words shared.records old.records new.records
+  pub others : new ≡ record old { records = new.records }
+
+-- without bitmaps nothing changes
+abbrev pub MergesBy : Option BitmapPair → Contents → Contents → Contents → Type 0
+MergesBy None shared old new = new ≡ old
+MergesBy (Some b) shared old new = IsMerged b shared old new
+
+-- the shared index has no link of its own, and the split one is merged into it
+pub record IsDissolved (l : LinkValue) (shared old new : Contents) : Type 0 where
+  pub alone : shared.extensions.link ≡ None
+  pub merged : MergesBy l.bitmaps shared old new
+
+-- the first fault of a link between two indexes: the shared one links on, or a bitmap doesn't fit them
+pub data IsDissolveFault (l : LinkValue) (shared split : Contents) (fault : LinkFault) : Type 0 where
+  nested : IsSome shared.extensions.link → fault ≡ Corrupt (codes "shared index has a link of its own") → IsDissolveFault l shared split fault
+  broken : (b : BitmapPair) (text : List ℕ) → shared.extensions.link ≡ None → l.bitmaps ≡ Some b → IsMergeFault b.delete.words b.replace.words shared.records split.records text → fault ≡ Corrupt text → IsDissolveFault l shared split fault
+
+-- an error says the first fault; want of memory says nothing
+abbrev pub SaysDissolve : Error → LinkValue → Contents → Contents → Type 0
+SaysDissolve e l shared split = IfSome (link_fault e) (IsDissolveFault l shared split)
+
+-- the error that one of merging entries becomes
+abbrev pub merge_error : MergeError → Error
+merge_error (merges.Corrupt text) = errors.Corrupt text
+merge_error merges.Memory = errors.Memory
