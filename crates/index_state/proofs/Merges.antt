@@ -4,6 +4,7 @@ use Rattle.std.specs.Prelude.{◌≢◌, IfSome}
 use Rattle.std.proofs.lemmas.List.Elements.{All-head, All-tail, All-cons, All-map}
 use Rattle.index_parts.specs.Id.{id_kind}
 use Rattle.index_parts.specs.declared.hash.Kind.{Kind}
+use Rattle.index_extensions.specs.StoredTree.{IsStorableTree}
 use Rattle.index_entries.specs.declared.Entry.{Entry}
 use Rattle.index_entries.specs.declared.merge.Error.{Error as MergeError}
 use Rattle.index_entries.specs.declared.merge.Error.TheVariants as merges
@@ -47,6 +48,7 @@ module _ (b : BitmapPair) (shared old new : Contents) (m : IsMerged b shared old
         ids = subst (λ (k : Kind). All (λ r. id_kind r.id ≡ k) new.records) kind ids;
         paths = merged_have HasLegalPath (λ r s p q. p) mine.paths theirs.paths;
         fits = merged_have IsSized sized_replaced mine.fits theirs.fits;
+        tree = subst (λ (v : Contents). IfSome v.extensions.tree (IsStorableTree v.kind)) (sym m.others) mine.tree;
       }
 
 records_of : (kind : Kind) (storage : List ℕ) (es : List Entry) → IdsAreOf kind es → All (λ r. id_kind r.id ≡ kind) (records_in storage es)
