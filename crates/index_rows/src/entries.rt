@@ -1,13 +1,12 @@
 //! The rows about the values of an entry: flags, stages, modes, times and paths.
 
 use crate::fault::Fault;
+use crate::show::Lines;
 use crate::states::sign_of;
 use crate::words::Words;
 use bitflags::Flags as _;
 use gix_index::Entry;
 use gix_index::entry::{FileTime, Flags, Mode, Stage, at_rest};
-use std::alloc::Global;
-use std::io::{self, Write};
 
 /// Which value is made of the words.
 #[derive(Clone, Copy)]
@@ -43,23 +42,19 @@ impl Call {
         }
     }
 
-    /// Prints what the call answers with the words behind it.
-    pub fn answer<W: Write>(
-        self,
-        alloc: Global,
-        out: &mut W,
-        words: &mut Words<'_>,
-    ) -> Result<(), Fault> {
+    /// Tells what the call answers with the words behind it.
+    pub fn answer(self, out: &mut Lines, words: &mut Words<'_>) -> Result<(), Fault> {
         match self {
-            Call::Flags => flags(out, words.hex()?)?,
-            Call::Word => word(out, word_of(words)?)?,
-            Call::SecondWord => second_word(out, word_of(words)?)?,
+            Call::Flags => flags(out, words.hex()?),
+            Call::Word => word(out, word_of(words)?),
+            Call::SecondWord => second_word(out, word_of(words)?),
             Call::Stage => stage(out, words)?,
-            Call::Mode => mode(out, words.octal()?)?,
+            Call::Mode => mode(out, words.octal()?),
             Call::Time => time(out, words)?,
             Call::Compare => {
-                let (path, other) = (words.path(alloc)?, words.path(alloc)?);
-                writeln!(out, "{}", sign_of(Entry::cmp_filepaths(&path, &other)))?;
+                let path = words.path(out.alloc())?;
+                let other = words.path(out.alloc())?;
+                writeln!(out, "{}", sign_of(Entry::cmp_filepaths(&path, &other)));
             }
         }
         Ok(())
@@ -75,80 +70,66 @@ fn name_of(stage: Stage) -> &'static str {
     }
 }
 
-fn flags<W: Write>(out: &mut W, bits: u32) -> io::Result<()> {
+fn flags(out: &mut Lines, bits: u32) {
     let Some(flags) = Flags::from_bits(bits) else {
-        return writeln!(out, "none");
+        writeln!(out, "none");
+        return;
     };
-    let second = at_rest::FlagsExtended::from_flags(flags);
-    write!(out, "{:08x} ", flags.bits())?;
-    write!(
-        out,
-        "stage {} {} ",
-        flags.stage_raw(),
-        name_of(flags.stage())
-    )?;
-    write!(
-        out,
-        "stored {:04x} {:04x} ",
-        flags.to_storage().bits(),
-        second.bits()
-    )?;
-    writeln!(out, "kept {:08x}", flags.to_kept().bits())
+    let (raw, stage) = (flags.stage_raw(), name_of(flags.stage()));
+    let stored = flags.to_storage().bits();
+    let second = at_rest::FlagsExtended::from_flags(flags).bits();
+    let kept = flags.to_kept().bits();
+    write!(out, "{:08x} stage {raw} {stage} ", flags.bits());
+    writeln!(out, "stored {stored:04x} {second:04x} kept {kept:08x}");
 }
 
 /// A word of 16 bits.
 fn word_of(words: &mut Words<'_>) -> Result<u16, Fault> {
-    u16::try_from(words.hex()?).map_err(|_| Fault::Wrong("16 bits"))
+    let Ok(word) = u16::try_from(words.hex()?) else {
+        return Err(Fault::Wrong("16 bits"));
+    };
+    Ok(word)
 }
 
-fn word<W: Write>(out: &mut W, bits: u16) -> io::Result<()> {
+fn word(out: &mut Lines, bits: u16) {
     let word = at_rest::Flags::from_bits_retain(bits);
-    writeln!(
-        out,
-        "{:04x} in memory {:08x}",
-        word.bits(),
-        word.to_memory().bits()
-    )
+    let memory = word.to_memory().bits();
+    writeln!(out, "{:04x} in memory {memory:08x}", word.bits());
 }
 
-fn second_word<W: Write>(out: &mut W, bits: u16) -> io::Result<()> {
+fn second_word(out: &mut Lines, bits: u16) {
     let word = at_rest::FlagsExtended::from_bits_retain(bits);
-    write!(out, "{:04x} ", word.bits())?;
+    write!(out, "{:04x} ", word.bits());
     match word.to_flags() {
         Some(flags) => writeln!(out, "in memory {:08x}", flags.bits()),
         None => writeln!(out, "none in memory"),
     }
 }
 
-fn stage<W: Write>(out: &mut W, words: &mut Words<'_>) -> Result<(), Fault> {
+fn stage(out: &mut Lines, words: &mut Words<'_>) -> Result<(), Fault> {
     let Some(stage) = words.stage()? else {
         return Err(Fault::Missing("a stage"));
     };
     let (flags, same) = (Flags::from_stage(stage), Flags::from(stage));
-    writeln!(
-        out,
-        "{} {:08x} {:08x}",
-        name_of(flags.stage()),
-        flags.bits(),
-        same.bits()
-    )?;
+    let name = name_of(flags.stage());
+    writeln!(out, "{name} {:08x} {:08x}", flags.bits(), same.bits());
     Ok(())
 }
 
-fn mode<W: Write>(out: &mut W, bits: u32) -> io::Result<()> {
+fn mode(out: &mut Lines, bits: u32) {
     let mode = Mode::from_bits_truncate(bits);
     let kept = Mode::from_bits_retain(bits).to_kept();
-    write!(out, "{:06o} kept {:06o}", mode.bits(), kept.bits())?;
+    write!(out, "{:06o} kept {:06o}", mode.bits(), kept.bits());
     if mode.is_sparse() {
-        write!(out, ", sparse directory")?;
+        write!(out, ", sparse directory");
     }
     if mode.is_submodule() {
-        write!(out, ", submodule")?;
+        write!(out, ", submodule");
     }
-    writeln!(out)
+    writeln!(out);
 }
 
-fn time<W: Write>(out: &mut W, words: &mut Words<'_>) -> Result<(), Fault> {
+fn time(out: &mut Lines, words: &mut Words<'_>) -> Result<(), Fault> {
     let Ok(seconds) = words.next("seconds")?.parse::<i64>() else {
         return Err(Fault::Wrong("a number of seconds"));
     };
@@ -156,8 +137,8 @@ fn time<W: Write>(out: &mut W, words: &mut Words<'_>) -> Result<(), Fault> {
         return Err(Fault::Wrong("a number of nanoseconds"));
     };
     match FileTime::new(seconds, nanoseconds) {
-        Some(time) => writeln!(out, "{} s {} ns", time.unix_seconds(), time.nanoseconds())?,
-        None => writeln!(out, "none")?,
+        Some(time) => writeln!(out, "{} s {} ns", time.unix_seconds(), time.nanoseconds()),
+        None => writeln!(out, "none"),
     }
     Ok(())
 }

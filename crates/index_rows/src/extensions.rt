@@ -1,7 +1,7 @@
 //! The rows about the content of one extension.
 
 use crate::fault::Fault;
-use crate::show::{extension, fault};
+use crate::show::{Lines, extension, fault};
 use crate::words::Words;
 use gix_index::ewah;
 use gix_index::extension::index_entry_offset_table::Offset;
@@ -10,8 +10,7 @@ use gix_index::extension::{
     untracked_cache,
 };
 use gix_index::hash::Kind;
-use std::alloc::Global;
-use std::io::{self, Write};
+use std::alloc::AllocError;
 use std::rt::Files;
 
 /// Which reader is called, with `KIND BYTES [limit N]` behind its name.
@@ -60,11 +59,11 @@ impl Call {
         }
     }
 
-    /// Prints what the call answers with the words behind it.
-    pub fn answer<R: Files + AllocGlobal, W: Write>(
+    /// Tells what the call answers with the words behind it.
+    pub fn answer<R: Files + AllocGlobal>(
         self,
         rt: &R,
-        out: &mut W,
+        out: &mut Lines,
         words: &mut Words<'_>,
     ) -> Result<(), Fault> {
         let kind = words.kind()?;
@@ -72,104 +71,99 @@ impl Call {
         let limit = words.number_named("limit")?;
         match self {
             Call::Tree | Call::ResolveUndo | Call::Untracked | Call::Monitor => {
-                self.value(rt.alloc(), out, kind, limit, &bytes)
+                self.value(out, kind, limit, &bytes)?;
             }
-            _ => self.place(rt.alloc(), out, kind, &bytes),
+            _ => self.place(out, kind, &bytes)?,
         }
+        Ok(())
     }
 
     /// The answer of a reader whose value a state has.
-    fn value<W: Write>(
+    fn value(
         self,
-        alloc: Global,
-        out: &mut W,
+        out: &mut Lines,
         kind: Kind,
         limit: Option<usize>,
         bytes: &[u8],
-    ) -> Result<(), Fault> {
+    ) -> Result<(), AllocError> {
+        let alloc = out.alloc();
         match self {
             Call::Tree => match tree::decode(alloc, bytes, kind, limit)? {
-                Some(tree) => extension::tree(alloc, out, &tree)?,
-                None => none(out)?,
+                Some(tree) => extension::tree(out, &tree),
+                None => none(out),
             },
             Call::ResolveUndo => match resolve_undo::decode(alloc, bytes, kind)? {
-                Some(paths) => extension::resolve_undo(alloc, out, &paths)?,
-                None => none(out)?,
+                Some(paths) => extension::resolve_undo(out, &paths),
+                None => none(out),
             },
             Call::Untracked => match untracked_cache::decode(alloc, bytes, kind, limit)? {
-                Some(cache) => extension::untracked(alloc, out, &cache)?,
-                None => none(out)?,
+                Some(cache) => extension::untracked(out, &cache),
+                None => none(out),
             },
             _ => match fs_monitor::decode(alloc, bytes)? {
-                Some(monitor) => extension::monitor(alloc, out, &monitor)?,
-                None => none(out)?,
+                Some(monitor) => extension::monitor(out, &monitor),
+                None => none(out),
             },
         }
         Ok(())
     }
 
     /// The answer of every other reader.
-    fn place<W: Write>(
-        self,
-        alloc: Global,
-        out: &mut W,
-        kind: Kind,
-        bytes: &[u8],
-    ) -> Result<(), Fault> {
+    fn place(self, out: &mut Lines, kind: Kind, bytes: &[u8]) -> Result<(), AllocError> {
+        let alloc = out.alloc();
         match self {
-            Call::Offsets => offsets(out, index_entry_offset_table::decode(alloc, bytes)?)?,
-            Call::FirstOffsets => offsets(
-                out,
-                index_entry_offset_table::find(alloc, bytes, kind)?,
-            )?,
-            Call::Marker => marker(out, end_of_index_entry::decode(bytes, kind))?,
+            Call::Offsets => offsets(out, index_entry_offset_table::decode(alloc, bytes)?),
+            Call::FirstOffsets => {
+                offsets(out, index_entry_offset_table::find(alloc, bytes, kind)?);
+            }
+            Call::Marker => marker(out, end_of_index_entry::decode(bytes, kind)),
             Call::Link => match link::decode::decode(alloc, bytes, kind) {
-                Ok(link) => extension::link(out, &link)?,
-                Err(e) => fault::link(out, &e)?,
+                Ok(link) => extension::link(out, &link),
+                Err(e) => fault::link(out, &e),
             },
-            Call::Walk => walk(alloc, out, Iter::new(bytes))?,
+            Call::Walk => walk(out, Iter::new(bytes)),
             Call::WalkFile => match Iter::new_without_checksum(bytes, kind) {
-                Some(extensions) => walk(alloc, out, extensions)?,
-                None => none(out)?,
+                Some(extensions) => walk(out, extensions),
+                None => none(out),
             },
-            _ => bitmap(alloc, out, bytes)?,
+            _ => bitmap(out, bytes),
         }
         Ok(())
     }
 }
 
-fn none<W: Write>(out: &mut W) -> io::Result<()> {
-    writeln!(out, "none")
+fn none(out: &mut Lines) {
+    writeln!(out, "none");
 }
 
-fn offsets<W: Write>(out: &mut W, blocks: Option<Vec<Offset>>) -> io::Result<()> {
+fn offsets(out: &mut Lines, blocks: Option<Vec<Offset>>) {
     match blocks {
         Some(blocks) => extension::offsets(out, &blocks),
         None => none(out),
     }
 }
 
-fn marker<W: Write>(out: &mut W, place: Option<usize>) -> io::Result<()> {
+fn marker(out: &mut Lines, place: Option<usize>) {
     match place {
         Some(place) => writeln!(out, "entries end at {place}"),
         None => none(out),
     }
 }
 
-fn bitmap<W: Write>(alloc: Global, out: &mut W, bytes: &[u8]) -> io::Result<()> {
-    match ewah::decode::decode(alloc, bytes) {
+fn bitmap(out: &mut Lines, bytes: &[u8]) {
+    match ewah::decode::decode(out.alloc(), bytes) {
         Ok((bitmap, rest)) => {
-            extension::bitmap(out, "bitmap", &bitmap)?;
-            writeln!(out, "{} bytes behind it", rest.len())
+            extension::bitmap(out, "bitmap", &bitmap);
+            writeln!(out, "{} bytes behind it", rest.len());
         }
         Err(e) => fault::bitmap(out, &e),
     }
 }
 
 /// The extensions of a walk, and how many bytes they take.
-fn walk<W: Write>(alloc: Global, out: &mut W, mut extensions: Iter<'_>) -> io::Result<()> {
+fn walk(out: &mut Lines, mut extensions: Iter<'_>) {
     while let Some(item) = extensions.next() {
-        extension::item(alloc, out, item)?;
+        extension::item(out, item);
     }
-    writeln!(out, "{} bytes walked", extensions.consumed)
+    writeln!(out, "{} bytes walked", extensions.consumed);
 }

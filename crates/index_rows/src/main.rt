@@ -10,12 +10,14 @@
 mod entries;
 mod extensions;
 mod fault;
+mod lookups;
 mod numbers;
 mod show;
 mod states;
 mod words;
 
 use fault::Fault;
+use show::Lines;
 use std::io::{self, BufRead, BufReader, BufWriter, Write};
 use std::process::ExitCode;
 use std::rt::Files;
@@ -45,21 +47,23 @@ impl Call {
     }
 }
 
-/// Prints the row and its answer.
-fn answer<R: Files + AllocGlobal, W: Write>(rt: &R, out: &mut W, row: &str) -> Result<(), Fault> {
-    writeln!(out, "> {row}")?;
+/// The row and its answer, in lines.
+fn answer<R: Files + AllocGlobal>(rt: &R, row: &str) -> Result<String, Fault> {
     let words: Vec<&str> = row.split_whitespace().collect(rt.alloc())?;
     let mut words = Words::new(&words);
     let Some(call) = Call::named(words.next("a call")?) else {
         return Err(Fault::Wrong("the name of a call"));
     };
+    let mut out = Lines::new(rt.alloc());
+    writeln!(out, "> {row}");
     match call {
-        Call::State(call) => call.answer(rt, out, &mut words)?,
-        Call::Extension(call) => call.answer(rt, out, &mut words)?,
-        Call::Number(call) => call.answer(rt, out, &mut words)?,
-        Call::Entry(call) => call.answer(rt.alloc(), out, &mut words)?,
+        Call::State(call) => call.answer(rt, &mut out, &mut words)?,
+        Call::Extension(call) => call.answer(rt, &mut out, &mut words)?,
+        Call::Number(call) => call.answer(rt, &mut out, &mut words)?,
+        Call::Entry(call) => call.answer(&mut out, &mut words)?,
     }
-    words.end()
+    words.end()?;
+    Ok(out.end()?)
 }
 
 /// Answers each row of the table. `line` is the number of the last line that was read, counted from 1.
@@ -70,7 +74,7 @@ fn answer_all<W: Write>(rt: &HostRuntime, out: &mut W, line: &mut u64) -> Result
         let text = text?;
         let row = text.as_str();
         if !row.is_empty() && !row.starts_with('#') {
-            answer(rt, out, row)?;
+            write!(out, "{}", answer(rt, row)?)?;
         }
     }
     Ok(())

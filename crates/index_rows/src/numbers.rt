@@ -1,7 +1,7 @@
 //! The rows about numbers, pieces and digests of bytes, and about how much a file can hold.
 
 use crate::fault::Fault;
-use crate::show;
+use crate::show::{self, Lines};
 use crate::words::Words;
 use gix_index::decode::entries::{
     estimate_path_storage_requirements_in_bytes, max_entries_possible,
@@ -10,9 +10,7 @@ use gix_index::hash::{ObjectId, digest};
 use gix_index::util::{
     from_be_u16, from_be_u32, read_u32, read_u64, split_at_byte_exclusive, var_int,
 };
-use std::alloc::Global;
 use std::fmt::Display;
-use std::io::{self, Write};
 use std::rt::Files;
 
 /// What is asked about bytes.
@@ -58,82 +56,86 @@ impl Call {
         }
     }
 
-    /// Prints what the call answers with the words behind it.
-    pub fn answer<R: Files + AllocGlobal, W: Write>(
+    /// Tells what the call answers with the words behind it.
+    pub fn answer<R: Files + AllocGlobal>(
         self,
         rt: &R,
-        out: &mut W,
+        out: &mut Lines,
         words: &mut Words<'_>,
     ) -> Result<(), Fault> {
         match self {
-            Call::Offset => number(out, var_int(&words.bytes(rt)?))?,
-            Call::Four => number(out, read_u32(&words.bytes(rt)?))?,
-            Call::Eight => number(out, read_u64(&words.bytes(rt)?))?,
-            Call::Whole => whole(out, &words.bytes(rt)?)?,
-            Call::Split => {
-                let bytes = words.bytes(rt)?;
-                split(rt.alloc(), out, &bytes, words)?;
-            }
             Call::Digest => {
                 let kind = words.kind()?;
-                writeln!(out, "{}", digest(kind, &words.bytes(rt)?))?;
+                writeln!(out, "{}", digest(kind, &words.bytes(rt)?));
             }
-            Call::Id => id(out, &words.bytes(rt)?)?,
             Call::Verify => verify(out, &words.bytes(rt)?, &words.bytes(rt)?)?,
             Call::Entries => entries(out, words)?,
             Call::Paths => paths(out, words)?,
+            _ => {
+                let bytes = words.bytes(rt)?;
+                self.front(out, &bytes, words)?;
+            }
+        }
+        Ok(())
+    }
+
+    /// The answer of a call whose first word is bytes.
+    fn front(self, out: &mut Lines, bytes: &[u8], words: &mut Words<'_>) -> Result<(), Fault> {
+        match self {
+            Call::Offset => number(out, var_int(bytes)),
+            Call::Four => number(out, read_u32(bytes)),
+            Call::Eight => number(out, read_u64(bytes)),
+            Call::Whole => whole(out, bytes)?,
+            Call::Split => split(out, bytes, words)?,
+            _ => id(out, bytes),
         }
         Ok(())
     }
 }
 
-fn number<W: Write, N: Display + Copy>(out: &mut W, read: Option<(N, &[u8])>) -> io::Result<()> {
+fn number<N: Display + Copy>(out: &mut Lines, read: Option<(N, &[u8])>) {
     match read {
         Some((number, rest)) => writeln!(out, "{number}, {} bytes behind it", rest.len()),
         None => writeln!(out, "none"),
     }
 }
 
-fn whole<W: Write>(out: &mut W, bytes: &[u8]) -> Result<(), Fault> {
+fn whole(out: &mut Lines, bytes: &[u8]) -> Result<(), Fault> {
     match bytes.len() {
-        2 => writeln!(out, "{}", from_be_u16(bytes))?,
-        4 => writeln!(out, "{}", from_be_u32(bytes))?,
+        2 => writeln!(out, "{}", from_be_u16(bytes)),
+        4 => writeln!(out, "{}", from_be_u32(bytes)),
         _ => return Err(Fault::Wrong("two or four bytes")),
     }
     Ok(())
 }
 
-fn split<W: Write>(
-    alloc: Global,
-    out: &mut W,
-    bytes: &[u8],
-    words: &mut Words<'_>,
-) -> Result<(), Fault> {
+fn split(out: &mut Lines, bytes: &[u8], words: &mut Words<'_>) -> Result<(), Fault> {
     let Ok(byte) = u8::try_from(words.hex()?) else {
         return Err(Fault::Wrong("one byte in base 16"));
     };
     match split_at_byte_exclusive(bytes, byte) {
         Some((front, rest)) => {
-            show::bytes(alloc, out, front)?;
-            show::bytes(alloc, out, rest)?;
+            show::bytes(out, front);
+            show::bytes(out, rest);
         }
-        None => writeln!(out, "none")?,
+        None => writeln!(out, "none"),
     }
     Ok(())
 }
 
-fn id<W: Write>(out: &mut W, bytes: &[u8]) -> io::Result<()> {
+fn id(out: &mut Lines, bytes: &[u8]) {
     let Some(id) = ObjectId::from_bytes(bytes) else {
-        return writeln!(out, "none");
+        writeln!(out, "none");
+        return;
     };
-    write!(out, "{id} of {}", show::state::name_of(id.kind()))?;
+    write!(out, "{id} of {}", show::state::name_of(id.kind()));
     if id.is_null() {
-        write!(out, ", null")?;
+        write!(out, ", null");
     }
-    writeln!(out)
+    writeln!(out);
 }
 
-fn verify<W: Write>(out: &mut W, actual: &[u8], expected: &[u8]) -> Result<(), Fault> {
+fn verify(out: &mut Lines, actual: &[u8], expected: &[u8]) -> Result<(), Fault> {
     let (Some(actual), Some(expected)) = (
         ObjectId::from_bytes(actual),
         ObjectId::from_bytes(expected),
@@ -141,21 +143,22 @@ fn verify<W: Write>(out: &mut W, actual: &[u8], expected: &[u8]) -> Result<(), F
         return Err(Fault::Wrong("an id"));
     };
     match actual.verify(&expected) {
-        Ok(()) => writeln!(out, "equal")?,
-        Err(e) => writeln!(out, "fault digest {}, not {}", e.actual, e.expected)?,
+        Ok(()) => writeln!(out, "equal"),
+        Err(e) => writeln!(out, "fault digest {}, not {}", e.actual, e.expected),
     }
     Ok(())
 }
 
-fn entries<W: Write>(out: &mut W, words: &mut Words<'_>) -> Result<(), Fault> {
+fn entries(out: &mut Lines, words: &mut Words<'_>) -> Result<(), Fault> {
     let (kind, version) = (words.kind()?, words.version()?);
     let len = words.number()?;
     let offset = words.number_named("offset")?;
     let most = max_entries_possible(len, offset, kind, version);
-    Ok(writeln!(out, "at most {most} entries")?)
+    writeln!(out, "at most {most} entries");
+    Ok(())
 }
 
-fn paths<W: Write>(out: &mut W, words: &mut Words<'_>) -> Result<(), Fault> {
+fn paths(out: &mut Lines, words: &mut Words<'_>) -> Result<(), Fault> {
     let (kind, version) = (words.kind()?, words.version()?);
     let Ok(count) = u32::try_from(words.number()?) else {
         return Err(Fault::Wrong("a number of entries"));
@@ -163,5 +166,6 @@ fn paths<W: Write>(out: &mut W, words: &mut Words<'_>) -> Result<(), Fault> {
     let len = words.number()?;
     let offset = words.number_named("offset")?;
     let most = estimate_path_storage_requirements_in_bytes(count, len, offset, kind, version);
-    Ok(writeln!(out, "about {most} bytes of paths")?)
+    writeln!(out, "about {most} bytes of paths");
+    Ok(())
 }

@@ -1,16 +1,15 @@
 //! The rows about a whole index: read, searched and written.
 
 use crate::fault::Fault;
-use crate::show::{self, fault};
+use crate::lookups;
+use crate::show::{self, Lines, fault};
 use crate::words::Words;
 use gix_index::entry::FileTime;
-use gix_index::file::init;
-use gix_index::hash::io::{Out, Plain};
+use gix_index::hash::io::Plain;
 use gix_index::hash::{Kind, ObjectId};
 use gix_index::{Entry, File, State, decode, write};
-use std::alloc::Global;
+use std::alloc::{AllocError, Global};
 use std::cmp::Ordering;
-use std::io::{self, Write};
 use std::path::PathBuf;
 use std::rt::Files;
 
@@ -35,6 +34,8 @@ pub enum Call {
     Body,
     /// `write KIND STATE [null]`: the file that is written, with its digest or with a null trailer.
     Write,
+    /// `lookups KIND STATE PATH..`: what each lookup answers for each path.
+    Lookups,
 }
 
 impl Call {
@@ -50,70 +51,75 @@ impl Call {
             "entry" => Some(Call::Entry),
             "body" => Some(Call::Body),
             "write" => Some(Call::Write),
+            "lookups" => Some(Call::Lookups),
             _ => None,
         }
     }
 
-    /// Prints what the call answers with the words behind it.
-    pub fn answer<R: Files + AllocGlobal, W: Write>(
+    /// Tells what the call answers with the words behind it.
+    pub fn answer<R: Files + AllocGlobal>(
         self,
         rt: &R,
-        out: &mut W,
+        out: &mut Lines,
         words: &mut Words<'_>,
     ) -> Result<(), Fault> {
         let kind = words.kind()?;
         match self {
             Call::State | Call::File | Call::Fronts | Call::FileFronts => {
-                self.answer_bytes(rt, out, kind, words)
+                let bytes = words.bytes(rt)?;
+                self.answer_bytes(out, kind, &bytes, words)
             }
             _ => match words.state(rt, kind)? {
-                Ok(state) => self.answer_state(rt.alloc(), out, state, words),
-                Err(e) => Ok(fault::decode(out, &e)?),
+                Ok(state) => self.answer_state(out, state, words),
+                Err(e) => {
+                    fault::decode(out, &e);
+                    Ok(())
+                }
             },
         }
     }
 
     /// The same of a call about bytes.
-    fn answer_bytes<R: Files + AllocGlobal, W: Write>(
+    fn answer_bytes(
         self,
-        rt: &R,
-        out: &mut W,
+        out: &mut Lines,
         kind: Kind,
+        bytes: &[u8],
         words: &mut Words<'_>,
     ) -> Result<(), Fault> {
-        let bytes = words.bytes(rt)?;
         let reading = match self {
             Call::File | Call::FileFronts => Reading::File {
                 skip_hash: words.has("unchecked"),
             },
             _ => Reading::State(decode::Options {
                 alloc_limit_bytes: words.number_named("limit")?,
-                expected_checksum: words.expected(rt.alloc())?,
+                expected_checksum: words.expected(out.alloc())?,
                 ..decode::Options::default()
             }),
         };
         match self {
-            Call::State | Call::File => read(rt.alloc(), out, kind, &bytes, reading)?,
-            _ => fronts(rt.alloc(), out, kind, &bytes, reading)?,
+            Call::State | Call::File => read(out, kind, bytes, reading, Measure::Whole)?,
+            _ => fronts(out, kind, bytes, reading)?,
         }
         Ok(())
     }
 
     /// The same of a call about a state.
-    fn answer_state<W: Write>(
+    fn answer_state(
         self,
-        alloc: Global,
-        out: &mut W,
+        out: &mut Lines,
         state: State,
         words: &mut Words<'_>,
     ) -> Result<(), Fault> {
         match self {
-            Call::Search => search(alloc, out, &state, words),
-            Call::Order => Ok(order(out, &state)?),
-            Call::Entry => entry(alloc, out, &state, words),
-            Call::Body => body(alloc, out, &state),
-            _ => file(alloc, out, state, words),
+            Call::Search => search(out, &state, words)?,
+            Call::Order => order(out, &state),
+            Call::Entry => entry(out, &state, words)?,
+            Call::Body => body(out, &state),
+            Call::Lookups => lookups::answer(out, &state, words)?,
+            _ => file(out, &file_of(out, state)?, words.has("null")),
         }
+        Ok(())
     }
 }
 
@@ -124,90 +130,96 @@ enum Reading {
     File { skip_hash: bool },
 }
 
-fn decoded(
-    alloc: Global,
-    kind: Kind,
-    bytes: &[u8],
-    reading: Reading,
-) -> Result<(State, Option<ObjectId>), init::Error> {
-    let time = FileTime::EPOCH;
-    match reading {
-        Reading::State(options) => match State::from_bytes(alloc, bytes, time, kind, options) {
-            Ok(read) => Ok(read),
-            Err(e) => Err(init::Error::Decode(e)),
-        },
-        Reading::File { skip_hash } => {
-            let Ok(path) = PathBuf::from_str(alloc, "index") else {
-                return Err(init::Error::Memory);
-            };
-            let options = decode::Options::default();
-            let file = File::decode(alloc, bytes, path, kind, skip_hash, time, options)?;
-            let checksum = file.checksum();
-            Ok((State::from(file), checksum))
+/// How much is told of what was read.
+#[derive(Clone, Copy)]
+enum Measure {
+    /// All that it has.
+    Whole,
+    /// One line.
+    Line,
+}
+
+impl Measure {
+    fn show(self, out: &mut Lines, state: &State, checksum: Option<ObjectId>) {
+        match self {
+            Measure::Whole => show::state::state(out, state, checksum),
+            Measure::Line => show::state::summary(out, state, checksum),
         }
     }
 }
 
-/// All that is read of the bytes.
-fn read<W: Write>(
-    alloc: Global,
-    out: &mut W,
+/// What is read of the bytes.
+fn read(
+    out: &mut Lines,
     kind: Kind,
     bytes: &[u8],
     reading: Reading,
-) -> io::Result<()> {
-    match decoded(alloc, kind, bytes, reading) {
-        Ok((state, checksum)) => {
-            show::state::checksum(out, checksum)?;
-            show::state::state(alloc, out, &state)
-        }
+    measure: Measure,
+) -> Result<(), AllocError> {
+    match reading {
+        Reading::State(options) => read_state(out, kind, bytes, options, measure),
+        Reading::File { skip_hash } => read_file(out, kind, bytes, skip_hash, measure)?,
+    }
+    Ok(())
+}
+
+fn read_state(
+    out: &mut Lines,
+    kind: Kind,
+    bytes: &[u8],
+    options: decode::Options,
+    measure: Measure,
+) {
+    match State::from_bytes(out.alloc(), bytes, FileTime::EPOCH, kind, options) {
+        Ok((state, checksum)) => measure.show(out, &state, checksum),
+        Err(e) => fault::decode(out, &e),
+    }
+}
+
+fn read_file(
+    out: &mut Lines,
+    kind: Kind,
+    bytes: &[u8],
+    skip_hash: bool,
+    measure: Measure,
+) -> Result<(), AllocError> {
+    let (alloc, time, options) = (out.alloc(), FileTime::EPOCH, decode::Options::default());
+    let path = PathBuf::from_str(alloc, "index")?;
+    match File::decode(alloc, bytes, path, kind, skip_hash, time, options) {
+        Ok(file) => measure.show(out, &file, file.checksum()),
         Err(e) => fault::file(out, &e),
     }
+    Ok(())
 }
 
-/// The line of what is read of one front.
-fn front(alloc: Global, kind: Kind, bytes: &[u8], reading: Reading) -> io::Result<Vec<u8>> {
-    let mut line = Vec::new(alloc);
-    match decoded(alloc, kind, bytes, reading) {
-        Ok((state, checksum)) => show::state::summary(&mut line, &state, checksum)?,
-        Err(e) => fault::file(&mut line, &e)?,
-    }
-    Ok(line)
-}
-
-/// Prints the answer of each front, and of which lengths the fronts are that have it.
-fn fronts<W: Write>(
-    alloc: Global,
-    out: &mut W,
-    kind: Kind,
-    bytes: &[u8],
-    reading: Reading,
-) -> io::Result<()> {
+/// The answer of each front, and of which lengths the fronts are that have it.
+fn fronts(out: &mut Lines, kind: Kind, bytes: &[u8], reading: Reading) -> Result<(), AllocError> {
     let mut first = 0;
-    let mut last = front(alloc, kind, &[], reading)?;
+    let mut last = front(out.alloc(), kind, &[], reading)?;
     for len in 1..=bytes.len() {
-        let line = front(alloc, kind, &bytes[..len], reading)?;
-        if line.as_slice() != last.as_slice() {
-            write!(out, "{first} to {}: ", len.saturating_sub(1))?;
-            out.write_all(&last)?;
+        let line = front(out.alloc(), kind, &bytes[..len], reading)?;
+        if line.as_str() != last.as_str() {
+            write!(out, "{first} to {}: {last}", len - 1);
             first = len;
             last = line;
         }
     }
-    write!(out, "{first} to {}: ", bytes.len())?;
-    out.write_all(&last)
+    write!(out, "{first} to {}: {last}", bytes.len());
+    Ok(())
 }
 
-fn search<W: Write>(
-    alloc: Global,
-    out: &mut W,
-    state: &State,
-    words: &mut Words<'_>,
-) -> Result<(), Fault> {
-    let path = words.path(alloc)?;
+/// The line of what is read of one front.
+fn front(alloc: Global, kind: Kind, bytes: &[u8], reading: Reading) -> Result<String, AllocError> {
+    let mut line = Lines::new(alloc);
+    read(&mut line, kind, bytes, reading, Measure::Line)?;
+    line.end()
+}
+
+fn search(out: &mut Lines, state: &State, words: &mut Words<'_>) -> Result<(), Fault> {
+    let path = words.path(out.alloc())?;
     match words.stage()? {
-        Some(stage) => show::state::path_and_stage(alloc, out, state, &path, stage)?,
-        None => show::state::path(out, state, &path)?,
+        Some(stage) => show::state::path_and_stage(out, state, &path, stage),
+        None => show::state::path(out, state, &path),
     }
     Ok(())
 }
@@ -221,67 +233,60 @@ pub fn sign_of(order: Ordering) -> &'static str {
     }
 }
 
-fn order<W: Write>(out: &mut W, state: &State) -> io::Result<()> {
+fn order(out: &mut Lines, state: &State) {
     if !state.paths_in_storage() {
         return show::state::no_paths(out);
     }
     for (entry, next) in state.entries().iter().zip(state.entries().iter().skip(1)) {
-        writeln!(out, "{}", sign_of(entry.cmp(next, state)))?;
+        writeln!(out, "{}", sign_of(entry.cmp(next, state)));
     }
-    Ok(())
 }
 
-fn entry<W: Write>(
-    alloc: Global,
-    out: &mut W,
-    state: &State,
-    words: &mut Words<'_>,
-) -> Result<(), Fault> {
+fn entry(out: &mut Lines, state: &State, words: &mut Words<'_>) -> Result<(), Fault> {
     let place = words.number()?;
     if place >= state.entries().len() || !state.paths_in_storage() {
         return Err(Fault::Wrong("the place of an entry"));
     }
-    let mut image = Plain::new(Vec::new(alloc));
+    let mut image = Plain::new(Vec::new(out.alloc()));
     state.entry(place).write_to(&mut image, state)?;
-    Ok(show::bytes(alloc, out, &image.inner)?)
+    show::bytes(out, &image.inner);
+    Ok(())
 }
 
-fn body<W: Write>(alloc: Global, out: &mut W, state: &State) -> Result<(), Fault> {
+fn body(out: &mut Lines, state: &State) {
     if !state.paths_in_storage() {
-        return Ok(show::state::no_paths(out)?);
+        return show::state::no_paths(out);
     }
-    let mut image = Plain::new(Vec::new(alloc));
+    let mut image = Plain::new(Vec::new(out.alloc()));
     match state.write_to(&mut image, write::Options::default()) {
         Ok(version) => {
-            writeln!(out, "version {}", show::state::version_of(version))?;
-            show::bytes(alloc, out, &image.inner)?;
+            writeln!(out, "version {}", show::state::version_of(version));
+            show::bytes(out, &image.inner);
         }
-        Err(e) => fault::write(out, &e)?,
+        Err(e) => fault::write(out, &e),
     }
-    Ok(())
 }
 
-fn file<W: Write>(
-    alloc: Global,
-    out: &mut W,
-    state: State,
-    words: &mut Words<'_>,
-) -> Result<(), Fault> {
-    let file = File::from_state(state, PathBuf::from_str(alloc, "index")?);
+/// The file of a state that lies nowhere.
+fn file_of(out: &Lines, state: State) -> Result<File, AllocError> {
+    let path = PathBuf::from_str(out.alloc(), "index")?;
+    Ok(File::from_state(state, path))
+}
+
+fn file(out: &mut Lines, file: &File, skip_hash: bool) {
+    if !file.paths_in_storage() {
+        return show::state::no_paths(out);
+    }
     let options = write::Options {
-        skip_hash: words.has("null"),
+        skip_hash,
         ..write::Options::default()
     };
-    if !file.paths_in_storage() {
-        return Ok(show::state::no_paths(out)?);
-    }
-    let mut image = Plain::new(Vec::new(alloc));
+    let mut image = Plain::new(Vec::new(out.alloc()));
     match file.write_to(&mut image, options) {
         Ok((version, id)) => {
-            writeln!(out, "version {} {id}", show::state::version_of(version))?;
-            show::bytes(alloc, out, &image.inner)?;
+            writeln!(out, "version {} {id}", show::state::version_of(version));
+            show::bytes(out, &image.inner);
         }
-        Err(e) => fault::write(out, &e)?,
+        Err(e) => fault::write(out, &e),
     }
-    Ok(())
 }

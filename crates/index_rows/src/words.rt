@@ -7,7 +7,7 @@ use crate::fault::Fault;
 use gix_index::entry::{FileTime, Stage};
 use gix_index::hash::{Kind, ObjectId};
 use gix_index::{State, Version, decode};
-use std::alloc::Global;
+use std::alloc::{AllocError, Global};
 use std::rt::Files;
 
 /// The words of a row, taken in turn.
@@ -109,6 +109,18 @@ impl<'a> Words<'a> {
         list::path_of(alloc, self.next("a path")?)
     }
 
+    /// The bytes of the paths that are left.
+    pub fn paths(&mut self, alloc: Global) -> Result<Vec<Vec<u8>>, Fault> {
+        let mut paths = Vec::new(alloc);
+        for word in self.words.iter().skip(self.taken) {
+            if paths.push(list::path_of(alloc, word)?).is_err() {
+                return Err(Fault::from(AllocError));
+            }
+        }
+        self.taken = self.words.len();
+        Ok(paths)
+    }
+
     /// The stage that the next word names, or None where there is none.
     pub fn stage(&mut self) -> Result<Option<Stage>, Fault> {
         match self.optional() {
@@ -134,22 +146,33 @@ impl<'a> Words<'a> {
         }
         let bytes = bytes::bytes_of(rt, word)?;
         let options = decode::Options::default();
-        let read = State::from_bytes(rt.alloc(), &bytes, FileTime::EPOCH, kind, options);
-        Ok(read.map(|(state, _)| state))
+        match State::from_bytes(rt.alloc(), &bytes, FileTime::EPOCH, kind, options) {
+            Ok((state, _)) => Ok(Ok(state)),
+            Err(e) => Ok(Err(e)),
+        }
     }
 }
 
 /// The number that decimal digits spell.
 pub fn number_of(word: &str) -> Result<usize, Fault> {
-    word.parse::<usize>().map_err(|_| Fault::Wrong("a number"))
+    let Ok(number) = word.parse::<usize>() else {
+        return Err(Fault::Wrong("a number"));
+    };
+    Ok(number)
 }
 
 /// The bits that octal digits spell.
 fn octal_of(word: &str) -> Result<u32, Fault> {
-    u32::from_str_radix(word, 8).map_err(|_| Fault::Wrong("octal digits"))
+    let Ok(bits) = u32::from_str_radix(word, 8) else {
+        return Err(Fault::Wrong("octal digits"));
+    };
+    Ok(bits)
 }
 
 /// The bits that digits of base 16 spell.
 fn hex_of(word: &str) -> Result<u32, Fault> {
-    u32::from_str_radix(word, 16).map_err(|_| Fault::Wrong("digits of base 16"))
+    let Ok(bits) = u32::from_str_radix(word, 16) else {
+        return Err(Fault::Wrong("digits of base 16"));
+    };
+    Ok(bits)
 }
