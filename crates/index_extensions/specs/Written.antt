@@ -11,7 +11,7 @@ Fails taken failed old new (errors.Io e) bytes = AppendsFront (taken old) (taken
 Fails taken failed old new errors.TooLarge bytes = new ≡ old
 
 -- an Ok took the bytes whole, and the writer bears no mark
-abbrev pub Writes : {S T : Type 0} → (S → Option (List ℕ)) → (S → Kind → List ℕ → Type 0) → (S → Bool) → S → S → Result T Error → List ℕ → Type 0
+abbrev pub Writes : {S T : Type 0} → (S → Option (List ℕ)) → (S → ℕ → Kind → List ℕ → Type 0) → (S → Bool) → S → S → Result T Error → List ℕ → Type 0
 Writes taken hashed failed old new r bytes =
     MatchResult r (λ _. Took taken hashed old new bytes × (failed new ≡ false)) (λ e. Fails taken failed old new e bytes)
 

@@ -51,13 +51,13 @@ front_before {a} {b} {xs} p ys = record {
   taken = p.taken;
 }
 
-pub Took-nil : {S : Type 0} (taken : S → Option (List ℕ)) (hashed : S → Kind → List ℕ → Type 0) (a : S) → Took taken hashed a a []
-Took-nil taken hashed a = record { grew = Appends-nil (taken a); into_hash = λ k m h. subst (hashed a k) (sym (append-nil m)) h }
+pub Took-nil : {S : Type 0} (taken : S → Option (List ℕ)) (hashed : S → ℕ → Kind → List ℕ → Type 0) (a : S) → Took taken hashed a a []
+Took-nil taken hashed a = record { grew = Appends-nil (taken a); into_hash = λ n k m h. subst (hashed a n k) (sym (append-nil m)) h }
 
-pub Took-trans : {S : Type 0} {taken : S → Option (List ℕ)} {hashed : S → Kind → List ℕ → Type 0} {a b c : S} {xs ys : List ℕ} → Took taken hashed a b xs → Took taken hashed b c ys → Took taken hashed a c (xs ++ ys)
+pub Took-trans : {S : Type 0} {taken : S → Option (List ℕ)} {hashed : S → ℕ → Kind → List ℕ → Type 0} {a b c : S} {xs ys : List ℕ} → Took taken hashed a b xs → Took taken hashed b c ys → Took taken hashed a c (xs ++ ys)
 Took-trans {S} {taken} {hashed} {a} {b} {c} {xs} {ys} p q = record {
   grew = Appends-trans (taken a) (taken b) (taken c) xs ys p.grew q.grew;
-  into_hash = λ k m h. subst (hashed c k) (append_assoc m xs ys) (q.into_hash k (m ++ xs) (p.into_hash k m h));
+  into_hash = λ n k m h. subst (hashed c n k) (append_assoc m xs ys) (q.into_hash n k (m ++ xs) (p.into_hash n k m h));
 }
 
 -- what was read of a list up to a place, the item there, and the rest
@@ -75,7 +75,7 @@ pieces_at : {X : Type 0} (f : X → List ℕ) (xs : List X) (i : ℕ) (d : X) �
 pieces_at f xs i d h = ap (map f) (sym (take-append-drop i xs) ∙ ap (λ l. take i xs ++ l) (drop-cons xs i d h)) ∙ map-append f (take i xs) (get_or xs i d ∷ drop (suc i) xs)
 
 -- the items before a place were taken whole, and of the item there a front
-pub breaks_at : {X : Type 0} (f : X → List ℕ) (xs : List X) (i : ℕ) (d : X) {S : Type 0} {taken : S → Option (List ℕ)} {hashed : S → Kind → List ℕ → Type 0} {a b c : S} → i < length xs
+pub breaks_at : {X : Type 0} (f : X → List ℕ) (xs : List X) (i : ℕ) (d : X) {S : Type 0} {taken : S → Option (List ℕ)} {hashed : S → ℕ → Kind → List ℕ → Type 0} {a b c : S} → i < length xs
     → Took taken hashed a b (flat_map f (take i xs)) → AppendsFront (taken b) (taken c) (f (get_or xs i d)) → KeepsHashed hashed b c → Breaks taken hashed a c (map f xs)
 breaks_at f xs i d {S} {taken} {hashed} {a} {b} {c} h p q kept =
     let joined : concat (map f (take i xs)) ≡ flat_map f (take i xs) = concat_is (map f (take i xs)) ∙ flat_map-map (λ (l : List ℕ). l) f (take i xs) in
@@ -86,7 +86,7 @@ breaks_at f xs i d {S} {taken} {hashed} {a} {b} {c} h p q kept =
       after = map f (drop (suc i) xs);
       parts = pieces_at f xs i d h ∙ ap (λ (l : List ℕ). map f (take i xs) ++ l ∷ map f (drop (suc i) xs)) q.parts;
       grew = subst (λ (l : List ℕ). Appends (taken a) (taken c) (l ++ q.front)) (sym joined) (Appends-trans (taken a) (taken b) (taken c) (flat_map f (take i xs)) q.front p.grew q.taken);
-      into_hash = subst (Hashes hashed a c) (sym joined) (λ k m held. kept k (m ++ flat_map f (take i xs)) (p.into_hash k m held));
+      into_hash = subst (Hashes hashed a c) (sym joined) (λ n k m held. kept n k (m ++ flat_map f (take i xs)) (p.into_hash n k m held));
     }
 
 pub on_err : {T E P : Type 0} (r : Result T E) → P → OnErr r P
@@ -94,18 +94,18 @@ on_err (Ok x) p = tt
 on_err (Err e) p = p
 
 -- at the exit of a `?`
-pub Puts-err : {S T E : Type 0} (taken : S → Option (List ℕ)) (hashed : S → Kind → List ℕ → Type 0) (old new : S) (r : Result T E) (bytes : List ℕ) → IsErr r → AppendsFront (taken old) (taken new) bytes → Puts taken hashed old new r bytes
+pub Puts-err : {S T E : Type 0} (taken : S → Option (List ℕ)) (hashed : S → ℕ → Kind → List ℕ → Type 0) (old new : S) (r : Result T E) (bytes : List ℕ) → IsErr r → AppendsFront (taken old) (taken new) bytes → Puts taken hashed old new r bytes
 Puts-err taken hashed old new (Ok x) bytes h p = absurd cc
 Puts-err taken hashed old new (Err e) bytes h p = p
 
 -- what was taken whole, and what comes after it
-pub puts_after : {S T E : Type 0} {taken : S → Option (List ℕ)} {hashed : S → Kind → List ℕ → Type 0} {a b : S} {xs : List ℕ} (c : S) (ys : List ℕ) (r : Result T E) → Took taken hashed a b xs → Puts taken hashed b c r ys → Puts taken hashed a c r (xs ++ ys)
+pub puts_after : {S T E : Type 0} {taken : S → Option (List ℕ)} {hashed : S → ℕ → Kind → List ℕ → Type 0} {a b : S} {xs : List ℕ} (c : S) (ys : List ℕ) (r : Result T E) → Took taken hashed a b xs → Puts taken hashed b c r ys → Puts taken hashed a c r (xs ++ ys)
 puts_after c ys (Ok x) p q = Took-trans p q
 puts_after {taken = taken} {a = a} {b = b} {xs = xs} c ys (Err e) p q = front_after (taken a) (taken b) (taken c) xs ys p.grew q
 
-pub puts_is : {S T E : Type 0} (taken : S → Option (List ℕ)) (hashed : S → Kind → List ℕ → Type 0) (a b : S) (r : Result T E) {xs ys : List ℕ} → xs ≡ ys → Puts taken hashed a b r xs → Puts taken hashed a b r ys
+pub puts_is : {S T E : Type 0} (taken : S → Option (List ℕ)) (hashed : S → ℕ → Kind → List ℕ → Type 0) (a b : S) (r : Result T E) {xs ys : List ℕ} → xs ≡ ys → Puts taken hashed a b r xs → Puts taken hashed a b r ys
 puts_is taken hashed a b r e p = subst (λ (l : List ℕ). Puts taken hashed a b r l) e p
 
 -- at the exit of a `?`, after what was taken whole and before the rest
-pub puts_failed : {S T E : Type 0} (taken : S → Option (List ℕ)) (hashed : S → Kind → List ℕ → Type 0) {a b c : S} (r : Result T E) {xs ys all : List ℕ} (rest : List ℕ) → IsErr r → (xs ++ ys) ++ rest ≡ all → Took taken hashed a b xs → AppendsFront (taken b) (taken c) ys → Puts taken hashed a c r all
+pub puts_failed : {S T E : Type 0} (taken : S → Option (List ℕ)) (hashed : S → ℕ → Kind → List ℕ → Type 0) {a b c : S} (r : Result T E) {xs ys all : List ℕ} (rest : List ℕ) → IsErr r → (xs ++ ys) ++ rest ≡ all → Took taken hashed a b xs → AppendsFront (taken b) (taken c) ys → Puts taken hashed a c r all
 puts_failed taken hashed {a} {b} {c} r {xs} {ys} {all} rest h e p q = Puts-err taken hashed a c r all h (subst (λ (l : List ℕ). AppendsFront (taken a) (taken c) l) e (front_before (front_after (taken a) (taken b) (taken c) xs ys p.grew q) rest))

@@ -1,5 +1,5 @@
 -- The digest of a list of bytes (FIPS 180-4), and what a hasher has taken in.
-use Rattle.std.specs.Prelude.{ℕ, List}
+use Rattle.std.specs.Prelude.{◌≡◌, ℕ, zero, suc, List}
 use Rattle.sha1.specs.Sha1 as S1
 use Rattle.sha2.specs.Sha256.{sha256}
 use Rattle.sha2.specs.Hashers.{Holds256}
@@ -23,3 +23,8 @@ hasher_kind (hashers.Sha256 state) = kinds.Sha256
 abbrev pub Holds : Hasher → List ℕ → Type 0
 Holds (hashers.Sha1 state) message = S1.Holds state message
 Holds (hashers.Sha256 state) message = Holds256 state message
+
+-- what a hasher over others has taken in, at depth 0, and what those below it have
+abbrev pub hashed_over : Hasher → (ℕ → Kind → List ℕ → Type 0) → ℕ → Kind → List ℕ → Type 0
+hashed_over hasher below zero k message = (hasher_kind hasher ≡ k) × Holds hasher message
+hashed_over hasher below (suc depth) k message = below depth k message

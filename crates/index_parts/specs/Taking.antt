@@ -12,25 +12,25 @@ pub record AppendsFront (old new : Option (List ℕ)) (bytes : List ℕ) : Type 
   pub parts : bytes ≡ front ++ rest
   pub taken : Appends old new front
 
--- what a hasher took in grew by these bytes, whatever it was and of whichever kind
-abbrev pub Hashes : {S : Type 0} → (S → Kind → List ℕ → Type 0) → S → S → List ℕ → Type 0
-Hashes hashed old new bytes = (k : Kind) (m : List ℕ) → hashed old k m → hashed new k (m ++ bytes)
+-- what each hasher took in grew by these bytes, whatever it was and of whichever kind; the nearest hasher has depth 0
+abbrev pub Hashes : {S : Type 0} → (S → ℕ → Kind → List ℕ → Type 0) → S → S → List ℕ → Type 0
+Hashes hashed old new bytes = (depth : ℕ) (k : Kind) (m : List ℕ) → hashed old depth k m → hashed new depth k (m ++ bytes)
 
--- a hasher has taken in what it had before
-abbrev pub KeepsHashed : {S : Type 0} → (S → Kind → List ℕ → Type 0) → S → S → Type 0
-KeepsHashed hashed old new = (k : Kind) (m : List ℕ) → hashed old k m → hashed new k m
+-- each hasher has taken in what it had before
+abbrev pub KeepsHashed : {S : Type 0} → (S → ℕ → Kind → List ℕ → Type 0) → S → S → Type 0
+KeepsHashed hashed old new = (depth : ℕ) (k : Kind) (m : List ℕ) → hashed old depth k m → hashed new depth k m
 
 -- these bytes were taken, and went into the hasher
-pub record Took {S : Type 0} (taken : S → Option (List ℕ)) (hashed : S → Kind → List ℕ → Type 0) (old new : S) (bytes : List ℕ) : Type 0 where
+pub record Took {S : Type 0} (taken : S → Option (List ℕ)) (hashed : S → ℕ → Kind → List ℕ → Type 0) (old new : S) (bytes : List ℕ) : Type 0 where
   pub grew : Appends (taken old) (taken new) bytes
   pub into_hash : Hashes hashed old new bytes
 
 -- an Ok took these bytes whole, and an Err a front of them
-abbrev pub Puts : {S T E : Type 0} → (S → Option (List ℕ)) → (S → Kind → List ℕ → Type 0) → S → S → Result T E → List ℕ → Type 0
+abbrev pub Puts : {S T E : Type 0} → (S → Option (List ℕ)) → (S → ℕ → Kind → List ℕ → Type 0) → S → S → Result T E → List ℕ → Type 0
 Puts taken hashed old new r bytes = MatchResult r (λ _. Took taken hashed old new bytes) (λ _. AppendsFront (taken old) (taken new) bytes)
 
 -- Of pieces the first ones were taken whole, and of the next one a front. The hasher took in those that were taken whole.
-pub record Breaks {S : Type 0} (taken : S → Option (List ℕ)) (hashed : S → Kind → List ℕ → Type 0) (old new : S) (pieces : List (List ℕ)) : Type 0 where
+pub record Breaks {S : Type 0} (taken : S → Option (List ℕ)) (hashed : S → ℕ → Kind → List ℕ → Type 0) (old new : S) (pieces : List (List ℕ)) : Type 0 where
   pub whole : List (List ℕ)
   pub front : List ℕ
   pub behind : List ℕ

@@ -1,6 +1,7 @@
 //! Writing a `File`: the state's bytes, and their digest behind them.
 
-ghost use Rattle.std.specs.Prelude.{◌≡◌, true, false};
+ghost use Rattle.std.specs.Prelude.{◌≡◌, true, false, OnOk};
+ghost use Rattle.index_parts.specs.Taking.{Hashes};
 ghost use Rattle.index_state.specs.Image.{body, image};
 ghost use Rattle.index_state.specs.State.{PathsInStorage, contents};
 ghost use Rattle.gix_index.specs.File.{state_of};
@@ -21,9 +22,11 @@ fn put_hashed<W: Out>(
 ) -> Result<(Version, ObjectId), Error>
     requires placed { PathsInStorage state.now }
     requires unfailed { W.failed out.old ≡ false }
-    requires hashed { options.skip_hash ≡ false }
-    ensures { WritesIndex W.taken W.failed out.old out.new result (contents state.now) options
+    requires digest { options.skip_hash ≡ false }
+    ensures answer { WritesIndex W.taken W.failed out.old out.new result (contents state.now) options
         (body (contents state.now) options) }
+    ensures hashed { OnOk result (Hashes W.hashed out.old out.new (body (contents state.now) options)) }
+    ensures loan { W.loan out.new ≡ W.loan out.old }
 {
     let mut hashing = Write::new(out, state.object_hash());
     let result = state.write_to(&mut hashing, options);
@@ -44,9 +47,11 @@ fn put_unhashed<W: Out>(
 ) -> Result<(Version, ObjectId), Error>
     requires placed { PathsInStorage state.now }
     requires unfailed { W.failed out.old ≡ false }
-    requires unhashed { options.skip_hash ≡ true }
-    ensures { WritesIndex W.taken W.failed out.old out.new result (contents state.now) options
+    requires no_digest { options.skip_hash ≡ true }
+    ensures answer { WritesIndex W.taken W.failed out.old out.new result (contents state.now) options
         (body (contents state.now) options) }
+    ensures hashed { OnOk result (Hashes W.hashed out.old out.new (body (contents state.now) options)) }
+    ensures loan { W.loan out.new ≡ W.loan out.old }
 {
     match state.write_to(out, options) {
         Ok(version) => Ok((version, state.object_hash().null())),
@@ -62,8 +67,10 @@ fn put_front<W: Out>(
 ) -> Result<(Version, ObjectId), Error>
     requires placed { PathsInStorage state.now }
     requires unfailed { W.failed out.old ≡ false }
-    ensures { WritesIndex W.taken W.failed out.old out.new result (contents state.now) options
+    ensures answer { WritesIndex W.taken W.failed out.old out.new result (contents state.now) options
         (body (contents state.now) options) }
+    ensures hashed { OnOk result (Hashes W.hashed out.old out.new (body (contents state.now) options)) }
+    ensures loan { W.loan out.new ≡ W.loan out.old }
 {
     if options.skip_hash {
         put_unhashed(state, out, options)
@@ -86,8 +93,10 @@ impl File {
     ) -> Result<(Version, ObjectId), Error>
         requires placed { PathsInStorage (state_of self.now) }
         requires unfailed { W.failed out.old ≡ false }
-        ensures { WritesIndex W.taken W.failed out.old out.new result (contents (state_of self.now)) options
+        ensures answer { WritesIndex W.taken W.failed out.old out.new result (contents (state_of self.now)) options
             (image (contents (state_of self.now)) options) }
+        ensures hashed { OnOk result (Hashes W.hashed out.old out.new (image (contents (state_of self.now)) options)) }
+        ensures loan { W.loan out.new ≡ W.loan out.old }
     {
         let (version, id) = match put_front(&self.state, out, options) {
             Ok(front) => front,

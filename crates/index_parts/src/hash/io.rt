@@ -1,10 +1,10 @@
 //! Writers that say how much they took, and hash it.
 
-ghost use Rattle.std.specs.Prelude.{◌≡◌, ℕ, List, [], Option, Bool, false, ⊤, is_err, OnOk, OnErr, map};
+ghost use Rattle.std.specs.Prelude.{◌≡◌, ℕ, List, [], ◌∷◌, Option, Bool, false, ⊤, is_err, OnOk, OnErr, map};
 ghost use Rattle.std.specs.List.{flat_map};
 ghost use Rattle.std.specs.Io.KnownBytes.{Appends};
 ghost use Rattle.index_parts.specs.declared.hash.Kind.{Kind};
-ghost use Rattle.index_parts.specs.Digest.{Holds, hasher_kind};
+ghost use Rattle.index_parts.specs.Digest.{Holds, hasher_kind, hashed_over};
 ghost use Rattle.index_parts.specs.Taking.{Puts, AppendsFront, Breaks, KeepsHashed};
 
 use super::{Hasher, Kind};
@@ -19,11 +19,11 @@ pub trait Out {
     // The mark: a piece was not taken whole.
     ghost failed: { Self → Bool };
 
-    // A hasher of this kind has taken in the pieces that were taken whole, which are these bytes.
-    ghost hashed: { Self → Kind → List ℕ → Type 0 } = { λ _ _ _. ⊤ };
+    // At this depth, counted from 0, a hasher of this kind has taken in the pieces that were taken whole, which are these bytes.
+    ghost hashed: { Self → ℕ → Kind → List ℕ → Type 0 } = { λ _ _ _ _. ⊤ };
 
-    // The loan through which it writes, where there is one.
-    ghost loan: { Self → ℕ } = { λ _. 0 };
+    // The loans through which it writes, the nearest first.
+    ghost loan: { Self → List ℕ } = { λ _. [] };
 
     /// Takes the whole piece. An error took a front of it, maybe none or all, hashed nothing of it, and sets the
     /// mark; no piece can be put behind it.
@@ -61,9 +61,9 @@ impl<W: Out> Out for &mut W {
 
     ghost failed = { λ w. W.failed w.now };
 
-    ghost hashed = { λ w k m. W.hashed w.now k m };
+    ghost hashed = { λ w. W.hashed w.now };
 
-    ghost loan = { λ w. w.ghost_name };
+    ghost loan = { λ w. w.ghost_name ∷ W.loan w.now };
 
     fn put(&mut self, piece: &[u8]) -> io::Result<()> {
         Out::put(&mut **self, piece)
@@ -158,7 +158,7 @@ impl<W: Out> Out for Write<W> {
 
     ghost failed = { λ w. W.failed w.inner };
 
-    ghost hashed = { λ w k m. (hasher_kind w.hash ≡ k) × Holds w.hash m };
+    ghost hashed = { λ w. hashed_over w.hash (W.hashed w.inner) };
 
     ghost loan = { λ w. W.loan w.inner };
 

@@ -7,24 +7,24 @@ use Rattle.gix_index.specs.File.{state_of}
 use Rattle.gix_index.proofs.Files.{fails_more, front_then}
 use Rattle.gix_index.proofs.file.File.write_to.Goals as goal
 
-pub returns-in-Err : goal.returns-in-Err
-returns-in-Err g c =
+pub returns-in-Err-clause-answer : goal.returns-in-Err-clause-answer
+returns-in-Err-clause-answer g c =
     let v = contents (state_of c.args.self.now) in
     record {
       version = search rules;
       id = search rules;
-      bytes = fails_more g.W.Out.taken g.W.Out.failed c.args.out.now c.put_front.new.out c.in-Err.e (body v c.args.options) (trailer v c.args.options) c.in-Err.ensures.bytes;
-      too_many = c.in-Err.ensures.too_many;
-      too_large = c.in-Err.ensures.too_large;
+      bytes = fails_more g.W.Out.taken g.W.Out.failed c.args.out.now c.put_front.new.out c.in-Err.e (body v c.args.options) (trailer v c.args.options) c.in-Err.ensures.answer.bytes;
+      too_many = c.in-Err.ensures.answer.too_many;
+      too_large = c.in-Err.ensures.answer.too_large;
     }
 
-pub returns-in-Err-put : goal.returns-in-Err-put
-returns-in-Err-put g c =
+pub returns-in-Err-put-clause-answer : goal.returns-in-Err-put-clause-answer
+returns-in-Err-put-clause-answer g c =
     let v = contents (state_of c.args.self.now) in
     record {
       version = search rules;
       id = search rules;
-      bytes = (front_then g.W.Out.taken c.args.out.now c.put_front.new.out c.put.new.self (body v c.args.options) (trailer v c.args.options) c.as_bytes.result.now (c.as_bytes.ensures.bytes ∙ ap id_bytes c.in-Ok.ensures.id ∙ id_bytes-make_id v.kind (trailer v c.args.options)) c.in-Ok.ensures.bytes.0 c.in-Err-put.ensures.bytes, c.in-Err-put.ensures.mark);
+      bytes = (front_then g.W.Out.taken c.args.out.now c.put_front.new.out c.put.new.self (body v c.args.options) (trailer v c.args.options) c.as_bytes.result.now (c.as_bytes.ensures.bytes ∙ ap id_bytes c.in-Ok.ensures.answer.id ∙ id_bytes-make_id v.kind (trailer v c.args.options)) c.in-Ok.ensures.answer.bytes.0 c.in-Err-put.ensures.bytes, c.in-Err-put.ensures.mark);
       too_many = search rules;
       too_large = search rules;
     }

@@ -1,4 +1,4 @@
-use Rattle.std.proofs.Common.{◌∙◌, ap, [], rules}
+use Rattle.std.proofs.Common.{◌∙◌, ap, suc, [], rules}
 use Rattle.index_parts.specs.Digest.{digest}
 use Rattle.index_parts.specs.Id.{make_id}
 use Rattle.index_parts.specs.declared.hash.Kind.{Kind}
@@ -7,14 +7,19 @@ use Rattle.index_state.specs.State.{contents}
 use Rattle.gix_index.proofs.Files.{hashed_id}
 use Rattle.gix_index.proofs.file.write.put_hashed.Goals as goal
 
-pub returns-in-Ok : goal.returns-in-Ok
-returns-in-Ok g c =
+pub returns-in-Ok-clause-answer : goal.returns-in-Ok-clause-answer
+returns-in-Ok-clause-answer g c =
     let v = contents c.args.state.now in
-    let h = c.in-Ok.ensures.hashed c.object_hash.result [] (c.new-hashing.ensures.kind, c.new-hashing.ensures.empty) in
+    let h = c.in-Ok.ensures.hashed 0 c.object_hash.result [] (c.new-hashing.ensures.kind, c.new-hashing.ensures.empty) in
     record {
       version = search rules;
-      id = hashed_id v c.args.options _ c.requires.hashed (c.finalize.ensures _ h.1 ∙ ap (λ (k : Kind). make_id k (digest k (body v c.args.options))) (h.0 ∙ c.object_hash.ensures));
+      id = hashed_id v c.args.options _ c.requires.digest (c.finalize.ensures _ h.1 ∙ ap (λ (k : Kind). make_id k (digest k (body v c.args.options))) (h.0 ∙ c.object_hash.ensures));
       bytes = search rules;
       too_many = search rules;
       too_large = search rules;
     }
+
+pub returns-in-Ok-clause-hashed : goal.returns-in-Ok-clause-hashed
+returns-in-Ok-clause-hashed g c = λ depth k m held.
+    let grown = c.in-Ok.ensures.hashed (suc depth) k m (rw c.new-hashing.ensures.inner held) in
+    search (rules, grown)
