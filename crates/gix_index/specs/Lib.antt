@@ -2,6 +2,8 @@
 pub mod Checked
 pub mod File
 pub mod Laws
+pub mod Linked
+pub mod Verified
 pub mod Written
 pub use Rattle.index_parts.specs.Bitmap
 pub use Rattle.index_parts.specs.Bits

@@ -1,5 +1,5 @@
 -- What becomes of a writer, and of the answer, where an index is written with its digest.
-use Rattle.std.specs.Prelude.{◌≡◌, ◌↔◌, ◌≤◌, ◌<◌, ◌^◌, ℕ, Bool, List, length, Option, Result, Err, IfOk}
+use Rattle.std.specs.Prelude.{◌≡◌, ◌↔◌, ◌≤◌, ◌<◌, ◌^◌, ℕ, Bool, List, length, Option, Some, None, Result, Err, IfOk, if◌then◌else◌}
 use Rattle.index_parts.specs.Id.{make_id}
 use Rattle.index_parts.specs.declared.hash.ObjectId.{ObjectId}
 use Rattle.index_entries.specs.declared.Version.{Version}
@@ -7,8 +7,11 @@ use Rattle.index_state.specs.declared.write.Error.{Error}
 use Rattle.index_state.specs.declared.write.Error.TheVariants.{TooManyEntries, TooLarge}
 use Rattle.index_state.specs.declared.write.Options.{Options}
 use Rattle.index_state.specs.Image.{image_version, trailer, unmarked}
-use Rattle.index_state.specs.State.{Contents}
+use Rattle.index_state.specs.Edits.{with_version}
+use Rattle.index_state.specs.State.{Contents, contents, entries_of, storage_of}
 use Rattle.index_state.specs.Writing.{Writes}
+use Rattle.gix_index.specs.declared.file.File.{File}
+use Rattle.gix_index.specs.File.{state_of, path_of, checksum_of}
 
 -- The answer to writing these bytes of a value: the version and the id that the trailer is; too many entries, then too many
 -- bytes, exactly by their numbers; or the writer's fault.
@@ -18,3 +21,12 @@ pub record WritesIndex {S : Type 0} (taken : S → Option (List ℕ)) (failed : 
   pub bytes : Writes taken failed old new r whole
   pub too_many : (r ≡ Err TooManyEntries) ↔ (2 ^ 32 ≤ length v.records)
   pub too_large : (r ≡ Err TooLarge) ↔ ((length v.records < 2 ^ 32) × (2 ^ 32 ≤ length (unmarked v options)))
+
+-- A file that was written to its path: version and checksum are those of what was written, the checksum None where that is zeros.
+-- All else stays.
+pub record IsWritten (old new : File) (options : Options) : Type 0 where
+  pub value : contents (state_of new) ≡ with_version (contents (state_of old)) (image_version (contents (state_of old)) options)
+  pub entries : entries_of (state_of new) ≡ entries_of (state_of old)
+  pub storage : storage_of (state_of new) ≡ storage_of (state_of old)
+  pub path : path_of new ≡ path_of old
+  pub checksum : checksum_of new ≡ (if options.skip_hash then None else Some (make_id (contents (state_of old)).kind (trailer (contents (state_of old)) options)))

@@ -1,13 +1,18 @@
 //! An index with the path of its file and the id at the file's end.
 
+mod at;
+mod disk;
+mod image;
 pub mod init;
-mod write;
+pub mod verify;
+pub mod write;
 
 ghost use Rattle.std.specs.Prelude.{◌≡◌, None};
 ghost use Rattle.std.specs.Borrow.{Lends, sem};
 ghost use Rattle.std.specs.Path.{path_bytes, path_buf_bytes};
 ghost use Rattle.gix_index.specs.File.{state_of, path_of, checksum_of, IsSameFile, LendsState};
 
+pub use disk::PathError;
 use index_entries::{PathBacking, PathStorageRef};
 use index_parts::hash::ObjectId;
 use index_state::State;

@@ -9,13 +9,13 @@ ghost use Rattle.gix_index.specs.Checked.{needs_check, digest_fault, IsIntact, I
 ghost use Rattle.gix_index.specs.File.{state_of, path_of};
 
 use super::File;
+use super::disk::PathError;
 use index_parts::entry::FileTime;
 use index_parts::hash::{Kind, ObjectId, digest};
 use index_parts::read;
 use index_state::extension::link;
 use index_state::{State, decode};
 use std::alloc::Global;
-use std::io;
 use std::path::PathBuf;
 use thiserror::Error;
 
@@ -24,12 +24,12 @@ use thiserror::Error;
 pub enum Error {
     /// The file can't be opened or read.
     #[error("the index file can't be opened or read: {0}")]
-    Io(io::Error),
+    Io(PathError),
     /// The bytes are no index, or they aren't those that were once written.
     #[error("{0}")]
     Decode(decode::Error),
     /// The shared index that a split index links to can't be used.
-    #[error("{0}")]
+    #[error("the link to a shared index can't be followed: {0}")]
     LinkExtension(link::decode::Error),
     /// A growth was refused.
     #[error("out of memory while reading an index file")]

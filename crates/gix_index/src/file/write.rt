@@ -1,110 +1,180 @@
-//! Writing a `File`: the state's bytes, and their digest behind them.
+//! Writing a `File` to its path, by way of a lock file.
 
-ghost use Rattle.std.specs.Prelude.{◌≡◌, true, false, OnOk};
-ghost use Rattle.index_parts.specs.Taking.{Hashes};
-ghost use Rattle.index_state.specs.Image.{body, image};
+ghost use Rattle.std.specs.Prelude.{◌≡◌, IfOk, OnErr, OnOk};
+ghost use Rattle.index_parts.specs.Id.{make_id};
+ghost use Rattle.index_state.specs.Image.{image_version, trailer};
 ghost use Rattle.index_state.specs.State.{PathsInStorage, contents};
 ghost use Rattle.gix_index.specs.File.{state_of};
-ghost use Rattle.gix_index.specs.Written.{WritesIndex};
+ghost use Rattle.gix_index.specs.Written.{IsWritten};
 
 use super::File;
+use super::disk::PathError;
 use index_entries::Version;
 use index_parts::hash::ObjectId;
-use index_parts::hash::io::{Out, Write};
-use index_state::State;
-use index_state::write::{Error, Options};
+use index_parts::hash::io::Plain;
+use index_state::write::{self, Options};
+use std::alloc::{AllocError, Global};
+use std::io::{BufWriter, ErrorKind, Write};
+use std::path::PathBuf;
+use std::rt::Files;
+use std::{fs, io};
 
-/// Writes all but the trailer, and gives the digest of that.
-fn put_hashed<W: Out>(
-    state: &State,
-    out: &mut W,
-    options: Options,
-) -> Result<(Version, ObjectId), Error>
-    requires placed { PathsInStorage state.now }
-    requires unfailed { W.failed out.old ≡ false }
-    requires digest { options.skip_hash ≡ false }
-    ensures answer { WritesIndex W.taken W.failed out.old out.new result (contents state.now) options
-        (body (contents state.now) options) }
-    ensures hashed { OnOk result (Hashes W.hashed out.old out.new (body (contents state.now) options)) }
-    ensures loan { W.loan out.new ≡ W.loan out.old }
-{
-    let mut hashing = Write::new(out, state.object_hash());
-    let result = state.write_to(&mut hashing, options);
-    let Write { inner, hash } = hashing;
-    // No effect at run time. The proof reads what `out` holds from this use of `inner`.
-    let _ = &*inner;
-    match result {
-        Ok(version) => Ok((version, hash.finalize())),
-        Err(e) => Err(e),
+/// How many bytes go to the file at once.
+const BUFFER_LEN: usize = 65536;
+
+/// Why an index wasn't written to its path. Each but [`Error::CommitLock`] names the lock file, where it names a file.
+#[derive(Debug, Drop, thiserror::Error)]
+pub enum Error {
+    /// A write to the lock file failed.
+    #[error("the index can't be written to its lock file: {0}")]
+    Io(PathError),
+    /// The lock file can't be made: it is there already, as while another writes the index, or its folder isn't.
+    #[error("the index's lock file can't be made: {0}")]
+    AcquireLock(PathError),
+    /// The lock file can't take the place of the index, which is named.
+    #[error("the index can't be replaced by its lock file: {0}")]
+    CommitLock(PathError),
+    /// As [`write::Error::TooManyEntries`].
+    #[error("the index has more entries than the 4294967295 that a file can count")]
+    TooManyEntries,
+    /// As [`write::Error::TooLarge`].
+    #[error("the index would take more than the 4294967295 bytes that a file's offsets can reach")]
+    TooLarge,
+    /// A growth was refused.
+    #[error("out of memory while writing an index file")]
+    Memory,
+}
+
+impl From<AllocError> for Error {
+    fn from(_e: AllocError) -> Error {
+        Error::Memory
     }
 }
 
-/// Writes all but the trailer, and gives the null id.
-fn put_unhashed<W: Out>(
-    state: &State,
-    out: &mut W,
-    options: Options,
-) -> Result<(Version, ObjectId), Error>
-    requires placed { PathsInStorage state.now }
-    requires unfailed { W.failed out.old ≡ false }
-    requires no_digest { options.skip_hash ≡ true }
-    ensures answer { WritesIndex W.taken W.failed out.old out.new result (contents state.now) options
-        (body (contents state.now) options) }
-    ensures hashed { OnOk result (Hashes W.hashed out.old out.new (body (contents state.now) options)) }
-    ensures loan { W.loan out.new ≡ W.loan out.old }
-{
-    match state.write_to(out, options) {
-        Ok(version) => Ok((version, state.object_hash().null())),
-        Err(e) => Err(e),
+/// What a step does.
+#[derive(Clone, Copy)]
+enum Step {
+    Lock,
+    Put,
+    Commit,
+}
+
+/// What it says that a step failed, with the file that it concerns.
+fn fault_of(step: Step, path: PathBuf, error: io::Error) -> Error {
+    if error.kind() == ErrorKind::OutOfMemory {
+        return Error::Memory;
+    }
+    let fault = PathError { path, error };
+    match step {
+        Step::Lock => Error::AcquireLock(fault),
+        Step::Put => Error::Io(fault),
+        Step::Commit => Error::CommitLock(fault),
     }
 }
 
-/// Writes all but the trailer, and gives the id that is to stand behind it.
-fn put_front<W: Out>(
-    state: &State,
-    out: &mut W,
-    options: Options,
-) -> Result<(Version, ObjectId), Error>
-    requires placed { PathsInStorage state.now }
-    requires unfailed { W.failed out.old ≡ false }
-    ensures answer { WritesIndex W.taken W.failed out.old out.new result (contents state.now) options
-        (body (contents state.now) options) }
-    ensures hashed { OnOk result (Hashes W.hashed out.old out.new (body (contents state.now) options)) }
-    ensures loan { W.loan out.new ≡ W.loan out.old }
-{
-    if options.skip_hash {
-        put_unhashed(state, out, options)
-    } else {
-        put_hashed(state, out, options)
-    }
+/// The index's path with `.lock` behind it.
+fn lock_path(alloc: Global, path: &PathBuf) -> Result<PathBuf, AllocError> {
+    let mut lock = String::from_str(alloc, path.as_path().as_str())?;
+    lock.push_str(".lock")?;
+    PathBuf::from_str(alloc, lock.as_str())
+}
+
+/// Why the bytes didn't go to a writer.
+enum Fault {
+    Put(io::Error),
+    TooManyEntries,
+    TooLarge,
 }
 
 impl File {
-    /// Writes the index as all bytes of a file: what [`State::write_to`] writes, and behind it the digest of that, or
-    /// zeros with `skip_hash`. It gives the file's version, and that digest or the null id. The checksum of this
-    /// `File` stays.
-    ///
-    /// The refusals are those of [`State::write_to`]: [`Error::TooManyEntries`] and [`Error::TooLarge`] before any byte;
-    /// [`Error::Io`] where the writer failed, which then took a front of the bytes. No memory is taken.
-    pub fn write_to<W: Out>(
+    /// Writes all bytes to a writer through a buffer, and drops it.
+    fn fill<W: io::Write + Drop>(
         &self,
-        out: &mut W,
+        alloc: Global,
+        file: W,
+        options: Options,
+    ) -> Result<(Version, ObjectId), Fault>
+        requires { PathsInStorage (state_of self.now) }
+        ensures version { IfOk result (λ x. x.0 ≡ image_version (contents (state_of self.now)) options) }
+        ensures id { IfOk result (λ x. x.1 ≡ make_id (contents (state_of self.now)).kind
+            (trailer (contents (state_of self.now)) options)) }
+    {
+        let buffer = match BufWriter::with_capacity(alloc, BUFFER_LEN, file) {
+            Ok(buffer) => buffer,
+            Err(e) => return Err(Fault::Put(e)),
+        };
+        let mut out = Plain::new(buffer);
+        let answer = match self.write_to(&mut out, options) {
+            Ok(answer) => answer,
+            Err(write::Error::Io(e)) => return Err(Fault::Put(e)),
+            Err(write::Error::TooManyEntries) => return Err(Fault::TooManyEntries),
+            Err(write::Error::TooLarge) => return Err(Fault::TooLarge),
+        };
+        match out.inner.flush() {
+            Ok(()) => Ok(answer),
+            Err(e) => Err(Fault::Put(e)),
+        }
+    }
+
+    /// Writes all bytes to the lock file, which is made new, and lets it take the index's place. After a failure its
+    /// removal was tried, unless it was there before.
+    fn replace<R: Files>(
+        &self,
+        rt: &R,
+        alloc: Global,
         options: Options,
     ) -> Result<(Version, ObjectId), Error>
-        requires placed { PathsInStorage (state_of self.now) }
-        requires unfailed { W.failed out.old ≡ false }
-        ensures answer { WritesIndex W.taken W.failed out.old out.new result (contents (state_of self.now)) options
-            (image (contents (state_of self.now)) options) }
-        ensures hashed { OnOk result (Hashes W.hashed out.old out.new (image (contents (state_of self.now)) options)) }
-        ensures loan { W.loan out.new ≡ W.loan out.old }
+        requires { PathsInStorage (state_of self.now) }
+        ensures version { IfOk result (λ x. x.0 ≡ image_version (contents (state_of self.now)) options) }
+        ensures id { IfOk result (λ x. x.1 ≡ make_id (contents (state_of self.now)).kind
+            (trailer (contents (state_of self.now)) options)) }
     {
-        let (version, id) = match put_front(&self.state, out, options) {
-            Ok(front) => front,
+        let lock = lock_path(alloc, &self.path)?;
+        let path = self.path.clone()?;
+        let file = match fs::File::create_new(rt, lock.as_path()) {
+            Ok(file) => file,
+            Err(e) => return Err(fault_of(Step::Lock, lock, e)),
+        };
+        let answer = match self.fill(alloc, file, options) {
+            Ok(answer) => answer,
+            Err(fault) => {
+                let _ = fs::remove_file(rt, lock.as_path());
+                return Err(match fault {
+                    Fault::Put(e) => fault_of(Step::Put, lock, e),
+                    Fault::TooManyEntries => Error::TooManyEntries,
+                    Fault::TooLarge => Error::TooLarge,
+                });
+            }
+        };
+        match fs::rename(rt, lock.as_path(), self.path.as_path()) {
+            Ok(()) => Ok(answer),
+            Err(e) => {
+                let _ = fs::remove_file(rt, lock.as_path());
+                Err(fault_of(Step::Commit, path, e))
+            }
+        }
+    }
+
+    /// Writes the index to its path, by way of the lock file `<path>.lock`, which keeps other writers out.
+    ///
+    /// The lock file is made new; where there is one already, nothing is written. What [`File::write_to`] writes goes to it
+    /// through a buffer of 64 KiB, and then it is renamed to the path. Version and checksum become those that were
+    /// written; the checksum becomes None with `skip_hash`. All else stays. Nothing is synced to the disk.
+    ///
+    /// [`Error::AcquireLock`], [`Error::Io`] and [`Error::CommitLock`] say which step failed;
+    /// [`Error::TooManyEntries`] and [`Error::TooLarge`] are those of [`File::write_to`]. After an error this `File` is as
+    /// it was, and it was tried to remove the lock file, unless that was another's.
+    pub fn write<R: Files>(&mut self, rt: &R, alloc: Global, options: Options) -> Result<(), Error>
+        requires { PathsInStorage (state_of self.old) }
+        ensures ok { OnOk result (IsWritten self.old self.new options) }
+        ensures err { OnErr result (self.new ≡ self.old) }
+    {
+        let (version, id) = match self.replace(rt, alloc, options) {
+            Ok(answer) => answer,
             Err(e) => return Err(e),
         };
-        match out.put(id.as_bytes()) {
-            Ok(()) => Ok((version, id)),
-            Err(e) => Err(Error::Io(e)),
-        }
+        self.state.set_version(version);
+        self.checksum = if options.skip_hash { None } else { Some(id) };
+        Ok(())
     }
 }

@@ -5,7 +5,7 @@ use Rattle.index_parts.specs.declared.hash.Kind.{Kind}
 use Rattle.index_state.specs.Image.{body}
 use Rattle.index_state.specs.State.{contents}
 use Rattle.gix_index.proofs.Files.{hashed_id}
-use Rattle.gix_index.proofs.file.write.put_hashed.Goals as goal
+use Rattle.gix_index.proofs.file.image.put_hashed.Goals as goal
 
 pub returns-in-Ok-clause-answer : goal.returns-in-Ok-clause-answer
 returns-in-Ok-clause-answer g c =

@@ -1,0 +1,10 @@
+use Rattle.std.proofs.Common.{◌≡◌, refl, sym, subst}
+use Rattle.index_state.specs.State.{contents}
+use Rattle.index_state.specs.declared.State.{State}
+use Rattle.gix_index.specs.File.{state_of, checksum_of}
+use Rattle.gix_index.proofs.file.at.shared_at.Goals as goal
+
+pub returns-in-Ok-decoded-clause-read : goal.returns-in-Ok-decoded-clause-read
+returns-in-Ok-decoded-clause-read g c =
+    let h = rw c.deref.ensures.value at c.in-Ok-decoded.ensures.read in
+    (c.in-Ok-bytes_at.bytes.items, checksum_of c.in-Ok-decoded.file, rw c.into_parts.ensures.state h)

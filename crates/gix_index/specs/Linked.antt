@@ -1,0 +1,49 @@
+-- What an index is that was read from the disk (gitformat-index, "Split index"). No clause can name a file's bytes: it is what
+-- some bytes are read as, and for a split index some bytes of its shared index.
+use Rattle.std.specs.Prelude.{◌≡◌, ℕ, Bool, true, false, List, Option, Some, None, Ok}
+use Rattle.index_parts.specs.Id.{id_bytes, is_null}
+use Rattle.index_parts.specs.declared.hash.Kind.{Kind}
+use Rattle.index_parts.specs.declared.hash.ObjectId.{ObjectId}
+use Rattle.index_parts.specs.declared.entry.stat.FileTime.{FileTime}
+use Rattle.index_state.specs.declared.decode.Options.{Options}
+use Rattle.index_state.specs.Edits.{without_link}
+use Rattle.index_state.specs.Link.{LinkValue}
+use Rattle.index_state.specs.Merge.{IsDissolved}
+use Rattle.index_state.specs.State.{Contents}
+use Rattle.gix_index.specs.Checked.{IsFileAnswer}
+
+-- the same, and the trailer has to be this id, unless it is null
+abbrev pub expecting : Options → ObjectId → Options
+expecting options id = record options { expected_checksum = Some id }
+
+-- there is no link, or none to follow, as its id is null
+abbrev pub IsUnfollowed : Option LinkValue → Type 0
+IsUnfollowed None = Unit {0}
+IsUnfollowed (Some l) = is_null (id_bytes l.shared) ≡ true
+
+-- the value and the trailer's id, where nothing is followed: what some bytes are read as, without the link
+pub record IsOwn (skip : Bool) (kind : Kind) (time : FileTime) (options : Options) (v : Contents) (checksum : Option ObjectId) : Type 0 where
+  pub bytes : List ℕ
+  pub split : Contents
+  pub read : IsFileAnswer skip kind time options bytes (Ok (split, checksum))
+  pub unfollowed : IsUnfollowed split.extensions.link
+  pub is : v ≡ without_link split
+
+-- the same where a link is followed: some other bytes are read as the shared index, whose trailer has to be the link's id, and
+-- the link is dissolved
+pub record IsJoined (skip : Bool) (kind : Kind) (time : FileTime) (options : Options) (v : Contents) (checksum : Option ObjectId) : Type 0 where
+  pub bytes : List ℕ
+  pub split : Contents
+  pub read : IsFileAnswer skip kind time options bytes (Ok (split, checksum))
+  pub link : LinkValue
+  pub has_link : split.extensions.link ≡ Some link
+  pub followed : is_null (id_bytes link.shared) ≡ false
+  pub shared_bytes : List ℕ
+  pub shared : Contents
+  pub shared_checksum : Option ObjectId
+  pub read_shared : IsFileAnswer skip kind time (expecting options link.shared) shared_bytes (Ok (shared, shared_checksum))
+  pub dissolved : IsDissolved link shared (without_link split) v
+
+pub data IsOnDisk (skip : Bool) (kind : Kind) (time : FileTime) (options : Options) (v : Contents) (checksum : Option ObjectId) : Type 0 where
+  own : IsOwn skip kind time options v checksum → IsOnDisk skip kind time options v checksum
+  joined : IsJoined skip kind time options v checksum → IsOnDisk skip kind time options v checksum

@@ -1,0 +1,15 @@
+-- What comparing a file's bytes with a checksum finds (gitformat-index, "Hash checksum").
+use Rattle.std.specs.Prelude.{◌≡◌, ◌≢◌, ℕ, ◌<◌, ◌≤◌, List, length}
+use Rattle.index_parts.specs.Id.{id_kind, id_len}
+use Rattle.index_parts.specs.declared.hash.ObjectId.{ObjectId}
+use Rattle.gix_index.specs.Checked.{digest_id}
+use Rattle.gix_index.specs.declared.file.verify.Error.{Error}
+use Rattle.gix_index.specs.declared.file.verify.Error.TheVariants as errors
+
+-- there are fewer bytes than the checksum has; or there are enough, and the digest of all but that many is another
+abbrev pub SaysOfBytes : List ℕ → ObjectId → Error → Type 0
+SaysOfBytes bytes checksum errors.TooShort = length bytes < id_len (id_kind checksum)
+SaysOfBytes bytes checksum (errors.Verify e) =
+    (id_len (id_kind checksum) ≤ length bytes) × (digest_id (id_kind checksum) bytes ≢ checksum) × (e.actual ≡ digest_id (id_kind checksum) bytes) × (e.expected ≡ checksum)
+SaysOfBytes bytes checksum (errors.Io e) = ⊥
+SaysOfBytes bytes checksum errors.Memory = ⊥

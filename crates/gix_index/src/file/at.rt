@@ -1,0 +1,245 @@
+//! Reading an index from the disk, with the shared index that it links to.
+
+ghost use Rattle.std.specs.Prelude.{◌≡◌, ◌⊎◌, List, ℕ, Option, IfOk, None, Ok};
+ghost use Rattle.std.specs.Path.{path_buf_bytes};
+ghost use Rattle.index_entries.specs.Record.{IdsAreOf};
+ghost use Rattle.index_parts.specs.declared.hash.ObjectId.{ObjectId};
+ghost use Rattle.index_state.specs.Edits.{empty_contents};
+ghost use Rattle.index_state.specs.State.{PathsInStorage, contents, entries_of};
+ghost use Rattle.index_state.specs.Storable.{IsStorable};
+ghost use Rattle.gix_index.specs.Checked.{IsFileAnswer};
+ghost use Rattle.gix_index.specs.File.{checksum_of, path_of, state_of};
+ghost use Rattle.gix_index.specs.Linked.{IsOnDisk, expecting};
+
+use super::File;
+use super::disk::{PathError, bytes_at};
+use super::init::Error;
+use index_parts::entry::FileTime;
+use index_parts::hash::{Kind, ObjectId};
+use index_state::extension::link;
+use index_state::{State, decode};
+use std::alloc::{AllocError, Global};
+use std::io;
+use std::io::ErrorKind;
+use std::path::{Path, PathBuf};
+use std::rt::Files;
+
+/// How an index file is read.
+#[derive(Clone, Copy)]
+struct How {
+    object_hash: Kind,
+    skip_hash: bool,
+    timestamp: FileTime,
+    options: decode::Options,
+}
+
+/// What it says that a file can't be opened or read.
+fn read_fault(path: PathBuf, error: io::Error) -> Error {
+    if error.kind() == ErrorKind::OutOfMemory {
+        return Error::Memory;
+    }
+    Error::Io(PathError { path, error })
+}
+
+/// What it says that a link can't be followed.
+fn link_fault(e: link::decode::Error) -> Error {
+    match e {
+        link::decode::Error::Memory => Error::Memory,
+        e => Error::LinkExtension(e),
+    }
+}
+
+/// The shared index's path: in the folder of the split one, by its id.
+fn shared_path(alloc: Global, path: Path<'_>, id: &ObjectId) -> Result<PathBuf, AllocError> {
+    let name = format!(in alloc; "sharedindex.{id}")?;
+    path.with_file_name(alloc, name.as_str())
+}
+
+/// The index in the bytes of a file, with its link left in.
+fn decoded(alloc: Global, bytes: &[u8], path: PathBuf, how: How) -> Result<File, Error>
+    ensures read { IfOk result (λ file. IsFileAnswer how.skip_hash how.object_hash how.timestamp how.options bytes.now
+        (Ok (contents (state_of file), checksum_of file))) }
+    ensures stored { IfOk result (λ file. PathsInStorage (state_of file)) }
+    ensures ids { IfOk result (λ file. IdsAreOf how.object_hash (entries_of (state_of file))) }
+    ensures storable { IfOk result (λ file. IsStorable (contents (state_of file))) }
+    ensures path { IfOk result (λ file. path_of file ≡ path_buf_bytes path) }
+{
+    let How {
+        object_hash,
+        skip_hash,
+        timestamp,
+        options,
+    } = how;
+    File::decode(
+        alloc,
+        bytes,
+        path,
+        object_hash,
+        skip_hash,
+        timestamp,
+        options,
+    )
+}
+
+/// The shared index beside the index at a path, which must have this id as its trailer, or a null one.
+fn shared_at<R: Files>(
+    rt: &R,
+    alloc: Global,
+    path: Path<'_>,
+    id: ObjectId,
+    how: How,
+) -> Result<State, Error>
+    ensures read { IfOk result (λ state. (bytes : List ℕ) × (checksum : Option ObjectId)
+        × IsFileAnswer how.skip_hash how.object_hash how.timestamp (expecting how.options id) bytes
+        (Ok (contents state, checksum))) }
+    ensures stored { IfOk result PathsInStorage }
+    ensures ids { IfOk result (λ state. IdsAreOf how.object_hash (entries_of state)) }
+    ensures storable { IfOk result (λ state. IsStorable (contents state)) }
+{
+    let Ok(shared) = shared_path(alloc, path, &id) else {
+        return Err(Error::Memory);
+    };
+    let bytes = match bytes_at(rt, alloc, shared.as_path()) {
+        Ok(bytes) => bytes,
+        Err(e) => return Err(read_fault(shared, e)),
+    };
+    let mut options = how.options;
+    options.expected_checksum = Some(id);
+    match decoded(alloc, &bytes, shared, How { options, ..how }) {
+        Ok(file) => Ok(file.into_parts().0),
+        Err(e) => Err(e),
+    }
+}
+
+/// Takes the file's link out, and merges what it links to.
+fn follow<R: Files>(rt: &R, alloc: Global, mut file: File, how: How) -> Result<File, Error>
+    requires read { (bytes : List ℕ) × IsFileAnswer how.skip_hash how.object_hash how.timestamp how.options bytes
+        (Ok (contents (state_of file), checksum_of file)) }
+    requires placed { PathsInStorage (state_of file) }
+    requires ids { IdsAreOf how.object_hash (entries_of (state_of file)) }
+    requires storable { IsStorable (contents (state_of file)) }
+    ensures read { IfOk result (λ read. IsOnDisk how.skip_hash how.object_hash how.timestamp how.options
+        (contents (state_of read)) (checksum_of read)) }
+    ensures stored { IfOk result (λ read. PathsInStorage (state_of read)) }
+    ensures ids { IfOk result (λ read. IdsAreOf how.object_hash (entries_of (state_of read))) }
+    ensures storable { IfOk result (λ read. IsStorable (contents (state_of read))) }
+    ensures path { IfOk result (λ read. path_of read ≡ path_of file) }
+    ensures unlinked { IfOk result (λ read. (contents (state_of read)).extensions.link ≡ None) }
+{
+    let Some(link) = file.state.take_link() else {
+        return Ok(file);
+    };
+    let id = link.shared_index_checksum;
+    if id.is_null() {
+        return Ok(file);
+    }
+    let shared = match shared_at(rt, alloc, file.path.as_path(), id, how) {
+        Ok(shared) => shared,
+        Err(e) => return Err(e),
+    };
+    match link.dissolve_into(alloc, &mut file.state, shared) {
+        Ok(()) => Ok(file),
+        Err(e) => Err(link_fault(e)),
+    }
+}
+
+/// The index in a file's bytes, with its link followed.
+fn followed<R: Files>(
+    rt: &R,
+    alloc: Global,
+    bytes: Vec<u8>,
+    path: PathBuf,
+    how: How,
+) -> Result<File, Error>
+    ensures read { IfOk result (λ file. IsOnDisk how.skip_hash how.object_hash how.timestamp how.options
+        (contents (state_of file)) (checksum_of file)) }
+    ensures stored { IfOk result (λ file. PathsInStorage (state_of file)) }
+    ensures ids { IfOk result (λ file. IdsAreOf how.object_hash (entries_of (state_of file))) }
+    ensures storable { IfOk result (λ file. IsStorable (contents (state_of file))) }
+    ensures path { IfOk result (λ file. path_of file ≡ path_buf_bytes path) }
+    ensures unlinked { IfOk result (λ file. (contents (state_of file)).extensions.link ≡ None) }
+{
+    let file = match decoded(alloc, &bytes, path, how) {
+        Ok(file) => file,
+        Err(e) => return Err(e),
+    };
+    drop(bytes);
+    follow(rt, alloc, file, how)
+}
+
+impl File {
+    /// Reads the index in the file at a path, with the shared index that it links to.
+    ///
+    /// The file's bytes are read as [`File::decode`] reads them, into room for as many as its metadata says. Then the link is taken
+    /// out (gitformat-index, "Split index"). Where it has an id that isn't null, the file `sharedindex.` with the id in
+    /// lower-case base 16, beside the index, is read in the same way, but that its trailer has to be the id or null; and it is merged as
+    /// [`Link::dissolve_into`](index_state::extension::link::Link::dissolve_into) says. The checksum is that of the file at the path.
+    ///
+    /// [`Error::Io`] names the file that can't be opened or read, the index or the shared one. [`Error::Decode`] and
+    /// [`Error::Memory`] are those of [`File::decode`], for either; [`Error::LinkExtension`] says why the two don't fit.
+    pub fn at<R: Files>(
+        rt: &R,
+        alloc: Global,
+        path: PathBuf,
+        object_hash: Kind,
+        skip_hash: bool,
+        timestamp: FileTime,
+        options: decode::Options,
+    ) -> Result<File, Error>
+        // The file's bytes can't be named: the index is what some bytes are read as.
+        ensures read { IfOk result (λ file. IsOnDisk skip_hash object_hash timestamp options
+            (contents (state_of file)) (checksum_of file)) }
+        ensures path { IfOk result (λ file. path_of file ≡ path_buf_bytes path) }
+        ensures stored { IfOk result (λ file. PathsInStorage (state_of file)) }
+        ensures ids { IfOk result (λ file. IdsAreOf object_hash (entries_of (state_of file))) }
+        ensures storable { IfOk result (λ file. IsStorable (contents (state_of file))) }
+        ensures unlinked { IfOk result (λ file. (contents (state_of file)).extensions.link ≡ None) }
+    {
+        let how = How {
+            object_hash,
+            skip_hash,
+            timestamp,
+            options,
+        };
+        match bytes_at(rt, alloc, path.as_path()) {
+            Ok(bytes) => followed(rt, alloc, bytes, path, how),
+            Err(e) => Err(read_fault(path, e)),
+        }
+    }
+
+    /// The same, but an empty index with the timestamp where there is no file at the path. It is of version 2, and has no checksum.
+    pub fn at_or_default<R: Files>(
+        rt: &R,
+        alloc: Global,
+        path: PathBuf,
+        object_hash: Kind,
+        skip_hash: bool,
+        timestamp: FileTime,
+        options: decode::Options,
+    ) -> Result<File, Error>
+        ensures read { IfOk result (λ file. IsOnDisk skip_hash object_hash timestamp options
+            (contents (state_of file)) (checksum_of file)
+            ⊎ ((contents (state_of file) ≡ empty_contents object_hash timestamp) × (checksum_of file ≡ None))) }
+        ensures path { IfOk result (λ file. path_of file ≡ path_buf_bytes path) }
+        ensures stored { IfOk result (λ file. PathsInStorage (state_of file)) }
+        ensures ids { IfOk result (λ file. IdsAreOf object_hash (entries_of (state_of file))) }
+        ensures storable { IfOk result (λ file. IsStorable (contents (state_of file))) }
+        ensures unlinked { IfOk result (λ file. (contents (state_of file)).extensions.link ≡ None) }
+    {
+        let how = How {
+            object_hash,
+            skip_hash,
+            timestamp,
+            options,
+        };
+        match bytes_at(rt, alloc, path.as_path()) {
+            Ok(bytes) => followed(rt, alloc, bytes, path, how),
+            Err(e) => {
+                if e.kind() == ErrorKind::NotFound {
+                    return Ok(File::from_state(State::new(alloc, object_hash, timestamp), path));
+                }
+                Err(read_fault(path, e))
+            }
+        }
+    }
+}

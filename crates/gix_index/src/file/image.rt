@@ -1,0 +1,110 @@
+//! Writing a `File`: the state's bytes, and their digest behind them.
+
+ghost use Rattle.std.specs.Prelude.{◌≡◌, true, false, OnOk};
+ghost use Rattle.index_parts.specs.Taking.{Hashes};
+ghost use Rattle.index_state.specs.Image.{body, image};
+ghost use Rattle.index_state.specs.State.{PathsInStorage, contents};
+ghost use Rattle.gix_index.specs.File.{state_of};
+ghost use Rattle.gix_index.specs.Written.{WritesIndex};
+
+use super::File;
+use index_entries::Version;
+use index_parts::hash::ObjectId;
+use index_parts::hash::io::{Out, Write};
+use index_state::State;
+use index_state::write::{Error, Options};
+
+/// Writes all but the trailer, and gives the digest of that.
+fn put_hashed<W: Out>(
+    state: &State,
+    out: &mut W,
+    options: Options,
+) -> Result<(Version, ObjectId), Error>
+    requires placed { PathsInStorage state.now }
+    requires unfailed { W.failed out.old ≡ false }
+    requires digest { options.skip_hash ≡ false }
+    ensures answer { WritesIndex W.taken W.failed out.old out.new result (contents state.now) options
+        (body (contents state.now) options) }
+    ensures hashed { OnOk result (Hashes W.hashed out.old out.new (body (contents state.now) options)) }
+    ensures loan { W.loan out.new ≡ W.loan out.old }
+{
+    let mut hashing = Write::new(out, state.object_hash());
+    let result = state.write_to(&mut hashing, options);
+    let Write { inner, hash } = hashing;
+    // No effect at run time. The proof reads what `out` holds from this use of `inner`.
+    let _ = &*inner;
+    match result {
+        Ok(version) => Ok((version, hash.finalize())),
+        Err(e) => Err(e),
+    }
+}
+
+/// Writes all but the trailer, and gives the null id.
+fn put_unhashed<W: Out>(
+    state: &State,
+    out: &mut W,
+    options: Options,
+) -> Result<(Version, ObjectId), Error>
+    requires placed { PathsInStorage state.now }
+    requires unfailed { W.failed out.old ≡ false }
+    requires no_digest { options.skip_hash ≡ true }
+    ensures answer { WritesIndex W.taken W.failed out.old out.new result (contents state.now) options
+        (body (contents state.now) options) }
+    ensures hashed { OnOk result (Hashes W.hashed out.old out.new (body (contents state.now) options)) }
+    ensures loan { W.loan out.new ≡ W.loan out.old }
+{
+    match state.write_to(out, options) {
+        Ok(version) => Ok((version, state.object_hash().null())),
+        Err(e) => Err(e),
+    }
+}
+
+/// Writes all but the trailer, and gives the id that is to stand behind it.
+fn put_front<W: Out>(
+    state: &State,
+    out: &mut W,
+    options: Options,
+) -> Result<(Version, ObjectId), Error>
+    requires placed { PathsInStorage state.now }
+    requires unfailed { W.failed out.old ≡ false }
+    ensures answer { WritesIndex W.taken W.failed out.old out.new result (contents state.now) options
+        (body (contents state.now) options) }
+    ensures hashed { OnOk result (Hashes W.hashed out.old out.new (body (contents state.now) options)) }
+    ensures loan { W.loan out.new ≡ W.loan out.old }
+{
+    if options.skip_hash {
+        put_unhashed(state, out, options)
+    } else {
+        put_hashed(state, out, options)
+    }
+}
+
+impl File {
+    /// Writes the index as all bytes of a file: what [`State::write_to`] writes, and behind it the digest of that, or
+    /// zeros with `skip_hash`. It gives the file's version, and that digest or the null id. The checksum of this
+    /// `File` stays.
+    ///
+    /// The refusals are those of [`State::write_to`]: [`Error::TooManyEntries`] and [`Error::TooLarge`] before any byte;
+    /// [`Error::Io`] where the writer failed, which then took a front of the bytes. No memory is taken.
+    pub fn write_to<W: Out>(
+        &self,
+        out: &mut W,
+        options: Options,
+    ) -> Result<(Version, ObjectId), Error>
+        requires placed { PathsInStorage (state_of self.now) }
+        requires unfailed { W.failed out.old ≡ false }
+        ensures answer { WritesIndex W.taken W.failed out.old out.new result (contents (state_of self.now)) options
+            (image (contents (state_of self.now)) options) }
+        ensures hashed { OnOk result (Hashes W.hashed out.old out.new (image (contents (state_of self.now)) options)) }
+        ensures loan { W.loan out.new ≡ W.loan out.old }
+    {
+        let (version, id) = match put_front(&self.state, out, options) {
+            Ok(front) => front,
+            Err(e) => return Err(e),
+        };
+        match out.put(id.as_bytes()) {
+            Ok(()) => Ok((version, id)),
+            Err(e) => Err(Error::Io(e)),
+        }
+    }
+}

@@ -1,0 +1,81 @@
+//! Whether a file still has the bytes that its checksum is of.
+
+ghost use Rattle.std.specs.Prelude.{◌≡◌, ◌≤◌, ◌<◌, ◌↔◌, length, Err, None, IfErr, IsOk, OnOk};
+ghost use Rattle.index_parts.specs.Id.{id_kind, id_len};
+ghost use Rattle.gix_index.specs.Checked.{digest_id};
+ghost use Rattle.gix_index.specs.File.{checksum_of};
+ghost use Rattle.gix_index.specs.Verified.{SaysOfBytes};
+
+use super::File;
+use super::disk::{PathError, bytes_at};
+use index_parts::hash::{self, ObjectId, digest};
+use std::alloc::Global;
+use std::io::ErrorKind;
+use std::rt::Files;
+use thiserror::Error;
+
+/// Why a file isn't what it was.
+#[derive(Debug, Drop, Error)]
+pub enum Error {
+    /// The file can't be opened or read.
+    #[error("the index file can't be opened or read: {0}")]
+    Io(PathError),
+    /// It has fewer bytes than an id.
+    #[error("the index file has fewer bytes than the checksum at its end")]
+    TooShort,
+    /// The digest of its bytes isn't the checksum.
+    #[error("the index file has changed since it was read or written: its digest is {}, and was {}", .0.actual, .0.expected)]
+    Verify(hash::verify::Error),
+    /// A growth was refused.
+    #[error("out of memory while reading an index file again")]
+    Memory,
+}
+
+/// Compares the digest of all bytes but the last, of which the checksum has as many, with the checksum
+/// (gitformat-index, "Hash checksum"). The last bytes themselves aren't looked at.
+///
+/// [`Error::TooShort`]: there are fewer bytes than the checksum has. [`Error::Verify`]: the digest, which it names as
+/// `actual`, is another. No other error comes, and no memory is taken.
+pub fn bytes(data: &[u8], checksum: ObjectId) -> Result<(), Error>
+    ensures too_short { (result ≡ Err Error.TooShort) ↔ (length «data».now < id_len (id_kind checksum)) }
+    ensures ok { OnOk result ((id_len (id_kind checksum) ≤ length «data».now)
+        × (digest_id (id_kind checksum) «data».now ≡ checksum)) }
+    ensures fault { IfErr result (SaysOfBytes «data».now checksum) }
+{
+    let kind = checksum.kind();
+    let len = kind.len_in_bytes();
+    if data.len() < len {
+        return Err(Error::TooShort);
+    }
+    let (body, _) = data.split_at(data.len() - len);
+    match digest(kind, body).verify(&checksum) {
+        Ok(()) => Ok(()),
+        Err(e) => Err(Error::Verify(e)),
+    }
+}
+
+impl File {
+    /// Reads the file at the path again, and compares its bytes with the checksum by [`bytes`]. Without a checksum it is
+    /// Ok, and nothing is read.
+    ///
+    /// [`Error::Io`] names the path. Room is asked for as many bytes as the file's metadata says. Nothing is changed.
+    pub fn verify_integrity<R: Files>(&self, rt: &R, alloc: Global) -> Result<(), Error>
+        ensures { checksum_of self.now ≡ None → IsOk result }
+    {
+        let Some(checksum) = self.checksum else {
+            return Ok(());
+        };
+        match bytes_at(rt, alloc, self.path.as_path()) {
+            Ok(data) => bytes(&data, checksum),
+            Err(error) => {
+                if error.kind() == ErrorKind::OutOfMemory {
+                    return Err(Error::Memory);
+                }
+                match self.path.clone() {
+                    Ok(path) => Err(Error::Io(PathError { path, error })),
+                    Err(_) => Err(Error::Memory),
+                }
+            }
+        }
+    }
+}
