@@ -16,4 +16,5 @@ pub mod RoundTrip
 pub mod SomeAnswers
 pub mod Storables
 pub mod Twice
+pub mod Verified
 pub mod WrittenOutcomes

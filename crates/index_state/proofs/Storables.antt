@@ -1,12 +1,16 @@
--- An empty index is storable, and stays so where an entry is added that is.
-use Rattle.std.proofs.Common.{◌≡◌, ◌≤◌, length, All}
+-- An empty index is storable, and stays so where an entry is added that is, where entries move, and where one is taken out.
+use Rattle.std.proofs.Common.{◌≡◌, ℕ, ◌<◌, ◌≤◌, List, ◌∷◌, length, get_or, All}
 use Rattle.std.specs.Prelude.{◌≢◌}
-use Rattle.std.proofs.lemmas.List.Elements.{All-nil, All-push}
+use Rattle.std.proofs.lemmas.List.Elements.{All-nil, All-push, All-tail}
+use Rattle.std.specs.List.{remove}
+use Rattle.std.specs.List.Sorted.{IsPermutation}
+use Rattle.std.proofs.lemmas.List.Sorted.{All-permutation, IsPermutation-map, IsPermutation-remove}
 use Rattle.index_parts.specs.Id.{id_kind}
 use Rattle.index_parts.specs.declared.hash.Kind.{Kind}
 use Rattle.index_parts.specs.declared.entry.stat.FileTime.{FileTime}
-use Rattle.index_entries.specs.Record.{Record, IsSized}
-use Rattle.index_state.specs.Edits.{empty_contents, with_record}
+use Rattle.index_entries.specs.declared.Entry.{Entry}
+use Rattle.index_entries.specs.Record.{Record, IsSized, record_in, records_in}
+use Rattle.index_state.specs.Edits.{empty_contents, with_record, with_records}
 use Rattle.index_state.specs.State.{Contents}
 use Rattle.index_state.specs.Storable.{IsStorable}
 
@@ -18,3 +22,15 @@ empty_storable kind time = record { ids = All-nil (λ r. id_kind r.id ≡ kind);
 
 pub push_storable : (v : Contents) (r : Record) → IsStorable v → id_kind r.id ≡ v.kind → (4095 ≤ length r.path → All (λ b. b ≢ 0) r.path) → IsSized r → IsStorable (with_record v r)
 push_storable v r h id path fits = record { ids = All-push (λ x. id_kind x.id ≡ v.kind) v.records r h.ids id; paths = All-push HasLegalPath v.records r h.paths path; fits = All-push IsSized v.records r h.fits fits; tree = h.tree }
+
+-- other records in place of the value's, where what holds of each of those holds of each of these
+keeps_storable : (v : Contents) (rs : List Record) → IsStorable v → ((P : Record → Type 0) → All P v.records → All P rs) → IsStorable (with_records v rs)
+keeps_storable v rs h keeps = record { ids = keeps (λ r. id_kind r.id ≡ v.kind) h.ids; paths = keeps HasLegalPath h.paths; fits = keeps IsSized h.fits; tree = h.tree }
+
+pub permuted_storable : (v : Contents) (rs : List Record) → IsPermutation v.records rs → IsStorable v → IsStorable (with_records v rs)
+permuted_storable v rs moved h = keeps_storable v rs h (λ P. All-permutation P v.records rs moved)
+
+pub fewer_storable : (v : Contents) (storage : List ℕ) (es : List Entry) (i : ℕ) (e : Entry) → v.records ≡ records_in storage es → i < length es → e ≡ get_or es i e → IsStorable v → IsStorable (with_records v (records_in storage (remove es i)))
+fewer_storable v storage es i e is inside read h =
+    let moved : IsPermutation (records_in storage es) (record_in storage e ∷ records_in storage (remove es i)) = IsPermutation-map (record_in storage) es (e ∷ remove es i) (IsPermutation-remove es i e inside read) in
+    keeps_storable v (records_in storage (remove es i)) h (λ P a. All-tail P (record_in storage e) (records_in storage (remove es i)) (All-permutation P (records_in storage es) _ moved (rw is at a)))

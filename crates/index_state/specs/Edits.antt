@@ -1,7 +1,7 @@
 -- An empty index, and what edits of one leave.
-use Rattle.std.specs.Prelude.{◌≡◌, List, [], ◌∷◌, ◌++◌, length, Option, Some, None}
-use Rattle.std.specs.Borrow.{Lends, LendsIf, MutBor, Fml, Array}
-use Rattle.std.specs.Vec.{with_items}
+use Rattle.std.specs.Prelude.{◌≡◌, ℕ, List, [], ◌∷◌, ◌++◌, length, Option, Some, None, OnSome}
+use Rattle.std.specs.Borrow.{Lends, LendsIf, LendsSo, MutBor, Fml, Array}
+use Rattle.std.specs.Vec.{with_item, with_items}
 use Rattle.index_parts.specs.declared.hash.Kind.{Kind}
 use Rattle.index_parts.specs.declared.entry.stat.FileTime.{FileTime}
 use Rattle.index_entries.specs.declared.Version.{Version}
@@ -15,6 +15,7 @@ use Rattle.index_state.specs.contracts.State as state
 use Rattle.index_state.specs.declared.extension.decode.Outcome.{Outcome as Kept}
 use Rattle.index_state.specs.contracts.extension.decode.Outcome as kept
 use Rattle.index_entries.specs.Record.{Record, IsPlaced, record_in}
+use Rattle.index_lookups.specs.Lookup.{IsKeyAt}
 use Rattle.index_state.specs.Outcome.{no_extension}
 use Rattle.index_state.specs.State.{Contents, contents, entries_of, records, storage_of}
 
@@ -28,9 +29,22 @@ empty_contents kind time = record {
   extensions = no_extension;
 }
 
--- without its cached tree, or without its stages of resolved conflicts; all else stays
+-- with this time, with this version, or with these records; all else stays
+abbrev pub with_time : Contents → FileTime → Contents
+with_time c time = record c { time = time }
+
+abbrev pub with_version : Contents → Version → Contents
+with_version c version = record c { version = version }
+
+abbrev pub with_records : Contents → List Record → Contents
+with_records c records = record c { records = records }
+
+-- without its cached tree, without its link, or without its stages of resolved conflicts; all else stays
 abbrev pub without_tree : Contents → Contents
 without_tree c = record c { extensions = record c.extensions { tree = None } }
+
+abbrev pub without_link : Contents → Contents
+without_link c = record c { extensions = record c.extensions { link = None } }
 
 abbrev pub without_resolve_undo : Contents → Contents
 without_resolve_undo c = record c { extensions = record c.extensions { resolve_undo = None } }
@@ -69,6 +83,15 @@ with_entries s entries = record s { entries = with_items s.entries entries }
 -- the state ends with the last entries behind the loan
 abbrev pub LendsEntries : MutBor State → MutBor (List Entry) → Fml
 LendsEntries s r = Lends state.the_row (Array entry.the_row 0) s r (with_entries s.now)
+
+-- the state with another entry at a place; all else stays
+abbrev pub with_entry_at : State → ℕ → Entry → State
+with_entry_at s i e = record s { entries = with_item s.entries i e }
+
+-- the state ends with the last entry behind the loan where one with the path and the stage stands; without a loan it ends as it was
+abbrev pub LendsEntryAt : List ℕ → ℕ → MutBor State → Option (MutBor Entry) → Fml
+LendsEntryAt path stage s r =
+    LendsSo state.the_row entry.the_row s r (λ last e. OnSome r ((i : ℕ) × IsKeyAt path stage (records s.now) i × (last ≡ with_entry_at s.now i e))) (λ last. IsUnchanged s.now last)
 
 -- the same of what is kept of the extensions
 abbrev pub LendsOwnTree : MutBor Kept → Option (MutBor Tree) → Fml

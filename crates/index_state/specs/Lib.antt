@@ -10,4 +10,5 @@ pub mod Outcome
 pub mod State
 pub mod Storable
 pub mod Stored
+pub mod Verified
 pub mod Writing

@@ -1,25 +1,32 @@
 //! Asking an index for its entries, and editing them.
 
+mod edit;
 mod extensions;
 mod link;
 mod lookup;
+mod remove;
+mod sort;
+mod storage;
 
 ghost use Rattle.std.specs.Borrow.{sem};
 ghost use Rattle.std.specs.Option.{ok_or, option_copied};
-ghost use Rattle.std.specs.Prelude.{◌≡◌, ◌+◌, ◌<◌, ◌≤◌, Contains, length, option_and_then, slice_get, IfOk, IfErr, IfSome, OnOk, OnErr};
+ghost use Rattle.std.specs.Prelude.{◌≡◌, ◌≢◌, ℕ, ◌+◌, ◌^◌, ◌<◌, ◌≤◌, All, Contains, List, length, option_and_then, slice_get, IfOk, IfErr, IfSome, OnOk, OnErr};
 ghost use Rattle.index_parts.specs.Flags.{stage_code};
 ghost use Rattle.index_parts.specs.Id.{id_kind};
 ghost use Rattle.index_lookups.specs.Digits.{digits};
 ghost use Rattle.index_state.specs.Edits.{AddsEntry, IsUnchanged, LendsEntries, with_record};
 ghost use Rattle.index_lookups.specs.Lookup.{HasKey, IsKeyAt, IsPathAt, IsPathGap, insertion_of, place_of};
 ghost use Rattle.index_entries.specs.Order.{IsOrderedByPath, IsStrictlyOrdered};
-ghost use Rattle.index_entries.specs.Record.{IdsAreOf, record_in};
+ghost use Rattle.index_entries.specs.Record.{IdsAreOf, IsSized, record_in};
 ghost use Rattle.index_state.specs.State.{PathsInStorage, contents, entries_of, records, storage_of};
+ghost use Rattle.index_state.specs.Storable.{IsStorable};
 ghost use Rattle.index_parts.specs.declared.hash.Kind.{Kind};
 
 use crate::State;
+use bitflags::Flags as _;
 use index_entries::{Entry, make_entry};
 use index_lookups::search;
+use index_parts::entry::stat::Time;
 use index_parts::entry::{Flags, Mode, Stage, Stat};
 use index_parts::hash::ObjectId;
 use std::alloc::AllocError;
@@ -103,6 +110,29 @@ impl State {
     }
 }
 
+/// The numbers of a time have at most 32 bits: they are read for this to be known.
+fn is_small(time: &Time)
+    ensures { (time.now.secs < 2 ^ 32) × (time.now.nsecs < 2 ^ 32) }
+{
+    let _secs = time.secs;
+    let _nsecs = time.nsecs;
+}
+
+/// The numbers of an entry have at most 32 bits, and its id has as many bytes as its kind: they are read for this to be known.
+fn have_room(stat: &Stat, id: &ObjectId, mode: Mode)
+    ensures { (path : List ℕ) (flags : ℕ) → IsSized (record { path = path; stat = stat.now; id = id.now; flags = flags; mode = mode.0 }) }
+{
+    is_small(&stat.ctime);
+    is_small(&stat.mtime);
+    let _dev = stat.dev;
+    let _ino = stat.ino;
+    let _uid = stat.uid;
+    let _gid = stat.gid;
+    let _size = stat.size;
+    let _mode = mode.bits();
+    let _id = id.as_bytes().len();
+}
+
 impl State {
     /// The entries, lent for writing; what was last written through the slice is what the state has then. All
     /// else stays.
@@ -136,8 +166,12 @@ impl State {
         ensures stored { OnOk result (PathsInStorage self.old → PathsInStorage self.new) }
         ensures ids { (kind : Kind) → OnOk result (IdsAreOf kind (entries_of self.old) → id_kind id ≡ kind
             → IdsAreOf kind (entries_of self.new)) }
+        ensures storable { OnOk result (PathsInStorage self.old → IsStorable (contents self.old)
+            → id_kind id ≡ (contents self.old).kind → (4095 ≤ length path.now → All (λ b. b ≢ 0) path.now)
+            → IsStorable (contents self.new)) }
         ensures err { OnErr result (IsUnchanged self.old self.new) }
     {
+        have_room(&stat, &id, mode);
         self.path_backing.reserve(path.len())?;
         self.entries.reserve(1)?;
         let start = self.path_backing.len();

@@ -13,6 +13,7 @@ mod access;
 pub mod decode;
 pub mod extension;
 mod init;
+pub mod verify;
 pub mod write;
 
 /// A git index in memory: entries in the order of the file, and what the extensions say.

@@ -7,7 +7,7 @@ ghost use Rattle.index_extensions.specs.FsMonitor.{monitor_of};
 ghost use Rattle.index_extensions.specs.ResolveUndo.{path_stages};
 ghost use Rattle.index_extensions.specs.Tree.{node_of};
 ghost use Rattle.index_extensions.specs.Untracked.{cache_of};
-ghost use Rattle.index_state.specs.Edits.{LendsTree, without_resolve_undo, without_tree};
+ghost use Rattle.index_state.specs.Edits.{LendsTree, without_link, without_resolve_undo, without_tree};
 ghost use Rattle.index_state.specs.Link.{link_of};
 ghost use Rattle.index_state.specs.State.{contents, entries_of, storage_of};
 
@@ -47,6 +47,16 @@ impl State {
         ensures { option_map (λ l. link_of l.now) result ≡ (contents self.now).extensions.link }
     {
         self.extensions.link.as_ref()
+    }
+
+    /// Takes the link out, and leaves none. All else stays.
+    pub fn take_link(&mut self) -> Option<Link>
+        ensures given { option_map link_of result ≡ (contents self.old).extensions.link }
+        ensures removed { contents self.new ≡ without_link (contents self.old) }
+        ensures entries { entries_of self.new ≡ entries_of self.old }
+        ensures storage { storage_of self.new ≡ storage_of self.old }
+    {
+        self.extensions.link.take()
     }
 
     /// The stages of conflicts that were resolved, path by path, where the file had them and they could be read

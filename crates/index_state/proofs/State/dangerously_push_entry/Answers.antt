@@ -3,6 +3,7 @@ use Rattle.index_entries.specs.declared.Entry.{Entry}
 use Rattle.index_entries.specs.Record.{Record, records_in}
 use Rattle.index_state.specs.State.{contents, entries_of, storage_of}
 use Rattle.index_entries.proofs.Storing.{own_place, own_record, records_push}
+use Rattle.index_state.proofs.Storables.{push_storable}
 use Rattle.index_state.proofs.State.dangerously_push_entry.Goals as goal
 
 pub returns-clause-added : goal.returns-clause-added
@@ -37,3 +38,7 @@ returns-clause-pushed c = λ placed.
     let end : c.len-end.result ≡ length (s ++ path) = c.len-end.ensures ∙ c.extend_from_slice.new.self.ok.0 ∙ ap length grown in
     let pushed : records_in c.extend_from_slice.new.self.items c.push_reserved.new.self.items ≡ _ = rw (grown, added) (records_push s path es e placed start end) in
     ap (λ (rs : List Record). record (contents old) { records = rs }) pushed
+
+pub returns-clause-storable : goal.returns-clause-storable
+returns-clause-storable c = λ placed h kind path.
+    rw (returns-clause-pushed c placed) (push_storable (contents c.args.self.now) (record { path = c.args.path.now; stat = c.args.stat; id = c.args.id; flags = c.args.flags.0; mode = c.args.mode.0 }) h kind path (c.have_room.ensures c.args.path.now c.args.flags.0))

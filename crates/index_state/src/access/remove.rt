@@ -1,0 +1,44 @@
+//! Taking entries of a state out.
+
+ghost use Rattle.std.specs.Prelude.{◌≡◌, ◌<◌, length, remove, slice_get, Some};
+ghost use Rattle.index_entries.specs.Removed.{RemovesWith};
+ghost use Rattle.index_state.specs.Edits.{with_records};
+ghost use Rattle.index_state.specs.State.{PathsInStorage, contents, entries_of, records, storage_of};
+ghost use Rattle.index_state.specs.Storable.{IsStorable};
+
+use crate::State;
+use index_entries::Entry;
+use index_entries::access::remove;
+
+impl State {
+    /// Calls the closure once for each entry, in order, with its place before any removal and its path, and takes out those
+    /// for which it answers true. The others keep their order and what the closure changed. The storage of paths and all
+    /// else stay. No memory is asked for.
+    pub fn remove_entries<F: FnMut(usize, &[u8], &mut Entry) -> bool>(
+        &mut self,
+        mut should_remove: F,
+    )
+        requires placed { PathsInStorage self.old }
+        requires callable { F.IsAlwaysCallable should_remove }
+        ensures removed { (last : F) × RemovesWith (λ f i p e b o g. F.step f i p e b o g) (storage_of self.old)
+            should_remove (entries_of self.old) last (entries_of self.new) }
+        ensures storage { storage_of self.new ≡ storage_of self.old }
+        ensures others { contents self.new ≡ with_records (contents self.old) (records self.new) }
+    {
+        remove::remove_entries(&mut self.entries, &self.path_backing, &mut should_remove);
+    }
+
+    /// Takes the entry at a place out, counted from 0. The others keep their order; the storage of paths, its own among
+    /// them, and all else stay.
+    pub fn remove_entry_at_index(&mut self, index: usize) -> Entry
+        requires { index < length (entries_of self.old) }
+        ensures given { slice_get (entries_of self.old) index ≡ Some result }
+        ensures removed { entries_of self.new ≡ remove (entries_of self.old) index }
+        ensures storage { storage_of self.new ≡ storage_of self.old }
+        ensures others { contents self.new ≡ with_records (contents self.old) (records self.new) }
+        ensures stored { PathsInStorage self.old → PathsInStorage self.new }
+        ensures storable { IsStorable (contents self.old) → IsStorable (contents self.new) }
+    {
+        self.entries.remove(index)
+    }
+}
