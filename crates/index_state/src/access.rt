@@ -2,7 +2,6 @@
 
 mod edit;
 mod extensions;
-mod link;
 mod lookup;
 mod remove;
 mod sort;
