@@ -49,14 +49,6 @@ without_link c = record c { extensions = record c.extensions { link = None } }
 abbrev pub without_resolve_undo : Contents → Contents
 without_resolve_undo c = record c { extensions = record c.extensions { resolve_undo = None } }
 
--- without its link to a shared index; all else stays
-abbrev pub without_link : Contents → Contents
-without_link c = record c { extensions = record c.extensions { link = None } }
-
--- with another version; all else stays
-abbrev pub with_version : Contents → Version → Contents
-with_version c version = record c { version = version }
-
 -- one more record at the end; all else stays
 abbrev pub with_record : Contents → Record → Contents
 with_record c r = record c { records = c.records ++ r ∷ [] }

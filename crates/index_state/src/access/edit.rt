@@ -27,7 +27,7 @@ impl State {
     /// Sets the version, as a file that was just written has it. All else stays: which version a later write takes is told
     /// by the entries alone.
     pub fn set_version(&mut self, version: Version)
-        ensures set { contents self.new ≡ with_version (contents self.old) version }
+        ensures version { contents self.new ≡ with_version (contents self.old) version }
         ensures entries { entries_of self.new ≡ entries_of self.old }
         ensures storage { storage_of self.new ≡ storage_of self.old }
     {
