@@ -9,7 +9,11 @@ mod storage;
 
 ghost use Rattle.std.specs.Borrow.{sem};
 ghost use Rattle.std.specs.Option.{ok_or, option_copied};
+<<<<<<< ours
 ghost use Rattle.std.specs.Prelude.{◌≡◌, ◌≢◌, ℕ, ◌+◌, ◌^◌, ◌<◌, ◌≤◌, All, Contains, List, length, option_and_then, slice_get, IfOk, IfErr, IfSome, OnOk, OnErr};
+=======
+ghost use Rattle.std.specs.Prelude.{◌≡◌, ◌≢◌, ◌+◌, ◌<◌, ◌≤◌, All, Contains, length, option_and_then, slice_get, IfOk, IfErr, IfSome, OnOk, OnErr};
+>>>>>>> theirs
 ghost use Rattle.index_parts.specs.Flags.{stage_code};
 ghost use Rattle.index_parts.specs.Id.{id_kind};
 ghost use Rattle.index_lookups.specs.Digits.{digits};
@@ -149,7 +153,8 @@ impl State {
     ///
     /// It's dangerous because nothing is looked at: the entry stands at the end wherever it belongs, also
     /// beside another with its path and stage, and searches by path promise less until the entries are in order
-    /// again. Room for path and entry is asked for first, so after an error the state is as it was.
+    /// again. Room for path and entry is asked for first, so after an error the state is as it was. A state that can be written
+    /// still can be where the id is of its kind, and the path has fewer than 4095 bytes or no NUL.
     pub fn dangerously_push_entry(
         &mut self,
         stat: Stat,
@@ -165,9 +170,14 @@ impl State {
         ensures stored { OnOk result (PathsInStorage self.old → PathsInStorage self.new) }
         ensures ids { (kind : Kind) → OnOk result (IdsAreOf kind (entries_of self.old) → id_kind id ≡ kind
             → IdsAreOf kind (entries_of self.new)) }
+<<<<<<< ours
         ensures storable { OnOk result (PathsInStorage self.old → IsStorable (contents self.old)
             → id_kind id ≡ (contents self.old).kind → (4095 ≤ length path.now → All (λ b. b ≢ 0) path.now)
             → IsStorable (contents self.new)) }
+=======
+        ensures storable { OnOk result (PathsInStorage self.old → IsStorable (contents self.old) → id_kind id ≡ (contents self.old).kind
+            → (4095 ≤ length path.now → All (λ b. b ≢ 0) path.now) → IsStorable (contents self.new)) }
+>>>>>>> theirs
         ensures err { OnErr result (IsUnchanged self.old self.new) }
     {
         have_room(&stat, &id, mode);
