@@ -28,6 +28,7 @@ pub use Rattle.index_entries.specs.Limits
 pub use Rattle.index_lookups.specs.Lookup
 pub use Rattle.index_entries.specs.Order
 pub use Rattle.index_entries.specs.Record
+pub use Rattle.index_extensions.specs.Agreement
 pub use Rattle.index_extensions.specs.Contents
 pub use Rattle.index_extensions.specs.EndMarker
 pub use Rattle.index_extensions.specs.FsMonitor

@@ -11,7 +11,8 @@ use Rattle.index_extensions.specs.declared.extension.tree.Tree.{Tree}
 use Rattle.index_extensions.specs.declared.extension.tree.Tree.TheViews.{out-Tree}
 use Rattle.index_extensions.specs.declared.extension.tree.verify.Error.{Error}
 use Rattle.index_extensions.specs.declared.extension.tree.verify.Error.TheVariants as errors
-use Rattle.index_extensions.proofs.Sounds.{row_of_trees, cut_at, or_none, none_both, says_is, says_first, says_after}
+use Rattle.index_extensions.proofs.Agreements.{or_none, none_both}
+use Rattle.index_extensions.proofs.Sounds.{row_of_trees, cut_at, says_is, says_first, says_after}
 use Rattle.index_extensions.proofs.Spelled.{node_of-out}
 
 -- ---- no excess, and counts within

@@ -1,9 +1,11 @@
+pub mod Agreements
 pub mod BitmapPlaces
 pub mod BlockHeads
 pub mod BlockReadings
 pub mod CacheIds
 pub mod CacheReadings
 pub mod Caches
+pub mod Children
 pub mod Clones
 pub mod Decimals
 pub mod EndMarks
@@ -32,6 +34,7 @@ pub mod Spelled
 pub mod TableReadings
 pub mod TailReadings
 pub mod Tails
+pub mod TreeChecks
 pub mod TreeLengths
 pub mod TreeReadings
 pub mod Trees

@@ -1,9 +1,11 @@
+pub mod Agreement
 pub mod Blocks
 pub mod CachedStat
 pub mod Contents
 pub mod Decimal
 pub mod EndMarker
 pub mod FsMonitor
+pub mod Looking
 pub mod Marking
 pub mod Marks
 pub mod Octal

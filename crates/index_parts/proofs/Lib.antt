@@ -9,5 +9,6 @@ pub mod Readers
 pub mod Splits
 pub mod Steps
 pub mod Taking
+pub mod TreeLists
 pub mod TreeObjects
 pub mod Unpackings

@@ -7,6 +7,7 @@ pub mod Front
 pub mod Id
 pub mod Limit
 pub mod Mode
+pub mod ModeChange
 pub mod Object
 pub mod Octal
 pub mod Offset

@@ -3,6 +3,7 @@
 
 pub mod entry;
 pub mod ewah;
+pub mod fs;
 pub mod hash;
 pub mod object;
 pub mod read;

@@ -9,11 +9,7 @@ mod storage;
 
 ghost use Rattle.std.specs.Borrow.{sem};
 ghost use Rattle.std.specs.Option.{ok_or, option_copied};
-<<<<<<< ours
 ghost use Rattle.std.specs.Prelude.{◌≡◌, ◌≢◌, ℕ, ◌+◌, ◌^◌, ◌<◌, ◌≤◌, All, Contains, List, length, option_and_then, slice_get, IfOk, IfErr, IfSome, OnOk, OnErr};
-=======
-ghost use Rattle.std.specs.Prelude.{◌≡◌, ◌≢◌, ◌+◌, ◌<◌, ◌≤◌, All, Contains, length, option_and_then, slice_get, IfOk, IfErr, IfSome, OnOk, OnErr};
->>>>>>> theirs
 ghost use Rattle.index_parts.specs.Flags.{stage_code};
 ghost use Rattle.index_parts.specs.Id.{id_kind};
 ghost use Rattle.index_lookups.specs.Digits.{digits};
@@ -170,14 +166,9 @@ impl State {
         ensures stored { OnOk result (PathsInStorage self.old → PathsInStorage self.new) }
         ensures ids { (kind : Kind) → OnOk result (IdsAreOf kind (entries_of self.old) → id_kind id ≡ kind
             → IdsAreOf kind (entries_of self.new)) }
-<<<<<<< ours
         ensures storable { OnOk result (PathsInStorage self.old → IsStorable (contents self.old)
             → id_kind id ≡ (contents self.old).kind → (4095 ≤ length path.now → All (λ b. b ≢ 0) path.now)
             → IsStorable (contents self.new)) }
-=======
-        ensures storable { OnOk result (PathsInStorage self.old → IsStorable (contents self.old) → id_kind id ≡ (contents self.old).kind
-            → (4095 ≤ length path.now → All (λ b. b ≢ 0) path.now) → IsStorable (contents self.new)) }
->>>>>>> theirs
         ensures err { OnErr result (IsUnchanged self.old self.new) }
     {
         have_room(&stat, &id, mode);

@@ -3,6 +3,7 @@
 ghost use Rattle.std.specs.Prelude.{◌≡◌, length};
 ghost use Rattle.std.specs.Iterator.{at_most};
 ghost use Rattle.std.specs.Option.{option_map};
+ghost use Rattle.index_parts.specs.Mode.{mode_of_kind};
 ghost use Rattle.index_parts.specs.ReadingTree.{tree_mode_of, tree_entry_at};
 ghost use Rattle.index_parts.specs.TreeObject.{Gives, is_tree_mode, kind_of_mode, kind_of_entries, tree_entry_of, unread_entries};
 
@@ -55,6 +56,21 @@ impl EntryMode {
             0o100000 if self.value() & 0o100 != 0 => EntryKind::BlobExecutable,
             0o100000 => EntryKind::Blob,
             _ => EntryKind::Commit,
+        }
+    }
+}
+
+/// The mode that an entry of this kind has.
+impl From<EntryKind> for EntryMode {
+    ghost from_gives = { λ kind mode. mode.0 ≡ mode_of_kind kind };
+
+    fn from(kind: EntryKind) -> EntryMode {
+        match kind {
+            EntryKind::Tree => EntryMode(0o040000),
+            EntryKind::Blob => EntryMode(0o100644),
+            EntryKind::BlobExecutable => EntryMode(0o100755),
+            EntryKind::Link => EntryMode(0o120000),
+            EntryKind::Commit => EntryMode(0o160000),
         }
     }
 }

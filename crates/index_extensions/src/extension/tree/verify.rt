@@ -1,9 +1,11 @@
 //! Whether a cached tree holds together.
 
-ghost use Rattle.std.specs.Prelude.{◌≡◌, ◌↔◌, ℕ, false, Some, None, IfOk, IfErr, IsOk, map};
+ghost use Rattle.std.specs.Prelude.{◌≡◌, ◌↔◌, ℕ, false, Option, Some, None, IfOk, IfErr, IsOk, IsTrue, map};
 ghost use Rattle.std.specs.Option.{option_map};
-ghost use Rattle.index_extensions.specs.Sound.{entries_of, entries_sum, IsSoundTree, CountsAtMost};
-ghost use Rattle.index_extensions.specs.TreeFaults.{name_fault, sum_fault, order_fault, count_fault, row_fault, node_fault, tree_fault, excess_fault, excess_in, Says};
+ghost use Rattle.index_extensions.specs.Agreement.{Trees, AreTrees};
+ghost use Rattle.index_extensions.specs.Looking.{AreLooked, SaysBy};
+ghost use Rattle.index_extensions.specs.Sound.{entries_of, entries_sum, RiseFrom, IsSoundTree, CountsAtMost};
+ghost use Rattle.index_extensions.specs.TreeFaults.{name_fault, sum_fault, order_fault, count_fault, row_fault, object_fault, node_fault, tree_fault, excess_fault, excess_in, Judges, Says};
 ghost use Rattle.index_extensions.specs.Tree.{node_of, nodes_from};
 ghost use Rattle.index_extensions.specs.declared.extension.tree.verify.Error.TheVariants.{Memory};
 
@@ -12,8 +14,11 @@ use super::nodes::compare_names;
 use bstr::BString;
 use index_parts::hash::ObjectId;
 use index_parts::object::Find;
+use objects::check_tree;
 use std::alloc::{AllocError, Global};
 use thiserror::Error;
+
+mod objects;
 
 /// Why a cached tree doesn't hold together.
 #[derive(Debug, Drop, Error)]
@@ -45,6 +50,32 @@ pub enum Error {
         /// The name before it.
         previous_path: BString,
     },
+    /// The store has no tree for a node with children.
+    #[error("the tree {id} of the cached tree isn't in the object store")]
+    TreeNodeNotFound {
+        /// The node's id.
+        id: ObjectId,
+    },
+    /// A tree lists a directory that no child of its node has the name of.
+    #[error("the tree {parent_id} has the directory '{name}' ({entry_id}), but the cached tree has no such child")]
+    MissingTreeDirectory {
+        /// The id of the node and of its tree.
+        parent_id: ObjectId,
+        /// The directory's id.
+        entry_id: ObjectId,
+        /// The directory's name.
+        name: BString,
+    },
+    /// A tree lists another number of directories than its node has children.
+    #[error("the tree {oid} has {expected_childcount} directories, but {actual_childcount} children in the cached tree")]
+    TreeNodeChildcountMismatch {
+        /// The id of the node and of its tree.
+        oid: ObjectId,
+        /// How many directories the tree lists.
+        expected_childcount: usize,
+        /// How many children the node has.
+        actual_childcount: usize,
+    },
     /// A node counts more entries than the index has.
     #[error("the tree '{name}' of the cached tree counts {actual} entries, but the index has {expected}")]
     EntriesCountExceedsIndex {
@@ -55,8 +86,8 @@ pub enum Error {
         /// How many entries the index has.
         expected: usize,
     },
-    /// There is no memory for the names of a fault.
-    #[error("no memory is left to name a fault of the cached tree")]
+    /// There is no memory for the names of a fault, or for an object.
+    #[error("no memory is left to check the cached tree")]
     Memory,
 }
 
@@ -141,14 +172,42 @@ fn check_count(count: Option<u32>, sum: u32) -> Result<(), Error>
     })
 }
 
-/// Fails at the first fault of a node and of all below it.
-fn verify_node(alloc: Global, tree: &Tree) -> Result<(), Error>
-    ensures ok { IfOk result (λ _. node_fault (node_of tree.now) ≡ None) }
-    ensures err { IfErr result (λ e. Says e (node_fault (node_of tree.now))) }
+/// Fails where objects are looked at, and that of a node with children isn't a tree that lists them.
+fn check_object<F: Find>(
+    alloc: Global,
+    objects: Option<&F>,
+    buf: &mut Vec<u8>,
+    id: ObjectId,
+    children: &[Tree],
+) -> Result<(), Error>
+    requires rise { RiseFrom None (nodes_from (map node_of children.now)) }
+    ensures ok { IfOk result (λ _. (trees : Option Trees) → AreLooked (option_map (λ o. F.found o.now) objects.entry) trees → object_fault trees id (nodes_from (map node_of children.now)) ≡ None) }
+    ensures err { IfErr result (λ e. (trees : Option Trees) → AreLooked (option_map (λ o. F.found o.now) objects.entry) trees → SaysBy trees e (object_fault trees id (nodes_from (map node_of children.now)))) }
 {
-    let sum = sum_of(alloc, tree.id, &tree.children)?;
-    for child in &tree.children {
-        verify_node(alloc, child)?;
+    let Some(objects) = objects else {
+        return Ok(());
+    };
+    if children.is_empty() {
+        return Ok(());
+    }
+    check_tree(alloc, objects, buf, id, children)
+}
+
+/// Fails at the first fault of a node and of all below it.
+fn verify_node<F: Find>(
+    alloc: Global,
+    objects: Option<&F>,
+    buf: &mut Vec<u8>,
+    tree: &Tree,
+) -> Result<(), Error>
+    ensures ok { IfOk result (λ _. (trees : Option Trees) → AreLooked (option_map (λ o. F.found o.now) objects.entry) trees → node_fault trees (node_of tree.now) ≡ None) }
+    ensures err { IfErr result (λ e. (trees : Option Trees) → AreLooked (option_map (λ o. F.found o.now) objects.entry) trees → SaysBy trees e (node_fault trees (node_of tree.now))) }
+{
+    let children = tree.children.as_slice();
+    let sum = sum_of(alloc, tree.id, children)?;
+    check_object(alloc, objects, buf, tree.id, children)?;
+    for child in children {
+        verify_node(alloc, objects, buf, child)?;
     }
     check_count(tree.num_entries, sum)
 }
@@ -188,20 +247,27 @@ impl Tree {
     /// Whether the tree holds together (gitformat-index, "Cache tree"): the root has no name, and at each node the names of its
     /// children increase, and their counts come together to at most 2^32 - 1 and to no more than the node's own, where it has one.
     ///
-    /// The first fault is answered: the root's name; then at a node its children together, each child and all below it in turn,
-    /// and its own count. Ids and objects aren't looked at. [`Error::Memory`] comes in place of a fault that has a name.
+    /// Where objects are used, each node with children is looked up by its id too: it has to be a tree whose directories are the
+    /// children, each by its name, and as many. Of a malformed tree the entries before the malformed one count. The ids of
+    /// the children aren't compared.
+    ///
+    /// The first fault is answered: the root's name; then at a node its children together, its tree, each child and all below it
+    /// in turn, and its own count. [`Error::Memory`] comes in place of a fault that has a name, or where the finder
+    /// has no memory.
     pub fn verify<F: Find>(
         &self,
         alloc: Global,
         use_objects: bool,
         objects: &F,
     ) -> Result<(), Error>
-        requires without_objects { use_objects ≡ false }
-        ensures sound { IsOk result ↔ IsSoundTree (node_of self.now) }
-        ensures fault { IfErr result (λ e. Says e (tree_fault (node_of self.now))) }
+        ensures sound { use_objects ≡ false → (IsOk result ↔ IsSoundTree (node_of self.now)) }
+        ensures fault { use_objects ≡ false → IfErr result (λ e. Says e (tree_fault (node_of self.now))) }
+        ensures objects { IsTrue use_objects → (trees : Trees) × AreTrees (F.found objects.now) trees × Judges trees (node_of self.now) result }
     {
         check_root(alloc, self.name.as_slice())?;
-        verify_node(alloc, self)
+        let objects = if use_objects { Some(objects) } else { None };
+        let mut buf = Vec::new(alloc);
+        verify_node(alloc, objects, &mut buf, self)
     }
 
     /// Whether no node counts more than so many entries, which are those of the index.

@@ -42,25 +42,5 @@ returns-clause-pushed c = λ placed.
     ap (λ (rs : List Record). record (contents old) { records = rs }) pushed
 
 pub returns-clause-storable : goal.returns-clause-storable
-<<<<<<< ours
 returns-clause-storable c = λ placed h kind path.
     rw (returns-clause-pushed c placed) (push_storable (contents c.args.self.now) (record { path = c.args.path.now; stat = c.args.stat; id = c.args.id; flags = c.args.flags.0; mode = c.args.mode.0 }) h kind path (c.have_room.ensures c.args.path.now c.args.flags.0))
-=======
-returns-clause-storable c = λ placed storable id path.
-    let r : Record = record { path = c.args.path.now; stat = c.args.stat; id = c.args.id; flags = c.args.flags.0; mode = c.args.mode.0 } in
-    let len : length (id_bytes c.args.id) ≡ id_len (id_kind c.args.id) = search rules in
-    let fits : IsSized r = record {
-      ctime_secs = search rules;
-      ctime_nsecs = search rules;
-      mtime_secs = search rules;
-      mtime_nsecs = search rules;
-      dev = search rules;
-      ino = search rules;
-      uid = search rules;
-      gid = search rules;
-      size = search rules;
-      mode = search rules;
-      id = len;
-    } in
-    subst IsStorable (sym (returns-clause-pushed c placed)) (push_storable (contents c.args.self.now) r storable id path fits)
->>>>>>> theirs

@@ -1,0 +1,51 @@
+-- Every bytes list entries of a tree; and what they list behind an entry, or where none begins them.
+use Rattle.std.proofs.Common.{◌≡◌, ℕ, zero, suc, ◌<◌, ◌≤◌, List, [], ◌∷◌, length, Option, Some, None, refl, sym, ap, subst, ◌∙◌, arith}
+use Rattle.std.proofs.lemmas.List.{nil_from_length}
+use Rattle.index_parts.proofs.TreeObjects.{entry_takes, no_entry, one_entry, entry_fewer, none_in_nothing}
+use Rattle.index_parts.specs.ReadingTree.{tree_entry_at}
+use Rattle.index_parts.specs.TreeObject.{TreeEntry, IsTreeEntry, NoTreeEntry, AreTreeEntries, Lists}
+use Rattle.index_parts.specs.declared.hash.Kind.{Kind}
+
+-- ---- what bytes list
+
+-- the entry, and those behind it
+abbrev with_entry : Option (TreeEntry × List ℕ) → (List ℕ → List TreeEntry) → List TreeEntry
+with_entry None f = []
+with_entry (Some x) f = x.0 ∷ f x.1
+
+-- at most so many entries
+abbrev entries_within : ℕ → Kind → List ℕ → List TreeEntry
+entries_within zero kind bytes = []
+entries_within (suc n) kind bytes = with_entry (tree_entry_at kind bytes) (entries_within n kind)
+
+lists_by : (n : ℕ) (kind : Kind) (bytes : List ℕ) (o : Option (TreeEntry × List ℕ)) → tree_entry_at kind bytes ≡ o
+    → ((rest : List ℕ) → length rest < length bytes → Lists kind rest (entries_within n kind rest)) → Lists kind bytes (with_entry o (entries_within n kind))
+lists_by n kind bytes None e more = (bytes, refl, no_entry kind bytes e)
+lists_by n kind bytes (Some x) e more =
+    let h : IsTreeEntry kind bytes x.0 x.1 = entry_takes kind bytes x e in
+    let l : Lists kind x.1 (entries_within n kind x.1) = more x.1 (entry_fewer kind bytes x.0 x.1 h) in
+    (l.0, (x.1, h, l.1), l.2)
+
+lists_within : (n : ℕ) (kind : Kind) (bytes : List ℕ) → length bytes ≤ n → Lists kind bytes (entries_within n kind bytes)
+lists_within zero kind bytes short = (bytes, refl, none_in_nothing kind bytes (nil_from_length bytes (omega (arith, short))))
+lists_within (suc n) kind bytes short = lists_by n kind bytes (tree_entry_at kind bytes) refl (λ rest lt. lists_within n kind rest (omega (arith, short, lt)))
+
+abbrev pub listed_in : Kind → List ℕ → List TreeEntry
+listed_in kind bytes = entries_within (length bytes) kind bytes
+
+pub lists_some : (kind : Kind) (bytes : List ℕ) → Lists kind bytes (listed_in kind bytes)
+lists_some kind bytes = lists_within (length bytes) kind bytes (omega arith)
+
+-- ---- behind an entry, and at the end
+
+-- an entry at the front is the first that is listed
+pub list_behind : (kind : Kind) (bytes : List ℕ) (e : TreeEntry) (after : List ℕ) (es : List TreeEntry) → IsTreeEntry kind bytes e after → Lists kind bytes es → (later : List TreeEntry) × (es ≡ e ∷ later) × Lists kind after later
+list_behind kind bytes e after [] h l = absurd (l.2 e after (subst (λ (b : List ℕ). IsTreeEntry kind b e after) l.1 h))
+list_behind kind bytes e after (d ∷ later) h l =
+    let same = one_entry kind bytes d e l.1.0 after l.1.1 h in
+    (later, ap (λ (x : TreeEntry × List ℕ). x.0 ∷ later) same, (l.0, subst (λ (b : List ℕ). AreTreeEntries kind b later l.0) (ap (λ (x : TreeEntry × List ℕ). x.1) same) l.1.2, l.2))
+
+-- where none begins them, nothing is listed
+pub list_ends : (kind : Kind) (bytes : List ℕ) (es : List TreeEntry) → NoTreeEntry kind bytes → Lists kind bytes es → es ≡ []
+list_ends kind bytes [] none l = refl
+list_ends kind bytes (d ∷ later) none l = absurd (none d l.1.0 l.1.1)
