@@ -29,6 +29,7 @@ pub use Rattle.index_lookups.specs.Lookup
 pub use Rattle.index_entries.specs.Order
 pub use Rattle.index_entries.specs.Record
 pub use Rattle.index_extensions.specs.Agreement
+pub use Rattle.index_entries.specs.Merge as EntryMerge
 pub use Rattle.index_extensions.specs.Contents
 pub use Rattle.index_extensions.specs.EndMarker
 pub use Rattle.index_extensions.specs.FsMonitor
@@ -43,6 +44,7 @@ pub use Rattle.index_state.specs.Answer
 pub use Rattle.index_state.specs.Edits
 pub use Rattle.index_state.specs.Image
 pub use Rattle.index_state.specs.Link
+pub use Rattle.index_state.specs.Merge
 pub use Rattle.index_state.specs.Outcome
 pub use Rattle.index_state.specs.State
 pub use Rattle.index_state.specs.Storable
