@@ -38,7 +38,7 @@ pub use Rattle.index_extensions.specs.ResolveUndo
 pub use Rattle.index_extensions.specs.Sound
 pub use Rattle.index_extensions.specs.Tree
 pub use Rattle.index_extensions.specs.TreeFaults
-pub use Rattle.index_extensions.specs.Untracked
+pub use Rattle.index_untracked.specs.Untracked
 pub use Rattle.index_extensions.specs.Walk
 pub use Rattle.index_state.specs.Answer
 pub use Rattle.index_state.specs.Edits

@@ -9,7 +9,7 @@ ghost use Rattle.index_extensions.specs.FsMonitor.{IsMonitor};
 ghost use Rattle.index_extensions.specs.OffsetTable.{IsTable};
 ghost use Rattle.index_extensions.specs.ResolveUndo.{IsResolveUndo};
 ghost use Rattle.index_extensions.specs.Tree.{IsTree};
-ghost use Rattle.index_extensions.specs.Untracked.{IsCache};
+ghost use Rattle.index_untracked.specs.Untracked.{IsCache};
 ghost use Rattle.index_state.specs.Link.{LinkFault, IsLink, IsLinkFault};
 ghost use Rattle.index_parts.specs.declared.hash.ObjectId.{ObjectId};
 ghost use Rattle.index_entries.specs.Record.{AreBytes};

@@ -1,16 +1,8 @@
 pub mod Agreements
-pub mod BitmapPlaces
-pub mod BlockHeads
-pub mod BlockReadings
-pub mod CacheIds
-pub mod CacheReadings
-pub mod Caches
 pub mod Children
-pub mod Clones
 pub mod Decimals
 pub mod EndMarks
 pub mod EntryBlocks
-pub mod EqualPieces
 pub mod Errors
 pub mod Excesses
 pub mod FirstContent
@@ -18,9 +10,7 @@ pub mod Items
 pub mod KeptTrees
 pub mod Limits
 pub mod MarkerReadings
-pub mod Marking
 pub mod Monitors
-pub mod Nests
 pub mod NodeHeads
 pub mod Octals
 pub mod Orders
@@ -32,8 +22,6 @@ pub mod Sorted
 pub mod Sounds
 pub mod Spelled
 pub mod TableReadings
-pub mod TailReadings
-pub mod Tails
 pub mod TreeChecks
 pub mod TreeLengths
 pub mod TreeReadings

@@ -1,10 +1,14 @@
 -- What is read of bytes, decided: a value, or that there is none.
-use Rattle.std.proofs.Common.{◌≡◌, ℕ, ◌⊎◌, inl, inr, List, Option, Some, None, refl, sym, ap, ◌∙◌}
+use Rattle.std.proofs.Common.{◌≡◌, ℕ, true, false, eqb, ◌⊎◌, inl, inr, List, Option, Some, None, refl, sym, ap, ◌∙◌}
+use Rattle.std.proofs.lemmas.Bool.{eqb-true, eqb-false}
 use Rattle.index_extensions.specs.Contents.{IsRead, IsValue}
 
 -- a value that is so, or that no value is
 abbrev pub Decided : {A : Type 0} → (A → Type 0) → Type 0
 Decided {A} P = ((x : A) × P x) ⊎ ((x : A) → P x → ⊥)
+
+pub same_or_not : (m n : ℕ) → (m ≡ n) ⊎ (m ≡ n → ⊥)
+same_or_not m n = elim (eqb m n) as (λ t. eqb m n ≡ t → (m ≡ n) ⊎ (m ≡ n → ⊥)) [ true ↦ λ e. inl (eqb-true m n e) | false ↦ λ e. inr (eqb-false m n e) ] refl
 
 pub read_of : {A : Type 0} (Is : List ℕ → A → Type 0) (bytes : List ℕ) → Decided (Is bytes) → (v : Option A) × IsRead Is bytes v
 read_of Is bytes (inl h) = (Some h.0, h.1)

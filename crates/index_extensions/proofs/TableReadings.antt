@@ -13,8 +13,7 @@ use Rattle.index_extensions.specs.OffsetTable.{IsEntryBlock, AreEntryBlocks, IsT
 use Rattle.index_extensions.specs.Walk.{IsWalk}
 use Rattle.index_extensions.specs.declared.extension.index_entry_offset_table.Offset.{Offset}
 use Rattle.index_extensions.proofs.EntryBlocks.{same_front, same_back, block_len, blocks_there, blocks_whole, table_parts, table_from}
-use Rattle.index_extensions.proofs.Readings.{Decided, read_of, one_read, value_reading, one_value}
-use Rattle.index_extensions.proofs.TailReadings.{same_or_not}
+use Rattle.index_extensions.proofs.Readings.{Decided, read_of, one_read, value_reading, one_value, same_or_not}
 use Rattle.index_extensions.proofs.Walks.{walk_of, walk_one}
 
 -- ---- one table

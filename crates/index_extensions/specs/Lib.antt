@@ -1,13 +1,9 @@
 pub mod Agreement
-pub mod Blocks
-pub mod CachedStat
 pub mod Contents
 pub mod Decimal
 pub mod EndMarker
 pub mod FsMonitor
 pub mod Looking
-pub mod Marking
-pub mod Marks
 pub mod Octal
 pub mod OffsetTable
 pub mod Reading
@@ -20,7 +16,5 @@ pub mod StoredTree
 pub mod Tree
 pub mod TreeFaults
 pub mod TreeImage
-pub mod Untracked
-pub mod UntrackedReading
 pub mod Walk
 pub mod Written

@@ -4,16 +4,13 @@ pub mod end_of_index_entry;
 pub mod fs_monitor;
 pub mod index_entry_offset_table;
 mod iter;
-mod limit;
 pub mod resolve_undo;
 pub mod sparse;
 pub mod tree;
-pub mod untracked_cache;
 
 pub use fs_monitor::FsMonitor;
 pub use iter::Iter;
 pub use tree::Tree;
-pub use untracked_cache::UntrackedCache;
 
 /// The four bytes by which an extension begins, as `TREE`. A reader that doesn't know a signature may skip
 /// the extension where the first byte isn't a lower-case letter.

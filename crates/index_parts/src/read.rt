@@ -171,3 +171,13 @@ pub fn is_within(limit: Option<usize>, size: usize) -> bool
     };
     size <= limit
 }
+
+/// Whether so many values of this size in bytes are no more than the limit, where there is one.
+pub fn are_within(limit: Option<usize>, size: u64, count: u64) -> bool
+    ensures { result ≡ is_within limit (size * count) }
+{
+    match size.checked_mul(count) {
+        Some(total) => is_within(limit, total as usize),
+        None => limit.is_none(),
+    }
+}

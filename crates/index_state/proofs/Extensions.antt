@@ -9,11 +9,11 @@ use Rattle.index_extensions.specs.Contents.{is_named, or_else, content_named, la
 use Rattle.index_extensions.specs.FsMonitor.{IsMonitor}
 use Rattle.index_extensions.specs.ResolveUndo.{IsResolveUndo, PathIdsAreOf}
 use Rattle.index_extensions.specs.Tree.{NodeIdsAreOf, IsTree}
-use Rattle.index_extensions.specs.Untracked.{CacheIdsAreOf, IsCache}
+use Rattle.index_untracked.specs.Untracked.{CacheIdsAreOf, IsCache}
 use Rattle.index_extensions.specs.Walk.{Item, IsItem, AreItems, NoItem, IsWalk, left_of}
 use Rattle.index_parts.proofs.Ids.{id_kind-make_id}
 use Rattle.index_parts.specs.Id.{id_kind}
-use Rattle.index_extensions.proofs.CacheIds.{ids_of_cache}
+use Rattle.index_untracked.proofs.CacheIds.{ids_of_cache}
 use Rattle.index_extensions.proofs.ResolveUndo.{ids_of_paths}
 use Rattle.index_extensions.proofs.Trees.{ids_of_tree}
 use Rattle.index_extensions.proofs.Walks.{walk_of, more_items}

@@ -8,12 +8,12 @@ use Rattle.index_extensions.specs.Contents.{is_named, last_content}
 use Rattle.index_extensions.specs.FsMonitor.{IsMonitor}
 use Rattle.index_extensions.specs.ResolveUndo.{IsResolveUndo}
 use Rattle.index_extensions.specs.Tree.{IsTree}
-use Rattle.index_extensions.specs.Untracked.{IsCache}
+use Rattle.index_untracked.specs.Untracked.{IsCache}
 use Rattle.index_extensions.specs.Walk.{Item}
 use Rattle.index_extensions.proofs.Readings.{Decided, one_read, value_reading, one_value}
 use Rattle.index_extensions.proofs.TreeReadings.{tree_reading, tree_reading_one}
-use Rattle.index_extensions.proofs.CacheReadings.{cache_reading}
-use Rattle.index_extensions.proofs.Caches.{one_cache}
+use Rattle.index_untracked.proofs.CacheReadings.{cache_reading}
+use Rattle.index_untracked.proofs.Caches.{one_cache}
 use Rattle.index_extensions.proofs.Monitors.{one_monitor, monitor_reading}
 use Rattle.index_extensions.proofs.ResolveUndo.{one_resolve_undo, resolve_undo_reading}
 use Rattle.index_state.specs.Link.{LinkFault, IsLink, IsLinkFault, HasLink}

@@ -9,7 +9,7 @@ use Rattle.index_extensions.specs.Tree.{IsTree}
 use Rattle.index_extensions.specs.Walk.{Item, IsWalk, left_of}
 use Rattle.index_parts.specs.Id.{id_len}
 use Rattle.index_parts.specs.declared.entry.stat.FileTime.{FileTime}
-use Rattle.index_extensions.specs.Untracked.{IsCache}
+use Rattle.index_untracked.specs.Untracked.{IsCache}
 use Rattle.index_state.specs.Answer.{Answer, TrailerLength, IsVerified, checksum_of, value_of}
 use Rattle.index_state.specs.Faults.{extension_fault}
 use Rattle.index_entries.specs.Record.{Record}

@@ -8,7 +8,7 @@ use Rattle.index_extensions.specs.Contents.{is_named, last_content, IsValue}
 use Rattle.index_extensions.specs.FsMonitor.{Monitor, IsMonitor, monitor_of}
 use Rattle.index_extensions.specs.ResolveUndo.{PathStages, IsResolveUndo, path_stages}
 use Rattle.index_extensions.specs.Tree.{Node, IsTree, node_of}
-use Rattle.index_extensions.specs.Untracked.{Cache, IsCache, cache_of}
+use Rattle.index_untracked.specs.Untracked.{Cache, IsCache, cache_of}
 use Rattle.index_extensions.specs.Walk.{Item}
 use Rattle.index_state.specs.Link.{LinkFault, LinkValue, IsLink, IsLinkFault, link_of}
 use Rattle.index_state.specs.declared.extension.decode.Outcome.{Outcome as Kept}

@@ -2,7 +2,7 @@
 use Rattle.std.specs.Prelude.{◌≡◌, ℕ, List, All, IfSome, length}
 use Rattle.index_extensions.specs.ResolveUndo.{PathIdsAreOf}
 use Rattle.index_extensions.specs.Tree.{NodeIdsAreOf}
-use Rattle.index_extensions.specs.Untracked.{CacheIdsAreOf}
+use Rattle.index_untracked.specs.Untracked.{CacheIdsAreOf}
 use Rattle.index_parts.specs.Id.{id_kind}
 use Rattle.index_parts.specs.declared.hash.Kind.{Kind}
 use Rattle.index_parts.specs.declared.entry.stat.FileTime.{FileTime}

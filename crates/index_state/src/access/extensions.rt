@@ -6,14 +6,15 @@ ghost use Rattle.std.specs.Prelude.{◌≡◌, map};
 ghost use Rattle.index_extensions.specs.FsMonitor.{monitor_of};
 ghost use Rattle.index_extensions.specs.ResolveUndo.{path_stages};
 ghost use Rattle.index_extensions.specs.Tree.{node_of};
-ghost use Rattle.index_extensions.specs.Untracked.{cache_of};
+ghost use Rattle.index_untracked.specs.Untracked.{cache_of};
 ghost use Rattle.index_state.specs.Edits.{LendsTree, without_link, without_resolve_undo, without_tree};
 ghost use Rattle.index_state.specs.Link.{link_of};
 ghost use Rattle.index_state.specs.State.{contents, entries_of, storage_of};
 
 use crate::State;
 use crate::extension::link::Link;
-use index_extensions::extension::{FsMonitor, Tree, UntrackedCache, resolve_undo};
+use index_extensions::extension::{FsMonitor, Tree, resolve_undo};
+use index_untracked::untracked_cache::UntrackedCache;
 
 impl State {
     /// The cached tree, where the file had one that could be read (gitformat-index, "Cache tree"). Edits of entries leave

@@ -7,7 +7,7 @@ ghost use Rattle.std.specs.Prelude.{◌≡◌, ◌≤◌, ℕ, true, List, lengt
 ghost use Rattle.index_extensions.specs.FsMonitor.{IsMonitor, monitor_of};
 ghost use Rattle.index_extensions.specs.ResolveUndo.{IsResolveUndo, path_stages};
 ghost use Rattle.index_extensions.specs.Tree.{IsTree, node_of};
-ghost use Rattle.index_extensions.specs.Untracked.{IsCache, cache_of};
+ghost use Rattle.index_untracked.specs.Untracked.{IsCache, cache_of};
 ghost use Rattle.index_state.specs.Edits.{LendsOwnTree};
 ghost use Rattle.index_state.specs.Gathered.{Adds, IsGathered, Replaces, SaysExtension, SaysItem};
 ghost use Rattle.index_state.specs.Link.{HasLink, IsLink, SaysLink, link_of};
@@ -17,10 +17,11 @@ ghost use Rattle.index_state.specs.State.{ExtensionIdsAreOf};
 use crate::decode;
 use crate::extension::link::{self, Link};
 use index_extensions::extension::{
-    FsMonitor, Iter, Signature, Tree, UntrackedCache, end_of_index_entry, fs_monitor,
-    index_entry_offset_table, resolve_undo, sparse, tree, untracked_cache,
+    FsMonitor, Iter, Signature, Tree, end_of_index_entry, fs_monitor, index_entry_offset_table,
+    resolve_undo, sparse, tree,
 };
 use index_parts::hash::Kind;
+use index_untracked::untracked_cache::{self, UntrackedCache};
 use std::alloc::{AllocError, Global};
 use std::fmt;
 use thiserror::Error;

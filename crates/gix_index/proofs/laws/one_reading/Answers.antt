@@ -1,4 +1,4 @@
-use Rattle.index_extensions.proofs.CacheReadings.{cache_reading, cache_reading_one}
+use Rattle.index_untracked.proofs.CacheReadings.{cache_reading, cache_reading_one}
 use Rattle.index_extensions.proofs.MarkerReadings.{marker_reading, marker_reading_one}
 use Rattle.index_extensions.proofs.Monitors.{monitor_reading, monitor_reading_one}
 use Rattle.index_extensions.proofs.Readings.{one_read}

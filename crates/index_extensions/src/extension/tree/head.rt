@@ -5,9 +5,9 @@ ghost use Rattle.std.specs.Option.{option_map};
 ghost use Rattle.index_extensions.specs.Reading.{id_at, limited_id_at, node_head_at, roomy_head_at, lent_node_head};
 
 use super::decimal::{decimal_of, entry_count_of};
-use crate::extension::limit::are_within;
 use index_parts::hash::{Kind, ObjectId};
 use index_parts::read;
+use index_parts::read::are_within;
 
 /// What a node says of itself, and how many children it declares.
 #[derive(Clone, Copy)]

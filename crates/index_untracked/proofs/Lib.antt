@@ -1,0 +1,12 @@
+pub mod BitmapPlaces
+pub mod BlockHeads
+pub mod BlockReadings
+pub mod CacheIds
+pub mod CacheReadings
+pub mod Caches
+pub mod Clones
+pub mod EqualPieces
+pub mod Marking
+pub mod Nests
+pub mod TailReadings
+pub mod Tails
