@@ -36,8 +36,11 @@ pub use Rattle.index_extensions.specs.FsMonitor
 pub use Rattle.index_extensions.specs.OffsetTable
 pub use Rattle.index_extensions.specs.ResolveUndo
 pub use Rattle.index_extensions.specs.Sound
+pub use Rattle.index_extensions.specs.Spelling
+pub use Rattle.index_extensions.specs.StoredTree
 pub use Rattle.index_extensions.specs.Tree
 pub use Rattle.index_extensions.specs.TreeFaults
+pub use Rattle.index_extensions.specs.TreeImage
 pub use Rattle.index_untracked.specs.Untracked
 pub use Rattle.index_extensions.specs.Walk
 pub use Rattle.index_state.specs.Answer
