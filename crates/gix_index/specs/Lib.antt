@@ -30,6 +30,8 @@ pub use Rattle.index_entries.specs.Order
 pub use Rattle.index_entries.specs.Record
 pub use Rattle.index_extensions.specs.Agreement
 pub use Rattle.index_entries.specs.Merge as EntryMerge
+pub use Rattle.index_entries.specs.Removed
+pub use Rattle.index_entries.specs.Sorted
 pub use Rattle.index_extensions.specs.Contents
 pub use Rattle.index_extensions.specs.EndMarker
 pub use Rattle.index_extensions.specs.FsMonitor
@@ -52,6 +54,7 @@ pub use Rattle.index_state.specs.Outcome
 pub use Rattle.index_state.specs.State
 pub use Rattle.index_state.specs.Storable
 pub use Rattle.index_state.specs.Stored
+pub use Rattle.index_state.specs.Verified
 pub use Rattle.index_state.specs.Writing
 pub use Rattle.index_state.specs.Faults
 pub use Rattle.index_parts.specs.declared.hash.Kind

@@ -3,6 +3,7 @@
 //! What bytes are read as, and what is written and found, stands in the table of the crate `index_rows`.
 
 mod access;
+mod edit;
 mod entry;
 mod extension;
 mod file;
