@@ -14,6 +14,7 @@ pub mod Offset
 pub mod Reading
 pub mod ReadingTree
 pub mod Stat
+pub mod StatMatch
 pub mod Taking
 pub mod TreeObject
 pub mod Unpacking

@@ -2,6 +2,11 @@
 
 ghost use Rattle.std.specs.Prelude.{◌<◌};
 
+use thiserror::Error;
+
+mod compare;
+mod convert;
+
 /// A time since the begin of 1970, in the 32 bits of each part that a file stores. Ordered by seconds, then
 /// nanoseconds.
 #[derive(Clone, Copy, Debug, Default, PartialEq, Eq, PartialOrd, Ord, Hash)]
@@ -79,6 +84,40 @@ impl FileTime {
         ensures below_a_second { result < 1000000000 }
     {
         self.nanoseconds
+    }
+}
+
+/// A time that 32 bits of seconds since the begin of 1970 don't hold.
+#[derive(Clone, Copy, Debug, PartialEq, Eq, Error)]
+#[error("the time is before 1970, or its seconds need more than 32 bits")]
+pub struct OutOfRange;
+
+/// How far the stat of a file is trusted, as git is configured.
+#[derive(Clone, Copy, Debug, PartialEq, Eq, Hash)]
+pub struct Options {
+    /// Whether the time of the last change of the file's own data is compared (`core.trustCTime`).
+    pub trust_ctime: bool,
+    /// Whether inode, owner and group are compared (`core.checkStat`).
+    pub check_stat: bool,
+    /// Whether nanoseconds are compared too, where `check_stat` is set.
+    pub use_nsec: bool,
+    /// Whether the device is compared too, where `check_stat` is set.
+    pub use_stdev: bool,
+}
+
+/// Change times and stats are compared, without nanoseconds and device.
+impl Default for Options {
+    ghost use Rattle.std.specs.Prelude.{◌≡◌, true, false};
+
+    ghost is_default = { λ o. o ≡ record { trust_ctime = true; check_stat = true; use_nsec = false; use_stdev = false } };
+
+    fn default() -> Options {
+        Options {
+            trust_ctime: true,
+            check_stat: true,
+            use_nsec: false,
+            use_stdev: false,
+        }
     }
 }
 
