@@ -1,4 +1,5 @@
 pub mod Again
+pub mod Candidates
 pub mod Deltas
 pub mod Falls
 pub mod Kept

@@ -1,5 +1,5 @@
 -- What all records have before a merge, they have after it.
-use Rattle.std.proofs.Common.{◌≡◌, ℕ, ◌+◌, ◌||◌, eqb, Bool, true, false, cond, List, [], ◌∷◌, ◌++◌, length, All, get_or, Option, Some, None, drop, refl, sym, subst, arith}
+use Rattle.std.proofs.Common.{◌≡◌, ℕ, ◌+◌, ◌||◌, eqb, Bool, true, false, cond, List, [], ◌∷◌, length, All, Option, Some, None, drop, refl, subst, arith}
 use Rattle.std.specs.Prelude.{slice_get, option_and_then}
 use Rattle.std.specs.List.{position_from, list_any}
 use Rattle.std.proofs.lemmas.List.Elements.{All-head, All-tail, All-drop, All-append, All-cons, All-get_or}

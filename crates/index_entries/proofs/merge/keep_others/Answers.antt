@@ -1,4 +1,4 @@
-use Rattle.std.proofs.Common.{◌≡◌, length}
+use Rattle.std.proofs.Common.{length}
 use Rattle.std.proofs.lemmas.List.Elements.{All-filter}
 use Rattle.index_entries.specs.Record.{IsPlaced}
 use Rattle.index_entries.proofs.Merging.{stays, kept_all, marked_placed}

@@ -1,4 +1,4 @@
-use Rattle.std.proofs.Common.{◌≡◌, refl}
+use Rattle.std.proofs.Common.{refl}
 use Rattle.index_entries.proofs.Merging.{mark_write, marked_flags}
 use Rattle.index_entries.proofs.merge.mark_at.Goals as goal
 

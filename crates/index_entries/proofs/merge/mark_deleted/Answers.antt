@@ -1,4 +1,4 @@
-use Rattle.std.proofs.Common.{rules, arith, ◌≡◌, ◌∷◌, [], length, refl, sym, ap, ◌∙◌, Result, ℕ}
+use Rattle.std.proofs.Common.{rules, arith, ◌∷◌, [], refl, ap, ◌∙◌, Result, ℕ}
 use Rattle.index_parts.specs.Unpacking.{items_left}
 use Rattle.index_parts.specs.declared.ewah.iter.Malformed.{Malformed}
 use Rattle.index_entries.proofs.Merging.{marked_none, marking_step, marking_broken, marking_past, marking_done}

@@ -2,7 +2,7 @@ use Rattle.std.proofs.Common.{◌≡◌, ◌++◌, length, drop, sym, ap, ◌∙
 use Rattle.std.proofs.lemmas.List.{drop-map}
 use Rattle.std.proofs.lemmas.List.Sorted.{All-permutation, IsPermutation-map}
 use Rattle.index_entries.specs.Record.{IsPlaced, record_in, records_in}
-use Rattle.index_entries.proofs.Merging.{says_weaker, replace_is_fault, delete_is_fault, merged_all}
+use Rattle.index_entries.proofs.Merging.{says_weaker, replace_is_fault, merged_all}
 use Rattle.index_entries.proofs.merge.merge.Goals as goal
 
 pub returns-in-Err-clause-fault : goal.returns-in-Err-clause-fault

@@ -1,9 +1,10 @@
-use Rattle.std.proofs.Common.{rules, arith, ◌≡◌, ◌∷◌, [], length, refl, sym, ap, ◌∙◌, Result, ℕ}
+use Rattle.std.proofs.Common.{rules, arith, ◌∷◌, [], refl, sym, ap, ◌∙◌, Result, ℕ}
 use Rattle.index_parts.specs.Unpacking.{items_left}
 use Rattle.index_parts.specs.declared.ewah.iter.Malformed.{Malformed}
 use Rattle.index_entries.specs.Merging.{IsReplacing}
 use Rattle.index_entries.specs.Record.{records_in}
-use Rattle.index_entries.proofs.Merging.{says_weaker, no_candidates, replacing_step, replacing_fault, replacing_broken, replacing_done}
+use Rattle.index_entries.proofs.Candidates.{no_candidates}
+use Rattle.index_entries.proofs.Merging.{says_weaker, replacing_step, replacing_fault, replacing_broken, replacing_done}
 use Rattle.index_entries.proofs.merge.replace_entries.Goals as goal
 
 pub loop-position-init : goal.loop-position-init

@@ -1,4 +1,4 @@
-use Rattle.std.proofs.Common.{◌≡◌, length, refl, sym, ap, subst}
+use Rattle.std.proofs.Common.{refl, sym, subst}
 use Rattle.index_entries.specs.Merge.{replaced}
 use Rattle.std.specs.Prelude.{Some}
 use Rattle.index_entries.specs.Record.{IsPlaced, record_in}
