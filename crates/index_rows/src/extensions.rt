@@ -10,7 +10,6 @@ use gix_index::extension::{
     untracked_cache,
 };
 use gix_index::hash::Kind;
-use std::alloc::AllocError;
 use std::rt::Files;
 
 /// Which reader is called, with `KIND BYTES [limit N]` behind its name.
@@ -71,11 +70,10 @@ impl Call {
         let limit = words.number_named("limit")?;
         match self {
             Call::Tree | Call::ResolveUndo | Call::Untracked | Call::Monitor => {
-                self.value(out, kind, limit, &bytes)?;
+                self.value(out, kind, limit, &bytes)
             }
-            _ => self.place(out, kind, &bytes)?,
+            _ => self.place(out, kind, &bytes),
         }
-        Ok(())
     }
 
     /// The answer of a reader whose value a state has.
@@ -85,7 +83,7 @@ impl Call {
         kind: Kind,
         limit: Option<usize>,
         bytes: &[u8],
-    ) -> Result<(), AllocError> {
+    ) -> Result<(), Fault> {
         let alloc = out.alloc();
         match self {
             Call::Tree => match tree::decode(alloc, bytes, kind, limit)? {
@@ -109,7 +107,7 @@ impl Call {
     }
 
     /// The answer of every other reader.
-    fn place(self, out: &mut Lines, kind: Kind, bytes: &[u8]) -> Result<(), AllocError> {
+    fn place(self, out: &mut Lines, kind: Kind, bytes: &[u8]) -> Result<(), Fault> {
         let alloc = out.alloc();
         match self {
             Call::Offsets => offsets(out, index_entry_offset_table::decode(alloc, bytes)?),

@@ -10,7 +10,6 @@
 mod entries;
 mod extensions;
 mod fault;
-mod lookups;
 mod numbers;
 mod show;
 mod states;

@@ -87,15 +87,9 @@ fn digits(out: &mut Lines, run: &[u8]) {
     }
 }
 
-/// Bytes as text, and the end of the line.
+/// Bytes as text, and the end of the line. A byte that is no letter, digit or sign is two digits behind a backslash, a
+/// long run of one byte is followed by its length in braces, and no bytes are `{}`.
 pub fn text(out: &mut Lines, bytes: &[u8]) {
-    word(out, bytes);
-    writeln!(out);
-}
-
-/// Bytes as text. A byte that is no letter, digit or sign is two digits behind a backslash, a long run of one byte is
-/// followed by its length in braces, and no bytes are `{}`.
-pub fn word(out: &mut Lines, bytes: &[u8]) {
     if bytes.is_empty() {
         write!(out, "{{}}");
     }
@@ -109,6 +103,7 @@ pub fn word(out: &mut Lines, bytes: &[u8]) {
             write!(out, "{{{}}}", run.len());
         }
     }
+    writeln!(out);
 }
 
 fn byte(out: &mut Lines, byte: u8) {

@@ -1,7 +1,6 @@
 //! The rows about a whole index: read, searched and written.
 
 use crate::fault::Fault;
-use crate::lookups;
 use crate::show::{self, Lines, fault};
 use crate::words::Words;
 use gix_index::entry::FileTime;
@@ -34,8 +33,6 @@ pub enum Call {
     Body,
     /// `write KIND STATE [null]`: the file that is written, with its digest or with a null trailer.
     Write,
-    /// `lookups KIND STATE PATH..`: what each lookup answers for each path.
-    Lookups,
 }
 
 impl Call {
@@ -51,7 +48,6 @@ impl Call {
             "entry" => Some(Call::Entry),
             "body" => Some(Call::Body),
             "write" => Some(Call::Write),
-            "lookups" => Some(Call::Lookups),
             _ => None,
         }
     }
@@ -116,7 +112,6 @@ impl Call {
             Call::Order => order(out, &state),
             Call::Entry => entry(out, &state, words)?,
             Call::Body => body(out, &state),
-            Call::Lookups => lookups::answer(out, &state, words)?,
             _ => file(out, &file_of(out, state)?, words.has("null")),
         }
         Ok(())

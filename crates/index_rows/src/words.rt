@@ -7,7 +7,7 @@ use crate::fault::Fault;
 use gix_index::entry::{FileTime, Stage};
 use gix_index::hash::{Kind, ObjectId};
 use gix_index::{State, Version, decode};
-use std::alloc::{AllocError, Global};
+use std::alloc::Global;
 use std::rt::Files;
 
 /// The words of a row, taken in turn.
@@ -107,18 +107,6 @@ impl<'a> Words<'a> {
     /// The bytes of a path.
     pub fn path(&mut self, alloc: Global) -> Result<Vec<u8>, Fault> {
         list::path_of(alloc, self.next("a path")?)
-    }
-
-    /// The bytes of the paths that are left.
-    pub fn paths(&mut self, alloc: Global) -> Result<Vec<Vec<u8>>, Fault> {
-        let mut paths = Vec::new(alloc);
-        for word in self.words.iter().skip(self.taken) {
-            if paths.push(list::path_of(alloc, word)?).is_err() {
-                return Err(Fault::from(AllocError));
-            }
-        }
-        self.taken = self.words.len();
-        Ok(paths)
     }
 
     /// The stage that the next word names, or None where there is none.

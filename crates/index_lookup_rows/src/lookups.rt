@@ -1,13 +1,11 @@
-//! The row of lookups: what each answers for some paths, over the entries of a state in any order.
+//! What each lookup answers for some paths, over the entries of a state in any order.
 
 ghost use Rattle.std.specs.Prelude.{◌≡◌};
 ghost use Rattle.gix_index.specs.Order.{IsOrderedByPath};
 ghost use Rattle.gix_index.specs.State.{PathsInStorage, records};
 
-use crate::fault::Fault;
-use crate::show::state::{most_compared, no_paths};
-use crate::show::{self, Lines};
-use crate::words::Words;
+use crate::lines::Lines;
+use crate::row::path_of;
 use gix_index::entry::Stage;
 use gix_index::{AccelerateLookup, DirectoryTable, Entry, PathSearch, State, count_present};
 use std::alloc::AllocError;
@@ -16,35 +14,33 @@ use std::ops::Range;
 /// All stages.
 const STAGES: [Stage; 4] = [Stage::Unconflicted, Stage::Base, Stage::Ours, Stage::Theirs];
 
-/// Tells what the lookups answer for the paths that are left of the words.
-pub fn answer(out: &mut Lines, state: &State, words: &mut Words<'_>) -> Result<(), Fault> {
-    let paths = words.paths(out.alloc())?;
+/// Tells what the lookups answer for the paths of these words.
+pub fn answer(out: &mut Lines, state: &State, words: &[&str]) -> Result<(), AllocError> {
     if !state.paths_in_storage() {
-        no_paths(out);
+        writeln!(out, "a path outside the storage");
         return Ok(());
     }
-    by_names(out, state, &paths)?;
+    by_names(out, state, words)?;
     if state.is_ordered_by_path() {
-        by_order(out, state, &paths)?;
+        by_order(out, state, words)?;
     } else {
-        without_order(out, state, &paths);
+        without_order(out, state, words);
     }
     Ok(())
 }
 
 /// The lookups over entries in any order: the first at a path and at a directory, with case kept and ignored.
-fn by_names(out: &mut Lines, state: &State, paths: &[Vec<u8>]) -> Result<(), AllocError>
+fn by_names(out: &mut Lines, state: &State, words: &[&str]) -> Result<(), AllocError>
     requires { PathsInStorage state.now }
 {
     let lookup = state.prepare_icase_backing(out.alloc())?;
     let (kept, ignored) = (lookup.directories(false), lookup.directories(true));
     writeln!(out, "{kept} directories, {ignored} where case is ignored");
-    for path in paths {
-        show::word(out, path);
-        write!(out, ": ");
-        folded(out, state, &lookup, path, false);
+    for word in words {
+        write!(out, "{word}: ");
+        folded(out, state, &lookup, path_of(word), false);
         write!(out, "; case ignored, ");
-        folded(out, state, &lookup, path, true);
+        folded(out, state, &lookup, path_of(word), true);
         writeln!(out);
     }
     Ok(())
@@ -77,6 +73,12 @@ fn folded(
     }
 }
 
+/// The most paths that a search among so many may compare: one more than their number has binary digits.
+fn most_compared(len: usize) -> usize {
+    let digits = usize::BITS.saturating_sub(len.leading_zeros());
+    digits.saturating_add(1) as usize
+}
+
 /// The place of an entry of the state.
 fn place_of(state: &State, entry: Option<&Entry>) -> Option<usize> {
     let entry = entry?;
@@ -100,24 +102,24 @@ fn span(out: &mut Lines, name: &str, range: Option<Range<usize>>) {
 }
 
 /// The lookups over entries whose paths never fall.
-fn by_order(out: &mut Lines, state: &State, paths: &[Vec<u8>]) -> Result<(), AllocError>
+fn by_order(out: &mut Lines, state: &State, words: &[&str]) -> Result<(), AllocError>
     requires placed { PathsInStorage state.now }
     requires ordered { IsOrderedByPath (records state.now) }
 {
-    let asked: Vec<&[u8]> = paths.iter().map(|it| it.as_slice()).collect(out.alloc())?;
+    let paths: Vec<&[u8]> = words.iter().map(|word| path_of(word)).collect(out.alloc())?;
     let table = state.prepare_directory_table(out.alloc())?;
     let (len, is_strict) = (state.entries().len(), is_strictly_ordered(state));
     order(out, is_strict);
     write!(out, ", {} directories", table.directories());
-    let (found, same) = (count_present(state, &asked), count_present(&table, &asked));
+    let (found, same) = (count_present(state, &paths), count_present(&table, &paths));
     writeln!(
         out,
         ", {found} of {} paths, {same} by directories",
-        asked.len()
+        paths.len()
     );
-    for path in &asked {
-        show::word(out, path);
-        write!(out, ": search");
+    for word in words {
+        let path = path_of(word);
+        write!(out, "{word}: search");
         searches(out, state, path, is_strict, most_compared(len));
         write!(out, "; by directories");
         searches(
@@ -212,16 +214,15 @@ fn places(out: &mut Lines, state: &State, path: &[u8], is_strict: bool)
 }
 
 /// The lookups over entries whose paths fall somewhere: whether what they give lies among the entries.
-fn without_order(out: &mut Lines, state: &State, paths: &[Vec<u8>])
+fn without_order(out: &mut Lines, state: &State, words: &[&str])
     requires { PathsInStorage state.now }
 {
     writeln!(out, "not ordered");
-    for path in paths {
-        show::word(out, path);
-        if is_among_entries(state, path) {
-            writeln!(out, ": among the entries");
+    for word in words {
+        if is_among_entries(state, path_of(word)) {
+            writeln!(out, "{word}: among the entries");
         } else {
-            writeln!(out, ": outside of the entries");
+            writeln!(out, "{word}: outside of the entries");
         }
     }
 }
