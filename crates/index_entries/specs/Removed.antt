@@ -16,7 +16,7 @@ pub record Call : Type 0 where
 abbrev pub IsCalled : {F : Type 0} → (F → ℕ → Bor (List ℕ) → MutBor Entry → Bool → MutBor Entry → F → Type 0) → List ℕ → F → Call → F → Type 0
 IsCalled step storage f c g = (p : Bor (List ℕ)) × (e : MutBor Entry) × (e' : MutBor Entry) × (p.now ≡ (record_in storage c.before).path) × (e.now ≡ c.before) × (e'.now ≡ c.after) × step f c.place p e c.is_removed e' g
 
--- Each entry was looked at once, in order, with its place before any removal. Those that were not to go are left, in the same
+-- Every entry was shown one time, first to last, with the place that it has in the old list. Those that were not to go are left, in the same
 -- order and as the closure left them.
 pub record RemovesBy (calls : List Call) (old new : List Entry) : Type 0 where
   pub looked_at : map (λ c. c.before) calls ≡ old

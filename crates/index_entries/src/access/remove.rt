@@ -19,8 +19,8 @@ fn copy_of(entry: &Entry) -> Entry
     }
 }
 
-/// Calls the closure once for each entry, in order, with its place before any removal and its path, and takes out those for
-/// which it answers true. The others keep their order and what the closure changed; each is moved once at most. No memory
+/// Shows every entry to the closure, from the first to the last and each one time, with its path and the place that it has
+/// at the call of this function, and takes out those for which the closure answers true. The others keep their order and what the closure changed; each is moved once at most. No memory
 /// is asked for.
 pub fn remove_entries<F: FnMut(usize, &[u8], &mut Entry) -> bool>(
     entries: &mut Vec<Entry>,

@@ -11,8 +11,8 @@ use index_entries::Entry;
 use index_entries::access::remove;
 
 impl State {
-    /// Calls the closure once for each entry, in order, with its place before any removal and its path, and takes out those
-    /// for which it answers true. The others keep their order and what the closure changed. The storage of paths and all
+    /// Shows every entry to the closure, from the first to the last and each one time, with its path and the place that it
+    /// has at this call, and takes out those for which the closure answers true. The others keep their order and what the closure changed. The storage of paths and all
     /// else stay. No memory is asked for.
     pub fn remove_entries<F: FnMut(usize, &[u8], &mut Entry) -> bool>(
         &mut self,
