@@ -13,10 +13,12 @@ pub use Rattle.index_parts.specs.Front
 pub use Rattle.index_parts.specs.Id
 pub use Rattle.index_parts.specs.Limit
 pub use Rattle.index_parts.specs.Mode
+pub use Rattle.index_parts.specs.ModeChange
 pub use Rattle.index_parts.specs.Object
 pub use Rattle.index_parts.specs.Octal
 pub use Rattle.index_parts.specs.Offset
 pub use Rattle.index_parts.specs.Stat
+pub use Rattle.index_parts.specs.StatMatch
 pub use Rattle.index_parts.specs.Taking
 pub use Rattle.index_parts.specs.TreeObject
 pub use Rattle.index_lookups.specs.Digits

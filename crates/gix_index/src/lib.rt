@@ -15,5 +15,5 @@ pub use index_entries::{Entry, PathBacking, PathStorage, PathStorageRef, Version
 pub use index_lookups::folded::AccelerateLookup;
 pub use index_lookups::paths::FilterMapPaths;
 pub use index_lookups::tables::{DirectoryTable, PathSearch, count_present};
-pub use index_parts::{entry, ewah, hash, object, util};
+pub use index_parts::{entry, ewah, fs, hash, object, util};
 pub use index_state::{State, decode, verify, write};
