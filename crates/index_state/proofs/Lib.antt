@@ -17,4 +17,5 @@ pub mod SomeAnswers
 pub mod Storables
 pub mod Twice
 pub mod Verified
+pub mod VerifiedTrees
 pub mod WrittenOutcomes

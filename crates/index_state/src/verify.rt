@@ -2,16 +2,19 @@
 
 pub mod entries;
 
-ghost use Rattle.std.specs.Prelude.{◌≡◌, ◌↔◌, ◌-◌, IfErr, IfOk, IsOk, length};
+ghost use Rattle.std.specs.Prelude.{◌≡◌, ◌↔◌, false, IfErr, IfOk, IsOk, length};
 ghost use Rattle.index_entries.specs.Order.{IsStrictlyOrdered};
 ghost use Rattle.index_entries.specs.Record.{IsPlaced, record_in};
-ghost use Rattle.index_state.specs.State.{PathsInStorage, records};
-ghost use Rattle.index_state.specs.Verified.{NamesBoth, SaysFall};
+ghost use Rattle.index_extensions.specs.TreeFaults.{Says};
+ghost use Rattle.index_state.specs.State.{PathsInStorage, contents, entries_of, records};
+ghost use Rattle.index_state.specs.Verified.{AreSound, NamesBoth, SaysFall, extensions_fault};
 
 use crate::State;
 use bstr::BString;
 use index_entries::access::order;
 use index_entries::{Entry, PathStorageRef};
+use index_extensions::extension::tree;
+use index_parts::object::Find;
 use std::alloc::{AllocError, Global};
 
 /// The error that names an entry, its place, and the entry before it.
@@ -56,5 +59,25 @@ impl State {
             &self.entries[place],
         )?;
         Err(error)
+    }
+
+    /// Whether the cached tree, where there is one, holds together as [`Tree::verify`](tree::Tree::verify) tells it, and then
+    /// no node of it counts more entries than the index has. The first fault is answered, nodes in preorder.
+    pub fn verify_extensions<F: Find>(
+        &self,
+        alloc: Global,
+        use_find: bool,
+        objects: &F,
+    ) -> Result<(), tree::verify::Error>
+        requires without_objects { use_find ≡ false }
+        ensures sound { IsOk result ↔ AreSound (length (entries_of self.now)) (contents self.now).extensions.tree }
+        ensures fault { IfErr result (λ e. Says e
+            (extensions_fault (length (entries_of self.now)) (contents self.now).extensions.tree)) }
+    {
+        let Some(tree) = self.tree() else {
+            return Ok(());
+        };
+        tree.verify(alloc, use_find, objects)?;
+        tree.verify_counts(alloc, self.entries.len())
     }
 }

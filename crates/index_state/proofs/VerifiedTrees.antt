@@ -1,0 +1,32 @@
+-- The faults of a cached tree by itself, and then those of its counts against the index.
+use Rattle.std.proofs.Common.{◌≡◌, ℕ, Option, Some, None, Result, Ok, Err, IfErr, refl}
+use Rattle.index_extensions.specs.Contents.{or_else}
+use Rattle.index_extensions.specs.Sound.{IsSoundTree}
+use Rattle.index_extensions.specs.Tree.{Node}
+use Rattle.index_extensions.specs.TreeFaults.{TreeFault, root_with_name, too_few_counted, too_many_entries, out_of_order, no_tree, missing_directory, other_number, too_many_counted, tree_fault, excess_in, IsErrorOf, Says}
+use Rattle.index_extensions.specs.declared.extension.tree.verify.Error.{Error}
+use Rattle.index_extensions.specs.declared.extension.tree.verify.Error.TheVariants as errors
+use Rattle.index_extensions.proofs.Sounds.{no_fault_of, says_after}
+
+-- each fault has an error
+error_of : (fault : TreeFault) → (e : Error) × IsErrorOf e fault
+error_of (root_with_name name) = (errors.Memory, tt)
+error_of (too_few_counted actual expected) = (errors.EntriesCount actual expected, refl)
+error_of too_many_entries = (errors.EntriesCountOverflow, refl)
+error_of (out_of_order parent current previous) = (errors.Memory, tt)
+error_of (too_many_counted name actual expected) = (errors.Memory, tt)
+error_of (no_tree id) = (errors.TreeNodeNotFound id, refl)
+error_of (missing_directory parent id name) = (errors.Memory, tt)
+error_of (other_number id expected actual) = (errors.TreeNodeChildcountMismatch id expected actual, refl)
+
+no_fault : (t : Node) → IsSoundTree t → tree_fault t ≡ None
+no_fault t h = by (tree_fault t) refl
+  where
+    by : (o : Option TreeFault) → tree_fault t ≡ o → tree_fault t ≡ None
+    by None e = e
+    by (Some fault) e = let found = error_of fault in absurd (no_fault_of t found.0 h (fault, e, found.1))
+
+-- a fault of the second check is that of both, where the tree by itself is sound
+pub later_fault : {T : Type 0} (r : Result T Error) (entries : ℕ) (t : Node) → IsSoundTree t → IfErr r (λ e. Says e (excess_in entries t)) → IfErr r (λ e. Says e (or_else (tree_fault t) (excess_in entries t)))
+later_fault (Ok x) entries t h k = k
+later_fault (Err e) entries t h k = says_after e (tree_fault t) (excess_in entries t) (no_fault t h) k
