@@ -1,5 +1,5 @@
--- What the program reads bytes as, and which lines it prints of them.
-use Rattle.std.specs.Prelude.{◌≡◌, ℕ, pos, false, List, Option, None, IfSome, Ok, Err}
+-- What the program reads in a file, and which lines it prints of it.
+use Rattle.std.specs.Prelude.{◌≡◌, ℕ, pos, false, List, Option, None}
 use Rattle.std.specs.Io.KnownBytes.{Appends, Keeps}
 use Rattle.gix_index.specs.Stat.{seconds_of, nanoseconds_of}
 use Rattle.gix_index.specs.Taking.{AppendsFront}
@@ -8,8 +8,7 @@ use Rattle.gix_index.specs.Kind.{Kind}
 use Rattle.gix_index.specs.ObjectId.{ObjectId}
 use Rattle.gix_index.specs.State.{Contents}
 use Rattle.gix_index.specs.DecodeOptions.{Options}
-use Rattle.gix_index.specs.Checked.{IsFileAnswer, SaysFile}
-use Rattle.gix_index.specs.declared.file.init.Error.{Error}
+use Rattle.gix_index.specs.Linked.{IsOnDisk}
 use Rattle.index_tool.specs.declared.failure.Failure.{Failure}
 use Rattle.index_tool.specs.declared.failure.Failure.TheVariants as failures
 use Rattle.index_tool.specs.Line.{listing}
@@ -21,35 +20,33 @@ default_options = record { thread_limit = None; min_extension_block_in_bytes_for
 abbrev pub IsBeginOf1970 : FileTime → Type 0
 IsBeginOf1970 time = (seconds_of time ≡ pos 0) × (nanoseconds_of time ≡ 0)
 
--- a file's bytes are read as this index: their digest is compared, and the time is the begin of 1970
-pub record IsReadAs (kind : Kind) (bytes : List ℕ) (value : Contents) : Type 0 where
+-- The value is what a file's bytes are read as, with the shared index that they link to: their digest is compared, and the time
+-- is the begin of 1970.
+pub record IsInFile (kind : Kind) (value : Contents) : Type 0 where
   pub time : FileTime
   pub begin : IsBeginOf1970 time
   pub checksum : Option ObjectId
-  pub is : IsFileAnswer false kind time default_options bytes (Ok (value, checksum))
+  pub is : IsOnDisk false kind time default_options value checksum
 
--- the error says why they aren't, read in the same way
-abbrev pub IsFaultOf : Kind → List ℕ → Error → Type 0
-IsFaultOf kind bytes e = (time : FileTime) × IsBeginOf1970 time × SaysFile (Err e) (IsFileAnswer false kind time default_options bytes)
-
--- known bytes grew by the lines of the index that these bytes are
-pub record Lists (kind : Kind) (bytes : List ℕ) (old new : Option (List ℕ)) : Type 0 where
+-- known bytes grew by the lines of the index in a file
+pub record Lists (kind : Kind) (old new : Option (List ℕ)) : Type 0 where
   pub value : Contents
-  pub read : IsReadAs kind bytes value
+  pub read : IsInFile kind value
   pub grew : Appends old new (listing value.records)
 
 -- known bytes grew by a front of them
-pub record ListsFront (kind : Kind) (bytes : List ℕ) (old new : Option (List ℕ)) : Type 0 where
+pub record ListsFront (kind : Kind) (old new : Option (List ℕ)) : Type 0 where
   pub value : Contents
-  pub read : IsReadAs kind bytes value
+  pub read : IsInFile kind value
   pub grew : AppendsFront old new (listing value.records)
 
--- these are all bytes that a reader had left, where those are known
-abbrev pub AreLeft : Option (List ℕ) → List ℕ → Type 0
-AreLeft known bytes = IfSome known (λ left. bytes ≡ left)
+-- a failure of reading, which names the file that it concerns, or the one that the words name
+abbrev pub FailsToRead : List ℕ → Failure → Type 0
+FailsToRead path (failures.Read e) = Unit {0}
+FailsToRead path (failures.Index file e) = file.now ≡ path
+FailsToRead path e = ⊥
 
--- a failure of a listing, of a reader with these known bytes left: only a failed output took some lines
-abbrev pub FailsToList : Kind → List ℕ → Option (List ℕ) → Failure → Option (List ℕ) → Option (List ℕ) → Type 0
-FailsToList kind path left (failures.Read file e) old new = (file.now ≡ path) × Keeps old new
-FailsToList kind path left (failures.Index file e) old new = (file.now ≡ path) × Keeps old new × ((bytes : List ℕ) × AreLeft left bytes × IsFaultOf kind bytes e)
-FailsToList kind path left (failures.Output e) old new = (bytes : List ℕ) × AreLeft left bytes × ListsFront kind bytes old new
+-- a failure of a listing: only a failed output took some lines
+abbrev pub FailsToList : Kind → List ℕ → Failure → Option (List ℕ) → Option (List ℕ) → Type 0
+FailsToList kind path (failures.Output e) old new = ListsFront kind old new
+FailsToList kind path failure old new = FailsToRead path failure × Keeps old new

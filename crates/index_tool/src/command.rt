@@ -1,19 +1,24 @@
 //! The commands, from words to a status.
 
+pub mod check;
+mod index;
 pub mod list;
+pub mod rewrite;
 
 ghost use Rattle.std.specs.Prelude.{◌≡◌, ◌≤◌, ◌↔◌, map, IfErr, OnOk, OnErr, IsSomeAnd, None, string_bytes};
 ghost use Rattle.std.specs.Io.KnownBytes.{Keeps};
 ghost use Rattle.std.specs.Option.{option_map};
-ghost use Rattle.index_tool.specs.Command.{command_named, command_value, kind_named, list_named, Listing, GivesUp, Succeeds};
+ghost use Rattle.index_tool.specs.Command.{check_named, command_named, command_value, kind_named, list_named, rewrite_named, GivesUp, Succeeds};
 
 use crate::failure::Failure;
+use check::check;
 use gix_index::hash::Kind;
 use list::list;
+use rewrite::rewrite;
 use std::alloc::Global;
+use std::io;
 use std::io::Write;
 use std::rt::Files;
-use std::{fs, io};
 
 /// The status of a command that succeeded.
 pub const DONE: u8 = 0;
@@ -26,7 +31,21 @@ pub const WRONG_WORDS: u8 = 2;
 #[derive(Clone, Copy)]
 enum Command<'a> {
     /// A line for each entry of the index in the file.
-    List { kind: Kind, path: &'a str },
+    List {
+        kind: Kind,
+        path: &'a str,
+    },
+    /// Whether the index in the file is sound.
+    Check {
+        kind: Kind,
+        path: &'a str,
+    },
+    /// The index in the file, written to a path.
+    Rewrite {
+        kind: Kind,
+        path: &'a str,
+        to: &'a str,
+    },
 }
 
 fn kind_of(word: &str) -> Option<Kind>
@@ -55,6 +74,35 @@ fn list_of(words: &[String]) -> Option<Command<'_>>
     })
 }
 
+/// What the words behind `check` are.
+fn check_of(words: &[String]) -> Option<Command<'_>>
+    ensures { option_map command_value result ≡ check_named (map string_bytes words.now) }
+{
+    let [kind, file] = words else {
+        return None;
+    };
+    let kind = kind_of(kind.as_str())?;
+    Some(Command::Check {
+        kind,
+        path: file.as_str(),
+    })
+}
+
+/// What the words behind `rewrite` are.
+fn rewrite_of(words: &[String]) -> Option<Command<'_>>
+    ensures { option_map command_value result ≡ rewrite_named (map string_bytes words.now) }
+{
+    let [kind, file, to] = words else {
+        return None;
+    };
+    let kind = kind_of(kind.as_str())?;
+    Some(Command::Rewrite {
+        kind,
+        path: file.as_str(),
+        to: to.as_str(),
+    })
+}
+
 /// The command that these words are, if they are one.
 fn command_of(words: &[String]) -> Option<Command<'_>>
     ensures { option_map command_value result ≡ command_named (map string_bytes words.now) }
@@ -65,33 +113,17 @@ fn command_of(words: &[String]) -> Option<Command<'_>>
     if name.as_str() == "list" {
         return list_of(rest);
     }
+    if name.as_str() == "check" {
+        return check_of(rest);
+    }
+    if name.as_str() == "rewrite" {
+        return rewrite_of(rest);
+    }
     None
 }
 
-/// Lists the index in a file. Room is made for as many bytes as the file's metadata says.
-fn list_file<'a, R: Files + Alloc, W: io::Write>(
-    rt: &R,
-    alloc: Global,
-    kind: Kind,
-    path: &'a str,
-    out: &mut W,
-) -> Result<(), Failure<'a>>
-    ensures listed { OnOk result (Succeeds (Listing kind path.now) (W.contents out.old) (W.contents out.new)) }
-    ensures refused { OnErr result (GivesUp (Listing kind path.now) (W.contents out.old) (W.contents out.new)) }
-{
-    let size = match fs::metadata(rt, path) {
-        Ok(metadata) => metadata.len() as usize,
-        Err(fault) => return Err(Failure::Read { path, fault }),
-    };
-    let mut file = match fs::open(rt, path) {
-        Ok(file) => file,
-        Err(fault) => return Err(Failure::Read { path, fault }),
-    };
-    list(alloc, kind, path, &mut file, size.saturating_add(1), out)
-}
-
 /// Runs a command: Ok where its whole result went to `out`.
-fn run_command<'a, R: Files + Alloc, W: io::Write>(
+fn run_command<'a, R: Files, W: io::Write>(
     rt: &R,
     alloc: Global,
     command: Command<'a>,
@@ -101,16 +133,22 @@ fn run_command<'a, R: Files + Alloc, W: io::Write>(
     ensures refused { OnErr result (GivesUp (command_value command.entry) (W.contents out.old) (W.contents out.new)) }
 {
     match command {
-        Command::List { kind, path } => list_file(rt, alloc, kind, path, out),
+        Command::List { kind, path } => list(rt, alloc, kind, path, out),
+        Command::Check { kind, path } => check(rt, alloc, kind, path, out),
+        Command::Rewrite { kind, path, to } => rewrite(rt, alloc, kind, path, to),
     }
 }
 
 /// Runs the command that these words are, and gives the status that the program ends with.
 ///
-/// `list KIND FILE`, with KIND `sha1` or `sha256`, writes a line to `out` for each entry of the index in FILE.
-/// [`DONE`]: the whole listing was written. [`REFUSED`]: FILE can't be read or is no index of this kind, or `out`
-/// failed; nothing goes to `out` before FILE was read whole. [`WRONG_WORDS`]: the words are no command; no file is
-/// opened. A status other than [`DONE`] comes with one line on `faults`, which names the file that it concerns.
+/// KIND is `sha1` or `sha256`, and FILE is an index, which is read with the shared index that it links to.
+/// `list KIND FILE` writes a line to `out` for each entry. `check KIND FILE` writes `ok` and a newline where the entries
+/// are in order and the file has its digest still. `rewrite KIND FILE OUT` writes the index to the path OUT, by way of
+/// the lock file OUT.lock, and nothing to `out`.
+///
+/// [`DONE`]: the command did all that. [`REFUSED`]: a file can't be read or written, or is no such index, or `out`
+/// failed; nothing goes to `out` before FILE was read whole and all checks have passed. [`WRONG_WORDS`]: the words are no command; no
+/// file is opened. A status other than [`DONE`] comes with one line on `faults`, which names the file that it concerns.
 pub fn run<R: Files + Alloc, O: io::Write, E: io::Write>(
     rt: &R,
     alloc: Global,
@@ -131,7 +169,7 @@ pub fn run<R: Files + Alloc, O: io::Write, E: io::Write>(
     let Some(command) = command_of(words) else {
         let _ = writeln!(
             faults,
-            "index-tool: usage: index-tool list sha1|sha256 FILE"
+            "index-tool: usage: index-tool list|check sha1|sha256 FILE, or index-tool rewrite sha1|sha256 FILE OUT"
         );
         return WRONG_WORDS;
     };

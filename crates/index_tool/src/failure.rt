@@ -1,6 +1,7 @@
 //! Why a command ended without its result.
 
-use gix_index::file;
+use gix_index::file::PathError;
+use gix_index::{file, verify};
 use std::fmt::Write as _;
 use std::{fmt, io};
 use thiserror::Error;
@@ -25,14 +26,9 @@ impl fmt::Display for Name<'_> {
 /// Why a command ended without its result, with the file that it concerns.
 #[derive(Debug, Drop, Error)]
 pub enum Failure<'a> {
-    /// The file can't be opened or read, or a growth was refused before it was read.
-    #[error("{}: {fault}", Name(.path))]
-    Read {
-        /// The file, as the command's words name it.
-        path: &'a str,
-        /// Why.
-        fault: io::Error,
-    },
+    /// A file can't be opened or read.
+    #[error("{0}")]
+    Read(PathError),
     /// The file is no index of the wanted kind, or a growth was refused while it was read as one.
     #[error("{}: {fault}", Name(.path))]
     Index {
@@ -40,6 +36,30 @@ pub enum Failure<'a> {
         path: &'a str,
         /// Why.
         fault: file::init::Error,
+    },
+    /// The entries aren't in order, or a growth was refused while they were looked at.
+    #[error("{}: {fault}", Name(.path))]
+    Entries {
+        /// The file, as the command's words name it.
+        path: &'a str,
+        /// Why.
+        fault: verify::entries::Error,
+    },
+    /// The file's bytes haven't the digest any more that its trailer gave, or can't be read again.
+    #[error("{}: {fault}", Name(.path))]
+    Changed {
+        /// The file, as the command's words name it.
+        path: &'a str,
+        /// Why.
+        fault: file::verify::Error,
+    },
+    /// The index can't be written.
+    #[error("{}: {fault}", Name(.path))]
+    Rewrite {
+        /// The file that was to be written, as the command's words name it.
+        path: &'a str,
+        /// Why.
+        fault: file::write::Error,
     },
     /// The output failed, or a growth was refused while the result was written.
     #[error("standard output: {0}")]

@@ -117,7 +117,7 @@ fn append_line(lines: &mut Vec<u8>, state: &State, entry: &Entry) -> Result<(), 
 }
 
 /// Writes all bytes, by as many calls as it takes. An error of any kind ends it, and so does a call that takes no byte.
-fn put_all<W: io::Write>(out: &mut W, bytes: &[u8]) -> io::Result<()>
+pub(crate) fn put_all<W: io::Write>(out: &mut W, bytes: &[u8]) -> io::Result<()>
     ensures ok { OnOk result (Appends (W.contents out.old) (W.contents out.new) bytes.now) }
     ensures err { OnErr result (AppendsFront (W.contents out.old) (W.contents out.new) bytes.now) }
 {

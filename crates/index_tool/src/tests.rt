@@ -12,6 +12,14 @@ const ONE: &[u8] =
     b"DIRC\0\0\0\x02\0\0\0\x01\0\0\0\0\0\0\0\0\0\0\0\0\0\0\0\0\0\0\0\0\0\0\0\0\0\0\x81\xa4\0\0\0\0\0\0\0\0\0\0\0\0\
 \x11\x11\x11\x11\x11\x11\x11\x11\x11\x11\x11\x11\x11\x11\x11\x11\x11\x11\x11\x11\0\x01a\0\0\0\0\0\0\0\0\0\0\0\0\0\0\0\0\0\0\0\0\0";
 
+/// A split index without entries, whose link has an id of ones and two bitmaps without places, and a null trailer.
+const SPLIT: &[u8] =
+    b"DIRC\0\0\0\x02\0\0\0\0link\0\0\0\x2c\x11\x11\x11\x11\x11\x11\x11\x11\x11\x11\x11\x11\x11\x11\x11\x11\x11\x11\x11\x11\
+\0\0\0\0\0\0\0\0\0\0\0\0\0\0\0\0\0\0\0\0\0\0\0\0\0\0\0\0\0\0\0\0\0\0\0\0\0\0\0\0\0\0\0\0";
+
+/// The name of its shared index.
+const SHARED: &str = "sharedindex.1111111111111111111111111111111111111111";
+
 const LISTED: &[u8] = b"100644 1111111111111111111111111111111111111111 0\ta\n";
 
 /// A writer that takes so many bytes, and then fails.
@@ -53,6 +61,7 @@ fn statuses(rt: HostRuntime) -> Result<(), Fail> {
         *last = 1;
     }
     fs::write(&rt, "sealed.index", sealed.as_slice())?;
+    fs::write(&rt, "held.index.lock", "another's")?;
     for (words, status, listed, begin) in [
         (["list", "sha1", "whole.index"].as_slice(), DONE, LISTED, ""),
         (
@@ -78,6 +87,32 @@ fn statuses(rt: HostRuntime) -> Result<(), Fail> {
             REFUSED,
             b"",
             "index-tool: no\\nfile: No such file or directory",
+        ),
+        (&["check", "sha1", "whole.index"], DONE, b"ok\n", ""),
+        (
+            &["check", "sha1", "sealed.index"],
+            REFUSED,
+            b"",
+            "index-tool: sealed.index: the index's digest is ",
+        ),
+        (
+            &["rewrite", "sha1", "whole.index", "again.index"],
+            DONE,
+            b"",
+            "",
+        ),
+        (&["list", "sha1", "again.index"], DONE, LISTED, ""),
+        (
+            &["rewrite", "sha1", "whole.index", "held.index"],
+            REFUSED,
+            b"",
+            "index-tool: held.index: the index's lock file can't be made: held.index.lock: File exists",
+        ),
+        (
+            &["rewrite", "sha1", "whole.index"],
+            WRONG_WORDS,
+            b"",
+            "index-tool: usage: ",
         ),
         (&[], WRONG_WORDS, b"", "index-tool: usage: "),
         (&["list", "sha1"], WRONG_WORDS, b"", "index-tool: usage: "),
@@ -107,6 +142,39 @@ fn statuses(rt: HostRuntime) -> Result<(), Fail> {
         assert!(rt; faults.starts_with(begin.as_bytes()), "{words:?}");
         let lines = faults.iter().filter(|byte| **byte == b'\n').count();
         assert_eq!(rt; lines, usize::from(status != DONE), "{words:?}");
+    }
+    Ok(())
+}
+
+/// A split index, while its shared one is missing, there, and linking on.
+#[test]
+fn shared_index(rt: HostRuntime) -> Result<(), Fail> {
+    let alloc = rt.alloc();
+    fs::write(&rt, "split.index", SPLIT)?;
+    let words = words_of(alloc, &["list", "sha1", "split.index"])?;
+    for (shared, status, listed, begin) in [
+        (
+            b"".as_slice(),
+            REFUSED,
+            b"".as_slice(),
+            "index-tool: sharedindex.1111111111111111111111111111111111111111: No such file or directory",
+        ),
+        (ONE, DONE, LISTED, ""),
+        (
+            SPLIT,
+            REFUSED,
+            b"",
+            "index-tool: split.index: the link to a shared index can't be followed: shared index has a link of its own",
+        ),
+    ] {
+        if !shared.is_empty() {
+            fs::write(&rt, SHARED, shared)?;
+        }
+        let mut out = Vec::new(alloc);
+        let mut faults = Vec::new(alloc);
+        let got = run(&rt, alloc, &words, &mut out, &mut faults);
+        assert_eq!(rt; (got, out.as_slice()), (status, listed), "{begin}");
+        assert!(rt; faults.starts_with(begin.as_bytes()), "{begin}");
     }
     Ok(())
 }

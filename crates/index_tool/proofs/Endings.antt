@@ -1,0 +1,33 @@
+-- What a failure of one command says of the output.
+use Rattle.std.proofs.Common.{◌≡◌, ℕ, List, Option, Result, Ok, Err, refl}
+use Rattle.std.specs.Prelude.{IfErr, OnErr}
+use Rattle.gix_index.specs.Kind.{Kind}
+use Rattle.index_tool.specs.declared.failure.Failure.{Failure}
+use Rattle.index_tool.specs.declared.failure.Failure.TheVariants as failures
+use Rattle.index_tool.specs.Checking.{FailsToCheck}
+use Rattle.index_tool.specs.Command.{CommandValue, Listing, Checking, GivesUp, nothing, some_lines, some_of_ok}
+use Rattle.index_tool.specs.Listing.{FailsToList}
+
+pub list_gives_up : (f : Failure) (kind : Kind) (path : List ℕ) (old new : Option (List ℕ)) → FailsToList kind path f old new → GivesUp (Listing kind path) old new
+list_gives_up (failures.Read e) kind path old new h = nothing h.1
+list_gives_up (failures.Index file e) kind path old new h = nothing h.1
+list_gives_up (failures.Entries file e) kind path old new h = nothing h.1
+list_gives_up (failures.Changed file e) kind path old new h = nothing h.1
+list_gives_up (failures.Rewrite file e) kind path old new h = nothing h.1
+list_gives_up (failures.Output e) kind path old new h = some_lines kind path refl h
+
+pub check_gives_up : (f : Failure) (kind : Kind) (path : List ℕ) (old new : Option (List ℕ)) → FailsToCheck kind path f old new → GivesUp (Checking kind path) old new
+check_gives_up (failures.Read e) kind path old new h = nothing h.1
+check_gives_up (failures.Index file e) kind path old new h = nothing h.1
+check_gives_up (failures.Entries file e) kind path old new h = nothing h.1
+check_gives_up (failures.Changed file e) kind path old new h = nothing h.1
+check_gives_up (failures.Rewrite file e) kind path old new h = nothing h.1
+check_gives_up (failures.Output e) kind path old new h = some_of_ok kind path refl h
+
+pub list_refused : (r : Result (Unit {0}) Failure) (kind : Kind) (path : List ℕ) (old new : Option (List ℕ)) → IfErr r (λ f. FailsToList kind path f old new) → OnErr r (GivesUp (Listing kind path) old new)
+list_refused (Ok x) kind path old new h = tt
+list_refused (Err f) kind path old new h = list_gives_up f kind path old new h
+
+pub check_refused : (r : Result (Unit {0}) Failure) (kind : Kind) (path : List ℕ) (old new : Option (List ℕ)) → IfErr r (λ f. FailsToCheck kind path f old new) → OnErr r (GivesUp (Checking kind path) old new)
+check_refused (Ok x) kind path old new h = tt
+check_refused (Err f) kind path old new h = check_gives_up f kind path old new h

@@ -1,0 +1,42 @@
+-- What the program checks of an index, and what it prints then.
+use Rattle.std.specs.Prelude.{◌≡◌, ℕ, List, Option, codes}
+use Rattle.std.specs.Io.KnownBytes.{Appends, Keeps}
+use Rattle.gix_index.specs.Taking.{AppendsFront}
+use Rattle.gix_index.specs.Kind.{Kind}
+use Rattle.gix_index.specs.Order.{IsStrictlyOrdered}
+use Rattle.gix_index.specs.State.{Contents}
+use Rattle.index_tool.specs.declared.failure.Failure.{Failure}
+use Rattle.index_tool.specs.declared.failure.Failure.TheVariants as failures
+use Rattle.index_tool.specs.Listing.{IsInFile, FailsToRead}
+
+abbrev pub ok_line : List ℕ
+ok_line = codes "ok\n"
+
+-- an index in a file, whose entries strictly increase by path, then stage
+pub record IsSoundInFile (kind : Kind) (value : Contents) : Type 0 where
+  pub read : IsInFile kind value
+  pub ordered : IsStrictlyOrdered value.records
+
+-- known bytes grew by the line of an index that passed all checks
+pub record Checks (kind : Kind) (old new : Option (List ℕ)) : Type 0 where
+  pub value : Contents
+  pub sound : IsSoundInFile kind value
+  pub grew : Appends old new ok_line
+
+-- known bytes grew by a front of that line, and all checks had passed
+pub record ChecksFront (kind : Kind) (old new : Option (List ℕ)) : Type 0 where
+  pub value : Contents
+  pub sound : IsSoundInFile kind value
+  pub grew : AppendsFront old new ok_line
+
+-- a failure of a check: only a failed output took some of the line
+abbrev pub FailsToCheck : Kind → List ℕ → Failure → Option (List ℕ) → Option (List ℕ) → Type 0
+FailsToCheck kind path (failures.Output e) old new = ChecksFront kind old new
+FailsToCheck kind path (failures.Entries file e) old new = (file.now ≡ path) × Keeps old new
+FailsToCheck kind path (failures.Changed file e) old new = (file.now ≡ path) × Keeps old new
+FailsToCheck kind path failure old new = FailsToRead path failure × Keeps old new
+
+-- a failure of a rewriting names the file that it concerns, or one of those that the words name
+abbrev pub FailsToRewrite : List ℕ → List ℕ → Failure → Type 0
+FailsToRewrite path to (failures.Rewrite file e) = file.now ≡ to
+FailsToRewrite path to failure = FailsToRead path failure

@@ -1,0 +1,41 @@
+//! The command `rewrite`.
+
+ghost use Rattle.std.specs.Prelude.{IfErr};
+ghost use Rattle.index_tool.specs.Checking.{FailsToRewrite};
+
+use crate::command::index::index_at;
+use crate::failure::Failure;
+use gix_index::file::write::Error;
+use gix_index::hash::Kind;
+use gix_index::write;
+use std::alloc::Global;
+use std::path::PathBuf;
+use std::rt::Files;
+
+/// Writes the index in a file, with the shared index that it links to, to another path, or to the same.
+///
+/// It is written by [`File::write`](gix_index::File::write) with the default options. [`Failure::Rewrite`]: it can't be written, and what was at the path is
+/// there as before. Any other failure concerns the file that is read.
+pub fn rewrite<'a, R: Files>(
+    rt: &R,
+    alloc: Global,
+    kind: Kind,
+    path: &'a str,
+    to: &'a str,
+) -> Result<(), Failure<'a>>
+    ensures { IfErr result (FailsToRewrite path.now to.now) }
+{
+    let mut index = match index_at(rt, alloc, kind, path) {
+        Ok(index) => index,
+        Err(failure) => return Err(failure),
+    };
+    let Ok(target) = PathBuf::from_str(alloc, to) else {
+        let fault = Error::Memory;
+        return Err(Failure::Rewrite { path: to, fault });
+    };
+    index.set_path(target);
+    match index.write(rt, alloc, write::Options::default()) {
+        Ok(()) => Ok(()),
+        Err(fault) => Err(Failure::Rewrite { path: to, fault }),
+    }
+}
