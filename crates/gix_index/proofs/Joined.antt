@@ -27,7 +27,7 @@ read_kind skip kind time options bytes v c h =
     ap (λ (w : Contents). w.kind) (value_is kind time options bytes v c is).is
 
 pub unlinked_storable : (v : Contents) → IsStorable v → IsStorable (without_link v)
-unlinked_storable v h = record { ids = h.ids; paths = h.paths; fits = h.fits }
+unlinked_storable v h = record { ids = h.ids; paths = h.paths; fits = h.fits; tree = h.tree }
 
 still_unlinked : (b : Option BitmapPair) (shared old new : Contents) → old.extensions.link ≡ None → MergesBy b shared old new → new.extensions.link ≡ None
 still_unlinked None shared old new e h = ap (λ (v : Contents). v.extensions.link) h ∙ e

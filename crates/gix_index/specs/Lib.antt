@@ -56,7 +56,7 @@ pub use Rattle.index_state.specs.Outcome
 pub use Rattle.index_state.specs.State
 pub use Rattle.index_state.specs.Storable
 pub use Rattle.index_state.specs.Stored
-pub use Rattle.index_state.specs.Verified
+pub use Rattle.index_state.specs.Verified as StateVerified
 pub use Rattle.index_state.specs.Writing
 pub use Rattle.index_state.specs.Faults
 pub use Rattle.index_parts.specs.declared.hash.Kind

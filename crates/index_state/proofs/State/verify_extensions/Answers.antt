@@ -9,6 +9,6 @@ pub returns-clause-fault : goal.returns-clause-fault
 returns-clause-fault g c =
     let t = node_of c.in-Some.tree.now in
     let there : (contents c.args.self.now).extensions.tree ≡ Some t = search rules in
-    let sound : IsSoundTree t = (c.in_ok-verify.ensures.sound c.requires).0 refl in
+    let sound : IsSoundTree t = (c.in_ok-verify.ensures.sound c.requires.without_objects).0 refl in
     let count : c.len.result ≡ length (entries_of c.args.self.now) = search rules in
     rw there (later_fault c.verify_counts.result (length (entries_of c.args.self.now)) t sound (rw count at c.verify_counts.ensures.fault))
