@@ -1,10 +1,11 @@
 -- What the program checks of an index, and what it prints then.
-use Rattle.std.specs.Prelude.{◌≡◌, ℕ, List, Option, codes}
+use Rattle.std.specs.Prelude.{◌≡◌, ℕ, List, length, Option, codes}
 use Rattle.std.specs.Io.KnownBytes.{Appends, Keeps}
 use Rattle.gix_index.specs.Taking.{AppendsFront}
 use Rattle.gix_index.specs.Kind.{Kind}
 use Rattle.gix_index.specs.Order.{IsStrictlyOrdered}
 use Rattle.gix_index.specs.State.{Contents}
+use Rattle.gix_index.specs.StateVerified.{AreSound}
 use Rattle.index_tool.specs.declared.failure.Failure.{Failure}
 use Rattle.index_tool.specs.declared.failure.Failure.TheVariants as failures
 use Rattle.index_tool.specs.Listing.{IsInFile, FailsToRead}
@@ -12,10 +13,12 @@ use Rattle.index_tool.specs.Listing.{IsInFile, FailsToRead}
 abbrev pub ok_line : List ℕ
 ok_line = codes "ok\n"
 
--- an index in a file, whose entries strictly increase by path, then stage
+-- an index in a file, whose entries strictly increase by path, then stage, and whose cached tree, if it has one, is sound and
+-- counts no more than these entries
 pub record IsSoundInFile (kind : Kind) (value : Contents) : Type 0 where
   pub read : IsInFile kind value
   pub ordered : IsStrictlyOrdered value.records
+  pub tree : AreSound (length value.records) value.extensions.tree
 
 -- known bytes grew by the line of an index that passed all checks
 pub record Checks (kind : Kind) (old new : Option (List ℕ)) : Type 0 where
@@ -33,6 +36,7 @@ pub record ChecksFront (kind : Kind) (old new : Option (List ℕ)) : Type 0 wher
 abbrev pub FailsToCheck : Kind → List ℕ → Failure → Option (List ℕ) → Option (List ℕ) → Type 0
 FailsToCheck kind path (failures.Output e) old new = ChecksFront kind old new
 FailsToCheck kind path (failures.Entries file e) old new = (file.now ≡ path) × Keeps old new
+FailsToCheck kind path (failures.CachedTree file e) old new = (file.now ≡ path) × Keeps old new
 FailsToCheck kind path (failures.Changed file e) old new = (file.now ≡ path) × Keeps old new
 FailsToCheck kind path failure old new = FailsToRead path failure × Keeps old new
 

@@ -7,6 +7,7 @@ use crate::command::index::index_at;
 use crate::failure::Failure;
 use crate::listing::put_all;
 use gix_index::hash::Kind;
+use gix_index::object::NoObjects;
 use std::alloc::Global;
 use std::io;
 use std::rt::Files;
@@ -16,7 +17,8 @@ const OK_LINE: &[u8] = b"ok\n";
 
 /// Checks the index in a file, with the shared index that it links to, and writes `ok` and a newline to `out`.
 ///
-/// Its entries have to increase strictly by path, then stage. The file's bytes have to have the digest still that
+/// Its entries have to increase strictly by path, then stage. Its cached tree has to hold together, and no node of it counts more
+/// entries than there are; objects aren't looked at. The file's bytes have to have the digest still that
 /// their trailer gave. Nothing goes to `out` before the last check has passed. Ok: `out` took the whole line.
 /// [`Failure::Output`]: it took a front. Any other failure: it took nothing.
 pub fn check<'a, R: Files, W: io::Write>(
@@ -35,6 +37,9 @@ pub fn check<'a, R: Files, W: io::Write>(
     };
     if let Err(fault) = index.verify_entries() {
         return Err(Failure::Entries { path, fault });
+    }
+    if let Err(fault) = index.verify_extensions(alloc, false, &NoObjects) {
+        return Err(Failure::CachedTree { path, fault });
     }
     if let Err(fault) = index.verify_integrity(rt, alloc) {
         return Err(Failure::Changed { path, fault });

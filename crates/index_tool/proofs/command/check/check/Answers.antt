@@ -2,10 +2,14 @@ use Rattle.std.proofs.Common.{refl}
 use Rattle.std.proofs.KnownBytes.{Keeps-refl}
 use Rattle.gix_index.specs.State.{contents}
 use Rattle.gix_index.specs.File.{state_of}
+use Rattle.index_tool.proofs.Endings.{sound_counted}
 use Rattle.index_tool.proofs.command.check.check.Goals as goal
 
 pub returns-in-Err-verify_entries-clause-refused : goal.returns-in-Err-verify_entries-clause-refused
 returns-in-Err-verify_entries-clause-refused g c = (refl, Keeps-refl (g.W.Write.contents c.args.out.now))
+
+pub returns-in-Err-verify_extensions-clause-refused : goal.returns-in-Err-verify_extensions-clause-refused
+returns-in-Err-verify_extensions-clause-refused g c = (refl, Keeps-refl (g.W.Write.contents c.args.out.now))
 
 pub returns-in-Err-verify_integrity-clause-refused : goal.returns-in-Err-verify_integrity-clause-refused
 returns-in-Err-verify_integrity-clause-refused g c = (refl, Keeps-refl (g.W.Write.contents c.args.out.now))
@@ -13,13 +17,13 @@ returns-in-Err-verify_integrity-clause-refused g c = (refl, Keeps-refl (g.W.Writ
 pub returns-in-Ok-put_all-clause-checked : goal.returns-in-Ok-put_all-clause-checked
 returns-in-Ok-put_all-clause-checked g c = record {
   value = contents (state_of c.in-Ok.index);
-  sound = record { read = c.in-Ok.ensures.read; ordered = rw c.deref.ensures at (c.in_default.ensures.ok.0 refl) };
+  sound = record { read = c.in-Ok.ensures.read; ordered = rw c.deref.ensures at (c.in_default.ensures.ok.0 refl); tree = sound_counted (state_of c.in-Ok.index) (rw c.deref-2.ensures at (c.in_default-verify_extensions.ensures.sound.0 refl)) };
   grew = c.in-Ok-put_all.ensures.ok;
 }
 
 pub returns-clause-refused : goal.returns-clause-refused
 returns-clause-refused g c = record {
   value = contents (state_of c.in-Ok.index);
-  sound = record { read = c.in-Ok.ensures.read; ordered = rw c.deref.ensures at (c.in_default.ensures.ok.0 refl) };
+  sound = record { read = c.in-Ok.ensures.read; ordered = rw c.deref.ensures at (c.in_default.ensures.ok.0 refl); tree = sound_counted (state_of c.in-Ok.index) (rw c.deref-2.ensures at (c.in_default-verify_extensions.ensures.sound.0 refl)) };
   grew = c.in-Err-put_all.ensures.err;
 }
