@@ -33,6 +33,10 @@ fn edit(out: &mut Lines, state: &mut State, word: &str) -> Result<(), Fault> {
             verify(out, state);
             return Ok(());
         }
+        "storage" => {
+            lend_storage(out, state);
+            return Ok(());
+        }
         "sort" => state.sort_entries()?,
         "sort-down" => state.sort_entries_by(|a, b| b.id.as_bytes().cmp(a.id.as_bytes()))?,
         "remove" => remove(out, state, taken),
@@ -41,6 +45,17 @@ fn edit(out: &mut Lines, state: &mut State, word: &str) -> Result<(), Fault> {
     }
     list::show(out, state);
     Ok(())
+}
+
+/// Takes the storage of the paths out, tells its bytes, and gives it back.
+fn lend_storage(out: &mut Lines, state: &mut State) {
+    let storage = state.take_path_backing();
+    write!(out, "storage ");
+    for byte in &storage {
+        write!(out, "{byte:02x}");
+    }
+    writeln!(out);
+    state.return_path_backing(storage);
 }
 
 /// Tells which entry is the first that isn't above the one before it.
