@@ -61,6 +61,15 @@ fn statuses(rt: HostRuntime) -> Result<(), Fail> {
         *last = 1;
     }
     fs::write(&rt, "sealed.index", sealed.as_slice())?;
+    // Two entries of one path, which is a newline.
+    let mut twice = Vec::from_slice(alloc, &ONE[..76])?;
+    twice.extend_from_slice(&ONE[12..])?;
+    for (at, byte) in [(11, 2), (74, b'\n'), (138, b'\n')] {
+        if let Some(place) = twice.get_mut(at) {
+            *place = byte;
+        }
+    }
+    fs::write(&rt, "twice.index", twice.as_slice())?;
     fs::write(&rt, "held.index.lock", "another's")?;
     for (words, status, listed, begin) in [
         (["list", "sha1", "whole.index"].as_slice(), DONE, LISTED, ""),
@@ -94,6 +103,12 @@ fn statuses(rt: HostRuntime) -> Result<(), Fail> {
             REFUSED,
             b"",
             "index-tool: sealed.index: the index's digest is ",
+        ),
+        (
+            &["check", "sha1", "twice.index"],
+            REFUSED,
+            b"",
+            "index-tool: twice.index: entry 1, \"\\n\" of stage ",
         ),
         (
             &["rewrite", "sha1", "whole.index", "again.index"],

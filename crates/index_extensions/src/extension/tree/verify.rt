@@ -24,7 +24,7 @@ mod objects;
 #[derive(Debug, Drop, Error)]
 pub enum Error {
     /// The root has a name.
-    #[error("the root of the cached tree is named '{name}', and a root has no name")]
+    #[error("the root of the cached tree is named {name:?}, and a root has no name")]
     RootWithName {
         /// Its name.
         name: BString,
@@ -41,7 +41,7 @@ pub enum Error {
     #[error("the children of a node of the cached tree count more than 4294967295 entries")]
     EntriesCountOverflow,
     /// The name of a child isn't above the one before it.
-    #[error("in the cached tree '{current_path}' follows '{previous_path}' below the tree {parent_id}, but names increase")]
+    #[error("in the cached tree {current_path:?} follows {previous_path:?} below the tree {parent_id}, but names increase")]
     OutOfOrder {
         /// The id of the node that they are children of.
         parent_id: ObjectId,
@@ -57,7 +57,7 @@ pub enum Error {
         id: ObjectId,
     },
     /// A tree lists a directory that no child of its node has the name of.
-    #[error("the tree {parent_id} has the directory '{name}' ({entry_id}), but the cached tree has no such child")]
+    #[error("the tree {parent_id} has the directory {name:?} ({entry_id}), but the cached tree has no such child")]
     MissingTreeDirectory {
         /// The id of the node and of its tree.
         parent_id: ObjectId,
@@ -77,7 +77,7 @@ pub enum Error {
         actual_childcount: usize,
     },
     /// A node counts more entries than the index has.
-    #[error("the tree '{name}' of the cached tree counts {actual} entries, but the index has {expected}")]
+    #[error("the tree {name:?} of the cached tree counts {actual} entries, but the index has {expected}")]
     EntriesCountExceedsIndex {
         /// The node's name; the root has none.
         name: BString,
