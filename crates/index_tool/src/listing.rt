@@ -11,10 +11,11 @@ ghost use Rattle.index_tool.specs.Line.{digit, octal_six, line_of_parts, line_of
 
 use bitflags::Flags as _;
 use gix_index::hash::ObjectId;
+use gix_index::hash::io::put_all;
 use gix_index::{Entry, State};
 use std::alloc::{AllocError, Global};
 use std::io;
-use std::io::{ErrorKind, Write};
+use std::io::Write;
 
 /// How many bytes of lines go out at once, or some more.
 const BLOCK_LEN: usize = 65536;
@@ -114,23 +115,6 @@ fn append_line(lines: &mut Vec<u8>, state: &State, entry: &Entry) -> Result<(), 
 {
     let path = entry.path(state);
     append_parts(lines, entry.mode.bits(), &entry.id, entry.stage_raw(), path)
-}
-
-/// Writes all bytes, by as many calls as it takes. An error of any kind ends it, and so does a call that takes no byte.
-pub(crate) fn put_all<W: io::Write>(out: &mut W, bytes: &[u8]) -> io::Result<()>
-    ensures ok { OnOk result (Appends (W.contents out.old) (W.contents out.new) bytes.now) }
-    ensures err { OnErr result (AppendsFront (W.contents out.old) (W.contents out.new) bytes.now) }
-{
-    let mut at = 0;
-    while at < bytes.len() {
-        let (_, rest) = bytes.split_at(at);
-        let count = out.write(rest)?;
-        if count == 0 {
-            return Err(io::Error::new(ErrorKind::WriteZero, "the output took no byte"));
-        }
-        at += count;
-    }
-    Ok(())
 }
 
 /// Lets the lines out where they fill a block.

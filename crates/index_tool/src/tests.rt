@@ -22,17 +22,24 @@ const SHARED: &str = "sharedindex.1111111111111111111111111111111111111111";
 
 const LISTED: &[u8] = b"100644 1111111111111111111111111111111111111111 0\ta\n";
 
-/// A writer that takes so many bytes, and then fails.
+/// A writer that takes so many bytes, and then fails. A signal interrupts its first call, and each other one after that.
 #[derive(Drop)]
-struct Short(usize);
+struct Short {
+    room: usize,
+    was_interrupted: bool,
+}
 
 impl Write for Short {
     fn write(&mut self, buf: &[u8]) -> io::Result<usize> {
-        if self.0 == 0 {
+        self.was_interrupted = !self.was_interrupted;
+        if self.was_interrupted {
+            return Err(io::Error::from(ErrorKind::Interrupted));
+        }
+        if self.room == 0 {
             return Err(io::Error::new(ErrorKind::Other, "the disk is full"));
         }
-        let count = buf.len().min(self.0);
-        self.0 -= count;
+        let count = buf.len().min(self.room);
+        self.room -= count;
         Ok(count)
     }
 
@@ -214,7 +221,11 @@ fn failing_writer(rt: HostRuntime) -> Result<(), Fail> {
         (LISTED.len(), DONE, b""),
     ] {
         let mut faults = Vec::new(alloc);
-        let got = run(&rt, alloc, &words, &mut Short(room), &mut faults);
+        let mut out = Short {
+            room,
+            was_interrupted: false,
+        };
+        let got = run(&rt, alloc, &words, &mut out, &mut faults);
         assert_eq!(rt;
             (got, faults.as_slice()),
             (status, said),

@@ -1,8 +1,10 @@
 //! Writers that say how much they took, and hash it.
 
-ghost use Rattle.std.specs.Prelude.{◌≡◌, ℕ, List, [], ◌∷◌, Option, Bool, false, ⊤, is_err, OnOk, OnErr, map};
+ghost use Rattle.std.specs.Prelude.{◌≡◌, ◌≢◌, ℕ, List, [], ◌∷◌, Option, Bool, false, ⊤, is_err, IfErr, OnOk, OnErr, map};
 ghost use Rattle.std.specs.List.{flat_map};
-ghost use Rattle.std.specs.Io.KnownBytes.{Appends};
+ghost use Rattle.std.specs.Io.{WritesAtMost};
+ghost use Rattle.std.specs.Io.KnownBytes.{Appends, WriteAppends};
+ghost use Rattle.std.specs.IoError.{error_kind};
 ghost use Rattle.index_parts.specs.declared.hash.Kind.{Kind};
 ghost use Rattle.index_parts.specs.Digest.{Holds, hasher_kind, hashed_over};
 ghost use Rattle.index_parts.specs.Taking.{Puts, AppendsFront, Breaks, KeepsHashed};
@@ -10,6 +12,46 @@ ghost use Rattle.index_parts.specs.Taking.{Puts, AppendsFront, Breaks, KeepsHash
 use super::{Hasher, Kind};
 use std::io;
 use std::io::ErrorKind;
+
+/// How often in a row a write is tried that a signal interrupts.
+const MAX_TRIES: u32 = u32::MAX;
+
+/// One write, tried again where a signal interrupted it.
+fn write_retrying<W: io::Write>(out: &mut W, bytes: &[u8]) -> io::Result<usize>
+    ensures bound { WritesAtMost result bytes.now }
+    ensures bytes { WriteAppends (W.contents out.old) (W.contents out.new) result bytes.now }
+    ensures retried { IfErr result (λ e. error_kind e ≢ ErrorKind.Interrupted) }
+{
+    for _ in 0..MAX_TRIES {
+        match out.write(bytes) {
+            Err(e) if e.kind() == ErrorKind::Interrupted => {}
+            answer => return answer,
+        }
+    }
+    Err(io::Error::new(ErrorKind::TimedOut, "signals interrupted each try to write"))
+}
+
+/// Writes all bytes, by as many calls of `write` as it takes. A call that a signal interrupted is tried again.
+///
+/// An error is the writer's, of any kind but [`ErrorKind::Interrupted`]; or [`ErrorKind::WriteZero`] where a call takes
+/// no byte; or [`ErrorKind::TimedOut`] where signals interrupt 2^32 - 1 calls in a row. By then the writer took a front
+/// of the bytes, maybe none.
+pub fn put_all<W: io::Write>(out: &mut W, bytes: &[u8]) -> io::Result<()>
+    ensures ok { OnOk result (Appends (W.contents out.old) (W.contents out.new) bytes.now) }
+    ensures err { OnErr result (AppendsFront (W.contents out.old) (W.contents out.new) bytes.now) }
+    ensures retried { IfErr result (λ e. error_kind e ≢ ErrorKind.Interrupted) }
+{
+    let mut at = 0;
+    while at < bytes.len() {
+        let (_, rest) = bytes.split_at(at);
+        let count = write_retrying(out, rest)?;
+        if count == 0 {
+            return Err(io::Error::new(ErrorKind::WriteZero, "the writer took no byte"));
+        }
+        at += count;
+    }
+    Ok(())
+}
 
 /// Takes bytes piece by piece, and bears a mark from the first piece on that it did not take whole.
 pub trait Out {
@@ -93,34 +135,16 @@ impl<W: io::Write> Plain<W> {
             failed: false,
         }
     }
-
-    /// Writes the piece by as many calls as it takes. An error of any kind ends it, and so does a call that
-    /// takes no byte.
-    fn put_all(&mut self, piece: &[u8]) -> io::Result<()>
-        ensures ok { OnOk result (Appends (W.contents self.old.inner) (W.contents self.new.inner) piece.now) }
-        ensures err { OnErr result (AppendsFront (W.contents self.old.inner) (W.contents self.new.inner) piece.now) }
-    {
-        let mut at = 0;
-        while at < piece.len() {
-            let (_, rest) = piece.split_at(at);
-            let count = self.inner.write(rest)?;
-            if count == 0 {
-                return Err(io::Error::new(ErrorKind::WriteZero, "the writer took no byte"));
-            }
-            at += count;
-        }
-        Ok(())
-    }
 }
 
-/// An error of any kind is a failure, and so is a call of `write` that takes no byte.
+/// A piece goes out by [`put_all`], whose errors are failures.
 impl<W: io::Write> Out for Plain<W> {
     ghost taken = { λ p. W.contents p.inner };
 
     ghost failed = { λ p. p.failed };
 
     fn put(&mut self, piece: &[u8]) -> io::Result<()> {
-        let result = self.put_all(piece);
+        let result = put_all(&mut self.inner, piece);
         self.failed = result.is_err();
         result
     }

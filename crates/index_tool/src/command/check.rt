@@ -5,8 +5,8 @@ ghost use Rattle.index_tool.specs.Checking.{Checks, FailsToCheck};
 
 use crate::command::index::index_at;
 use crate::failure::Failure;
-use crate::listing::put_all;
 use gix_index::hash::Kind;
+use gix_index::hash::io::put_all;
 use gix_index::object::NoObjects;
 use std::alloc::Global;
 use std::io;

@@ -1,7 +1,7 @@
 use Rattle.std.proofs.Common.{arith}
 use Rattle.std.proofs.lemmas.Result.{err_from_is_err_and}
 use Rattle.index_parts.proofs.Taking.{Appends-kept, Appends-taken, front_of_take}
-use Rattle.index_parts.proofs.hash.io.Plain.put_all.Goals as goal
+use Rattle.index_parts.proofs.hash.io.put_all.Goals as goal
 
 pub returns-in_err-count-clause-err : goal.returns-in_err-count-clause-err
 returns-in_err-count-clause-err g c =
