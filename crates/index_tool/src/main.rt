@@ -9,6 +9,7 @@ mod tests;
 
 pub use command::run;
 use command::{REFUSED, WRONG_WORDS};
+use gix_index::hash::io::Retrying;
 use std::alloc::Global;
 use std::process::ExitCode;
 use std::{env, io};
@@ -29,7 +30,10 @@ fn words(rt: &HostRuntime, alloc: Global) -> Result<Vec<String>, u8> {
 fn main(rt: HostRuntime) -> ExitCode {
     let alloc = rt.alloc();
     match words(&rt, alloc) {
-        Ok(words) => ExitCode::from(run(&rt, alloc, &words, &mut rt.stdout(), &mut rt.stderr())),
+        Ok(words) => {
+            let mut out = Retrying { inner: rt.stdout() };
+            ExitCode::from(run(&rt, alloc, &words, &mut out, &mut rt.stderr()))
+        }
         Err(status) => {
             let _ = if status == WRONG_WORDS {
                 eprintln!(rt; "index-tool: a word of the command isn't UTF-8")

@@ -221,10 +221,11 @@ fn failing_writer(rt: HostRuntime) -> Result<(), Fail> {
         (LISTED.len(), DONE, b""),
     ] {
         let mut faults = Vec::new(alloc);
-        let mut out = Short {
+        let short = Short {
             room,
             was_interrupted: false,
         };
+        let mut out = Retrying { inner: short };
         let got = run(&rt, alloc, &words, &mut out, &mut faults);
         assert_eq!(rt;
             (got, faults.as_slice()),

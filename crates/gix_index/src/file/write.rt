@@ -11,7 +11,7 @@ use super::File;
 use super::disk::PathError;
 use index_entries::Version;
 use index_parts::hash::ObjectId;
-use index_parts::hash::io::Plain;
+use index_parts::hash::io::{Plain, Retrying};
 use index_state::write::{self, Options};
 use std::alloc::{AllocError, Global};
 use std::io::{BufWriter, ErrorKind, Write};
@@ -99,7 +99,7 @@ impl File {
         ensures id { IfOk result (λ x. x.1 ≡ make_id (contents (state_of self.now)).kind
             (trailer (contents (state_of self.now)) options)) }
     {
-        let buffer = match BufWriter::with_capacity(alloc, BUFFER_LEN, file) {
+        let buffer = match BufWriter::with_capacity(alloc, BUFFER_LEN, Retrying { inner: file }) {
             Ok(buffer) => buffer,
             Err(e) => return Err(Fault::Put(e)),
         };

@@ -16,35 +16,47 @@ use std::io::ErrorKind;
 /// How often in a row a write is tried that a signal interrupts.
 const MAX_TRIES: u32 = u32::MAX;
 
-/// One write, tried again where a signal interrupted it.
-fn write_retrying<W: io::Write>(out: &mut W, bytes: &[u8]) -> io::Result<usize>
-    ensures bound { WritesAtMost result bytes.now }
-    ensures bytes { WriteAppends (W.contents out.old) (W.contents out.new) result bytes.now }
-    ensures retried { IfErr result (λ e. error_kind e ≢ ErrorKind.Interrupted) }
-{
-    for _ in 0..MAX_TRIES {
-        match out.write(bytes) {
-            Err(e) if e.kind() == ErrorKind::Interrupted => {}
-            answer => return answer,
-        }
-    }
-    Err(io::Error::new(ErrorKind::TimedOut, "signals interrupted each try to write"))
+/// A writer over another that tries a write again where a signal interrupted it.
+#[derive(Drop)]
+pub struct Retrying<W> {
+    /// The writer.
+    pub inner: W,
 }
 
-/// Writes all bytes, by as many calls of `write` as it takes. A call that a signal interrupted is tried again.
-///
-/// An error is the writer's, of any kind but [`ErrorKind::Interrupted`]; or [`ErrorKind::WriteZero`] where a call takes
-/// no byte; or [`ErrorKind::TimedOut`] where signals interrupt 2^32 - 1 calls in a row. By then the writer took a front
-/// of the bytes, maybe none.
+impl<W: io::Write> io::Write for Retrying<W> {
+    ghost contents = { λ r. W.contents r.inner };
+
+    /// One write of `inner` that no signal interrupted. An error is that of `inner`, of any kind but
+    /// [`ErrorKind::Interrupted`]; or [`ErrorKind::TimedOut`] where signals interrupt 2^32 - 1 calls in a row.
+    fn write(&mut self, buf: &[u8]) -> io::Result<usize>
+        ensures bound { WritesAtMost result buf.now }
+        ensures bytes { WriteAppends (W.contents self.old.inner) (W.contents self.new.inner) result buf.now }
+        ensures retried { IfErr result (λ e. error_kind e ≢ ErrorKind.Interrupted) }
+    {
+        for _ in 0..MAX_TRIES {
+            match self.inner.write(buf) {
+                Err(e) if e.kind() == ErrorKind::Interrupted => {}
+                answer => return answer,
+            }
+        }
+        Err(io::Error::new(ErrorKind::TimedOut, "signals interrupted each try to write"))
+    }
+
+    fn flush(&mut self) -> io::Result<()> {
+        self.inner.flush()
+    }
+}
+
+/// Writes all bytes, by as many calls of `write` as it takes. An error of any kind ends it, and so does a call that takes
+/// no byte, with [`ErrorKind::WriteZero`]. By then the writer took a front of the bytes, maybe none.
 pub fn put_all<W: io::Write>(out: &mut W, bytes: &[u8]) -> io::Result<()>
     ensures ok { OnOk result (Appends (W.contents out.old) (W.contents out.new) bytes.now) }
     ensures err { OnErr result (AppendsFront (W.contents out.old) (W.contents out.new) bytes.now) }
-    ensures retried { IfErr result (λ e. error_kind e ≢ ErrorKind.Interrupted) }
 {
     let mut at = 0;
     while at < bytes.len() {
         let (_, rest) = bytes.split_at(at);
-        let count = write_retrying(out, rest)?;
+        let count = out.write(rest)?;
         if count == 0 {
             return Err(io::Error::new(ErrorKind::WriteZero, "the writer took no byte"));
         }
@@ -137,7 +149,7 @@ impl<W: io::Write> Plain<W> {
     }
 }
 
-/// A piece goes out by [`put_all`], whose errors are failures.
+/// A piece goes out by [`put_all`]: an error of any kind is a failure, and so is a call of `write` that takes no byte.
 impl<W: io::Write> Out for Plain<W> {
     ghost taken = { λ p. W.contents p.inner };
 
