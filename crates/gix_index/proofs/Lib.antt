@@ -1,4 +1,5 @@
 pub mod Checks
 pub mod Files
 pub mod Joined
+pub mod Pieces
 pub use Rattle.index_parts.proofs.Taking

@@ -1,19 +1,19 @@
 //! Reading an index from the disk, with the shared index that it links to.
 
-ghost use Rattle.std.specs.Prelude.{◌≡◌, ◌⊎◌, List, ℕ, Option, IfOk, None, Ok};
+ghost use Rattle.std.specs.Prelude.{◌≡◌, ◌⊎◌, List, ℕ, Option, IfOk, IfSome, None, Ok};
 ghost use Rattle.std.specs.Path.{path_buf_bytes};
 ghost use Rattle.index_entries.specs.Record.{IdsAreOf};
 ghost use Rattle.index_parts.specs.declared.hash.ObjectId.{ObjectId};
 ghost use Rattle.index_state.specs.Edits.{empty_contents};
 ghost use Rattle.index_state.specs.State.{PathsInStorage, contents, entries_of};
 ghost use Rattle.index_state.specs.Storable.{IsStorable};
-ghost use Rattle.gix_index.specs.Checked.{IsFileAnswer};
+ghost use Rattle.gix_index.specs.Checked.{IsFileAnswer, digest_id};
 ghost use Rattle.gix_index.specs.File.{checksum_of, path_of, state_of};
 ghost use Rattle.gix_index.specs.Linked.{IsOnDisk, expecting};
 
 use super::File;
 use super::disk::{PathError, bytes_at};
-use super::init::Error;
+use super::init::{Error, How, decoded};
 use index_parts::entry::FileTime;
 use index_parts::hash::{Kind, ObjectId};
 use index_state::extension::link;
@@ -23,15 +23,6 @@ use std::io;
 use std::io::ErrorKind;
 use std::path::{Path, PathBuf};
 use std::rt::Files;
-
-/// How an index file is read.
-#[derive(Clone, Copy)]
-struct How {
-    object_hash: Kind,
-    skip_hash: bool,
-    timestamp: FileTime,
-    options: decode::Options,
-}
 
 /// What it says that a file can't be opened or read.
 fn read_fault(path: PathBuf, error: io::Error) -> Error {
@@ -55,32 +46,6 @@ fn shared_path(alloc: Global, path: Path<'_>, id: &ObjectId) -> Result<PathBuf, 
     path.with_file_name(alloc, name.as_str())
 }
 
-/// The index in the bytes of a file, with its link left in.
-fn decoded(alloc: Global, bytes: &[u8], path: PathBuf, how: How) -> Result<File, Error>
-    ensures read { IfOk result (λ file. IsFileAnswer how.skip_hash how.object_hash how.timestamp how.options bytes.now
-        (Ok (contents (state_of file), checksum_of file))) }
-    ensures stored { IfOk result (λ file. PathsInStorage (state_of file)) }
-    ensures ids { IfOk result (λ file. IdsAreOf how.object_hash (entries_of (state_of file))) }
-    ensures storable { IfOk result (λ file. IsStorable (contents (state_of file))) }
-    ensures path { IfOk result (λ file. path_of file ≡ path_buf_bytes path) }
-{
-    let How {
-        object_hash,
-        skip_hash,
-        timestamp,
-        options,
-    } = how;
-    File::decode(
-        alloc,
-        bytes,
-        path,
-        object_hash,
-        skip_hash,
-        timestamp,
-        options,
-    )
-}
-
 /// The shared index beside the index at a path, which must have this id as its trailer, or a null one.
 fn shared_at<R: Files>(
     rt: &R,
@@ -99,13 +64,19 @@ fn shared_at<R: Files>(
     let Ok(shared) = shared_path(alloc, path, &id) else {
         return Err(Error::Memory);
     };
-    let bytes = match bytes_at(rt, alloc, shared.as_path()) {
-        Ok(bytes) => bytes,
+    let (bytes, digest) = match bytes_at(
+        rt,
+        alloc,
+        shared.as_path(),
+        how.object_hash,
+        how.skip_hash,
+    ) {
+        Ok(read) => read,
         Err(e) => return Err(read_fault(shared, e)),
     };
     let mut options = how.options;
     options.expected_checksum = Some(id);
-    match decoded(alloc, &bytes, shared, How { options, ..how }) {
+    match decoded(alloc, &bytes, digest, shared, How { options, ..how }) {
         Ok(file) => Ok(file.into_parts().0),
         Err(e) => Err(e),
     }
@@ -148,9 +119,11 @@ fn followed<R: Files>(
     rt: &R,
     alloc: Global,
     bytes: Vec<u8>,
+    digest: Option<ObjectId>,
     path: PathBuf,
     how: How,
 ) -> Result<File, Error>
+    requires digest { IfSome digest (λ id. id ≡ digest_id how.object_hash bytes.items) }
     ensures read { IfOk result (λ file. IsOnDisk how.skip_hash how.object_hash how.timestamp how.options
         (contents (state_of file)) (checksum_of file)) }
     ensures stored { IfOk result (λ file. PathsInStorage (state_of file)) }
@@ -159,7 +132,7 @@ fn followed<R: Files>(
     ensures path { IfOk result (λ file. path_of file ≡ path_buf_bytes path) }
     ensures unlinked { IfOk result (λ file. (contents (state_of file)).extensions.link ≡ None) }
 {
-    let file = match decoded(alloc, &bytes, path, how) {
+    let file = match decoded(alloc, &bytes, digest, path, how) {
         Ok(file) => file,
         Err(e) => return Err(e),
     };
@@ -201,8 +174,8 @@ impl File {
             timestamp,
             options,
         };
-        match bytes_at(rt, alloc, path.as_path()) {
-            Ok(bytes) => followed(rt, alloc, bytes, path, how),
+        match bytes_at(rt, alloc, path.as_path(), object_hash, skip_hash) {
+            Ok((bytes, digest)) => followed(rt, alloc, bytes, digest, path, how),
             Err(e) => Err(read_fault(path, e)),
         }
     }
@@ -232,8 +205,8 @@ impl File {
             timestamp,
             options,
         };
-        match bytes_at(rt, alloc, path.as_path()) {
-            Ok(bytes) => followed(rt, alloc, bytes, path, how),
+        match bytes_at(rt, alloc, path.as_path(), object_hash, skip_hash) {
+            Ok((bytes, digest)) => followed(rt, alloc, bytes, digest, path, how),
             Err(e) => {
                 if e.kind() == ErrorKind::NotFound {
                     return Ok(File::from_state(State::new(alloc, object_hash, timestamp), path));

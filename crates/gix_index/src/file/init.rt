@@ -1,11 +1,11 @@
 //! Making a `File` of the bytes of an index file.
 
-ghost use Rattle.std.specs.Prelude.{◌≡◌, IfOk, IfErr, OnOk, OnErr};
+ghost use Rattle.std.specs.Prelude.{◌≡◌, IfOk, IfErr, IfSome, OnOk, OnErr};
 ghost use Rattle.std.specs.Path.{path_buf_bytes};
 ghost use Rattle.index_state.specs.Storable.{IsStorable};
 ghost use Rattle.index_state.specs.State.{ExtensionIdsAreOf, PathsInStorage, contents, entries_of};
 ghost use Rattle.index_entries.specs.Record.{IdsAreOf};
-ghost use Rattle.gix_index.specs.Checked.{needs_check, digest_fault, IsIntact, IsBroken, IsFileAnswer, error_of, SaysFile};
+ghost use Rattle.gix_index.specs.Checked.{needs_check, digest_id, digest_fault, IsIntact, IsBroken, IsFileAnswer, error_of, SaysFile};
 ghost use Rattle.gix_index.specs.File.{state_of, path_of};
 
 use super::File;
@@ -48,6 +48,15 @@ impl From<decode::Error> for Error {
     }
 }
 
+/// How an index file is read.
+#[derive(Clone, Copy)]
+pub(super) struct How {
+    pub object_hash: Kind,
+    pub skip_hash: bool,
+    pub timestamp: FileTime,
+    pub options: decode::Options,
+}
+
 /// Whether the trailer is to be compared with the digest: the caller wants it, and there is a trailer that isn't null.
 fn is_to_be_checked(data: &[u8], object_hash: Kind, skip_hash: bool) -> bool
     ensures { result ≡ needs_check skip_hash object_hash «data».now }
@@ -59,8 +68,14 @@ fn is_to_be_checked(data: &[u8], object_hash: Kind, skip_hash: bool) -> bool
     !read::is_null(&data[data.len() - len..])
 }
 
-/// Compares the trailer with the digest of all bytes before it.
-fn check(data: &[u8], object_hash: Kind, skip_hash: bool) -> Result<(), decode::Error>
+/// Compares the trailer with the digest of all bytes before it, which is taken where it isn't known yet.
+fn check(
+    data: &[u8],
+    known: Option<ObjectId>,
+    object_hash: Kind,
+    skip_hash: bool,
+) -> Result<(), decode::Error>
+    requires known { IfSome known (λ id. id ≡ digest_id object_hash «data».now) }
     ensures ok { OnOk result (IsIntact skip_hash object_hash «data».now) }
     ensures broken { OnErr result (IsBroken skip_hash object_hash «data».now) }
     ensures err { IfErr result (λ e. e ≡ digest_fault object_hash «data».now) }
@@ -69,12 +84,44 @@ fn check(data: &[u8], object_hash: Kind, skip_hash: bool) -> Result<(), decode::
         return Ok(());
     }
     let (body, trailer) = data.split_at(data.len() - object_hash.len_in_bytes());
-    let actual = digest(object_hash, body);
+    let actual = known.unwrap_or_else(|| digest(object_hash, body));
     let expected = ObjectId::of_kind(object_hash, trailer);
     if actual != expected {
         return Err(decode::Error::Verify { actual, expected });
     }
     Ok(())
+}
+
+/// The index in a file's bytes. The digest of all but the trailer is taken where it isn't known yet and is to be compared.
+pub(super) fn decoded(
+    alloc: Global,
+    bytes: &[u8],
+    known: Option<ObjectId>,
+    path: PathBuf,
+    how: How,
+) -> Result<File, Error>
+    requires known { IfSome known (λ id. id ≡ digest_id how.object_hash bytes.now) }
+    ensures answer { SaysFile result (IsFileAnswer how.skip_hash how.object_hash how.timestamp how.options bytes.now) }
+    ensures intact { IfErr result (λ e. e ≡ Error.Memory → IsIntact how.skip_hash how.object_hash bytes.now) }
+    ensures path { IfOk result (λ file. path_of file ≡ path_buf_bytes path) }
+    ensures stored { IfOk result (λ file. PathsInStorage (state_of file)) }
+    ensures ids { IfOk result (λ file. IdsAreOf how.object_hash (entries_of (state_of file))) }
+    ensures storable { IfOk result (λ file. IsStorable (contents (state_of file))) }
+    ensures extension_ids { IfOk result (λ file. ExtensionIdsAreOf how.object_hash (contents (state_of file)).extensions) }
+{
+    let How {
+        object_hash,
+        skip_hash,
+        timestamp,
+        options,
+    } = how;
+    check(bytes, known, object_hash, skip_hash)?;
+    let (state, checksum) = State::from_bytes(alloc, bytes, timestamp, object_hash, options)?;
+    Ok(File {
+        state,
+        path,
+        checksum,
+    })
 }
 
 impl File {
@@ -104,12 +151,12 @@ impl File {
         ensures storable { IfOk result (λ file. IsStorable (contents (state_of file))) }
         ensures extension_ids { IfOk result (λ file. ExtensionIdsAreOf object_hash (contents (state_of file)).extensions) }
     {
-        check(data, object_hash, skip_hash)?;
-        let (state, checksum) = State::from_bytes(alloc, data, timestamp, object_hash, options)?;
-        Ok(File {
-            state,
-            path,
-            checksum,
-        })
+        let how = How {
+            object_hash,
+            skip_hash,
+            timestamp,
+            options,
+        };
+        decoded(alloc, data, None, path, how)
     }
 }

@@ -7,7 +7,7 @@ ghost use Rattle.gix_index.specs.File.{checksum_of};
 ghost use Rattle.gix_index.specs.Verified.{SaysOfBytes};
 
 use super::File;
-use super::disk::{PathError, bytes_at};
+use super::disk::{PathError, hashed_at};
 use index_parts::hash::{self, ObjectId, digest};
 use std::alloc::Global;
 use std::io::ErrorKind;
@@ -31,6 +31,23 @@ pub enum Error {
     Memory,
 }
 
+/// The same as [`bytes`], where the digest was taken already.
+fn compare(data: &[u8], digest: ObjectId, checksum: ObjectId) -> Result<(), Error>
+    requires digest { digest ≡ digest_id (id_kind checksum) «data».now }
+    ensures too_short { (result ≡ Err Error.TooShort) ↔ (length «data».now < id_len (id_kind checksum)) }
+    ensures ok { OnOk result ((id_len (id_kind checksum) ≤ length «data».now)
+        × (digest_id (id_kind checksum) «data».now ≡ checksum)) }
+    ensures fault { IfErr result (SaysOfBytes «data».now checksum) }
+{
+    if data.len() < checksum.kind().len_in_bytes() {
+        return Err(Error::TooShort);
+    }
+    match digest.verify(&checksum) {
+        Ok(()) => Ok(()),
+        Err(e) => Err(Error::Verify(e)),
+    }
+}
+
 /// Compares the digest of all bytes but the last, of which the checksum has as many, with the checksum
 /// (gitformat-index, "Hash checksum"). The last bytes themselves aren't looked at.
 ///
@@ -43,15 +60,8 @@ pub fn bytes(data: &[u8], checksum: ObjectId) -> Result<(), Error>
     ensures fault { IfErr result (SaysOfBytes «data».now checksum) }
 {
     let kind = checksum.kind();
-    let len = kind.len_in_bytes();
-    if data.len() < len {
-        return Err(Error::TooShort);
-    }
-    let (body, _) = data.split_at(data.len() - len);
-    match digest(kind, body).verify(&checksum) {
-        Ok(()) => Ok(()),
-        Err(e) => Err(Error::Verify(e)),
-    }
+    let end = data.len().saturating_sub(kind.len_in_bytes());
+    compare(data, digest(kind, &data[..end]), checksum)
 }
 
 impl File {
@@ -65,8 +75,8 @@ impl File {
         let Some(checksum) = self.checksum else {
             return Ok(());
         };
-        match bytes_at(rt, alloc, self.path.as_path()) {
-            Ok(data) => bytes(&data, checksum),
+        match hashed_at(rt, alloc, self.path.as_path(), checksum.kind()) {
+            Ok((data, digest)) => compare(&data, digest, checksum),
             Err(error) => {
                 if error.kind() == ErrorKind::OutOfMemory {
                     return Err(Error::Memory);

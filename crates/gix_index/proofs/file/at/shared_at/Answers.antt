@@ -6,5 +6,5 @@ use Rattle.gix_index.proofs.file.at.shared_at.Goals as goal
 
 pub returns-in-Ok-decoded-clause-read : goal.returns-in-Ok-decoded-clause-read
 returns-in-Ok-decoded-clause-read g c =
-    let h = rw c.deref.ensures.value at c.in-Ok-decoded.ensures.read in
-    (c.in-Ok-bytes_at.bytes.items, checksum_of c.in-Ok-decoded.file, rw c.into_parts.ensures.state h)
+    let h = rw c.deref.ensures.value at c.in-Ok-decoded.ensures.answer in
+    (c.in-Ok-bytes_at.read.0.items, checksum_of c.in-Ok-decoded.file, rw c.into_parts.ensures.state h)

@@ -1,8 +1,8 @@
 use Rattle.std.proofs.lemmas.Result.{err_from_is_err_and}
 use Rattle.gix_index.proofs.Checks.{error_says}
-use Rattle.gix_index.proofs.file.File.decode.Goals as goal
+use Rattle.gix_index.proofs.file.init.decoded.Goals as goal
 
 pub returns-in_err-state-clause-answer : goal.returns-in_err-state-clause-answer
 returns-in_err-state-clause-answer c =
     let p = err_from_is_err_and c.from_residual-in_err-state.result c.from_residual-in_err-state.ensures.1 in
-    rw (p.1, p.2) (error_says c.args.skip_hash c.args.object_hash c.args.timestamp c.args.options c.args.data.now c.in_err-state.field-0.0 c.in_ok-check.ensures.ok c.in_err-state.ensures.answer)
+    rw (p.1, p.2) (error_says c.args.how.skip_hash c.args.how.object_hash c.args.how.timestamp c.args.how.options c.args.bytes.now c.in_err-state.field-0.0 c.in_ok-check.ensures.ok c.in_err-state.ensures.answer)
