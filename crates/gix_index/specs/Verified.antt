@@ -13,3 +13,16 @@ SaysOfBytes bytes checksum (errors.Verify e) =
     (id_len (id_kind checksum) ≤ length bytes) × (digest_id (id_kind checksum) bytes ≢ checksum) × (e.actual ≡ digest_id (id_kind checksum) bytes) × (e.expected ≡ checksum)
 SaysOfBytes bytes checksum (errors.Io e) = ⊥
 SaysOfBytes bytes checksum errors.Memory = ⊥
+
+-- No clause can name the bytes of a file that is read again. The checksum fits: some bytes have it as the digest of all but the
+-- last, of which it has as many.
+abbrev pub FitsSomeBytes : ObjectId → Type 0
+FitsSomeBytes checksum =
+    (bytes : List ℕ) × (id_len (id_kind checksum) ≤ length bytes) × (digest_id (id_kind checksum) bytes ≡ checksum)
+
+-- A fault of some bytes; where none were read, for a fault of the disk or want of memory, nothing is said of them.
+abbrev pub SaysOfSomeBytes : ObjectId → Error → Type 0
+SaysOfSomeBytes checksum errors.TooShort = (bytes : List ℕ) × SaysOfBytes bytes checksum errors.TooShort
+SaysOfSomeBytes checksum (errors.Verify e) = (bytes : List ℕ) × SaysOfBytes bytes checksum (errors.Verify e)
+SaysOfSomeBytes checksum (errors.Io e) = Unit {0}
+SaysOfSomeBytes checksum errors.Memory = Unit {0}

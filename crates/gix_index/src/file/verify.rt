@@ -1,10 +1,11 @@
 //! Whether a file still has the bytes that its checksum is of.
 
-ghost use Rattle.std.specs.Prelude.{◌≡◌, ◌≤◌, ◌<◌, ◌↔◌, length, Err, None, IfErr, IsOk, OnOk};
+ghost use Rattle.std.specs.Prelude.{◌≡◌, ◌≤◌, ◌<◌, ◌↔◌, length, Err, None, Some, IfErr, IfSome, IsOk, OnOk};
 ghost use Rattle.index_parts.specs.Id.{id_kind, id_len};
+ghost use Rattle.index_parts.specs.declared.hash.ObjectId.{ObjectId};
 ghost use Rattle.gix_index.specs.Checked.{digest_id};
 ghost use Rattle.gix_index.specs.File.{checksum_of};
-ghost use Rattle.gix_index.specs.Verified.{SaysOfBytes};
+ghost use Rattle.gix_index.specs.Verified.{FitsSomeBytes, SaysOfBytes, SaysOfSomeBytes};
 
 use super::File;
 use super::disk::{PathError, hashed_at};
@@ -70,7 +71,11 @@ impl File {
     ///
     /// [`Error::Io`] names the path. Room is asked for as many bytes as the file's metadata says. Nothing is changed.
     pub fn verify_integrity<R: Files>(&self, rt: &R, alloc: Global) -> Result<(), Error>
-        ensures { checksum_of self.now ≡ None → IsOk result }
+        ensures nothing { checksum_of self.now ≡ None → IsOk result }
+        // The file's bytes can't be named: the answer is that for some bytes.
+        ensures ok { OnOk result (IfSome (checksum_of self.now) FitsSomeBytes) }
+        ensures fault { IfErr result (λ e. (checksum : ObjectId) × (checksum_of self.now ≡ Some checksum)
+            × SaysOfSomeBytes checksum e) }
     {
         let Some(checksum) = self.checksum else {
             return Ok(());
