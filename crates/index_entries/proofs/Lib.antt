@@ -16,5 +16,6 @@ pub mod SomeEntries
 pub mod Sorting
 pub mod Storing
 pub mod Thirdly
+pub mod TreeOrder
 pub mod Words
 pub mod Written

@@ -13,3 +13,4 @@ pub mod Record
 pub mod Removed
 pub mod Shared
 pub mod Sorted
+pub mod TreeOrder
