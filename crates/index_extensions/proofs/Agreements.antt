@@ -2,8 +2,8 @@
 use Rattle.std.proofs.Common.{◌≡◌, ℕ, ◌+◌, Bool, true, false, cond, eqb, List, [], ◌∷◌, length, All, Option, Some, None, refl, ap, subst, ◌∙◌, arith}
 use Rattle.std.specs.Prelude.{IsTrue, MatchOption, Result, Ok, Err, is_err}
 use Rattle.std.specs.Option.{option_map}
-use Rattle.std.proofs.lemmas.Bool.{eqb-true}
-use Rattle.std.proofs.lemmas.List.Elements.{All-nil, All-cons}
+use Rattle.std.proofs.lemmas.Bool.{eqb-true, eq-eqb}
+use Rattle.std.proofs.lemmas.List.Elements.{All-nil, All-cons, All-head, All-tail}
 use Rattle.index_parts.specs.Id.{id_kind}
 use Rattle.index_parts.specs.Object.{Found, tree_bytes}
 use Rattle.index_parts.specs.TreeObject.{TreeEntry, IsTreeEntry, NoTreeEntry, Lists, is_tree_mode, Gives, tree_entry_of}
@@ -55,6 +55,20 @@ listed_none id row None e = absurd cc
 listed_none id row (Some es) e =
     let a = or_none (missing_fault id row (directories es)) _ e in
     record { each = each_there id row (directories es) a.0; number = as_many id (length (directories es)) (how_many_nodes row) a.1 }
+
+-- and where they are, it has none
+
+none_missing : (parent : ObjectId) (row : Nodes) (es : List TreeEntry) → All (λ e. IsTrue (has_child e.name row)) es → missing_fault parent row es ≡ None
+none_missing parent row [] h = refl
+none_missing parent row (e ∷ es) h =
+    let there : has_child e.name row ≡ true = All-head (λ d. IsTrue (has_child d.name row)) e es h in
+    none_both (child_fault parent row e) _ (rw there refl) (none_missing parent row es (All-tail (λ d. IsTrue (has_child d.name row)) e es h))
+
+pub none_listed : (id : ObjectId) (row : Nodes) (o : Option (List TreeEntry)) → MatchOption o ⊥ (λ es. AreChildren row es) → listed_fault id row o ≡ None
+none_listed id row None h = absurd h
+none_listed id row (Some es) h =
+    let number : number_fault id (length (directories es)) (how_many_nodes row) ≡ None = rw (eq-eqb _ _ h.number) refl in
+    none_both (missing_fault id row (directories es)) _ (none_missing id row (directories es) h.each) number
 
 pub no_memory_for_child : (parent : ObjectId) (row : Nodes) (e : TreeEntry) → has_child e.name row ≡ false → Says errors.Memory (child_fault parent row e)
 no_memory_for_child parent row e none = (missing_directory parent e.id e.name, rw none refl, tt)

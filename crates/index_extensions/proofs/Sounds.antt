@@ -17,7 +17,7 @@ use Rattle.index_extensions.specs.declared.extension.tree.Tree.{Tree}
 use Rattle.index_extensions.specs.declared.extension.tree.Tree.TheViews.{out-Tree}
 use Rattle.index_extensions.specs.declared.extension.tree.verify.Error.{Error}
 use Rattle.index_extensions.specs.declared.extension.tree.verify.Error.TheVariants as errors
-use Rattle.index_extensions.proofs.Agreements.{or_none, none_both, listed_none}
+use Rattle.index_extensions.proofs.Agreements.{or_none, none_both, listed_none, none_listed}
 use Rattle.index_extensions.proofs.Sorted.{less_from}
 use Rattle.index_extensions.proofs.Spelled.{node_of-out}
 
@@ -119,6 +119,18 @@ mutual
   no_fault_among none h = refl
   no_fault_among (more t ts) h = none_both (node_fault None t) _ (no_fault_in t h.0) (no_fault_among ts h.1)
 
+mutual
+  no_fault_agreed : (trees : Trees) (t : Node) → IsSoundNode t → Agrees trees t → node_fault (Some trees) t ≡ None
+  no_fault_agreed trees (node name id count none) h a = counts count 0 h.2
+  no_fault_agreed trees (node name id count (more t ts)) h a =
+      let row : row_fault id 0 None (more t ts) ≡ None = row_none (more t ts) id 0 None (omega (arith, h.0)) h.1 in
+      let object : object_fault (Some trees) id (more t ts) ≡ None = none_listed id (more t ts) (trees id) a.0 in
+      none_both (row_fault id 0 None (more t ts)) _ row (none_both (object_fault (Some trees) id (more t ts)) _ object (none_both (nodes_fault (Some trees) (more t ts)) _ (no_faults_agreed trees (more t ts) h.3 a.1) (counts count (entries_sum (more t ts)) h.2)))
+
+  no_faults_agreed : (trees : Trees) (ts : Nodes) → AreSoundNodes ts → Agree trees ts → nodes_fault (Some trees) ts ≡ None
+  no_faults_agreed trees none h a = refl
+  no_faults_agreed trees (more t ts) h a = none_both (node_fault (Some trees) t) _ (no_fault_agreed trees t h.0 a.0) (no_faults_agreed trees ts h.1 a.1)
+
 unnamed : (name : List ℕ) → name_fault name ≡ None → name ≡ []
 unnamed [] e = refl
 unnamed (b ∷ name) e = absurd cc
@@ -136,6 +148,10 @@ pub no_fault_of : (t : Node) (e : Error) → IsSoundTree t → Says e (tree_faul
 no_fault_of t e h s =
     let none : tree_fault t ≡ None = none_both (name_fault (name_of t)) (node_fault None t) (ap name_fault h.0) (no_fault_in t h.1) in
     absurd (cc (none, s.1))
+
+-- nor where they are, and it agrees with them
+pub no_fault_with : (trees : Trees) (t : Node) → IsSoundTree t → Agrees trees t → first_fault (Some trees) t ≡ None
+no_fault_with trees t h a = none_both (name_fault (name_of t)) (node_fault (Some trees) t) (ap name_fault h.0) (no_fault_agreed trees t h.1 a)
 
 -- ---- the fields of a tree
 

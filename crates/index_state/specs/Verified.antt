@@ -1,11 +1,13 @@
 -- What is said of entries that aren't in order, and of a cached tree that doesn't hold together.
-use Rattle.std.specs.Prelude.{◌≡◌, ℕ, ◌-◌, List, slice_index_or, Option, Some, None, IfSome}
+use Rattle.std.specs.Prelude.{◌≡◌, ℕ, ◌-◌, List, slice_index_or, Option, Some, None, IfSome, Result, Ok, Err, IsOk}
 use Rattle.bstr.specs.Owned.{bstring_bytes}
 use Rattle.index_parts.specs.Flags.{stage_of}
+use Rattle.index_extensions.specs.Agreement.{Trees, Agrees}
 use Rattle.index_extensions.specs.Sound.{IsSoundTree, CountsAtMost}
 use Rattle.index_extensions.specs.Tree.{Node}
 use Rattle.index_extensions.specs.Contents.{or_else}
-use Rattle.index_extensions.specs.TreeFaults.{TreeFault, tree_fault, excess_in}
+use Rattle.index_extensions.specs.TreeFaults.{TreeFault, first_fault, excess_in, SaysOrWants}
+use Rattle.index_extensions.specs.declared.extension.tree.verify.Error.{Error as TreeError}
 use Rattle.index_entries.specs.Order.{IsStrictlyOrdered}
 use Rattle.index_entries.specs.Record.{Record}
 use Rattle.index_entries.specs.Sorted.{IsFirstFall}
@@ -31,7 +33,15 @@ SaysFall rs Memory = IsStrictlyOrdered rs → ⊥
 abbrev pub AreSound : ℕ → Option Node → Type 0
 AreSound entries tree = IfSome tree (λ t. IsSoundTree t × CountsAtMost entries t)
 
--- the first fault of the tree by itself, or else the first node in preorder that counts more than so many entries
-abbrev pub extensions_fault : ℕ → Option Node → Option TreeFault
-extensions_fault entries None = None
-extensions_fault entries (Some t) = or_else (tree_fault t) (excess_in entries t)
+-- the first fault of the tree, with a store's trees where these are looked at, or else the first node in preorder that counts more
+-- than so many entries
+abbrev pub extensions_fault : ℕ → Option Trees → Option Node → Option TreeFault
+extensions_fault entries looked None = None
+extensions_fault entries looked (Some t) = or_else (first_fault looked t) (excess_in entries t)
+
+-- What is answered where a store's trees are looked at. Ok: the cached tree agrees with them too. An error is the first fault, or want
+-- of memory for an object; where there is no cached tree, there is none.
+abbrev pub JudgesExtensions : ℕ → Trees → Option Node → Result (Unit {0}) TreeError → Type 0
+JudgesExtensions entries trees None r = IsOk r
+JudgesExtensions entries trees (Some t) (Ok u) = AreSound entries (Some t) × Agrees trees t
+JudgesExtensions entries trees (Some t) (Err e) = SaysOrWants e (extensions_fault entries (Some trees) (Some t))

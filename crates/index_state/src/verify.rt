@@ -2,12 +2,13 @@
 
 pub mod entries;
 
-ghost use Rattle.std.specs.Prelude.{◌≡◌, ◌↔◌, false, IfErr, IfOk, IsOk, length};
+ghost use Rattle.std.specs.Prelude.{◌≡◌, ◌↔◌, false, IfErr, IfOk, IsOk, IsTrue, None, length};
 ghost use Rattle.index_entries.specs.Order.{IsStrictlyOrdered};
 ghost use Rattle.index_entries.specs.Record.{IsPlaced, record_in};
+ghost use Rattle.index_extensions.specs.Agreement.{Trees, AreTrees};
 ghost use Rattle.index_extensions.specs.TreeFaults.{Says};
 ghost use Rattle.index_state.specs.State.{PathsInStorage, contents, entries_of, records};
-ghost use Rattle.index_state.specs.Verified.{AreSound, NamesBoth, SaysFall, extensions_fault};
+ghost use Rattle.index_state.specs.Verified.{AreSound, JudgesExtensions, NamesBoth, SaysFall, extensions_fault};
 
 use crate::State;
 use bstr::BString;
@@ -61,18 +62,22 @@ impl State {
         Err(error)
     }
 
-    /// Whether the cached tree, where there is one, holds together as [`Tree::verify`](tree::Tree::verify) tells it, and then
-    /// no node of it counts more entries than the index has. The first fault is answered, nodes in preorder.
+    /// Whether the cached tree, where there is one, holds together as [`Tree::verify`](tree::Tree::verify) tells it, with
+    /// objects where `use_find` is true, and then no node of it counts more entries than the index has.
+    ///
+    /// The first fault is answered, nodes in preorder: all that `Tree::verify` looks at comes before the first count.
+    /// [`Memory`](tree::verify::Error::Memory) comes as it does there, or in place of a fault that names a node.
     pub fn verify_extensions<F: Find>(
         &self,
         alloc: Global,
         use_find: bool,
         objects: &F,
     ) -> Result<(), tree::verify::Error>
-        requires without_objects { use_find ≡ false }
-        ensures sound { IsOk result ↔ AreSound (length (entries_of self.now)) (contents self.now).extensions.tree }
-        ensures fault { IfErr result (λ e. Says e
-            (extensions_fault (length (entries_of self.now)) (contents self.now).extensions.tree)) }
+        ensures sound { use_find ≡ false → (IsOk result ↔ AreSound (length (entries_of self.now)) (contents self.now).extensions.tree) }
+        ensures fault { use_find ≡ false → IfErr result (λ e. Says e
+            (extensions_fault (length (entries_of self.now)) None (contents self.now).extensions.tree)) }
+        ensures objects { IsTrue use_find → (trees : Trees) × AreTrees (F.found objects.now) trees
+            × JudgesExtensions (length (entries_of self.now)) trees (contents self.now).extensions.tree result }
     {
         let Some(tree) = self.tree() else {
             return Ok(());
