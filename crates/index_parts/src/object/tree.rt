@@ -112,6 +112,13 @@ impl<'a> Entries<'a> {
             kind: object_hash,
         }
     }
+
+    /// The bytes behind the last entry that was given; none behind [`Malformed`].
+    pub fn rest(&self) -> &'a [u8]
+        ensures { result.now ≡ unread_entries self.now }
+    {
+        self.rest
+    }
 }
 
 impl<'a> Iterator for Entries<'a> {
