@@ -1,18 +1,15 @@
 -- What a tree lists against the children of its node; and every store has trees.
 use Rattle.std.proofs.Common.{◌≡◌, ℕ, ◌+◌, Bool, true, false, cond, eqb, List, [], ◌∷◌, length, All, Option, Some, None, refl, ap, subst, ◌∙◌, arith}
-use Rattle.std.specs.Prelude.{IsTrue, MatchOption, Result, Ok, Err, is_err}
+use Rattle.std.specs.Prelude.{IsTrue, MatchOption}
 use Rattle.std.specs.Option.{option_map}
 use Rattle.std.proofs.lemmas.Bool.{eqb-true, eq-eqb}
 use Rattle.std.proofs.lemmas.List.Elements.{All-nil, All-cons, All-head, All-tail}
 use Rattle.index_parts.specs.Id.{id_kind}
 use Rattle.index_parts.specs.Object.{Found, tree_bytes}
-use Rattle.index_parts.specs.TreeObject.{TreeEntry, IsTreeEntry, NoTreeEntry, Lists, is_tree_mode, Gives, tree_entry_of}
+use Rattle.index_parts.specs.TreeObject.{TreeEntry, IsTreeEntry, NoTreeEntry, Lists, is_tree_mode}
 use Rattle.index_parts.specs.declared.hash.Kind.{Kind}
 use Rattle.index_parts.specs.declared.hash.ObjectId.{ObjectId}
-use Rattle.index_parts.specs.declared.object.tree.EntryRef.{EntryRef}
-use Rattle.index_parts.specs.declared.object.tree.Malformed.{Malformed}
 use Rattle.index_parts.proofs.TreeLists.{listed_in, lists_some, list_behind, list_ends}
-use Rattle.index_parts.proofs.TreeObjects.{none_in_nothing}
 use Rattle.index_extensions.specs.Agreement.{Trees, AreListed, AreTrees, directories, has_child, AreChildren}
 use Rattle.index_extensions.specs.Contents.{or_else}
 use Rattle.index_extensions.specs.Tree.{Nodes, how_many_nodes}
@@ -95,19 +92,6 @@ pub no_tree_lists : (kind : Kind) (found : Option (List ℕ)) (es : Option (List
 no_tree_lists kind None None e h = refl
 no_tree_lists kind None (Some l) e h = absurd h
 no_tree_lists kind (Some b) es e h = absurd cc
-
--- ---- a step over the entries
-
-pub gives_entry : (k kind : Kind) (bytes rest : List ℕ) (r : Result EntryRef Malformed) (e : EntryRef) → k ≡ kind → r ≡ Ok e → Gives k bytes (Some r) rest → IsTreeEntry kind bytes (tree_entry_of e) rest
-gives_entry k kind bytes rest (Ok d) e same is h = let entry : d ≡ e = cc in subst (λ (x : EntryRef). IsTreeEntry kind bytes (tree_entry_of x) rest) entry (subst (λ (l : Kind). IsTreeEntry l bytes (tree_entry_of d) rest) same h)
-gives_entry k kind bytes rest (Err m) e same is h = absurd cc
-
-pub gives_malformed : (k kind : Kind) (bytes rest : List ℕ) (r : Result EntryRef Malformed) → k ≡ kind → is_err r ≡ true → Gives k bytes (Some r) rest → NoTreeEntry kind bytes
-gives_malformed k kind bytes rest (Ok d) same is h = absurd cc
-gives_malformed k kind bytes rest (Err n) same is h = subst (λ (l : Kind). NoTreeEntry l bytes) same h.1
-
-pub gives_end : (k kind : Kind) (bytes rest : List ℕ) → Gives k bytes None rest → NoTreeEntry kind bytes
-gives_end k kind bytes rest h = none_in_nothing kind bytes h.0
 
 -- ---- a count of directories that is under way
 

@@ -1,10 +1,13 @@
--- Every bytes list entries of a tree; and what they list behind an entry, or where none begins them.
-use Rattle.std.proofs.Common.{◌≡◌, ℕ, zero, suc, ◌<◌, ◌≤◌, List, [], ◌∷◌, length, Option, Some, None, refl, sym, ap, subst, ◌∙◌, arith}
+-- Every bytes list entries of a tree; what they list behind an entry, or where none begins them; and what a step over them gives.
+use Rattle.std.proofs.Common.{◌≡◌, ℕ, zero, suc, ◌<◌, ◌≤◌, Bool, true, false, List, [], ◌∷◌, ◌++◌, length, Option, Some, None, refl, sym, ap, subst, ◌∙◌, append_assoc, arith}
+use Rattle.std.specs.Prelude.{Result, Ok, Err, is_err}
 use Rattle.std.proofs.lemmas.List.{nil_from_length}
 use Rattle.index_parts.proofs.TreeObjects.{entry_takes, no_entry, one_entry, entry_fewer, none_in_nothing}
 use Rattle.index_parts.specs.ReadingTree.{tree_entry_at}
-use Rattle.index_parts.specs.TreeObject.{TreeEntry, IsTreeEntry, NoTreeEntry, AreTreeEntries, Lists}
+use Rattle.index_parts.specs.TreeObject.{TreeEntry, IsTreeEntry, NoTreeEntry, AreTreeEntries, IsTreeObject, Lists, Gives, tree_entry_of}
 use Rattle.index_parts.specs.declared.hash.Kind.{Kind}
+use Rattle.index_parts.specs.declared.object.tree.EntryRef.{EntryRef}
+use Rattle.index_parts.specs.declared.object.tree.Malformed.{Malformed}
 
 -- ---- what bytes list
 
@@ -49,3 +52,44 @@ list_behind kind bytes e after (d ∷ later) h l =
 pub list_ends : (kind : Kind) (bytes : List ℕ) (es : List TreeEntry) → NoTreeEntry kind bytes → Lists kind bytes es → es ≡ []
 list_ends kind bytes [] none l = refl
 list_ends kind bytes (d ∷ later) none l = absurd (none d l.1.0 l.1.1)
+
+-- ---- a step over the entries
+
+pub gives_entry : (k kind : Kind) (bytes rest : List ℕ) (r : Result EntryRef Malformed) (e : EntryRef) → k ≡ kind → r ≡ Ok e → Gives k bytes (Some r) rest → IsTreeEntry kind bytes (tree_entry_of e) rest
+gives_entry k kind bytes rest (Ok d) e same is h = let entry : d ≡ e = cc in subst (λ (x : EntryRef). IsTreeEntry kind bytes (tree_entry_of x) rest) entry (subst (λ (l : Kind). IsTreeEntry l bytes (tree_entry_of d) rest) same h)
+gives_entry k kind bytes rest (Err m) e same is h = absurd cc
+
+pub gives_malformed : (k kind : Kind) (bytes rest : List ℕ) (r : Result EntryRef Malformed) → k ≡ kind → is_err r ≡ true → Gives k bytes (Some r) rest → NoTreeEntry kind bytes
+gives_malformed k kind bytes rest (Ok d) same is h = absurd cc
+gives_malformed k kind bytes rest (Err n) same is h = subst (λ (l : Kind). NoTreeEntry l bytes) same h.1
+
+pub gives_end : (k kind : Kind) (bytes rest : List ℕ) → Gives k bytes None rest → NoTreeEntry kind bytes
+gives_end k kind bytes rest h = none_in_nothing kind bytes h.0
+
+-- the same of an entry that isn't named
+pub gives_some : (k kind : Kind) (bytes rest : List ℕ) (r : Result EntryRef Malformed) → k ≡ kind → is_err r ≡ false → Gives k bytes (Some r) rest → (e : TreeEntry) × IsTreeEntry kind bytes e rest
+gives_some k kind bytes rest (Ok e) same is h = (tree_entry_of e, gives_entry k kind bytes rest (Ok e) e same refl h)
+gives_some k kind bytes rest (Err m) same is h = absurd cc
+
+pub gives_left : (k : Kind) (bytes rest : List ℕ) (r : Result EntryRef Malformed) → is_err r ≡ true → Gives k bytes (Some r) rest → bytes ≡ [] → ⊥
+gives_left k bytes rest (Ok e) is h = absurd cc
+gives_left k bytes rest (Err m) is h = h.0
+
+-- ---- a tree's object
+
+-- behind its first entry stands a tree's object too
+pub object_behind : (kind : Kind) (bytes : List ℕ) (e : TreeEntry) (after : List ℕ) → IsTreeEntry kind bytes e after → (es : List TreeEntry) → IsTreeObject kind bytes es → (later : List TreeEntry) × IsTreeObject kind after later
+object_behind kind bytes e after h [] k = absurd (none_in_nothing kind bytes k e after h)
+object_behind kind bytes e after h (d ∷ later) k =
+    (later, subst (λ (x : TreeEntry × List ℕ). IsTreeObject kind x.1 later) (one_entry kind bytes d e k.0 after k.1 h) k.2)
+
+-- an entry begins it, unless it is empty
+pub object_begins : (kind : Kind) (bytes : List ℕ) (es : List TreeEntry) → IsTreeObject kind bytes es → NoTreeEntry kind bytes → bytes ≡ []
+object_begins kind bytes [] k none = k
+object_begins kind bytes (e ∷ es) k none = absurd (none e k.0 k.1)
+
+-- the bytes behind an entry are the last ones
+pub last_bytes : (kind : Kind) (bytes : List ℕ) (e : TreeEntry) (after : List ℕ) → IsTreeEntry kind bytes e after → (front : List ℕ) × (bytes ≡ front ++ after)
+last_bytes kind bytes e after h =
+    let inner : e.name ++ 0 ∷ (h.id ++ after) ≡ (e.name ++ 0 ∷ h.id) ++ after = sym (append_assoc e.name (0 ∷ h.id) after) in
+    (h.text ++ 32 ∷ (e.name ++ 0 ∷ h.id), h.parts ∙ ap (λ (l : List ℕ). h.text ++ 32 ∷ l) inner ∙ sym (append_assoc h.text (32 ∷ (e.name ++ 0 ∷ h.id)) after))

@@ -1,10 +1,11 @@
 use Rattle.std.proofs.Common.{◌<◌, ℕ, List, length, arith, refl, sym, ap, subst, ◌∙◌}
 use Rattle.std.proofs.lemmas.Result.{err_from_is_err_and}
+use Rattle.index_parts.proofs.TreeLists.{gives_entry, gives_malformed, gives_end}
 use Rattle.index_parts.proofs.TreeObjects.{entry_fewer}
 use Rattle.index_parts.specs.Id.{id_kind}
 use Rattle.index_parts.specs.TreeObject.{IsTreeEntry, tree_entry_of, kind_of_entries, unread_entries}
 use Rattle.index_extensions.specs.TreeFaults.{child_fault}
-use Rattle.index_extensions.proofs.Agreements.{CountsOn, counts_begin, counts_pass, counts_more, counts_fault, counts_end, gives_entry, gives_malformed, gives_end}
+use Rattle.index_extensions.proofs.Agreements.{CountsOn, counts_begin, counts_pass, counts_more, counts_fault, counts_end}
 use Rattle.index_extensions.proofs.Sounds.{row_of_trees, says_is, says_first}
 use Rattle.index_extensions.proofs.extension.tree.verify.objects.count_directories.Goals as goal
 

@@ -1,0 +1,6 @@
+pub mod Levels
+pub mod Listings
+pub mod Objects
+pub mod Stats
+pub mod Trees
+pub mod Walks

@@ -1,0 +1,9 @@
+//! The leaves of a tree of objects, as entries of a git index.
+#![tactic(auto)]
+
+mod check;
+pub mod from_tree;
+mod read;
+mod walk;
+
+pub use check::ComponentCheck;
