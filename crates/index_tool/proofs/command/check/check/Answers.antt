@@ -17,13 +17,13 @@ returns-in-Err-verify_integrity-clause-refused g c = (refl, Keeps-refl (g.W.Writ
 pub returns-in-Ok-put_all-clause-checked : goal.returns-in-Ok-put_all-clause-checked
 returns-in-Ok-put_all-clause-checked g c = record {
   value = contents (state_of c.in-Ok.index);
-  sound = record { read = c.in-Ok.ensures.read; ordered = rw c.deref.ensures at (c.in_default.ensures.ok.0 refl); tree = sound_counted (state_of c.in-Ok.index) (rw c.deref-2.ensures at (c.in_default-verify_extensions.ensures.sound.0 refl)) };
+  sound = record { read = c.in-Ok.ensures.read; ordered = rw c.deref.ensures at (c.in_default.ensures.ok.0 refl); tree = sound_counted (state_of c.in-Ok.index) (rw c.deref-2.ensures at ((c.in_default-verify_extensions.ensures.sound refl).0 refl)) };
   grew = c.in-Ok-put_all.ensures.ok;
 }
 
 pub returns-clause-refused : goal.returns-clause-refused
 returns-clause-refused g c = record {
   value = contents (state_of c.in-Ok.index);
-  sound = record { read = c.in-Ok.ensures.read; ordered = rw c.deref.ensures at (c.in_default.ensures.ok.0 refl); tree = sound_counted (state_of c.in-Ok.index) (rw c.deref-2.ensures at (c.in_default-verify_extensions.ensures.sound.0 refl)) };
+  sound = record { read = c.in-Ok.ensures.read; ordered = rw c.deref.ensures at (c.in_default.ensures.ok.0 refl); tree = sound_counted (state_of c.in-Ok.index) (rw c.deref-2.ensures at ((c.in_default-verify_extensions.ensures.sound refl).0 refl)) };
   grew = c.in-Err-put_all.ensures.err;
 }
