@@ -6,6 +6,7 @@ pub mod Octals
 pub mod Offsets
 pub mod Places
 pub mod Readers
+pub mod Spellings
 pub mod Splits
 pub mod Steps
 pub mod Taking

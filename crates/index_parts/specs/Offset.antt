@@ -1,6 +1,6 @@
 -- An offset number (gitformat-index, version 4: "encoded in the same encoding as the offset for OFS_DELTA pack entries"):
 -- a digit of seven bits a byte, and a mark in each byte but the last.
-use Rattle.std.specs.Prelude.{◌≡◌, ℕ, ◌+◌, ◌*◌, ◌%◌, ◌^◌, ◌<◌, ◌≤◌, List, [], ◌∷◌, ◌++◌, length}
+use Rattle.std.specs.Prelude.{◌≡◌, ℕ, zero, suc, ◌+◌, ◌-◌, ◌*◌, ◌/◌, ◌%◌, ◌^◌, ◌<◌, ◌≤◌, nat_lt, List, [], ◌∷◌, ◌++◌, length, if◌then◌else◌}
 
 -- the mark is bit 7: each byte but the last has it, the last hasn't, and there is a last
 abbrev pub AreMarked : List ℕ → Type 0
@@ -30,3 +30,13 @@ pub record StartsWithOffset (bytes : List ℕ) (n : ℕ) (rest : List ℕ) : Typ
   pub spelling : List ℕ
   pub parts : bytes ≡ spelling ++ rest
   pub is_offset : IsOffset spelling n
+
+-- the bytes before the last one of a number's spelling, of which there are no more than this: the spelling of the higher part
+-- less one, with a mark in each byte
+unfoldable pub marked_bytes : ℕ → ℕ → List ℕ
+marked_bytes zero n = []
+marked_bytes (suc most) n = if nat_lt n 128 then [] else marked_bytes most (n / 128 - 1) ++ (128 + (n / 128 - 1) % 128) ∷ []
+
+-- the one spelling of a number that has at most 64 bits, which are at most ten bytes
+unfoldable pub offset_bytes : ℕ → List ℕ
+offset_bytes n = marked_bytes 9 n ++ n % 128 ∷ []

@@ -7,4 +7,5 @@ pub mod fs;
 pub mod hash;
 pub mod object;
 pub mod read;
+pub mod spell;
 pub mod util;

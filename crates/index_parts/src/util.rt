@@ -2,11 +2,14 @@
 //!
 //! All numbers are big-endian (gitformat-index). No call here takes memory.
 
-ghost use Rattle.std.specs.Prelude.{◌≡◌, ◌<◌, ℕ, List, length, IfSome, IfNone};
-ghost use Rattle.index_parts.specs.Offset.{StartsWithOffset};
+ghost use Rattle.std.specs.Prelude.{◌≡◌, ◌<◌, ℕ, List, length, IfSome, IfNone, false, is_err};
+ghost use Rattle.index_parts.specs.Offset.{IsOffset, StartsWithOffset, offset_bytes};
 ghost use Rattle.index_parts.specs.Front.{be, StartsWithNumber, IsUpTo};
+ghost use Rattle.index_parts.specs.Taking.{Puts};
 
-use crate::read;
+use crate::hash::io::Out;
+use crate::{read, spell};
+use std::io;
 
 /// The number that two bytes spell.
 pub fn from_be_u16(bytes: &[u8]) -> u16
@@ -59,4 +62,19 @@ pub fn var_int(data: &[u8]) -> Option<(u64, &[u8])>
     ensures none { IfNone result ((n : ℕ) (rest : List ℕ) → StartsWithOffset «data».now n rest → ⊥) }
 {
     read::offset(data)
+}
+
+/// Writes the offset number that [`var_int`] reads as `n`, of 1 to 10 bytes, by one call of [`Out::put`] (gitformat-index,
+/// entries of version 4).
+///
+/// An error comes only where the writer failed, which then took a front of the bytes. No memory is taken.
+pub fn write_var_int<W: Out>(out: &mut W, n: u64) -> io::Result<()>
+    requires { W.failed out.old ≡ false }
+    ensures bytes { Puts W.taken W.hashed out.old out.new result (offset_bytes n) }
+    ensures spelled { IsOffset (offset_bytes n) n }
+    ensures mark { W.failed out.new ≡ is_err result }
+    ensures loan { W.loan out.new ≡ W.loan out.old }
+{
+    let (bytes, start) = spell::offset(n);
+    out.put(&bytes[start..])
 }
