@@ -18,6 +18,7 @@ use Rattle.index_state.specs.Writing.{Fails}
 pub fails_more : {S : Type 0} (taken : S → Option (List ℕ)) (failed : S → Bool) (a b : S) (e : Error) (xs ys : List ℕ) → Fails taken failed a b e xs → Fails taken failed a b e (xs ++ ys)
 fails_more taken failed a b (errors.Io e) xs ys p = (front_before p.0 ys, p.1)
 fails_more taken failed a b errors.TooManyEntries xs ys p = p
+fails_more taken failed a b errors.NulInPath xs ys p = p
 fails_more taken failed a b errors.TooLarge xs ys p = p
 
 pub front_then : {S : Type 0} (taken : S → Option (List ℕ)) (a b c : S) (xs ys zs : List ℕ) → zs ≡ ys → Appends (taken a) (taken b) xs → AppendsFront (taken b) (taken c) zs → AppendsFront (taken a) (taken c) (xs ++ ys)

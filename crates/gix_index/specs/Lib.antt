@@ -33,6 +33,7 @@ pub use Rattle.index_entries.specs.Record
 pub use Rattle.index_extensions.specs.Agreement
 pub use Rattle.index_entries.specs.Merge as EntryMerge
 pub use Rattle.index_entries.specs.Removed
+pub use Rattle.index_entries.specs.Shared
 pub use Rattle.index_entries.specs.Sorted
 pub use Rattle.index_extensions.specs.Contents
 pub use Rattle.index_extensions.specs.EndMarker
@@ -63,5 +64,6 @@ pub use Rattle.index_parts.specs.declared.hash.Kind
 pub use Rattle.index_parts.specs.declared.hash.ObjectId
 pub use Rattle.index_parts.specs.declared.entry.stat.FileTime
 pub use Rattle.index_entries.specs.declared.Entry as EntryType
+pub use Rattle.index_entries.specs.declared.write.VersionChoice
 pub use Rattle.index_state.specs.declared.State as StateType
 pub use Rattle.index_state.specs.declared.decode.Options as DecodeOptions

@@ -4,23 +4,25 @@ use Rattle.index_parts.specs.Id.{make_id}
 use Rattle.index_parts.specs.declared.hash.ObjectId.{ObjectId}
 use Rattle.index_entries.specs.declared.Version.{Version}
 use Rattle.index_state.specs.declared.write.Error.{Error}
-use Rattle.index_state.specs.declared.write.Error.TheVariants.{TooManyEntries, TooLarge}
+use Rattle.index_state.specs.declared.write.Error.TheVariants.{TooManyEntries, NulInPath, TooLarge}
 use Rattle.index_state.specs.declared.write.Options.{Options}
 use Rattle.index_state.specs.Image.{image_version, trailer, unmarked}
 use Rattle.index_state.specs.Edits.{with_version}
 use Rattle.index_state.specs.State.{Contents, contents, entries_of, storage_of}
+use Rattle.index_state.specs.Storable.{CanSpell}
 use Rattle.index_state.specs.Writing.{Writes}
 use Rattle.gix_index.specs.declared.file.File.{File}
 use Rattle.gix_index.specs.File.{state_of, path_of, checksum_of}
 
--- The answer to writing these bytes of a value: the version and the id that the trailer is; too many entries, then too many
--- bytes, exactly by their numbers; or the writer's fault.
+-- The answer to writing these bytes of a value: the version and the id that the trailer is; too many entries, then a NUL in a path,
+-- then too many bytes, exactly where it is so; or the writer's fault.
 pub record WritesIndex {S : Type 0} (taken : S → Option (List ℕ)) (failed : S → Bool) (old new : S) (r : Result (Version × ObjectId) Error) (v : Contents) (options : Options) (whole : List ℕ) : Type 0 where
   pub version : IfOk r (λ x. x.0 ≡ image_version v options)
   pub id : IfOk r (λ x. x.1 ≡ make_id v.kind (trailer v options))
   pub bytes : Writes taken failed old new r whole
   pub too_many : (r ≡ Err TooManyEntries) ↔ (2 ^ 32 ≤ length v.records)
-  pub too_large : (r ≡ Err TooLarge) ↔ ((length v.records < 2 ^ 32) × (2 ^ 32 ≤ length (unmarked v options)))
+  pub nul_in_path : (r ≡ Err NulInPath) ↔ ((length v.records < 2 ^ 32) × (CanSpell options.version v → ⊥))
+  pub too_large : (r ≡ Err TooLarge) ↔ ((length v.records < 2 ^ 32) × CanSpell options.version v × (2 ^ 32 ≤ length (unmarked v options)))
 
 -- A file that was written to its path: version and checksum are those of what was written, the checksum None where that is zeros.
 -- All else stays.

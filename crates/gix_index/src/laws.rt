@@ -46,7 +46,7 @@ pub fn one_reading()
 
 /// Reading what is written of a storable index gives what a file keeps of it, and the trailer: for either kind of id and all
 /// choices of writing, by a reader of the same kind that has no limit and expects no trailer. The index has no more entries and
-/// bytes than a file counts, and a SHA-1 file that has no end marker doesn't end as if it had one.
+/// bytes than a file counts, in version 4 no path that is written has a NUL, and a SHA-1 file that has no end marker doesn't end as if it had one.
 pub fn written_reads_back()
     ensures { (v : Contents) (options : WriteOptions) (time : FileTime) (reading : Options) → IsStorable v → IsWritable v options → IsUnmistakable v options
         → reading.alloc_limit_bytes ≡ None → reading.expected_checksum ≡ None
@@ -64,4 +64,12 @@ pub fn rewrite_is_canonical()
     ensures { (kind : Kind) (time again : FileTime) (first second : Options) (bytes : List ℕ) (v w : Contents) (c d : Option ObjectId) (options : WriteOptions) → AreBytes bytes
         → IsAnswer kind time first bytes (Ok (v, c)) → IsWritable v options → IsUnmistakable v options → second.alloc_limit_bytes ≡ None → second.expected_checksum ≡ None
         → IsAnswer kind again second (image v options) (Ok (w, d)) → image w options ≡ image v options }
+{}
+
+/// An index that was read, written and read again, in whichever version, has lost nothing that a file keeps: it is written as
+/// before, by all options that choose the same extensions. The premises are those of [`rewrite_is_canonical`].
+pub fn version_change_loses_nothing()
+    ensures { (kind : Kind) (time again : FileTime) (first second : Options) (bytes : List ℕ) (v w : Contents) (c d : Option ObjectId) (options : WriteOptions) → AreBytes bytes
+        → IsAnswer kind time first bytes (Ok (v, c)) → IsWritable v options → IsUnmistakable v options → second.alloc_limit_bytes ≡ None → second.expected_checksum ≡ None
+        → IsAnswer kind again second (image v options) (Ok (w, d)) → (chosen : WriteOptions) → chosen.extensions ≡ options.extensions → image w chosen ≡ image v chosen }
 {}

@@ -8,7 +8,7 @@ use gix_index::entry::FileTime;
 use gix_index::extension::end_of_index_entry;
 use gix_index::hash::Kind;
 use gix_index::hash::io::Plain;
-use gix_index::write::{Extensions, Options};
+use gix_index::write::{Error, Extensions, Options, VersionChoice};
 use gix_index::{File, State, Version, decode};
 use std::alloc::Global;
 use std::path::PathBuf;
@@ -32,11 +32,17 @@ fn read(alloc: Global, kind: Kind, bytes: &[u8]) -> Result<State, Fault> {
     }
 }
 
-/// `image KIND STATE CHOICE TRAILER TIMES`: the version, id and bytes of the file that is written of the state, after as
-/// many times that it was written and read.
-pub fn image(out: &mut Lines, kind: Kind, words: &mut SplitWhitespace<'_>) -> Result<(), Fault> {
+/// `image KIND STATE CHOICE TRAILER TIMES`, or `image4` with the same: the version, id and bytes of the file that is written
+/// of the state, after as many times that it was written and read.
+pub fn image(
+    out: &mut Lines,
+    version: VersionChoice,
+    kind: Kind,
+    words: &mut SplitWhitespace<'_>,
+) -> Result<(), Fault> {
     let mut state = state_of(out.alloc(), kind, words.next())?;
     let options = Options {
+        version,
         extensions: choice_of(words.next())?,
         skip_hash: has_null_trailer(words.next())?,
     };
@@ -92,6 +98,7 @@ fn show(out: &mut Lines, file: &File, options: Options) -> Result<(), Fault> {
             write!(out, "version {} {id}, ", number(version));
             writeln!(out, "{} bytes", image.inner.len());
         }
+        Err(Error::NulInPath) => write!(out, "nul in a path, {} bytes", image.inner.len()),
         Err(_) => return Err(Fault::Wrong("a state that can be written")),
     }
     bytes(out, &image.inner);

@@ -17,6 +17,7 @@ mod trees;
 mod words;
 
 use fault::Fault;
+use gix_index::write::VersionChoice;
 use lines::Lines;
 use std::alloc::Global;
 use std::io::{self, BufRead, BufReader, BufWriter, Write};
@@ -30,7 +31,8 @@ fn call(out: &mut Lines, name: &str, words: &mut SplitWhitespace<'_>) -> Result<
         "edits" => edits::edits(out, kind, words),
         "verify-tree" => trees::tree(out, kind, words),
         "verify-extensions" => trees::extensions(out, kind, words),
-        "image" => images::image(out, kind, words),
+        "image" => images::image(out, VersionChoice::Smallest, kind, words),
+        "image4" => images::image(out, VersionChoice::V4, kind, words),
         "end-marker" => images::end_marker(out, kind, words),
         "merge" => merges::merge(out, kind, words),
         _ => Err(Fault::Wrong("the name of a call")),

@@ -1,11 +1,8 @@
 -- An entry that was written is read again, as what a file keeps of it.
-use Rattle.std.proofs.Common.{◌≡◌, ℕ, ◌+◌, ◌-◌, ◌*◌, ◌/◌, ◌%◌, ◌≤◌, Bool, true, false, cond, eqb, min, List, [], ◌∷◌, ◌++◌, length, map, All, Option, Some, suc, refl, sym, ap, subst, ◌∙◌, append_assoc, arith, take, drop, inl, inr}
+use Rattle.std.proofs.Common.{◌≡◌, ℕ, ◌+◌, ◌-◌, ◌*◌, ◌/◌, ◌%◌, ◌≤◌, true, false, eqb, min, List, ◌∷◌, ◌++◌, length, All, suc, refl, sym, ap, ◌∙◌, append_assoc, arith, take, drop, inl, inr}
 use Rattle.std.specs.Prelude.{◌≢◌, replicate}
-use Rattle.std.specs.List.{flat_map, AllByRecursion}
 use Rattle.std.proofs.lemmas.Bool.{eq-eqb, ne_eqb, cases_lt}
 use Rattle.std.proofs.lemmas.List.{length-append, length-replicate}
-use Rattle.std.proofs.lemmas.List.Concat.{flat_map-cons}
-use Rattle.std.proofs.Math.Nat.{suc-mul}
 use Rattle.index_parts.specs.Id.{id_len, id_bytes, id_kind, make_id}
 use Rattle.index_parts.specs.Front.{number}
 use Rattle.index_parts.specs.Mode.{kept_mode}
@@ -15,11 +12,8 @@ use Rattle.index_parts.specs.declared.hash.Kind.TheVariants as kinds
 use Rattle.index_parts.specs.declared.hash.ObjectId.{ObjectId}
 use Rattle.index_parts.specs.declared.hash.ObjectId.TheVariants as ids
 use Rattle.index_parts.specs.declared.entry.stat.Stat.{Stat}
-use Rattle.index_entries.specs.declared.Version.TheVariants.{V2, V3}
 use Rattle.index_entries.specs.Entry.{Front, front_bytes, IsFront, record_of, length_field, IsPath, IsEntry23}
-use Rattle.index_entries.specs.Entries.{AreEntries}
 use Rattle.index_entries.specs.EntryImage.{numbers_of, front_of, unpadded, padding, entry_bytes}
-use Rattle.index_entries.specs.Limits.{smallest_entry}
 use Rattle.index_entries.specs.Record.{Record}
 use Rattle.index_entries.specs.Record.{IsSized}
 use Rattle.index_entries.specs.EntryImage.{stored_record}
@@ -49,7 +43,7 @@ numbers_len : (r : Record) → length (numbers_of r) ≡ 40
 unfolding numbers_of
 numbers_len r = refl
 
-front_is : (kind : Kind) (r : Record) → IsStorableIn kind r → IsFront kind (front_of r)
+pub front_is : (kind : Kind) (r : Record) → IsStorableIn kind r → IsFront kind (front_of r)
 front_is kind r h = record {
   numbers = numbers_len r;
   id = h.fits.id ∙ ap id_len h.id;
@@ -61,7 +55,7 @@ same_record : (p : List ℕ) (s s' : Stat) (i i' : ObjectId) (f f' m m' : ℕ) �
     → ◌≡◌ {A = Record} (record { path = p; stat = s; id = i; flags = f; mode = m }) (record { path = p; stat = s'; id = i'; flags = f'; mode = m' })
 same_record p s s' i i' f f' m m' a b c d = rw (a, b, c, d) refl
 
-record_again : (kind : Kind) (r : Record) → IsStorableIn kind r → stored_record r ≡ record_of kind (front_of r) r.path
+pub record_again : (kind : Kind) (r : Record) → IsStorableIn kind r → stored_record r ≡ record_of kind (front_of r) r.path
 record_again kind r h =
     let id : make_id kind (id_bytes r.id) ≡ r.id = rw (← h.id) (make_again r.id) in
     sym (same_record r.path (stat_of (take 24 (numbers_of r)) (drop 28 (numbers_of r))) r.stat (make_id kind (id_bytes r.id)) r.id _ (stored_record r).flags (kept_mode (number (numbers_of r) 6)) (kept_mode r.mode) (stat_again r h.fits) id (kept_again r) (ap kept_mode (mode_again r h.fits)))
@@ -112,52 +106,21 @@ entry_again kind r rest h =
       is = record_again kind r h;
     }
 
--- ---- entries
-
-more : (r : Record) (rs : List Record) (rest : List ℕ) → flat_map entry_bytes (r ∷ rs) ++ rest ≡ entry_bytes r ++ (flat_map entry_bytes rs ++ rest)
-more r rs rest = ap (λ (l : List ℕ). l ++ rest) (flat_map-cons entry_bytes r rs) ∙ append_assoc (entry_bytes r) (flat_map entry_bytes rs) rest
-
--- written entries stand one after another, in version 3 (true) as in version 2 (false)
-pub entries_again : (b : Bool) (kind : Kind) (previous : Option (List ℕ)) (rs : List Record) (rest : List ℕ) → AllByRecursion (IsStorableIn kind) rs → AreEntries (cond b V3 V2) kind previous (flat_map entry_bytes rs ++ rest) (map stored_record rs) rest
-entries_again true kind previous [] rest h = refl
-entries_again false kind previous [] rest h = refl
-entries_again true kind previous (r ∷ rs) rest h =
-    let after : List ℕ = flat_map entry_bytes rs ++ rest in
-    (after, subst (λ (l : List ℕ). IsEntry23 kind l (stored_record r) after) (sym (more r rs rest)) (entry_again kind r after h.0), entries_again true kind (Some r.path) rs rest h.1)
-entries_again false kind previous (r ∷ rs) rest h =
-    let after : List ℕ = flat_map entry_bytes rs ++ rest in
-    (after, subst (λ (l : List ℕ). IsEntry23 kind l (stored_record r) after) (sym (more r rs rest)) (entry_again kind r after h.0), entries_again false kind (Some r.path) rs rest h.1)
-
--- ---- how many bytes entries have
+-- ---- how many bytes an entry has
 
 -- an entry fills whole blocks of 8 bytes
 pub whole_entry : (r : Record) → length (entry_bytes r) % 8 ≡ 0
 whole_entry r = omega (arith, length-append (unpadded r) (padding (length (unpadded r))), length-padding (length (unpadded r)))
 
-front_len : (kind : Kind) (r : Record) → IsStorableIn kind r → 42 + id_len kind ≤ length (front_bytes (front_of r))
+pub front_len : (kind : Kind) (r : Record) → IsStorableIn kind r → 42 + id_len kind ≤ length (front_bytes (front_of r))
 front_len kind r h =
     let f : Front = front_of r in
     let i : IsFront kind f = front_is kind r h in
     omega (arith, length-append f.numbers (f.id ++ (f.word ++ f.second)), length-append f.id (f.word ++ f.second), length-append f.word f.second)
 
-entry_len : (kind : Kind) (r : Record) → IsStorableIn kind r → ((42 + id_len kind) / 8 + 1) * 8 ≤ length (entry_bytes r)
+pub entry_len : (kind : Kind) (r : Record) → IsStorableIn kind r → ((42 + id_len kind) / 8 + 1) * 8 ≤ length (entry_bytes r)
 unfolding unpadded
 entry_len kind r h =
     let f : List ℕ = front_bytes (front_of r) in
     let low : 42 + id_len kind ≤ length f = front_len kind r h in
     omega (arith, length-append f r.path, length-append (f ++ r.path) (padding (length (f ++ r.path))), length-padding (length (f ++ r.path)))
-
--- an entry has no fewer bytes than the fewest that one takes
-pub smallest_again : (b : Bool) (kind : Kind) (r : Record) → IsStorableIn kind r → smallest_entry kind (cond b V3 V2) ≤ length (entry_bytes r)
-smallest_again true kinds.Sha1 r h = entry_len kinds.Sha1 r h
-smallest_again true kinds.Sha256 r h = entry_len kinds.Sha256 r h
-smallest_again false kinds.Sha1 r h = entry_len kinds.Sha1 r h
-smallest_again false kinds.Sha256 r h = entry_len kinds.Sha256 r h
-
-one_more : (n m : ℕ) → suc n * m ≡ m + n * m
-one_more n m = suc-mul n m ∙ omega arith
-
-pub smallest_entries : (b : Bool) (kind : Kind) (rs : List Record) → AllByRecursion (IsStorableIn kind) rs → length rs * smallest_entry kind (cond b V3 V2) ≤ length (flat_map entry_bytes rs)
-smallest_entries b kind [] h = omega arith
-smallest_entries b kind (r ∷ rs) h =
-    omega (arith, ap length (flat_map-cons entry_bytes r rs), length-append (entry_bytes r) (flat_map entry_bytes rs), smallest_again b kind r h.0, smallest_entries b kind rs h.1, one_more (length rs) (smallest_entry kind (cond b V3 V2)))

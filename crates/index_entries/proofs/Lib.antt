@@ -1,6 +1,8 @@
 pub mod Again
 pub mod Candidates
 pub mod Deltas
+pub mod DeltasAgain
+pub mod EntriesAgain
 pub mod Falls
 pub mod Kept
 pub mod Lengths

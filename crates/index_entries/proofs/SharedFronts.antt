@@ -27,3 +27,12 @@ shared_within (x ∷ xs) (y ∷ ys) = by (shared_within xs ys) (x == y) refl
     by : shared_len xs ys ≤ length xs → (b : Bool) → (x == y) ≡ b → shared_len (x ∷ xs) (y ∷ ys) ≤ length (x ∷ xs)
     by tails true e = rw e (omega (arith, tails))
     by tails false e = rw e (omega arith)
+
+pub shared_within_second : (xs ys : List ℕ) → shared_len xs ys ≤ length ys
+shared_within_second [] ys = omega arith
+shared_within_second (x ∷ xs) [] = omega arith
+shared_within_second (x ∷ xs) (y ∷ ys) = by (shared_within_second xs ys) (x == y) refl
+  where
+    by : shared_len xs ys ≤ length ys → (b : Bool) → (x == y) ≡ b → shared_len (x ∷ xs) (y ∷ ys) ≤ length (y ∷ ys)
+    by tails true e = rw e (omega (arith, tails))
+    by tails false e = rw e (omega arith)

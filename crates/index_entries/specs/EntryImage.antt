@@ -1,15 +1,19 @@
 -- Entries as bytes (gitformat-index, "Index entry"): the one spelling that is written of a record, and what it keeps.
-use Rattle.std.specs.Prelude.{ℕ, ◌-◌, ◌%◌, ◌==◌, Bool, not, min, List, [], ◌++◌, length, map, replicate, bit_and, bit_or, if◌then◌else◌}
+use Rattle.std.specs.Prelude.{◌≢◌, ℕ, ◌-◌, ◌%◌, ◌==◌, Bool, not, min, List, [], ◌∷◌, ◌++◌, All, length, map, drop, replicate, bit_and, bit_or, if◌then◌else◌}
 use Rattle.std.specs.List.{filter, list_any}
 use Rattle.std.specs.Int.{w16, w32, to_be_bytes}
 use Rattle.index_parts.specs.Flags.{is_extended, kept_flags, rest_flags, extended_flags}
 use Rattle.index_parts.specs.Id.{id_bytes}
 use Rattle.index_parts.specs.Mode.{kept_mode}
+use Rattle.index_parts.specs.Offset.{offset_bytes}
 use Rattle.index_entries.specs.declared.Version.{Version}
 use Rattle.index_entries.specs.declared.Version.TheVariants.{V2, V3, V4}
+use Rattle.index_entries.specs.declared.write.VersionChoice.{VersionChoice}
+use Rattle.index_entries.specs.declared.write.VersionChoice.TheVariants as choices
 use Rattle.index_entries.specs.Entry.{Front, front_bytes}
 use Rattle.index_entries.specs.Header.{signature}
 use Rattle.index_entries.specs.Record.{Record}
+use Rattle.index_entries.specs.Shared.{shared_len}
 
 -- numbers of two and of four bytes, the highest byte first
 abbrev pub be16 : ℕ → List ℕ
@@ -49,7 +53,23 @@ padding n = replicate (8 - n % 8) 0
 abbrev pub entry_bytes : Record → List ℕ
 entry_bytes r = unpadded r ++ padding (length (unpadded r))
 
+-- an entry of version 4 behind a path: how many bytes of that path are taken off, those of its own that follow, and a NUL
+unfoldable pub delta_bytes : List ℕ → Record → List ℕ
+delta_bytes previous r =
+    front_bytes (front_of r) ++ (offset_bytes (length previous - shared_len previous r.path) ++ (drop (shared_len previous r.path) r.path ++ 0 ∷ []))
+
+-- an entry of a version behind a path, which makes a difference in version 4 alone
+abbrev pub entry_in : Version → List ℕ → Record → List ℕ
+entry_in V2 previous r = entry_bytes r
+entry_in V3 previous r = entry_bytes r
+entry_in V4 previous r = delta_bytes previous r
+
 -- ---- all entries
+
+-- entries one after another, the first behind this path
+abbrev pub entries_in : Version → List ℕ → List Record → List ℕ
+entries_in version previous [] = []
+entries_in version previous (r ∷ rs) = entry_in version previous r ++ entries_in version r.path rs
 
 -- marked REMOVE, bit 17 of the flags in memory: a file leaves the entry out
 abbrev pub is_removed : ℕ → Bool
@@ -59,9 +79,18 @@ is_removed flags = bit_and flags 0x20000 == 0x20000
 abbrev pub written : List Record → List Record
 written rs = filter (λ r. not (is_removed r.flags)) rs
 
--- version 3 where a record has bit 14, also one that is left out
-abbrev pub needed_version : List Record → Version
-needed_version rs = if list_any (λ r. is_extended r.flags) rs then V3 else V2
+-- no path that is written has a NUL
+abbrev pub LackNul : List Record → Type 0
+LackNul rs = All (λ r. All (λ b. b ≢ 0) r.path) (written rs)
+
+-- version 4 where it is chosen; else version 3 where there is a second word of flags, or 2
+abbrev pub version_by : VersionChoice → Bool → Version
+version_by choices.Smallest extended = if extended then V3 else V2
+version_by choices.V4 extended = V4
+
+-- the version of these records: one that is left out counts too
+abbrev pub chosen_version : VersionChoice → List Record → Version
+chosen_version choice rs = version_by choice (list_any (λ r. is_extended r.flags) rs)
 
 abbrev pub version_code : Version → ℕ
 version_code V2 = 2

@@ -1,7 +1,11 @@
-//! What paths that stand one behind the other share.
+//! What the paths of entries share, and whether they have a NUL, as their spelling in version 4 asks (gitformat-index).
 
-ghost use Rattle.std.specs.Prelude.{◌≡◌, ◌≤◌, length};
+ghost use Rattle.std.specs.Prelude.{◌≡◌, ◌≢◌, ◌≤◌, ◌↔◌, All, IsTrue, length};
+ghost use Rattle.index_entries.specs.EntryImage.{LackNul};
+ghost use Rattle.index_entries.specs.Record.{IsPlaced, records_in};
 ghost use Rattle.index_entries.specs.Shared.{shared_len};
+
+use crate::Entry;
 
 /// How many bytes both begin with: the length of the longest front that they share.
 pub fn shared_len(a: &[u8], b: &[u8]) -> usize
@@ -17,4 +21,27 @@ pub fn shared_len(a: &[u8], b: &[u8]) -> usize
         len += 1;
     }
     len
+}
+
+/// Whether no byte of the path is a NUL.
+fn lacks_nul(path: &[u8]) -> bool
+    ensures { IsTrue result ↔ All (λ b. b ≢ 0) path.now }
+{
+    path.iter().all(|byte| *byte != 0)
+}
+
+/// Whether no path of the entries that are not left out has a NUL.
+pub fn paths_without_nul(entries: &[Entry], storage: &[u8]) -> bool
+    requires placed { All (IsPlaced (length storage.now)) entries.now }
+    ensures { IsTrue result ↔ LackNul (records_in storage.now entries.now) }
+{
+    for entry in entries {
+        if entry.is_removed() {
+            continue;
+        }
+        if !lacks_nul(entry.path_in(storage)) {
+            return false;
+        }
+    }
+    true
 }

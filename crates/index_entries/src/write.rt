@@ -1,14 +1,13 @@
-//! Writing the header and the entries of a file of version 2 or 3.
+//! Writing the header and the entries of a file.
 
+mod delta;
 mod entry;
 
-ghost use Rattle.std.specs.Prelude.{◌≡◌, ◌+◌, ◌<◌, ◌≤◌, ◌^◌, length, false, is_err, All, IfSome, IfNone, if◌then◌else◌};
-ghost use Rattle.std.specs.List.{flat_map};
+ghost use Rattle.std.specs.Prelude.{◌≡◌, ◌+◌, ◌<◌, ◌≤◌, ◌^◌, [], length, false, is_err, All, IfSome, IfNone};
 ghost use Rattle.index_parts.specs.Taking.{Puts};
-ghost use Rattle.index_entries.specs.EntryImage.{entry_bytes, written, needed_version, header_bytes};
+ghost use Rattle.index_entries.specs.EntryImage.{chosen_version, entries_in, header_bytes, version_by, written};
 ghost use Rattle.index_entries.specs.Header.{header_len};
 ghost use Rattle.index_entries.specs.Record.{IsPlaced, records_in};
-ghost use Rattle.index_entries.specs.declared.Version.TheVariants.{V2, V3};
 
 use crate::decode::header::HEADER_LEN;
 use crate::{Entry, Version};
@@ -17,10 +16,20 @@ use index_parts::entry::Flags;
 use index_parts::hash::io::Out;
 use std::io;
 
+/// Which version a file is written in.
+#[derive(Clone, Copy, Debug, Default, PartialEq, Eq)]
+pub enum VersionChoice {
+    /// Version 3 where an entry has a second word of flags, even one that is left out, else version 2.
+    #[default]
+    Smallest,
+    /// Version 4, in which paths are differences to the path before and have no NUL.
+    V4,
+}
+
 /// What entries come to in a file.
 #[derive(Clone, Copy)]
 pub struct Totals {
-    /// The version that they need: 3 where one has a second word of flags, even one that is left out.
+    /// The version that they have.
     pub version: Version,
     /// How many of them are written.
     pub count: u32,
@@ -37,56 +46,69 @@ pub fn header(version: Version, count: u32) -> [u8; HEADER_LEN]
     [b'D', b'I', b'R', b'C', a, b, c, d, e, f, g, h]
 }
 
-/// Writes the entries that are not left out, one after another.
-pub fn put_entries<W: Out>(entries: &[Entry], storage: &[u8], out: &mut W) -> io::Result<()>
+/// Writes the entries that are not left out, one after another, as a file of this version has them.
+pub fn put_entries<W: Out>(
+    version: Version,
+    entries: &[Entry],
+    storage: &[u8],
+    out: &mut W,
+) -> io::Result<()>
     requires placed { All (IsPlaced (length storage.now)) entries.now }
     requires unfailed { W.failed out.old ≡ false }
-    ensures bytes { Puts W.taken W.hashed out.old out.new result (flat_map entry_bytes (written (records_in storage.now entries.now))) }
+    ensures bytes { Puts W.taken W.hashed out.old out.new result (entries_in version [] (written (records_in storage.now entries.now))) }
     ensures mark { W.failed out.new ≡ is_err result }
     ensures loan { W.loan out.new ≡ W.loan out.old }
 {
+    let mut previous: &[u8] = &[];
     for entry in entries {
-        if !entry.is_removed() {
-            entry.put(storage, out)?;
+        if entry.is_removed() {
+            continue;
         }
+        entry.put(version, previous, storage, out)?;
+        previous = entry.path_in(storage);
     }
     Ok(())
 }
 
-/// The version that entries need where one has a second word of flags, or none has.
-fn version_for(is_extended: bool) -> Version
-    ensures { result ≡ (if is_extended then V3 else V2) }
+/// The version of a file in which an entry has a second word of flags, or none has.
+fn version_by(choice: VersionChoice, is_extended: bool) -> Version
+    ensures { result ≡ version_by choice is_extended }
 {
-    if is_extended {
-        return Version::V3;
+    match choice {
+        VersionChoice::V4 => Version::V4,
+        VersionChoice::Smallest if is_extended => Version::V3,
+        VersionChoice::Smallest => Version::V2,
     }
-    Version::V2
 }
 
 /// What the entries come to, by one pass over them; None where 32 bits can't count the bytes.
-pub fn totals_of(entries: &[Entry], storage: &[u8]) -> Option<Totals>
+pub fn totals_of(choice: VersionChoice, entries: &[Entry], storage: &[u8]) -> Option<Totals>
     requires placed { All (IsPlaced (length storage.now)) entries.now }
     requires few { length entries.now < 2 ^ 32 }
-    ensures version { IfSome result (λ t. t.version ≡ needed_version (records_in storage.now entries.now)) }
+    ensures version { IfSome result (λ t. t.version ≡ chosen_version choice (records_in storage.now entries.now)) }
     ensures count { IfSome result (λ t. t.count ≡ length (written (records_in storage.now entries.now))) }
-    ensures end { IfSome result (λ t. t.end ≡ header_len + length (flat_map entry_bytes (written (records_in storage.now entries.now)))) }
-    ensures none { IfNone result (2 ^ 32 ≤ header_len + length (flat_map entry_bytes (written (records_in storage.now entries.now)))) }
+    ensures end { IfSome result (λ t. t.end ≡ header_len + length (entries_in t.version [] (written (records_in storage.now entries.now)))) }
+    ensures none { IfNone result (2 ^ 32 ≤ header_len + length (entries_in (chosen_version choice (records_in storage.now entries.now)) [] (written (records_in storage.now entries.now)))) }
 {
+    // Versions 2 and 3 differ in their number alone.
+    let counted = version_by(choice, false);
     let mut is_extended = false;
     let mut count = 0;
     let mut end = HEADER_LEN as u64;
+    let mut last: &[u8] = &[];
     for entry in entries {
         is_extended |= entry.flags.contains(Flags::EXTENDED);
         if !entry.is_removed() {
             count += 1;
-            end += entry.written_len(storage);
+            end += entry.written_len(counted, last, storage);
             if end > u64::from(u32::MAX) {
                 return None;
             }
+            last = entry.path_in(storage);
         }
     }
     Some(Totals {
-        version: version_for(is_extended),
+        version: version_by(choice, is_extended),
         count,
         end: end as u32,
     })

@@ -12,10 +12,11 @@ use Rattle.index_extensions.specs.Spelling.{item_bytes, marker_item}
 use Rattle.index_extensions.specs.StoredTree.{stored_node}
 use Rattle.index_extensions.specs.Tree.{Node}
 use Rattle.index_extensions.specs.Walk.{Item}
-use Rattle.index_entries.specs.EntryImage.{entry_bytes, header_bytes, needed_version, stored_record, stored_records, written}
+use Rattle.index_entries.specs.EntryImage.{chosen_version, entries_in, header_bytes, stored_record, stored_records, written}
 use Rattle.index_entries.specs.Record.{Record, AreBytes, has_directory}
 use Rattle.index_entries.proofs.ReadRecords.{AreKept}
 use Rattle.index_state.specs.declared.decode.Options.{Options as ReadOptions}
+use Rattle.index_state.specs.declared.write.Extensions.{Extensions}
 use Rattle.index_state.specs.declared.write.Options.{Options}
 use Rattle.index_state.specs.Answer.{IsAnswer}
 use Rattle.index_state.specs.Image.{asks_for, tree_items, sparse_items, items_of, unmarked, body, image}
@@ -30,11 +31,11 @@ use Rattle.index_state.proofs.RoundTrip.{written_reads_back}
 
 abbrev marks : Kind → List Record → List Item → Options → List Item
 marks kind rs items options =
-    cond (not (eqb (length rs) 0) && (asks_for options.extensions (codes "EOIE") && not (eqb (length items) 0))) (marker_item kind (12 + length (flat_map entry_bytes (written rs))) (heads items) ∷ []) []
+    cond (not (eqb (length rs) 0) && (asks_for options.extensions (codes "EOIE") && not (eqb (length items) 0))) (marker_item kind (12 + length (entries_in (chosen_version options.version rs) [] (written rs))) (heads items) ∷ []) []
 
 abbrev body_of : Kind → List Record → List Item → Options → List ℕ
 body_of kind rs items options =
-    (header_bytes (needed_version rs) (length (written rs)) ++ (flat_map entry_bytes (written rs) ++ flat_map item_bytes items)) ++ flat_map item_bytes (marks kind rs items options)
+    (header_bytes (chosen_version options.version rs) (length (written rs)) ++ (entries_in (chosen_version options.version rs) [] (written rs) ++ flat_map item_bytes items)) ++ flat_map item_bytes (marks kind rs items options)
 
 abbrev image_of : Kind → List Record → List Item → Options → List ℕ
 image_of kind rs items options = body_of kind rs items options ++ cond options.skip_hash (replicate (id_len kind) 0) (digest kind (body_of kind rs items options))
@@ -60,28 +61,36 @@ tree_stays kind true None h = refl
 tree_stays kind true (Some t) h = ap (λ (u : Node). tree_items true (Some u)) h
 tree_stays kind false tree h = refl
 
--- what reading an image of such a value gives has the same image
-expected_stays : (kind : Kind) (bytes : List ℕ) (v : Contents) (options : Options) (time : FileTime) → IsReadValue kind bytes v → image (expected v options time) options ≡ image v options
+-- what reading an image of such a value gives has the same image, by all options that choose the same extensions
+expected_stays : (kind : Kind) (bytes : List ℕ) (v : Contents) (options chosen : Options) (time : FileTime) → chosen.extensions ≡ options.extensions → IsReadValue kind bytes v → image (expected v options time) chosen ≡ image v chosen
 unfolding items_of
-expected_stays kind bytes v options time h =
+expected_stays kind bytes v options chosen time same h =
     let e : Contents = expected v options time in
     let rs : stored_records v.records ≡ v.records = records_stay kind v.records h.kept in
     let asked : Bool = asks_for options.extensions (codes "TREE") in
+    let again : asks_for chosen.extensions (codes "TREE") ≡ asked = ap (λ (x : Extensions). asks_for x (codes "TREE")) same in
     let tree : IfSome v.extensions.tree (λ t. stored_node v.kind t ≡ t) = subst (λ (k : Kind). IfSome v.extensions.tree (λ t. stored_node k t ≡ t)) (sym h.is_kind) h.tree in
     let mark : e.extensions.sparse ≡ v.extensions.sparse = ap (λ (xs : List Record). v.extensions.sparse || has_directory xs) rs ∙ h.sparse in
-    same_image e v options refl rs (items_by e.extensions.tree v.extensions.tree e.extensions.sparse v.extensions.sparse asked (tree_stays v.kind asked v.extensions.tree tree) mark)
+    same_image e v chosen refl rs (items_by e.extensions.tree v.extensions.tree e.extensions.sparse v.extensions.sparse (asks_for chosen.extensions (codes "TREE")) asked again (tree_stays v.kind asked v.extensions.tree tree) mark)
   where
-    items_by : (t u : Option Node) (a b : Bool) (asked : Bool) → tree_items asked t ≡ tree_items asked u → a ≡ b → (tree_items asked t ++ sparse_items a) ≡ (tree_items asked u ++ sparse_items b)
-    items_by t u a b asked p q = rw (p, q) refl
+    items_by : (t u : Option Node) (a b : Bool) (asked before : Bool) → asked ≡ before → tree_items before t ≡ tree_items before u → a ≡ b → (tree_items asked t ++ sparse_items a) ≡ (tree_items asked u ++ sparse_items b)
+    items_by t u a b asked before e p q = rw (e, p, q) refl
+
+-- A value that was read, written and read again is written as before, by all options that choose the same extensions.
+pub version_change_loses_nothing : (kind : Kind) (time again : FileTime) (first second : ReadOptions) (bytes : List ℕ) (v w : Contents) (c d : Option ObjectId) (options : Options) → AreBytes bytes → IsAnswer kind time first bytes (Ok (v, c))
+    → IsWritable v options → IsUnmistakable v options → second.alloc_limit_bytes ≡ None → second.expected_checksum ≡ None
+    → IsAnswer kind again second (image v options) (Ok (w, d)) → (chosen : Options) → chosen.extensions ≡ options.extensions → image w chosen ≡ image v chosen
+version_change_loses_nothing kind time again first second bytes v w c d options are read writable unmistakable limit check reread chosen extensions =
+    let facts = answer_read kind time first bytes v c read in
+    let back = written_reads_back v options again second (facts.storable are) writable unmistakable limit check in
+    let there = subst (λ (k : Kind). IsAnswer k again second (image v options) (Ok (w, d))) (sym facts.is_kind) reread in
+    let one = answer_one v.kind again second (image v options) _ _ there back in
+    let same : w ≡ expected v options again = same_value w (expected v options again) d _ one in
+    ap (λ (x : Contents). image x chosen) same ∙ expected_stays kind bytes v options chosen again extensions facts
 
 -- a value that was read, written, read and written again by the same options is the same bytes twice
 pub rewrite_is_canonical : (kind : Kind) (time again : FileTime) (first second : ReadOptions) (bytes : List ℕ) (v w : Contents) (c d : Option ObjectId) (options : Options) → AreBytes bytes → IsAnswer kind time first bytes (Ok (v, c))
     → IsWritable v options → IsUnmistakable v options → second.alloc_limit_bytes ≡ None → second.expected_checksum ≡ None
     → IsAnswer kind again second (image v options) (Ok (w, d)) → image w options ≡ image v options
 rewrite_is_canonical kind time again first second bytes v w c d options are read writable unmistakable limit check reread =
-    let facts = answer_read kind time first bytes v c read in
-    let back = written_reads_back v options again second (facts.storable are) writable unmistakable limit check in
-    let there = subst (λ (k : Kind). IsAnswer k again second (image v options) (Ok (w, d))) (sym facts.is_kind) reread in
-    let one = answer_one v.kind again second (image v options) _ _ there back in
-    let same : w ≡ expected v options again = same_value w (expected v options again) d _ one in
-    ap (λ (x : Contents). image x options) same ∙ expected_stays kind bytes v options again facts
+    version_change_loses_nothing kind time again first second bytes v w c d options are read writable unmistakable limit check reread options refl

@@ -5,7 +5,7 @@ use Rattle.std.specs.List.{flat_map, list_any, AllByRecursion}
 use Rattle.std.proofs.lemmas.Bool.{le-ltb, and_parts}
 use Rattle.std.proofs.lemmas.Grind.{flat_map-append}
 use Rattle.std.proofs.lemmas.List.{length-map, length-replicate}
-use Rattle.std.proofs.lemmas.List.Elements.{All-head, All-tail}
+use Rattle.std.proofs.lemmas.List.Elements.{All-head, All-tail, recursion_from_All}
 use Rattle.std.proofs.lemmas.Nat.{le-div}
 use Rattle.index_parts.proofs.Digests.{length-digest}
 use Rattle.index_parts.specs.Digest.{digest}
@@ -26,12 +26,15 @@ use Rattle.index_extensions.proofs.WrittenItems.{IsWhole, items_there, marker_th
 use Rattle.index_extensions.proofs.WrittenTrees.{tree_again}
 use Rattle.index_entries.specs.declared.Version.{Version}
 use Rattle.index_entries.specs.declared.Version.TheVariants.{V2, V3, V4}
+use Rattle.index_entries.specs.declared.write.VersionChoice.{VersionChoice}
+use Rattle.index_entries.specs.declared.write.VersionChoice.TheVariants as choices
 use Rattle.index_entries.specs.Entries.{AreEntries}
-use Rattle.index_entries.specs.EntryImage.{is_removed, written, header_bytes, stored_record}
+use Rattle.index_entries.specs.EntryImage.{is_removed, written, header_bytes, stored_record, version_by}
 use Rattle.index_entries.specs.Header.{header_of, count_of}
 use Rattle.index_entries.specs.Limits.{block_len, most_entries, smallest_entry, is_too_large}
 use Rattle.index_entries.specs.Record.{Record, IsSized}
-use Rattle.index_entries.proofs.Again.{IsStorableIn, entries_again, smallest_entries}
+use Rattle.index_entries.proofs.Again.{IsStorableIn}
+use Rattle.index_entries.proofs.EntriesAgain.{HasPath, entries_again, smallest_entries}
 use Rattle.index_entries.proofs.Words.{be_be32}
 use Rattle.index_state.specs.declared.decode.Options.{Options as ReadOptions}
 use Rattle.index_state.specs.declared.write.Options.{Options}
@@ -39,7 +42,7 @@ use Rattle.index_state.specs.Answer.{Answer, checksum_of, IsVerified, value_of, 
 use Rattle.index_state.specs.Image.{asks_for, image_version, entries_bytes, entries_end, items_of, has_marker, marker_of, unmarked, body, trailer, image}
 use Rattle.index_state.specs.Outcome.{Outcome, AreSound, IsOutcome}
 use Rattle.index_state.specs.State.{Contents}
-use Rattle.index_state.specs.Storable.{IsStorable, IsWritable, IsUnmistakable}
+use Rattle.index_state.specs.Storable.{CanSpell, IsStorable, IsWritable, IsUnmistakable}
 use Rattle.index_state.specs.Stored.{expected}
 use Rattle.index_state.proofs.WrittenOutcomes.{marker_items, written_outcome, outcome_there, all_sound, some_whole, all_whole, content_small, first_item}
 
@@ -70,14 +73,24 @@ record AreWritten (version : Version) (kind : Kind) (rs : List Record) (es : Lis
   read : (rest : List ℕ) → 1 ≤ length rest → AreEntries version kind None (es ++ rest) (map stored_record rs) rest
   room : length rs * smallest_entry kind version ≤ length es
 
+each_path : (version : Version) (rs : List Record) → ((r : Record) → HasPath version r) → AllByRecursion (HasPath version) rs
+each_path version [] h = tt
+each_path version (r ∷ rs) h = (h r, each_path version rs h)
+
+paths_by : (choice : VersionChoice) (extended : Bool) (v : Contents) → CanSpell choice v → AllByRecursion (HasPath (version_by choice extended)) (written v.records)
+paths_by choices.Smallest true v h = each_path V3 (written v.records) (λ r. tt)
+paths_by choices.Smallest false v h = each_path V2 (written v.records) (λ r. tt)
+paths_by choices.V4 extended v h = recursion_from_All (λ r. All (λ b. b ≢ 0) r.path) (written v.records) h
+
 -- the entries of an image, in the version that it has
-entries_there : (v : Contents) (options : Options) → IsStorable v → AreWritten (image_version v options) v.kind (written v.records) (entries_bytes v options)
-entries_there v options h =
-    let b : Bool = list_any (λ r. is_extended r.flags) v.records in
+entries_there : (v : Contents) (options : Options) → IsStorable v → CanSpell options.version v → length (entries_bytes v options) < 2 ^ 64 → AreWritten (image_version v options) v.kind (written v.records) (entries_bytes v options)
+entries_there v options h paths small =
+    let version : Version = image_version v options in
     let each = storable_from v.kind v.records h.ids h.paths h.fits in
+    let spelled = paths_by options.version (list_any (λ r. is_extended r.flags) v.records) v paths in
     record {
-      read = λ rest some. entries_again b v.kind None (written v.records) rest each;
-      room = smallest_entries b v.kind (written v.records) each;
+      read = λ rest some. entries_again version v.kind None [] (written v.records) rest refl each spelled (omega arith) some;
+      room = smallest_entries version v.kind [] (written v.records) each;
     }
 
 -- ---- the header
@@ -243,7 +256,7 @@ written_reads_back v options time reading storable writable unmistakable limit c
     let each = some_whole asked tree sparse (omega (arith, small)) in
     let image_is : image v options ≡ bytes_of version rs es items t = body_parts v options t in
     let parts : AreParts version v.kind rs es items t = record {
-      entries = entries_there v options storable;
+      entries = entries_there v options storable writable.paths (omega (arith, small));
       few = omega (arith, fewer_written v.records, writable.few);
       whole_items = all_whole asked tree sparse m content (omega (arith, small)) (content_small v.kind (entries_end v options) (heads (items_of v options)));
       sound = all_sound v.kind asked tree sparse m content;

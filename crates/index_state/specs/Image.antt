@@ -8,7 +8,7 @@ use Rattle.index_extensions.specs.EndMarker.{heads}
 use Rattle.index_extensions.specs.Spelling.{item_bytes, tree_item, sparse_item, marker_item}
 use Rattle.index_extensions.specs.Tree.{Node}
 use Rattle.index_extensions.specs.Walk.{Item}
-use Rattle.index_entries.specs.EntryImage.{entry_bytes, header_bytes, needed_version, written}
+use Rattle.index_entries.specs.EntryImage.{chosen_version, entries_in, header_bytes, written}
 use Rattle.index_entries.specs.Header.{header_len}
 use Rattle.index_entries.specs.declared.Version.{Version}
 use Rattle.index_state.specs.declared.write.Extensions.{Extensions}
@@ -20,11 +20,11 @@ use Rattle.index_state.specs.State.{Contents}
 
 -- the version that is written
 abbrev pub image_version : Contents → Options → Version
-image_version v options = needed_version v.records
+image_version v options = chosen_version options.version v.records
 
 -- the entries that are written, one after another
 abbrev pub entries_bytes : Contents → Options → List ℕ
-entries_bytes v options = flat_map entry_bytes (written v.records)
+entries_bytes v options = entries_in (image_version v options) [] (written v.records)
 
 -- the place behind the entries
 abbrev pub entries_end : Contents → Options → ℕ

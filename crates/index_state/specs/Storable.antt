@@ -4,6 +4,9 @@ use Rattle.index_parts.specs.Id.{id_kind}
 use Rattle.index_parts.specs.declared.hash.Kind.TheVariants.{Sha1}
 use Rattle.index_extensions.specs.EndMarker.{IsMarker}
 use Rattle.index_extensions.specs.StoredTree.{IsStorableTree}
+use Rattle.index_entries.specs.declared.write.VersionChoice.{VersionChoice}
+use Rattle.index_entries.specs.declared.write.VersionChoice.TheVariants as choices
+use Rattle.index_entries.specs.EntryImage.{LackNul}
 use Rattle.index_entries.specs.Record.{IsSized}
 use Rattle.index_state.specs.declared.write.Options.{Options}
 use Rattle.index_state.specs.Image.{has_marker, image, unmarked}
@@ -17,9 +20,15 @@ pub record IsStorable (v : Contents) : Type 0 where
   pub fits : All IsSized v.records
   pub tree : IfSome v.extensions.tree (IsStorableTree v.kind)
 
--- the limits of a file are not passed: writing has no reason to refuse
+-- in version 4 no path that is written has a NUL
+abbrev pub CanSpell : VersionChoice → Contents → Type 0
+CanSpell choices.Smallest v = Unit {0}
+CanSpell choices.V4 v = LackNul v.records
+
+-- the limits of a file are not passed, and its version has all paths: writing has no reason to refuse
 pub record IsWritable (v : Contents) (options : Options) : Type 0 where
   pub few : length v.records < 2 ^ 32
+  pub paths : CanSpell options.version v
   pub small : length (unmarked v options) < 2 ^ 32
 
 -- a file of SHA-1 that has no end marker doesn't end as if it had one

@@ -9,6 +9,7 @@ use Rattle.index_state.specs.declared.write.Error.TheVariants as errors
 abbrev pub Fails : {S : Type 0} → (S → Option (List ℕ)) → (S → Bool) → S → S → Error → List ℕ → Type 0
 Fails taken failed old new (errors.Io e) bytes = AppendsFront (taken old) (taken new) bytes × (failed new ≡ true)
 Fails taken failed old new errors.TooManyEntries bytes = new ≡ old
+Fails taken failed old new errors.NulInPath bytes = new ≡ old
 Fails taken failed old new errors.TooLarge bytes = new ≡ old
 
 -- an Ok took the bytes whole, and the writer bears no mark

@@ -4,6 +4,7 @@
 ghost use Rattle.std.specs.Prelude.{◌≡◌, ◌↔◌, ◌<◌, length, slice_get, IsTrue};
 
 use crate::extension::decode::Outcome;
+use index_entries::paths::paths_without_nul;
 use index_entries::{Entry, PathBacking, PathStorage, PathStorageRef, Version, are_placed};
 use index_parts::entry::FileTime;
 use index_parts::hash::Kind;
@@ -47,6 +48,7 @@ impl Clone for State {
 }
 
 impl State {
+    ghost use Rattle.index_entries.specs.EntryImage.{LackNul};
     ghost use Rattle.index_state.specs.State.{PathsInStorage, contents, entries_of, storage_of};
 
     /// The version of the file that was read.
@@ -107,6 +109,15 @@ impl State {
         ensures { IsTrue result ↔ PathsInStorage self.now }
     {
         are_placed(&self.entries, self.path_backing.len())
+    }
+
+    /// Whether no path of the entries that aren't marked `REMOVE` has a NUL; true where there are none. Version 4 is written
+    /// only where it holds. No memory is taken.
+    pub fn paths_without_nul(&self) -> bool
+        requires { PathsInStorage self.now }
+        ensures { IsTrue result ↔ LackNul (contents self.now).records }
+    {
+        paths_without_nul(&self.entries, &self.path_backing)
     }
 }
 

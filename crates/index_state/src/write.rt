@@ -3,15 +3,17 @@
 mod behind;
 mod layout;
 
-ghost use Rattle.std.specs.Prelude.{◌≡◌, ◌≤◌, ◌<◌, ◌^◌, ◌↔◌, length, false, is_err, IfOk, OnOk, Some, None, if◌then◌else◌};
+ghost use Rattle.std.specs.Prelude.{◌≡◌, ◌≤◌, ◌<◌, ◌^◌, ◌↔◌, length, false, is_err, IfOk, IsTrue, OnOk, Some, None, if◌then◌else◌};
 ghost use Rattle.index_parts.specs.Taking.{Hashes, Puts};
 ghost use Rattle.index_state.specs.declared.write.Error.TheVariants.{Io};
 ghost use Rattle.index_state.specs.Image.{asks_for, image_version, unmarked, body};
 ghost use Rattle.index_state.specs.Layout.{front_bytes_of, IsLayout};
 ghost use Rattle.index_state.specs.State.{PathsInStorage, contents};
+ghost use Rattle.index_state.specs.Storable.{CanSpell};
 ghost use Rattle.index_state.specs.Writing.{Writes};
 
 use crate::State;
+pub use index_entries::write::VersionChoice;
 use index_entries::{Version, write};
 use index_extensions::extension::{Signature, end_of_index_entry, tree};
 use index_parts::hash::io::Out;
@@ -41,6 +43,8 @@ pub enum Extensions {
 pub struct Options {
     /// Which extensions are written, beside those that a reader needs.
     pub extensions: Extensions,
+    /// Which version is written.
+    pub version: VersionChoice,
     /// Whether the trailer of a whole file is zeros in place of its digest (git's `index.skipHash`).
     pub skip_hash: bool,
 }
@@ -51,6 +55,9 @@ pub enum Error {
     /// There are more than 2^32 - 1 entries, those that would be left out among them. No byte was written.
     #[error("the index has more entries than the 4294967295 that a file can count")]
     TooManyEntries,
+    /// Version 4 was chosen, and a path that would be written has a NUL, which ends a path there. No byte was written.
+    #[error("a path of the index has a NUL byte, which a file of version 4 can't hold")]
+    NulInPath,
     /// There would be more than 2^32 - 1 bytes before the end marker. No byte was written.
     #[error("the index would take more than the 4294967295 bytes that a file's offsets can reach")]
     TooLarge,
@@ -104,7 +111,8 @@ impl State {
         ensures loan { W.loan out.new ≡ W.loan out.old }
     {
         out.put(&write::header(layout.entries.version, layout.entries.count))?;
-        write::put_entries(&self.entries, &self.path_backing, out)
+        let version = layout.entries.version;
+        write::put_entries(version, &self.entries, &self.path_backing, out)
     }
 
     /// Writes all but the trailer.
@@ -120,8 +128,19 @@ impl State {
         self.put_extensions(layout, out, options)
     }
 
-    /// Writes the index as the bytes of a file, but for the trailer, and gives the version that they have: 3 where an
-    /// entry has `EXTENDED`, even one that is left out, else 2 (gitformat-index, "The Git index file has the
+    /// Whether a file of the chosen version has all paths that would be written.
+    fn can_spell(&self, choice: VersionChoice) -> bool
+        requires { PathsInStorage self.now }
+        ensures { IsTrue result ↔ CanSpell choice (contents self.now) }
+    {
+        match choice {
+            VersionChoice::Smallest => true,
+            VersionChoice::V4 => self.paths_without_nul(),
+        }
+    }
+
+    /// Writes the index as the bytes of a file, but for the trailer, and gives the version that they have: 4 where it is chosen;
+    /// else 3 where an entry has `EXTENDED`, even one that is left out, or 2 (gitformat-index, "The Git index file has the
     /// following format").
     ///
     /// Entries marked `REMOVE` are left out, and the header doesn't count them. The others have their place and
@@ -130,7 +149,9 @@ impl State {
     /// sparse index; and, behind one of these, an end marker, where there are entries, even ones that are left out, and the
     /// options ask for it.
     ///
-    /// [`Error::TooManyEntries`], then [`Error::TooLarge`], come before any byte and leave the writer as it was.
+    /// In version 4 each path is written as its difference to the one that was written before it.
+    ///
+    /// [`Error::TooManyEntries`], then [`Error::NulInPath`], then [`Error::TooLarge`], come before any byte and leave the writer as it was.
     /// [`Error::Io`] comes only where the writer failed, which then took a front of the bytes. No memory is taken.
     pub fn write_to<W: Out>(&self, out: &mut W, options: Options) -> Result<Version, Error>
         requires placed { PathsInStorage self.now }
@@ -140,11 +161,16 @@ impl State {
         ensures hashed { OnOk result (Hashes W.hashed out.old out.new (body (contents self.now) options)) }
         ensures loan { W.loan out.new ≡ W.loan out.old }
         ensures too_many { (result ≡ Err Error.TooManyEntries) ↔ (2 ^ 32 ≤ length (contents self.now).records) }
+        ensures nul_in_path { (result ≡ Err Error.NulInPath)
+            ↔ ((length (contents self.now).records < 2 ^ 32) × (CanSpell options.version (contents self.now) → ⊥)) }
         ensures too_large { (result ≡ Err Error.TooLarge)
-            ↔ ((length (contents self.now).records < 2 ^ 32) × (2 ^ 32 ≤ length (unmarked (contents self.now) options))) }
+            ↔ ((length (contents self.now).records < 2 ^ 32) × CanSpell options.version (contents self.now) × (2 ^ 32 ≤ length (unmarked (contents self.now) options))) }
     {
         if self.entries.len() > u32::MAX as usize {
             return Err(Error::TooManyEntries);
+        }
+        if !self.can_spell(options.version) {
+            return Err(Error::NulInPath);
         }
         let Some(layout) = self.layout(options) else {
             return Err(Error::TooLarge);

@@ -37,6 +37,9 @@ pub enum Error {
     /// As [`write::Error::TooManyEntries`].
     #[error("the index has more entries than the 4294967295 that a file can count")]
     TooManyEntries,
+    /// As [`write::Error::NulInPath`].
+    #[error("a path of the index has a NUL byte, which a file of version 4 can't hold")]
+    NulInPath,
     /// As [`write::Error::TooLarge`].
     #[error("the index would take more than the 4294967295 bytes that a file's offsets can reach")]
     TooLarge,
@@ -83,6 +86,7 @@ fn lock_path(alloc: Global, path: &PathBuf) -> Result<PathBuf, AllocError> {
 enum Fault {
     Put(io::Error),
     TooManyEntries,
+    NulInPath,
     TooLarge,
 }
 
@@ -108,6 +112,7 @@ impl File {
             Ok(answer) => answer,
             Err(write::Error::Io(e)) => return Err(Fault::Put(e)),
             Err(write::Error::TooManyEntries) => return Err(Fault::TooManyEntries),
+            Err(write::Error::NulInPath) => return Err(Fault::NulInPath),
             Err(write::Error::TooLarge) => return Err(Fault::TooLarge),
         };
         match out.inner.flush() {
@@ -142,6 +147,7 @@ impl File {
                 return Err(match fault {
                     Fault::Put(e) => fault_of(Step::Put, lock, e),
                     Fault::TooManyEntries => Error::TooManyEntries,
+                    Fault::NulInPath => Error::NulInPath,
                     Fault::TooLarge => Error::TooLarge,
                 });
             }
@@ -162,8 +168,8 @@ impl File {
     /// written; the checksum becomes None with `skip_hash`. All else stays. Nothing is synced to the disk.
     ///
     /// [`Error::AcquireLock`], [`Error::Io`] and [`Error::CommitLock`] say which step failed;
-    /// [`Error::TooManyEntries`] and [`Error::TooLarge`] are those of [`File::write_to`]. After an error this `File` is as
-    /// it was, and it was tried to remove the lock file, unless that was another's.
+    /// [`Error::TooManyEntries`], [`Error::NulInPath`] and [`Error::TooLarge`] are those of [`File::write_to`]. After an error this
+    /// `File` is as it was, and it was tried to remove the lock file, unless that was another's.
     pub fn write<R: Files>(&mut self, rt: &R, alloc: Global, options: Options) -> Result<(), Error>
         requires { PathsInStorage (state_of self.old) }
         ensures ok { OnOk result (IsWritten self.old self.new options) }

@@ -42,6 +42,7 @@ fn the_deepest_tree(rt: HostRuntime) -> Result<(), Fail> {
     let options = Options {
         extensions: Extensions::All,
         skip_hash: true,
+        ..Options::default()
     };
     file.write_to(&mut out, options)?;
     assert_eq!(rt; out.inner.as_slice(), bytes.as_slice());

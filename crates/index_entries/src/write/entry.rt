@@ -4,10 +4,11 @@ ghost use Rattle.std.specs.Prelude.{◌≡◌, ◌+◌, ◌<◌, ◌^◌, ◌++�
 ghost use Rattle.std.specs.List.{flat_map};
 ghost use Rattle.index_parts.specs.Flags.{is_extended};
 ghost use Rattle.index_parts.specs.Taking.{Puts};
-ghost use Rattle.index_entries.specs.EntryImage.{be16, numbers_of, first_word, second_word, unpadded, padding, entry_bytes, is_removed};
+ghost use Rattle.index_entries.specs.Entry.{front_bytes};
+ghost use Rattle.index_entries.specs.EntryImage.{be16, numbers_of, first_word, front_of, second_word, unpadded, padding, entry_bytes, entry_in, is_removed};
 ghost use Rattle.index_entries.specs.Record.{IsPlaced, record_in};
 
-use crate::{Entry, PathBacking};
+use crate::{Entry, PathBacking, Version};
 use bitflags::Flags as _;
 use index_parts::entry::{Flags, at_rest};
 use index_parts::hash::io::Out;
@@ -32,18 +33,18 @@ fn second_of<'a>(flags: Flags, word: &'a [u8; 2]) -> &'a [u8]
     &[]
 }
 
-/// The six pieces of an entry.
-fn six<'a>(
-    a: &'a [u8],
-    b: &'a [u8],
-    c: &'a [u8],
-    d: &'a [u8],
-    e: &'a [u8],
-    f: &'a [u8],
-) -> [&'a [u8]; 6]
-    ensures { flat_map (λ p. p.now) result ≡ a.now ++ (b.now ++ (c.now ++ d.now)) ++ e.now ++ f.now }
+/// The four pieces of an entry before its path.
+fn four<'a>(a: &'a [u8], b: &'a [u8], c: &'a [u8], d: &'a [u8]) -> [&'a [u8]; 4]
+    ensures { flat_map (λ p. p.now) result ≡ a.now ++ (b.now ++ (c.now ++ d.now)) }
 {
-    [a, b, c, d, e, f]
+    [a, b, c, d]
+}
+
+/// Two pieces.
+fn two<'a>(a: &'a [u8], b: &'a [u8]) -> [&'a [u8]; 2]
+    ensures { flat_map (λ p. p.now) result ≡ a.now ++ b.now }
+{
+    [a, b]
 }
 
 impl Entry {
@@ -86,7 +87,7 @@ impl Entry {
 
     /// How many bytes the entry has up to the end of its path.
     #[tactic(auto, using(crate::proofs::Lengths::length_unpadded))]
-    fn unpadded_len(&self, storage: &[u8]) -> u64
+    pub(super) fn unpadded_len(&self, storage: &[u8]) -> u64
         requires { IsPlaced (length storage.now) self.now }
         ensures len { result ≡ length (unpadded (record_in storage.now self.now)) }
         ensures small { result < 2 ^ 63 + 2 ^ 9 }
@@ -99,8 +100,8 @@ impl Entry {
         40 + words + self.id.as_bytes().len() as u64 + self.path_in(storage).len() as u64
     }
 
-    /// How many bytes the entry has in a file, with its padding.
-    pub(super) fn written_len(&self, storage: &[u8]) -> u64
+    /// How many bytes the entry has in a file of version 2 or 3, with its padding.
+    fn padded_len(&self, storage: &[u8]) -> u64
         requires { IsPlaced (length storage.now) self.now }
         ensures len { result ≡ length (entry_bytes (record_in storage.now self.now)) }
         ensures small { result < 2 ^ 63 + 2 ^ 10 }
@@ -109,12 +110,24 @@ impl Entry {
         len - len % 8 + 8
     }
 
-    /// Writes the entry up to the end of its path, and these bytes behind it.
+    /// How many bytes the entry has in a file of this version, behind this path.
+    pub(super) fn written_len(&self, version: Version, previous: &[u8], storage: &[u8]) -> u64
+        requires { IsPlaced (length storage.now) self.now }
+        ensures len { result ≡ length (entry_in version previous.now (record_in storage.now self.now)) }
+        ensures small { result < 2 ^ 63 + 2 ^ 10 }
+    {
+        match version {
+            Version::V2 | Version::V3 => self.padded_len(storage),
+            Version::V4 => self.delta_len(previous, storage),
+        }
+    }
+
+    /// Writes the entry up to its path.
     #[tactic(auto, using(crate::proofs::Lengths::pieces_are))]
-    fn put_with<W: Out>(&self, storage: &[u8], end: &[u8], out: &mut W) -> io::Result<()>
+    pub(super) fn put_front<W: Out>(&self, storage: &[u8], out: &mut W) -> io::Result<()>
         requires placed { IsPlaced (length storage.now) self.now }
         requires unfailed { W.failed out.old ≡ false }
-        ensures bytes { Puts W.taken W.hashed out.old out.new result (unpadded (record_in storage.now self.now) ++ end.now) }
+        ensures bytes { Puts W.taken W.hashed out.old out.new result (front_bytes (front_of (record_in storage.now self.now))) }
         ensures mark { W.failed out.new ≡ is_err result }
         ensures loan { W.loan out.new ≡ W.loan out.old }
     {
@@ -124,19 +137,23 @@ impl Entry {
             .bits()
             .to_be_bytes();
         let second = second_of(self.flags, &extended);
-        let pieces = six(
-            &numbers,
-            self.id.as_bytes(),
-            &first,
-            second,
-            self.path_in(storage),
-            end,
-        );
-        out.put_each(&pieces)
+        out.put_each(&four(&numbers, self.id.as_bytes(), &first, second))
     }
 
-    /// Writes the entry with its padding.
-    pub(super) fn put<W: Out>(&self, storage: &[u8], out: &mut W) -> io::Result<()>
+    /// Writes the entry up to the end of its path, and these bytes behind it.
+    fn put_with<W: Out>(&self, storage: &[u8], end: &[u8], out: &mut W) -> io::Result<()>
+        requires placed { IsPlaced (length storage.now) self.now }
+        requires unfailed { W.failed out.old ≡ false }
+        ensures bytes { Puts W.taken W.hashed out.old out.new result (unpadded (record_in storage.now self.now) ++ end.now) }
+        ensures mark { W.failed out.new ≡ is_err result }
+        ensures loan { W.loan out.new ≡ W.loan out.old }
+    {
+        self.put_front(storage, out)?;
+        out.put_each(&two(self.path_in(storage), end))
+    }
+
+    /// Writes the entry as a file of version 2 or 3 has it, with its padding.
+    fn put_padded<W: Out>(&self, storage: &[u8], out: &mut W) -> io::Result<()>
         requires placed { IsPlaced (length storage.now) self.now }
         requires unfailed { W.failed out.old ≡ false }
         ensures bytes { Puts W.taken W.hashed out.old out.new result (entry_bytes (record_in storage.now self.now)) }
@@ -145,6 +162,26 @@ impl Entry {
     {
         let end = padding_behind(self.unpadded_len(storage));
         self.put_with(storage, end, out)
+    }
+
+    /// Writes the entry as a file of this version has it behind this path.
+    pub(super) fn put<W: Out>(
+        &self,
+        version: Version,
+        previous: &[u8],
+        storage: &[u8],
+        out: &mut W,
+    ) -> io::Result<()>
+        requires placed { IsPlaced (length storage.now) self.now }
+        requires unfailed { W.failed out.old ≡ false }
+        ensures bytes { Puts W.taken W.hashed out.old out.new result (entry_in version previous.now (record_in storage.now self.now)) }
+        ensures mark { W.failed out.new ≡ is_err result }
+        ensures loan { W.loan out.new ≡ W.loan out.old }
+    {
+        match version {
+            Version::V2 | Version::V3 => self.put_padded(storage, out),
+            Version::V4 => self.put_delta(previous, storage, out),
+        }
     }
 
     /// Writes the entry up to the end of its path, as an entry of version 2 or 3 begins, and one NUL behind it in place of the

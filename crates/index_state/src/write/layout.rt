@@ -69,7 +69,8 @@ impl State {
         ensures some { IfSome result (λ l. IsLayout l.entries.version l.entries.count l.entries.end l.tree (contents self.now) options) }
         ensures none { IfNone result (2 ^ 32 ≤ length (unmarked (contents self.now) options)) }
     {
-        let Some(entries) = write::totals_of(&self.entries, &self.path_backing) else {
+        let choice = options.version;
+        let Some(entries) = write::totals_of(choice, &self.entries, &self.path_backing) else {
             return None;
         };
         let Some(tree) = content_len_of(self.asked_tree(options)) else {

@@ -1,7 +1,17 @@
-use Rattle.std.proofs.Common.{rules}
-use Rattle.index_parts.proofs.Taking.{Puts-err}
-use Rattle.index_entries.proofs.Written.{written_front}
+use Rattle.std.proofs.Common.{rules, sym, ◌∙◌}
+use Rattle.index_parts.proofs.Taking.{puts_failed}
+use Rattle.index_entries.proofs.Written.{entries_at, entries_took, last_push}
 use Rattle.index_entries.proofs.write.put_entries.Goals as goal
 
 pub returns-in_err-put-clause-bytes : goal.returns-in_err-put-clause-bytes
-returns-in_err-put-clause-bytes g c = Puts-err _ _ _ _ _ _ c.from_residual.ensures.0 (written_front c.args.storage.now c.args.entries.now c.loop-entry.entry-index _ c.loop-entry-test.true (search rules) c.loop-entry.invariant.so_far.grew c.in_err-put.ensures.bytes)
+returns-in_err-put-clause-bytes g c =
+    puts_failed _ _ c.from_residual.result _ c.from_residual.ensures.0 (entries_at c.args.version c.args.storage.now c.args.entries.now c.loop-entry.entry-index _ _ c.loop-entry-test.true (search rules) c.loop-entry.invariant.last) c.loop-entry.invariant.so_far c.in_err-put.ensures.bytes
+
+pub loop-entry-preserved : goal.loop-entry-preserved
+loop-entry-preserved g c =
+    record {
+      loan = search rules;
+      unfailed = search rules;
+      so_far = entries_took c.args.version _ _ _ _ _ c.loop-entry-test.true (sym c.is_removed.ensures ∙ c.if-is_removed.false) c.loop-entry.invariant.last c.loop-entry.invariant.so_far c.in_ok-put.ensures.bytes;
+      last = c.path_in-previous.ensures ∙ last_push _ _ _ _ c.loop-entry-test.true (sym c.is_removed.ensures ∙ c.if-is_removed.false);
+    }

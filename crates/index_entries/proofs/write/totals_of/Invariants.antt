@@ -1,15 +1,16 @@
-use Rattle.std.proofs.Common.{◌≡◌, ◌+◌, ◌<◌, ◌≤◌, ◌^◌, length, take}
-use Rattle.std.specs.List.{flat_map, list_any}
+use Rattle.std.proofs.Common.{◌≡◌, ◌+◌, ◌<◌, ◌≤◌, ◌^◌, [], length, take}
+use Rattle.std.specs.List.{list_any}
 use Rattle.index_parts.specs.Flags.{is_extended}
-use Rattle.index_entries.specs.EntryImage.{entry_bytes, written}
-use Rattle.index_entries.specs.Record.{records_in}
+use Rattle.index_entries.specs.EntryImage.{entries_in}
+use Rattle.index_entries.proofs.Written.{written_of, last_of}
 use Rattle.index_entries.proofs.write.totals_of.Given as goal
 
 abbrev pub invariant-loop-entry : goal.invariant-loop-entry
 invariant-loop-entry l = record {
   extended : l.is_extended ≡ list_any (λ e. is_extended e.flags.0) (take l.entry-index l.entries);
-  counted : l.count ≡ length (written (records_in l.storage (take l.entry-index l.entries)));
+  counted : l.count ≡ length (written_of l.storage (take l.entry-index l.entries));
   few : l.count ≤ l.entry-index;
-  so_far : l.end ≡ 12 + length (flat_map entry_bytes (written (records_in l.storage (take l.entry-index l.entries))));
+  so_far : l.end ≡ 12 + length (entries_in l.counted [] (written_of l.storage (take l.entry-index l.entries)));
   small : l.end < 2 ^ 32;
+  path : l.last ≡ last_of [] (written_of l.storage (take l.entry-index l.entries));
 }

@@ -18,4 +18,4 @@ returns-clause-bytes g c =
     let o = c.args.options in
     let header : c.header.result ≡ header_bytes (image_version v o) (length (written v.records)) = rw (c.header.ensures, c.requires.layout.is_version, c.requires.layout.is_count) refl in
     let whole = ap (λ h. h ++ entries_bytes v o) header in
-    puts_is _ _ _ _ _ whole (puts_after _ _ c.put_entries.result c.in_ok-put.ensures.bytes (rw (c.deref.ensures.value, c.deref-2.ensures.value) at c.put_entries.ensures.bytes))
+    puts_is _ _ _ _ _ whole (puts_after _ _ c.put_entries.result c.in_ok-put.ensures.bytes (rw (c.deref.ensures.value, c.deref-2.ensures.value, c.requires.layout.is_version) at c.put_entries.ensures.bytes))

@@ -16,6 +16,7 @@ returns-in-Ok-clause-answer g c =
       id = hashed_id v c.args.options _ c.requires.digest (c.finalize.ensures _ h.1 ∙ ap (λ (k : Kind). make_id k (digest k (body v c.args.options))) (h.0 ∙ c.object_hash.ensures));
       bytes = search rules;
       too_many = search rules;
+      nul_in_path = search rules;
       too_large = search rules;
     }
 
