@@ -1,3 +1,4 @@
+pub mod Fits
 pub mod Levels
 pub mod Listings
 pub mod Objects
