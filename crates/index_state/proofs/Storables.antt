@@ -1,7 +1,7 @@
--- An empty index is storable, and stays so where an entry is added that is, where entries move, and where one is taken out.
+-- An empty index is storable, so is one of leaves alone; it stays so where an entry is added that is, where entries move, and where one is taken out.
 use Rattle.std.proofs.Common.{◌≡◌, ℕ, ◌<◌, ◌≤◌, List, ◌∷◌, length, get_or, All}
 use Rattle.std.specs.Prelude.{◌≢◌}
-use Rattle.std.proofs.lemmas.List.Elements.{All-nil, All-push, All-tail}
+use Rattle.std.proofs.lemmas.List.Elements.{All-nil, All-push, All-tail, All-weaker}
 use Rattle.std.specs.List.{remove}
 use Rattle.std.specs.List.Sorted.{IsPermutation}
 use Rattle.std.proofs.lemmas.List.Sorted.{All-permutation, IsPermutation-map, IsPermutation-remove}
@@ -10,6 +10,7 @@ use Rattle.index_parts.specs.declared.hash.Kind.{Kind}
 use Rattle.index_parts.specs.declared.entry.stat.FileTime.{FileTime}
 use Rattle.index_entries.specs.declared.Entry.{Entry}
 use Rattle.index_entries.specs.Record.{Record, IsSized, record_in, records_in}
+use Rattle.index_trees.proofs.Fits.{Fits}
 use Rattle.index_state.specs.Edits.{empty_contents, with_record, with_records}
 use Rattle.index_state.specs.State.{Contents}
 use Rattle.index_state.specs.Storable.{IsStorable}
@@ -34,3 +35,12 @@ pub fewer_storable : (v : Contents) (storage : List ℕ) (es : List Entry) (i : 
 fewer_storable v storage es i e is inside read h =
     let moved : IsPermutation (records_in storage es) (record_in storage e ∷ records_in storage (remove es i)) = IsPermutation-map (record_in storage) es (e ∷ remove es i) (IsPermutation-remove es i e inside read) in
     keeps_storable v (records_in storage (remove es i)) h (λ P a. All-tail P (record_in storage e) (records_in storage (remove es i)) (All-permutation P (records_in storage es) _ moved (rw is at a)))
+
+-- records that a file holds all of, in an index with nothing else
+pub fitting_storable : (kind : Kind) (time : FileTime) (rs : List Record) → All (Fits kind) rs → IsStorable (with_records (empty_contents kind time) rs)
+fitting_storable kind time rs h = record {
+  ids = All-weaker (Fits kind) (λ r. id_kind r.id ≡ kind) (λ r f. f.id) rs h;
+  paths = All-weaker (Fits kind) HasLegalPath (λ r f long. f.path) rs h;
+  fits = All-weaker (Fits kind) IsSized (λ r f. f.sized) rs h;
+  tree = tt;
+}

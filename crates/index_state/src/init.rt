@@ -1,15 +1,20 @@
 //! A new index.
 
-ghost use Rattle.std.specs.Prelude.{◌≡◌, []};
-ghost use Rattle.index_state.specs.Edits.{empty_contents};
+ghost use Rattle.std.specs.Prelude.{◌≡◌, [], Ok, Err, IfOk, IfErr, flat_map};
+ghost use Rattle.index_parts.specs.Id.{id_kind};
+ghost use Rattle.index_trees.specs.Leaves.{AreLeaves, SaysLeaves};
+ghost use Rattle.index_state.specs.Edits.{empty_contents, with_records};
 ghost use Rattle.index_state.specs.Storable.{IsStorable};
-ghost use Rattle.index_state.specs.State.{PathsInStorage, contents, storage_of};
+ghost use Rattle.index_state.specs.State.{PathsInStorage, contents, records, storage_of};
 
 use crate::State;
 use crate::extension::decode::Outcome;
 use index_entries::Version;
 use index_parts::entry::FileTime;
-use index_parts::hash::Kind;
+use index_parts::hash::{Kind, ObjectId};
+use index_parts::object::Find;
+use index_trees::ComponentCheck;
+use index_trees::from_tree::{Error, leaves_of};
 use std::alloc::Global;
 
 impl State {
@@ -30,5 +35,39 @@ impl State {
             path_backing: Vec::new(alloc),
             extensions: Outcome::none(),
         }
+    }
+    /// An index of the leaves of a tree, and of the trees below it, in the order in which they stand there ("Pro Git", "Git
+    /// Objects"): of version 2, with no extension, for ids of the tree's kind. Its timestamp is `now`.
+    ///
+    /// A leaf is what isn't a tree. Its path is made of the names that lead to it, joined by `/`; its mode is that of its
+    /// kind, and its stat numbers and flags are 0. Each reading of an object counts against `max_objects`, before `objects`
+    /// is asked, and a tree is read whole before its names are looked at. Each name goes through `check` before what it
+    /// stands for is listed or read, a link's also as such. The first fault is the error, and leaves nothing.
+    pub fn from_tree<F: Find, C: ComponentCheck>(
+        alloc: Global,
+        tree: &ObjectId,
+        objects: &F,
+        check: &C,
+        max_objects: usize,
+        now: FileTime,
+    ) -> Result<State, Error>
+        ensures leaves { IfOk result (λ s. AreLeaves (F.found objects.now) (C.refusal check.now) tree.now max_objects
+            (Ok (records s))) }
+        ensures others { IfOk result (λ s. contents s ≡ with_records (empty_contents (id_kind tree.now) now) (records s)) }
+        ensures storage { IfOk result (λ s. storage_of s ≡ flat_map (λ r. r.path) (records s)) }
+        ensures stored { IfOk result PathsInStorage }
+        ensures storable { IfOk result (λ s. IsStorable (contents s)) }
+        ensures fault { IfErr result (λ e. SaysLeaves e (λ f. AreLeaves (F.found objects.now) (C.refusal check.now) tree.now
+            max_objects (Err f))) }
+    {
+        let leaves = leaves_of(alloc, tree, objects, check, max_objects)?;
+        Ok(State {
+            object_hash: tree.kind(),
+            timestamp: now,
+            version: Version::V2,
+            entries: leaves.entries,
+            path_backing: leaves.storage,
+            extensions: Outcome::none(),
+        })
     }
 }
