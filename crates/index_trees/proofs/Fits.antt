@@ -1,5 +1,5 @@
 -- What a file can hold of the leaves of a tree: all of each.
-use Rattle.std.proofs.Common.{◌≡◌, ℕ, ◌<◌, ◌^◌, List, [], ◌∷◌, ◌++◌, All, length, Bool, Option, Some, None, Result, Ok, Err, refl, sym, ap, subst, ◌∙◌, arith}
+use Rattle.std.proofs.Common.{◌≡◌, ℕ, ◌<◌, ◌^◌, List, [], ◌∷◌, ◌++◌, All, length, Bool, Option, Ok, Err, sym, ap, ◌∙◌, arith}
 use Rattle.std.specs.Prelude.{◌≢◌}
 use Rattle.std.proofs.lemmas.List.Elements.{All-nil, All-cons, All-append, All-head, All-tail}
 use Rattle.index_parts.proofs.Ids.{id_bytes-make_id, id_kind-make_id}
@@ -12,7 +12,7 @@ use Rattle.index_parts.specs.declared.hash.ObjectId.{ObjectId}
 use Rattle.index_parts.specs.declared.object.tree.EntryKind.{EntryKind}
 use Rattle.index_parts.specs.declared.object.tree.EntryKind.TheVariants as kinds
 use Rattle.index_entries.specs.Record.{Record, IsSized}
-use Rattle.index_trees.specs.Leaves.{AreLeaves, Listing, LeavesFault, Part, Yields, behind, leaf_of, some_entries, whole_tree, limit, unread, opened, ended, refused, leaf, below, stopped}
+use Rattle.index_trees.specs.Leaves.{AreLeaves, Listing, Part, Yields, behind, leaf_of, some_entries, whole_tree, limit, unread, opened, ended, refused, leaf, below, stopped}
 
 -- no byte is NUL
 abbrev HasNoNul : List ℕ → Type 0

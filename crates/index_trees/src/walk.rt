@@ -178,12 +178,12 @@ impl Walk {
         ensures begins { OnOk result (Begins self.old self.new bytes.items) }
         ensures fault { IfErr result (λ e. e ≡ Memory) }
     {
-        let front = self.listed.path.len();
-        self.levels.push(Level {
+        let tree = Level {
             bytes,
             at: 0,
-            front,
-        })?;
+            front: self.listed.path.len(),
+        };
+        self.levels.push(tree)?;
         Ok(())
     }
 
