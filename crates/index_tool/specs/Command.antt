@@ -5,21 +5,24 @@ use Rattle.std.specs.Io.KnownBytes.{Keeps}
 use Rattle.std.specs.Option.{option_map}
 use Rattle.gix_index.specs.Kind.{Kind}
 use Rattle.gix_index.specs.Kind.TheVariants.{Sha1, Sha256}
+use Rattle.gix_index.specs.VersionChoice.{VersionChoice}
+use Rattle.gix_index.specs.VersionChoice.TheVariants.{Smallest, V4}
 use Rattle.index_tool.specs.declared.command.Command.{Command}
 use Rattle.index_tool.specs.declared.command.Command.TheVariants as commands
 use Rattle.index_tool.specs.Checking.{Checks, ChecksFront}
 use Rattle.index_tool.specs.Listing.{Lists, ListsFront}
 
--- a command as a value, with the kind of the ids and the file: `list`, `check`, and `rewrite` with the file that is written
+-- a command as a value, with the kind of the ids and the file: `list`, `check`, and `rewrite` and `rewrite4` with the file that is
+-- written and its version
 pub data CommandValue : Type 0 where
   Listing : Kind → List ℕ → CommandValue
   Checking : Kind → List ℕ → CommandValue
-  Rewriting : Kind → List ℕ → List ℕ → CommandValue
+  Rewriting : VersionChoice → Kind → List ℕ → List ℕ → CommandValue
 
 abbrev pub command_value : Command → CommandValue
 command_value (commands.List kind path) = Listing kind path.now
 command_value (commands.Check kind path) = Checking kind path.now
-command_value (commands.Rewrite kind path to) = Rewriting kind path.now to.now
+command_value (commands.Rewrite version kind path to) = Rewriting version kind path.now to.now
 
 abbrev pub is_word : List ℕ → List ℕ → Bool
 is_word word text = pointwise nat_eq word text
@@ -38,18 +41,19 @@ abbrev pub check_named : List (List ℕ) → Option CommandValue
 check_named (kind ∷ file ∷ []) = option_map (λ k. Checking k file) (kind_named kind)
 check_named words = None
 
--- what the words KIND FILE OUT behind `rewrite` name
-abbrev pub rewrite_named : List (List ℕ) → Option CommandValue
-rewrite_named (kind ∷ file ∷ to ∷ []) = option_map (λ k. Rewriting k file to) (kind_named kind)
-rewrite_named words = None
+-- what the words KIND FILE OUT behind `rewrite` or `rewrite4` name
+abbrev pub rewrite_named : VersionChoice → List (List ℕ) → Option CommandValue
+rewrite_named version (kind ∷ file ∷ to ∷ []) = option_map (λ k. Rewriting version k file to) (kind_named kind)
+rewrite_named version words = None
 
 -- the command that words name; None where they name none
 abbrev pub command_named : List (List ℕ) → Option CommandValue
 command_named (name ∷ words) =
     if is_word name (codes "list") then list_named words
     else (if is_word name (codes "check") then check_named words
-    else (if is_word name (codes "rewrite") then rewrite_named words
-    else None))
+    else (if is_word name (codes "rewrite") then rewrite_named Smallest words
+    else (if is_word name (codes "rewrite4") then rewrite_named V4 words
+    else None)))
 command_named [] = None
 
 -- what a command that succeeded did to known bytes of the output: they grew by the listing of an index, or by the line of one
@@ -57,7 +61,7 @@ command_named [] = None
 abbrev pub Succeeds : CommandValue → Option (List ℕ) → Option (List ℕ) → Type 0
 Succeeds (Listing kind file) old new = Lists kind old new
 Succeeds (Checking kind file) old new = Checks kind old new
-Succeeds (Rewriting kind file to) old new = Keeps old new
+Succeeds (Rewriting version kind file to) old new = Keeps old new
 
 -- what a command that was refused did to them: nothing, or they grew by a front of that
 pub data GivesUp (command : CommandValue) (old new : Option (List ℕ)) : Type 0 where

@@ -13,6 +13,7 @@ ghost use Rattle.index_tool.specs.Command.{check_named, command_named, command_v
 use crate::failure::Failure;
 use check::check;
 use gix_index::hash::Kind;
+use gix_index::write::VersionChoice;
 use list::list;
 use rewrite::rewrite;
 use std::alloc::Global;
@@ -42,6 +43,7 @@ enum Command<'a> {
     },
     /// The index in the file, written to a path.
     Rewrite {
+        version: VersionChoice,
         kind: Kind,
         path: &'a str,
         to: &'a str,
@@ -88,15 +90,16 @@ fn check_of(words: &[String]) -> Option<Command<'_>>
     })
 }
 
-/// What the words behind `rewrite` are.
-fn rewrite_of(words: &[String]) -> Option<Command<'_>>
-    ensures { option_map command_value result ≡ rewrite_named (map string_bytes words.now) }
+/// What the words behind `rewrite` or `rewrite4` are, of which each has its version.
+fn rewrite_of(version: VersionChoice, words: &[String]) -> Option<Command<'_>>
+    ensures { option_map command_value result ≡ rewrite_named version (map string_bytes words.now) }
 {
     let [kind, file, to] = words else {
         return None;
     };
     let kind = kind_of(kind.as_str())?;
     Some(Command::Rewrite {
+        version,
         kind,
         path: file.as_str(),
         to: to.as_str(),
@@ -117,7 +120,10 @@ fn command_of(words: &[String]) -> Option<Command<'_>>
         return check_of(rest);
     }
     if name.as_str() == "rewrite" {
-        return rewrite_of(rest);
+        return rewrite_of(VersionChoice::Smallest, rest);
+    }
+    if name.as_str() == "rewrite4" {
+        return rewrite_of(VersionChoice::V4, rest);
     }
     None
 }
@@ -135,7 +141,12 @@ fn run_command<'a, R: Files, W: io::Write>(
     match command {
         Command::List { kind, path } => list(rt, alloc, kind, path, out),
         Command::Check { kind, path } => check(rt, alloc, kind, path, out),
-        Command::Rewrite { kind, path, to } => rewrite(rt, alloc, kind, path, to),
+        Command::Rewrite {
+            version,
+            kind,
+            path,
+            to,
+        } => rewrite(rt, alloc, version, kind, path, to),
     }
 }
 
@@ -144,7 +155,7 @@ fn run_command<'a, R: Files, W: io::Write>(
 /// KIND is `sha1` or `sha256`, and FILE is an index, which is read with the shared index that it links to.
 /// `list KIND FILE` writes a line to `out` for each entry. `check KIND FILE` writes `ok` and a newline where the entries
 /// are in order and the file has its digest still. `rewrite KIND FILE OUT` writes the index to the path OUT, by way of
-/// the lock file OUT.lock, and nothing to `out`.
+/// the lock file OUT.lock, and nothing to `out`. `rewrite4 KIND FILE OUT` does so in version 4.
 ///
 /// [`DONE`]: the command did all that. [`REFUSED`]: a file can't be read or written, or is no such index, or `out`
 /// failed; nothing goes to `out` before FILE was read whole and all checks have passed. [`WRONG_WORDS`]: the words are no command; no
@@ -169,7 +180,7 @@ pub fn run<R: Files + Alloc, O: io::Write, E: io::Write>(
     let Some(command) = command_of(words) else {
         let _ = writeln!(
             faults,
-            "index-tool: usage: index-tool list|check sha1|sha256 FILE, or index-tool rewrite sha1|sha256 FILE OUT"
+            "index-tool: usage: index-tool list|check sha1|sha256 FILE, or index-tool rewrite|rewrite4 sha1|sha256 FILE OUT"
         );
         return WRONG_WORDS;
     };

@@ -125,6 +125,13 @@ fn statuses(rt: HostRuntime) -> Result<(), Fail> {
         ),
         (&["list", "sha1", "again.index"], DONE, LISTED, ""),
         (
+            &["rewrite4", "sha1", "whole.index", "four.index"],
+            DONE,
+            b"",
+            "",
+        ),
+        (&["list", "sha1", "four.index"], DONE, LISTED, ""),
+        (
             &["rewrite", "sha1", "whole.index", "held.index"],
             REFUSED,
             b"",

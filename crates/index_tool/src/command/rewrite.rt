@@ -1,4 +1,4 @@
-//! The command `rewrite`.
+//! The commands `rewrite` and `rewrite4`.
 
 ghost use Rattle.std.specs.Prelude.{IfErr};
 ghost use Rattle.index_tool.specs.Checking.{FailsToRewrite};
@@ -7,18 +7,19 @@ use crate::command::index::index_at;
 use crate::failure::Failure;
 use gix_index::file::write::Error;
 use gix_index::hash::Kind;
-use gix_index::write;
+use gix_index::write::{Options, VersionChoice};
 use std::alloc::Global;
 use std::path::PathBuf;
 use std::rt::Files;
 
 /// Writes the index in a file, with the shared index that it links to, to another path, or to the same.
 ///
-/// It is written by [`File::write`](gix_index::File::write) with the default options. [`Failure::Rewrite`]: it can't be written, and what was at the path is
+/// It is written by [`File::write`](gix_index::File::write) in the version that is chosen, and else with the default options. [`Failure::Rewrite`]: it can't be written, and what was at the path is
 /// there as before. Any other failure concerns the file that is read.
 pub fn rewrite<'a, R: Files>(
     rt: &R,
     alloc: Global,
+    version: VersionChoice,
     kind: Kind,
     path: &'a str,
     to: &'a str,
@@ -34,7 +35,11 @@ pub fn rewrite<'a, R: Files>(
         return Err(Failure::Rewrite { path: to, fault });
     };
     index.set_path(target);
-    match index.write(rt, alloc, write::Options::default()) {
+    let options = Options {
+        version,
+        ..Options::default()
+    };
+    match index.write(rt, alloc, options) {
         Ok(()) => Ok(()),
         Err(fault) => Err(Failure::Rewrite { path: to, fault }),
     }
