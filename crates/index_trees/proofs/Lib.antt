@@ -1,4 +1,5 @@
 pub mod Fits
+pub mod LeavesOrder
 pub mod Levels
 pub mod Listings
 pub mod Objects

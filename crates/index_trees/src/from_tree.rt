@@ -2,7 +2,9 @@
 
 ghost use Rattle.std.specs.Prelude.{◌≡◌, ◌<◌, Ok, Err, IfOk, IfErr, All, length, flat_map};
 ghost use Rattle.index_parts.specs.Id.{id_kind};
+ghost use Rattle.index_entries.specs.Order.{IsStrictlyOrdered};
 ghost use Rattle.index_entries.specs.Record.{IsPlaced, records_in};
+ghost use Rattle.index_entries.specs.TreeOrder.{AreGitOrdered};
 ghost use Rattle.index_trees.specs.Leaves.{AreLeaves, SaysLeaves};
 ghost use Rattle.index_trees.specs.declared.from_tree.Error.TheVariants.{Memory};
 
@@ -100,6 +102,8 @@ pub struct Leaves {
 /// mode is that of its kind, and its stat numbers and flags are 0. Each reading of an object counts against `max_objects`,
 /// before `objects` is asked, and a tree is read whole before its names are looked at. Each name is checked before what it
 /// stands for is listed or read, a link's also as such. The first fault is the answer.
+///
+/// Where each tree that is read has its entries in git's order, and no name has a slash, the leaves strictly increase.
 pub fn leaves_of<F: Find, C: ComponentCheck>(
     alloc: Global,
     tree: &ObjectId,
@@ -112,6 +116,8 @@ pub fn leaves_of<F: Find, C: ComponentCheck>(
     ensures placed { IfOk result (λ l. All (IsPlaced (length l.storage.items)) l.entries.items) }
     ensures packed { IfOk result (λ l. l.storage.items
         ≡ flat_map (λ r. r.path) (records_in l.storage.items l.entries.items)) }
+    ensures ordered { IfOk result (λ l. AreGitOrdered (F.found objects.now) (id_kind tree.now) tree.now
+        → IsStrictlyOrdered (records_in l.storage.items l.entries.items)) }
     ensures fault { IfErr result (λ e. SaysLeaves e (λ f. AreLeaves (F.found objects.now) (C.refusal check.now) tree.now
         max_objects (Err f))) }
 {

@@ -1,5 +1,6 @@
 use Rattle.std.proofs.Common.{◌≡◌, ◌-◌, ◌+◌, suc, Err, subst, arith}
 use Rattle.std.proofs.lemmas.Result.{err_from_is_err_and}
+use Rattle.index_trees.proofs.LeavesOrder.{leaves_ordered}
 use Rattle.index_trees.proofs.Listings.{says_also}
 use Rattle.index_trees.proofs.Trees.{way_begins, way_ends, way_fails, way_limit, way_reaches, way_sound, way_unread}
 use Rattle.index_trees.specs.Leaves.{AreLeaves, IsUnread}
@@ -57,6 +58,10 @@ returns-in-None-clause-leaves g c =
     rw (c.into_leaves.ensures.storage, c.into_leaves.ensures.entries)
     (way_ends find check kind c.args.tree.now c.args.max_objects c.kind-kind.ensures (c.args.max_objects - c.loop.counter) c.loop.walk c.loop.next c.loop.invariant.way _ left
     c.begin.new.self c.in_ok-bytes.bytes.items c.in_ok-bytes.ensures.found c.in_ok-bytes.ensures.whole c.in_ok-begin.ensures.begins c.next_tree.new.self ends)
+
+pub returns-in-None-clause-ordered : goal.returns-in-None-clause-ordered
+returns-in-None-clause-ordered g c = λ sorted.
+    leaves_ordered (g.F.Find.found c.args.objects.now) (g.C.ComponentCheck.refusal c.args.check.now) c.args.tree.now c.args.max_objects _ sorted (returns-in-None-clause-leaves g c)
 
 pub loop-preserved : goal.loop-preserved
 loop-preserved g c =
