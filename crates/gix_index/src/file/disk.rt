@@ -35,8 +35,9 @@ impl fmt::Display for PathError {
     }
 }
 
-/// How many bytes are read before they are hashed: so few that they are still in the processor's cache.
-const PIECE_LEN: u64 = 131_072;
+/// How many bytes are read before they are hashed: so few that they are still in a processor's cache, and so many that
+/// readying the room of a piece costs little beside them.
+const PIECE_LEN: u64 = 1_048_576;
 
 /// A file that was opened, and room for as many bytes as its metadata says.
 fn opened<R: Files>(rt: &R, alloc: Global, path: Path<'_>) -> io::Result<(R::File, Vec<u8>)>
@@ -48,8 +49,8 @@ fn opened<R: Files>(rt: &R, alloc: Global, path: Path<'_>) -> io::Result<(R::Fil
     Ok((file, room))
 }
 
-/// Whether a file's last bytes, of which an id has as many, are all zero; of a file in which nothing can be sought it says no.
-/// The file then stands at its start, and the room is empty again.
+/// Whether a file's last bytes, of which an id has as many, are all zero. It says no of one that can be read only in order,
+/// as a pipe. The file then stands at its start, and the room is empty.
 fn ends_in_null<F: OpenFile + Read + Seek>(
     file: &mut F,
     kind: Kind,
@@ -70,8 +71,8 @@ fn ends_in_null<F: OpenFile + Read + Seek>(
     Ok(is_null)
 }
 
-/// Reads the rest of a reader in pieces, each hashed while it is at hand: all bytes, and the digest of all but the last, of which
-/// an id of the kind has as many.
+/// Reads the rest of a reader in pieces, and hashes each while it is at hand. The digest is that of all bytes but the last,
+/// of which an id of the kind has as many.
 fn read_hashed<R: Read>(reader: &mut R, kind: Kind, bytes: &mut Vec<u8>) -> io::Result<ObjectId>
     requires { bytes.old.items ≡ [] }
     ensures { IfOk result (λ id. id ≡ digest_id kind bytes.new.items) }
@@ -89,8 +90,8 @@ fn read_hashed<R: Read>(reader: &mut R, kind: Kind, bytes: &mut Vec<u8>) -> io::
     }
 }
 
-/// All bytes of a file, read into room for as many as its metadata says, and the digest of all but the last, of which an id of the
-/// kind has as many.
+/// All bytes of a file, read into room for as many as its metadata says, and the digest of all but the last, of which an id
+/// of the kind has as many.
 pub(super) fn hashed_at<R: Files>(
     rt: &R,
     alloc: Global,

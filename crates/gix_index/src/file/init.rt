@@ -92,7 +92,7 @@ fn check(
     Ok(())
 }
 
-/// The index in a file's bytes. The digest of all but the trailer is taken where it isn't known yet and is to be compared.
+/// The index in a file's bytes. The digest of all but the trailer is taken where it is to be compared and isn't known yet.
 pub(super) fn decoded(
     alloc: Global,
     bytes: &[u8],
