@@ -3,6 +3,8 @@
 //! What bytes are read as, and what is written and found, stands in the table of the crate `index_rows`.
 
 mod access;
+mod device;
+mod disk;
 mod edit;
 mod entry;
 mod extension;
