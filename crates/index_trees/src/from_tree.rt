@@ -56,7 +56,7 @@ pub enum Traversal {
 #[derive(Debug, Drop, Error)]
 pub enum Error {
     /// The check refused a name.
-    #[error("the last component of the path '{path}' is refused by the check's number {source}")]
+    #[error("the last component of the path {path:?} is refused by the check's number {source}")]
     InvalidComponent {
         /// The path up to the name, and the name.
         path: BString,
