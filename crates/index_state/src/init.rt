@@ -61,13 +61,9 @@ impl State {
             max_objects (Err f))) }
     {
         let leaves = leaves_of(alloc, tree, objects, check, max_objects)?;
-        Ok(State {
-            object_hash: tree.kind(),
-            timestamp: now,
-            version: Version::V2,
-            entries: leaves.entries,
-            path_backing: leaves.storage,
-            extensions: Outcome::none(),
-        })
+        let mut state = State::new(alloc, tree.kind(), now);
+        state.entries = leaves.entries;
+        state.path_backing = leaves.storage;
+        Ok(state)
     }
 }
