@@ -2,6 +2,8 @@
 
 ghost use Rattle.std.specs.Prelude.{◌≡◌, [], Ok, Err, IfOk, IfErr, flat_map};
 ghost use Rattle.index_parts.specs.Id.{id_kind};
+ghost use Rattle.index_entries.specs.Order.{IsStrictlyOrdered};
+ghost use Rattle.index_entries.specs.TreeOrder.{AreGitOrdered};
 ghost use Rattle.index_trees.specs.Leaves.{AreLeaves, SaysLeaves};
 ghost use Rattle.index_state.specs.Edits.{empty_contents, with_records};
 ghost use Rattle.index_state.specs.Storable.{IsStorable};
@@ -43,6 +45,8 @@ impl State {
     /// kind, and its stat numbers and flags are 0. Each reading of an object counts against `max_objects`, before `objects`
     /// is asked, and a tree is read whole before its names are looked at. Each name goes through `check` before what it
     /// stands for is listed or read, a link's also as such. The first fault is the error, and leaves nothing.
+    ///
+    /// Where each tree that is read has its entries in git's order, and no name has a slash, the entries strictly increase.
     pub fn from_tree<F: Find, C: ComponentCheck>(
         alloc: Global,
         tree: &ObjectId,
@@ -57,6 +61,8 @@ impl State {
         ensures storage { IfOk result (λ s. storage_of s ≡ flat_map (λ r. r.path) (records s)) }
         ensures stored { IfOk result PathsInStorage }
         ensures storable { IfOk result (λ s. IsStorable (contents s)) }
+        ensures ordered { IfOk result (λ s. AreGitOrdered (F.found objects.now) (id_kind tree.now) tree.now
+            → IsStrictlyOrdered (records s)) }
         ensures fault { IfErr result (λ e. SaysLeaves e (λ f. AreLeaves (F.found objects.now) (C.refusal check.now) tree.now
             max_objects (Err f))) }
     {
