@@ -205,6 +205,7 @@ fn each_call_of_a_read_fails(rt: HostRuntime) -> Result<(), Fail> {
         reads(&rt, ErrorKind::OutOfMemory)?.as_slice(),
         b"mo".as_slice()
     );
+    let _ = fs::remove_dir_all(&rt, "device");
     Ok(())
 }
 
@@ -281,5 +282,6 @@ fn each_call_of_a_write_fails(rt: HostRuntime) -> Result<(), Fail> {
         writes_of_new(&rt, ErrorKind::OutOfMemory)?.as_slice(),
         b"mo3".as_slice()
     );
+    let _ = fs::remove_file(&rt, "device.index");
     Ok(())
 }

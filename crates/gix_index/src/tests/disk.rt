@@ -86,11 +86,11 @@ pub(super) fn read<R: Files>(
     File::at(rt, alloc, path, Kind::Sha1, false, time, options)
 }
 
-/// Makes a folder with a split index, and the shared one that it links to.
+/// Makes a folder, unless it is there, with a split index, and the shared one that it links to.
 pub(super) fn make_split(rt: &HostRuntime, alloc: Global, folder: &str) -> Result<(), Fail> {
     let (bytes, id) = shared(alloc)?;
     let split = split_of(alloc, &[(4, b""), (5, b"d")], id, BITMAPS)?;
-    fs::create_dir(rt, folder)?;
+    let _ = fs::create_dir(rt, folder);
     fs::write(
         rt,
         format!(in alloc; "{folder}/sharedindex.{id}")?.as_str(),
@@ -180,12 +180,13 @@ fn links_are_followed(rt: HostRuntime) -> Result<(), Fail> {
         itself.as_slice(),
         b"shared index has a link of its own".as_slice()
     );
+    let _ = fs::remove_dir_all(&rt, "linked");
     Ok(())
 }
 
 #[test]
 fn there_is_no_file(rt: HostRuntime) -> Result<(), Fail> {
-    fs::create_dir(&rt, "folder")?;
+    let _ = fs::create_dir(&rt, "folder");
     for (path, or_default, want) in [
         ("none", false, b"no none".as_slice()),
         ("folder", false, b"no folder"),
@@ -196,6 +197,7 @@ fn there_is_no_file(rt: HostRuntime) -> Result<(), Fail> {
     let file = read(&rt, rt.alloc(), "none", true)?;
     assert_eq!(rt; (file.entries().len(), file.checksum()), (0, None));
     assert_eq!(rt; Some(file.timestamp()), FileTime::new(7, 8));
+    let _ = fs::remove_dir_all(&rt, "folder");
     Ok(())
 }
 
@@ -245,25 +247,29 @@ fn writes_that_are_refused(rt: HostRuntime) -> Result<(), Fail> {
         state_of(rt.alloc(), &[(1, b"a")])?,
         PathBuf::new(rt.alloc()),
     );
-    fs::create_dir(&rt, "place")?;
-    fs::write(&rt, "held.lock", "another's")?;
-    assert_eq!(rt; write_told(&rt, &mut file, "written", false)?, "written");
+    let _ = fs::create_dir(&rt, "place");
+    fs::write(&rt, "place/held.lock", "another's")?;
+    assert_eq!(rt;
+        write_told(&rt, &mut file, "place/index", false)?,
+        "written"
+    );
     // A file of another version and another checksum would be written now.
     for entry in file.entries_mut() {
         entry.flags = Flags::EXTENDED;
     }
     for (path, want) in [
-        ("held", "no lock"),
+        ("place/held", "no lock"),
         ("nowhere/index", "no lock"),
         ("place", "no place"),
     ] {
         assert_eq!(rt; write_told(&rt, &mut file, path, false)?, want);
     }
     assert_eq!(rt;
-        fs::read(&rt, "held.lock")?.as_slice(),
+        fs::read(&rt, "place/held.lock")?.as_slice(),
         b"another's".as_slice()
     );
     assert!(rt; fs::metadata(&rt, "place.lock").is_err());
+    let _ = fs::remove_dir_all(&rt, "place");
     Ok(())
 }
 
