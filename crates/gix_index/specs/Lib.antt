@@ -46,6 +46,7 @@ pub use Rattle.index_extensions.specs.StoredTree
 pub use Rattle.index_extensions.specs.Tree
 pub use Rattle.index_extensions.specs.TreeFaults
 pub use Rattle.index_extensions.specs.TreeImage
+pub use Rattle.index_trees.specs.Leaves
 pub use Rattle.index_untracked.specs.Untracked
 pub use Rattle.index_extensions.specs.Walk
 pub use Rattle.index_state.specs.Answer

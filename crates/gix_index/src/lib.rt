@@ -6,6 +6,7 @@
 
 pub mod extension;
 pub mod file;
+pub mod init;
 pub mod laws;
 #[cfg(test)]
 mod tests;

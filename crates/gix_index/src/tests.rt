@@ -11,4 +11,5 @@ mod extension;
 mod file;
 mod hash;
 mod lookup;
+mod tree;
 mod write;

@@ -1,8 +1,8 @@
-use Rattle.std.proofs.Common.{◌≡◌, ◌∙◌, ap, sym, subst}
+use Rattle.std.proofs.Common.{◌∙◌, ap, sym, subst}
 use Rattle.index_parts.specs.Id.{id_kind}
 use Rattle.index_parts.specs.declared.hash.Kind.{Kind}
 use Rattle.index_state.specs.Edits.{empty_contents, with_records}
-use Rattle.index_state.specs.State.{Contents, contents, records}
+use Rattle.index_state.specs.State.{Contents, records}
 use Rattle.index_state.specs.Storable.{IsStorable}
 use Rattle.index_state.specs.declared.State.{State}
 use Rattle.index_state.proofs.Storables.{fitting_storable}

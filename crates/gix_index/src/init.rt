@@ -1,0 +1,5 @@
+//! New indexes.
+
+pub mod from_tree;
+
+pub use index_trees::ComponentCheck;

@@ -1,0 +1,3 @@
+//! Why an index can't be made of a tree.
+
+pub use index_trees::from_tree::{Error, Traversal};
