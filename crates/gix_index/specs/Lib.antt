@@ -47,6 +47,7 @@ pub use Rattle.index_extensions.specs.Tree
 pub use Rattle.index_extensions.specs.TreeFaults
 pub use Rattle.index_extensions.specs.TreeImage
 pub use Rattle.index_trees.specs.Leaves
+pub use Rattle.index_entries.specs.TreeOrder
 pub use Rattle.index_untracked.specs.Untracked
 pub use Rattle.index_extensions.specs.Walk
 pub use Rattle.index_state.specs.Answer
