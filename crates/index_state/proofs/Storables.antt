@@ -10,7 +10,7 @@ use Rattle.index_parts.specs.declared.hash.Kind.{Kind}
 use Rattle.index_parts.specs.declared.entry.stat.FileTime.{FileTime}
 use Rattle.index_entries.specs.declared.Entry.{Entry}
 use Rattle.index_entries.specs.Record.{Record, IsSized, record_in, records_in}
-use Rattle.index_trees.proofs.Fits.{Fits}
+use Rattle.index_trees.proofs.Fits.{FitsFile}
 use Rattle.index_state.specs.Edits.{empty_contents, with_record, with_records}
 use Rattle.index_state.specs.State.{Contents}
 use Rattle.index_state.specs.Storable.{IsStorable}
@@ -37,10 +37,10 @@ fewer_storable v storage es i e is inside read h =
     keeps_storable v (records_in storage (remove es i)) h (λ P a. All-tail P (record_in storage e) (records_in storage (remove es i)) (All-permutation P (records_in storage es) _ moved (rw is at a)))
 
 -- records that a file holds all of, in an index with nothing else
-pub fitting_storable : (kind : Kind) (time : FileTime) (rs : List Record) → All (Fits kind) rs → IsStorable (with_records (empty_contents kind time) rs)
+pub fitting_storable : (kind : Kind) (time : FileTime) (rs : List Record) → All (FitsFile kind) rs → IsStorable (with_records (empty_contents kind time) rs)
 fitting_storable kind time rs h = record {
-  ids = All-weaker (Fits kind) (λ r. id_kind r.id ≡ kind) (λ r f. f.id) rs h;
-  paths = All-weaker (Fits kind) HasLegalPath (λ r f long. f.path) rs h;
-  fits = All-weaker (Fits kind) IsSized (λ r f. f.sized) rs h;
+  ids = All-weaker (FitsFile kind) (λ r. id_kind r.id ≡ kind) (λ r f. f.id) rs h;
+  paths = All-weaker (FitsFile kind) HasLegalPath (λ r f long. f.path) rs h;
+  fits = All-weaker (FitsFile kind) IsSized (λ r f. f.sized) rs h;
   tree = tt;
 }

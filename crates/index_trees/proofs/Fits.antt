@@ -19,7 +19,7 @@ abbrev HasNoNul : List ℕ → Type 0
 HasNoNul l = All (λ b. b ≢ 0) l
 
 -- a file of this kind holds all of the record
-pub record Fits (kind : Kind) (r : Record) : Type 0 where
+pub record FitsFile (kind : Kind) (r : Record) : Type 0 where
   pub id : id_kind r.id ≡ kind
   pub path : HasNoNul r.path
   pub sized : IsSized r
@@ -49,7 +49,7 @@ mode_fits kinds.BlobExecutable = omega arith
 mode_fits kinds.Link = omega arith
 mode_fits kinds.Commit = omega arith
 
-leaf_fits : (kind : Kind) (front : List ℕ) (e : TreeEntry) → HasNoNul front → IsClean kind e → Fits kind (leaf_of front e)
+leaf_fits : (kind : Kind) (front : List ℕ) (e : TreeEntry) → HasNoNul front → IsClean kind e → FitsFile kind (leaf_of front e)
 leaf_fits kind front e h c = record {
   id = c.id;
   path = All-append (λ b. b ≢ 0) front e.name h c.name;
@@ -75,12 +75,12 @@ IsCleanPart kind (whole_tree front id) = HasNoNul front
 IsCleanPart kind (some_entries front es) = HasNoNul front × All (IsClean kind) es
 
 AllFit : Kind → Listing → Type 0
-AllFit kind (Ok x) = All (Fits kind) x.0
+AllFit kind (Ok x) = All (FitsFile kind) x.0
 AllFit kind (Err f) = Unit {0}
 
-both_fit : (kind : Kind) (rs : List Record) (r : Listing) → All (Fits kind) rs → AllFit kind r → AllFit kind (behind rs r)
+both_fit : (kind : Kind) (rs : List Record) (r : Listing) → All (FitsFile kind) rs → AllFit kind r → AllFit kind (behind rs r)
 unfolding AllFit
-both_fit kind rs (Ok x) h k = All-append (Fits kind) rs x.0 h k
+both_fit kind rs (Ok x) h k = All-append (FitsFile kind) rs x.0 h k
 both_fit kind rs (Err f) h k = tt
 
 below_clean : (kind : Kind) (front : List ℕ) (e : TreeEntry) → HasNoNul front → IsClean kind e → HasNoNul (front ++ e.name ++ 47 ∷ [])
@@ -93,16 +93,16 @@ module _ (find : ObjectId → Found) (check : List ℕ → Bool → Option ℕ) 
   part_fits n part r (limit front id) h = tt
   part_fits n part r (unread m front id f u) h = tt
   part_fits n part r (opened m front id bytes es more found is y) h = part_fits m (some_entries front es) more y (h, are_clean kind bytes es [] is)
-  part_fits n part r (ended m front) h = All-nil (Fits kind)
+  part_fits n part r (ended m front) h = All-nil (FitsFile kind)
   part_fits n part r (refused m front e es number refuses) h = tt
   part_fits n part r (leaf m front e es more passes other y) h =
-      both_fit kind (leaf_of front e ∷ []) more (All-cons (Fits kind) (leaf_of front e) [] (leaf_fits kind front e h.0 (All-head (IsClean kind) e es h.1)) (All-nil (Fits kind)))
+      both_fit kind (leaf_of front e ∷ []) more (All-cons (FitsFile kind) (leaf_of front e) [] (leaf_fits kind front e h.0 (All-head (IsClean kind) e es h.1)) (All-nil (FitsFile kind)))
       (part_fits m (some_entries front es) more y (h.0, All-tail (IsClean kind) e es h.1))
   part_fits n part r (below m left front e es rs more passes is y z) h =
       both_fit kind rs more (part_fits m (whole_tree (front ++ e.name ++ 47 ∷ []) e.id) (Ok (rs, left)) y (below_clean kind front e h.0 (All-head (IsClean kind) e es h.1)))
       (part_fits left (some_entries front es) more z (h.0, All-tail (IsClean kind) e es h.1))
   part_fits n part r (stopped m front e es f passes is y) h = tt
 
-pub leaves_fit : (find : ObjectId → Found) (check : List ℕ → Bool → Option ℕ) (root : ObjectId) (most : ℕ) (rs : List Record) → AreLeaves find check root most (Ok rs) → All (Fits (id_kind root)) rs
+pub leaves_fit : (find : ObjectId → Found) (check : List ℕ → Bool → Option ℕ) (root : ObjectId) (most : ℕ) (rs : List Record) → AreLeaves find check root most (Ok rs) → All (FitsFile (id_kind root)) rs
 unfolding AllFit IsCleanPart
 leaves_fit find check root most rs h = part_fits find check (id_kind root) most (whole_tree [] root) (Ok (rs, h.0)) h.1 (All-nil (λ b. b ≢ 0))

@@ -80,9 +80,9 @@ pub record ListsUpTo (check : List ℕ → Bool → Option ℕ) (kind : Kind) (o
   pub leads : (find : ObjectId → Found) (n : ℕ) (x r : Listing) → Yields find check kind n (whole_tree new.path.items next.id) x
       → GoesOn find check kind (behind (listed_records new) x) front rest r → GoesOn find check kind (Ok (listed_records old, n)) front bytes r
 
-abbrev pub Lists : (List ℕ → Bool → Option ℕ) → Kind → Listed → Listed → List ℕ → List ℕ → Option Next → Type 0
-Lists check kind old new front bytes None = ListsAll check kind old new front bytes
-Lists check kind old new front bytes (Some next) = ListsUpTo check kind old new front bytes next
+abbrev pub ListsOn : (List ℕ → Bool → Option ℕ) → Kind → Listed → Listed → List ℕ → List ℕ → Option Next → Type 0
+ListsOn check kind old new front bytes None = ListsAll check kind old new front bytes
+ListsOn check kind old new front bytes (Some next) = ListsUpTo check kind old new front bytes next
 
 -- these bytes have this fault
 abbrev pub ListsFault : (List ℕ → Bool → Option ℕ) → Kind → Listed → List ℕ → List ℕ → LeavesFault → Type 0

@@ -3,7 +3,7 @@
 ghost use Rattle.std.specs.Prelude.{◌≡◌, ◌≤◌, ◌++◌, [], ◌∷◌, None, IfOk, IfErr, OnOk, length, take};
 ghost use Rattle.index_trees.specs.Leaves.{SaysLeaves, refusal_as};
 ghost use Rattle.index_trees.specs.declared.from_tree.Error.TheVariants.{Memory};
-ghost use Rattle.index_trees.specs.Walking.{Begins, Fails, IsPacked, IsRefused, IsSound, IsWhole, Lists, ListsFault, Steps, last_leaf, listed_records, unlisted};
+ghost use Rattle.index_trees.specs.Walking.{Begins, Fails, IsPacked, IsRefused, IsSound, IsWhole, ListsOn, ListsFault, Steps, last_leaf, listed_records, unlisted};
 
 use crate::ComponentCheck;
 use crate::check::refusal_of;
@@ -101,7 +101,7 @@ fn check_name<C: ComponentCheck>(
     Ok(())
 }
 
-/// Lists leaves from the entries that bytes hold, up to a tree, and gives that; None where all are leaves.
+/// ListsOn leaves from the entries that bytes hold, up to a tree, and gives that; None where all are leaves.
 fn list_entries<C: ComponentCheck>(
     listed: &mut Listed,
     alloc: Global,
@@ -113,7 +113,7 @@ fn list_entries<C: ComponentCheck>(
     requires packed { IsPacked listed.old }
     requires front { front ≤ length listed.old.path.items }
     requires whole { IsWhole kind bytes.now }
-    ensures lists { IfOk result (Lists (C.refusal check.now) kind listed.old listed.new
+    ensures lists { IfOk result (ListsOn (C.refusal check.now) kind listed.old listed.new
         (take front listed.old.path.items) bytes.now) }
     ensures packed { OnOk result (IsPacked listed.new) }
     ensures front { OnOk result (take front listed.new.path.items ≡ take front listed.old.path.items) }
@@ -187,7 +187,7 @@ impl Walk {
         Ok(())
     }
 
-    /// Lists leaves of the trees that were begun, up to the next tree, and gives its id; None where all is listed.
+    /// ListsOn leaves of the trees that were begun, up to the next tree, and gives its id; None where all is listed.
     pub(crate) fn next_tree<C: ComponentCheck>(
         &mut self,
         alloc: Global,

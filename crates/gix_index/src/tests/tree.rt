@@ -14,7 +14,8 @@ use crate::object::{self, Find, find};
 use std::alloc::{AllocError, Global};
 use std::test::Fail;
 
-/// Two trees, by the first byte of their ids: 22 for the one below, 11 for a blob, 9 where the store fails, 7 for nothing.
+/// A root, and by the first byte of its id what else is there: 0x22 is the tree below, 0x11 a blob, at 9 the store fails, and
+/// at 7 nothing is there.
 #[derive(Drop)]
 struct Store {
     root: Vec<u8>,

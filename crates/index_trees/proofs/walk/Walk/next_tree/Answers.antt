@@ -2,7 +2,7 @@ use Rattle.std.proofs.Common.{rules, ◌≡◌, ℕ, ◌-◌, ◌∷◌, [], ◌
 use Rattle.std.proofs.lemmas.Result.{err_from_is_err_and}
 use Rattle.index_trees.proofs.Listings.{says_also}
 use Rattle.index_trees.proofs.Walks.{begun, walk_fails, walk_goes, walk_reaches, within}
-use Rattle.index_trees.specs.Walking.{Fails, IsWhole, Lists, ListsAll, ListsFault, ListsUpTo}
+use Rattle.index_trees.specs.Walking.{Fails, IsWhole, ListsOn, ListsAll, ListsFault, ListsUpTo}
 use Rattle.index_trees.specs.declared.walk.Level.{Level}
 use Rattle.index_trees.specs.declared.walk.Next.{Next}
 use Rattle.index_trees.proofs.walk.Walk.next_tree.Goals as goal
@@ -40,8 +40,8 @@ returns-in-Some-2-clause-steps g c =
     let k : Level = record { bytes = l.bytes; at = length l.bytes.items - c.in-Some-2.next.left; front = l.front } in
     let front = take l.front c.loop-level.self.listed.path.items in
     let kept : c.push.new.self.items ≡ c.pop.new.self.items ++ k ∷ [] = search rules in
-    let lists : Lists check c.args.kind c.loop-level.self.listed c.list_entries.new.listed front c.unlisted-bytes.result.now (Some c.in-Some-2.next) =
-    subst (λ (o : Option Next). Lists check c.args.kind c.loop-level.self.listed c.list_entries.new.listed front c.unlisted-bytes.result.now o) c.in-Some-2.is c.in_ok-next.ensures.lists in
+    let lists : ListsOn check c.args.kind c.loop-level.self.listed c.list_entries.new.listed front c.unlisted-bytes.result.now (Some c.in-Some-2.next) =
+    subst (λ (o : Option Next). ListsOn check c.args.kind c.loop-level.self.listed c.list_entries.new.listed front c.unlisted-bytes.result.now o) c.in-Some-2.is c.in_ok-next.ensures.lists in
     walk_reaches check c.args.kind c.args.self.now c.loop-level.self l c.pop.new.self.items c.in-Some.ensures.items h.sound h.comes
     _ c.in_ok-next.ensures.packed c.in_ok-next.ensures.front c.in_ok-next.ensures.long k c.in-Some-2.next kept refl refl refl
     (subst (λ (b : List ℕ). ListsUpTo check c.args.kind c.loop-level.self.listed c.list_entries.new.listed front b c.in-Some-2.next) c.unlisted-bytes.ensures lists)
@@ -53,8 +53,8 @@ loop-level-preserved g c =
     let l : Level = c.in-Some.level in
     let front = take l.front c.loop-level.self.listed.path.items in
     let none : c.in_ok-next.field-0 ≡ None = search rules in
-    let lists : Lists check c.args.kind c.loop-level.self.listed c.list_entries.new.listed front c.unlisted-bytes.result.now None =
-    subst (λ (o : Option Next). Lists check c.args.kind c.loop-level.self.listed c.list_entries.new.listed front c.unlisted-bytes.result.now o) none c.in_ok-next.ensures.lists in
+    let lists : ListsOn check c.args.kind c.loop-level.self.listed c.list_entries.new.listed front c.unlisted-bytes.result.now None =
+    subst (λ (o : Option Next). ListsOn check c.args.kind c.loop-level.self.listed c.list_entries.new.listed front c.unlisted-bytes.result.now o) none c.in_ok-next.ensures.lists in
     let w = walk_goes check c.args.kind c.args.self.now c.loop-level.self l c.pop.new.self.items c.in-Some.ensures.items h.sound h.comes
     (record { listed = c.list_entries.new.listed; levels = c.pop.new.self }) c.in_ok-next.ensures.packed c.in_ok-next.ensures.front c.in_ok-next.ensures.long refl
     (subst (λ (b : List ℕ). ListsAll check c.args.kind c.loop-level.self.listed c.list_entries.new.listed front b) c.unlisted-bytes.ensures lists) in
