@@ -46,7 +46,8 @@ pub fn one_reading()
 
 /// Reading what is written of a storable index gives what a file keeps of it, and the trailer: for either kind of id and all
 /// choices of writing, by a reader of the same kind that has no limit and expects no trailer. The index has no more entries and
-/// bytes than a file counts, in version 4 no path that is written has a NUL, and a SHA-1 file that has no end marker doesn't end as if it had one.
+/// bytes than a file counts, in version 4 no path that is written has a NUL, and a SHA-1 file that has no end marker doesn't end
+/// as if it had one.
 pub fn written_reads_back()
     ensures { (v : Contents) (options : WriteOptions) (time : FileTime) (reading : Options) → IsStorable v → IsWritable v options → IsUnmistakable v options
         → reading.alloc_limit_bytes ≡ None → reading.expected_checksum ≡ None

@@ -84,8 +84,9 @@ impl File {
     /// zeros with `skip_hash`. It gives the file's version, and that digest or the null id. The checksum of this
     /// `File` stays.
     ///
-    /// The refusals are those of [`State::write_to`]: [`Error::TooManyEntries`], [`Error::NulInPath`] and [`Error::TooLarge`] before any byte;
-    /// [`Error::Io`] where the writer failed, which then took a front of the bytes. No memory is taken.
+    /// The refusals are those of [`State::write_to`]: [`Error::TooManyEntries`], [`Error::NulInPath`] and
+    /// [`Error::TooLarge`] before any byte; [`Error::Io`] where the writer failed, which then took a front of the bytes. No
+    /// memory is taken.
     pub fn write_to<W: Out>(
         &self,
         out: &mut W,

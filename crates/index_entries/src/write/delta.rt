@@ -56,8 +56,8 @@ impl Entry {
 
     /// Writes the entry as a file of version 4 has it behind the path `previous`, which is empty before the first entry: how
     /// many bytes of that path are taken off behind those that both begin with, the bytes of its own that follow them, and
-    /// one NUL (gitformat-index, "Index entry"). Its path lies in the storage of this state. A path may hold any bytes, but with a NUL
-    /// it is another one that is read.
+    /// one NUL (gitformat-index, "Index entry"). Its path lies in the storage of this state. A path may hold any bytes, but with
+    /// a NUL it is another one that is read.
     ///
     /// An error comes only where the writer failed, which then took a front of the bytes. No memory is taken.
     pub fn write_delta_to<W: Out, S: PathBacking>(
