@@ -12,7 +12,7 @@ use Rattle.index_parts.specs.declared.hash.ObjectId.{ObjectId}
 use Rattle.index_parts.specs.declared.object.tree.EntryKind.{EntryKind}
 use Rattle.index_parts.specs.declared.object.tree.EntryKind.TheVariants as kinds
 use Rattle.index_entries.specs.Record.{Record, IsSized}
-use Rattle.index_trees.specs.Leaves.{AreLeaves, Listing, Part, Yields, behind, leaf_of, some_entries, whole_tree, limit, unread, opened, ended, refused, leaf, below, stopped}
+use Rattle.index_trees.specs.Leaves.{AreLeaves, LeavesAnswer, Part, Yields, with_leaves, leaf_of, some_entries, whole_tree, limit, unread, opened, ended, refused, leaf, below, stopped}
 
 -- no byte is NUL
 abbrev HasNoNul : List ℕ → Type 0
@@ -74,11 +74,11 @@ IsCleanPart : Kind → Part → Type 0
 IsCleanPart kind (whole_tree front id) = HasNoNul front
 IsCleanPart kind (some_entries front es) = HasNoNul front × All (IsClean kind) es
 
-AllFit : Kind → Listing → Type 0
+AllFit : Kind → LeavesAnswer → Type 0
 AllFit kind (Ok x) = All (FitsFile kind) x.0
 AllFit kind (Err f) = Unit {0}
 
-both_fit : (kind : Kind) (rs : List Record) (r : Listing) → All (FitsFile kind) rs → AllFit kind r → AllFit kind (behind rs r)
+both_fit : (kind : Kind) (rs : List Record) (r : LeavesAnswer) → All (FitsFile kind) rs → AllFit kind r → AllFit kind (with_leaves rs r)
 unfolding AllFit
 both_fit kind rs (Ok x) h k = All-append (FitsFile kind) rs x.0 h k
 both_fit kind rs (Err f) h k = tt
@@ -88,7 +88,7 @@ below_clean kind front e h c =
     All-append (λ b. b ≢ 0) (front ++ e.name) (47 ∷ []) (All-append (λ b. b ≢ 0) front e.name h c.name) (All-cons (λ b. b ≢ 0) 47 [] (λ is. absurd (omega (arith, is))) (All-nil (λ b. b ≢ 0)))
 
 module _ (find : ObjectId → Found) (check : List ℕ → Bool → Option ℕ) (kind : Kind) where
-  part_fits : (n : ℕ) (part : Part) (r : Listing) → Yields find check kind n part r → IsCleanPart kind part → AllFit kind r
+  part_fits : (n : ℕ) (part : Part) (r : LeavesAnswer) → Yields find check kind n part r → IsCleanPart kind part → AllFit kind r
   unfolding AllFit IsCleanPart
   part_fits n part r (limit front id) h = tt
   part_fits n part r (unread m front id f u) h = tt

@@ -6,7 +6,7 @@ use Rattle.index_parts.specs.declared.hash.Kind.{Kind}
 use Rattle.index_parts.specs.declared.hash.ObjectId.{ObjectId}
 use Rattle.index_parts.specs.declared.object.Kind.TheVariants.{Tree}
 use Rattle.index_entries.specs.Record.{Record}
-use Rattle.index_trees.specs.Leaves.{Listing, LeavesFault, Yields, behind, whole_tree, opened}
+use Rattle.index_trees.specs.Leaves.{LeavesAnswer, LeavesFault, Yields, with_leaves, whole_tree, opened}
 use Rattle.index_trees.specs.Walking.{GoesOn, GoOn, IsBegun, Rise, unlisted}
 use Rattle.index_trees.specs.declared.walk.Level.{Level}
 
@@ -38,7 +38,7 @@ module _ (kind : Kind) where
 
 module _ (find : ObjectId → Found) (check : List ℕ → Bool → Option ℕ) (kind : Kind) where
   -- a path that begins alike keeps the fronts
-  pub go_moved : (p q : List ℕ) (low : ℕ) (so_far : Listing) (ls : List Level) (high : ℕ) (r : Listing) → Rise kind low ls high → take high p ≡ take high q → GoOn find check kind p so_far ls r → GoOn find check kind q so_far ls r
+  pub go_moved : (p q : List ℕ) (low : ℕ) (so_far : LeavesAnswer) (ls : List Level) (high : ℕ) (r : LeavesAnswer) → Rise kind low ls high → take high p ≡ take high q → GoOn find check kind p so_far ls r → GoOn find check kind q so_far ls r
   go_moved p q low so_far [] high r rise same g = g
   go_moved p q low so_far (l ∷ ls) high r rise same g =
       let le : l.front ≤ high = rise_low kind l.front ls high rise.2 in
@@ -46,13 +46,13 @@ module _ (find : ObjectId → Found) (check : List ℕ → Bool → Option ℕ) 
       (g.0, go_moved p q l.front so_far ls high g.0 rise.2 same g.1, subst (λ (f : List ℕ). GoesOn find check kind g.0 f (unlisted l) r) front g.2)
 
   -- the innermost tree
-  pub go_push : (path : List ℕ) (so_far middle : Listing) (ls : List Level) (l : Level) (r : Listing) → GoesOn find check kind so_far (take l.front path) (unlisted l) middle → GoOn find check kind path middle ls r → GoOn find check kind path so_far (ls ++ l ∷ []) r
-  go_push path so_far middle [] l r h g = (so_far, refl, subst (λ (x : Listing). GoesOn find check kind so_far (take l.front path) (unlisted l) x) (sym g) h)
+  pub go_push : (path : List ℕ) (so_far middle : LeavesAnswer) (ls : List Level) (l : Level) (r : LeavesAnswer) → GoesOn find check kind so_far (take l.front path) (unlisted l) middle → GoOn find check kind path middle ls r → GoOn find check kind path so_far (ls ++ l ∷ []) r
+  go_push path so_far middle [] l r h g = (so_far, refl, subst (λ (x : LeavesAnswer). GoesOn find check kind so_far (take l.front path) (unlisted l) x) (sym g) h)
   go_push path so_far middle (k ∷ ls) l r h g = (g.0, go_push path so_far middle ls l g.0 h g.1, g.2)
 
-  pub go_pop : (path : List ℕ) (so_far : Listing) (ls : List Level) (l : Level) (r : Listing) → GoOn find check kind path so_far (ls ++ l ∷ []) r
-      → (middle : Listing) × GoesOn find check kind so_far (take l.front path) (unlisted l) middle × GoOn find check kind path middle ls r
-  go_pop path so_far [] l r g = (r, subst (λ (x : Listing). GoesOn find check kind x (take l.front path) (unlisted l) r) g.1 g.2, refl)
+  pub go_pop : (path : List ℕ) (so_far : LeavesAnswer) (ls : List Level) (l : Level) (r : LeavesAnswer) → GoOn find check kind path so_far (ls ++ l ∷ []) r
+      → (middle : LeavesAnswer) × GoesOn find check kind so_far (take l.front path) (unlisted l) middle × GoOn find check kind path middle ls r
+  go_pop path so_far [] l r g = (r, subst (λ (x : LeavesAnswer). GoesOn find check kind x (take l.front path) (unlisted l) r) g.1 g.2, refl)
   go_pop path so_far (k ∷ ls) l r g = let p = go_pop path so_far ls l g.0 g.1 in (p.0, p.1, (g.0, p.2, g.2))
 
   -- a fault, and a tree that is read
@@ -60,9 +60,9 @@ module _ (find : ObjectId → Found) (check : List ℕ → Bool → Option ℕ) 
   go_fault path f [] = refl
   go_fault path f (l ∷ ls) = (Err f, go_fault path f ls, refl)
 
-  pub go_opened : (n : ℕ) (path bytes : List ℕ) (rs : List Record) (ls : List Level) (l : Level) (id : ObjectId) (r : Listing) → find id ≡ object Tree bytes → take l.front path ≡ path → unlisted l ≡ bytes
-      → GoOn find check kind path (Ok (rs, n)) (ls ++ l ∷ []) r → (x : Listing) × Yields find check kind (suc n) (whole_tree path id) x × GoOn find check kind path (behind rs x) ls r
+  pub go_opened : (n : ℕ) (path bytes : List ℕ) (rs : List Record) (ls : List Level) (l : Level) (id : ObjectId) (r : LeavesAnswer) → find id ≡ object Tree bytes → take l.front path ≡ path → unlisted l ≡ bytes
+      → GoOn find check kind path (Ok (rs, n)) (ls ++ l ∷ []) r → (x : LeavesAnswer) × Yields find check kind (suc n) (whole_tree path id) x × GoOn find check kind path (with_leaves rs x) ls r
   go_opened n path bytes rs ls l id r found front is g =
       let p = go_pop path (Ok (rs, n)) ls l r g in
       let o = subst (λ (b : List ℕ). GoesOn find check kind (Ok (rs, n)) path b p.0) is (subst (λ (f : List ℕ). GoesOn find check kind (Ok (rs, n)) f (unlisted l) p.0) front p.1) in
-      (o.1, opened n path id bytes o.0 o.1 found o.2 o.3, subst (λ (x : Listing). GoOn find check kind path x ls r) o.4 p.2)
+      (o.1, opened n path id bytes o.0 o.1 found o.2 o.3, subst (λ (x : LeavesAnswer). GoOn find check kind path x ls r) o.4 p.2)

@@ -10,21 +10,21 @@ use Rattle.index_parts.specs.declared.hash.ObjectId.{ObjectId}
 use Rattle.index_parts.specs.declared.object.tree.EntryKind.{EntryKind}
 use Rattle.index_parts.specs.declared.object.tree.EntryKind.TheVariants as kinds
 use Rattle.index_entries.specs.Record.{Record}
-use Rattle.index_trees.specs.Leaves.{Listing, LeavesFault, InvalidComponent, SaysLeaves, Yields, behind, leaf_of, refusal_as, refusal_of, whole_tree, ended, refused, leaf, below, stopped}
-use Rattle.index_trees.specs.Walking.{GoesOn, IsListing, IsRefused, IsWhole, ListsAll, ListsFault, ListsUpTo, listed_records}
+use Rattle.index_trees.specs.Leaves.{LeavesAnswer, LeavesFault, InvalidComponent, SaysLeaves, Yields, with_leaves, leaf_of, refusal_as, refusal_of, whole_tree, ended, refused, leaf, below, stopped}
+use Rattle.index_trees.specs.Walking.{GoesOn, IsListing, IsRefused, IsSomeTree, ListsAll, ListsFault, ListsUpTo, listed_records}
 use Rattle.index_trees.specs.declared.from_tree.Error.{Error}
 use Rattle.index_trees.specs.declared.from_tree.Error.TheVariants as errors
 use Rattle.index_trees.specs.declared.walk.Listed.{Listed}
 use Rattle.index_trees.specs.declared.walk.Next.{Next}
 
-same_listing : {rs more : List Record} (n : ℕ) → rs ≡ more → ◌≡◌ {A = Listing} (Ok (rs, n)) (Ok (more, n))
+same_listing : {rs more : List Record} (n : ℕ) → rs ≡ more → ◌≡◌ {A = LeavesAnswer} (Ok (rs, n)) (Ok (more, n))
 same_listing n e = rw e refl
 
-pub behind_none : (r : Listing) → behind [] r ≡ r
+pub behind_none : (r : LeavesAnswer) → with_leaves [] r ≡ r
 behind_none (Ok x) = refl
 behind_none (Err f) = refl
 
-pub behind_both : (rs more : List Record) (r : Listing) → behind rs (behind more r) ≡ behind (rs ++ more) r
+pub behind_both : (rs more : List Record) (r : LeavesAnswer) → with_leaves rs (with_leaves more r) ≡ with_leaves (rs ++ more) r
 behind_both rs more (Ok x) = same_listing x.1 (sym (append_assoc rs more x.0))
 behind_both rs more (Err f) = refl
 
@@ -34,19 +34,19 @@ module _ (find : ObjectId → Found) (check : List ℕ → Bool → Option ℕ) 
   goes_end rs n front bytes none = ([], Ok ([], n), none, ended n front, same_listing n (sym (append-nil rs)))
 
   module _ (rs : List Record) (n : ℕ) (front bytes : List ℕ) (e : TreeEntry) (after : List ℕ) (first : IsTreeEntry kind bytes e after) where
-    pub goes_leaf : (r : Listing) → refusal_of check e ≡ None → kind_of_mode e.mode ≢ kinds.Tree
+    pub goes_leaf : (r : LeavesAnswer) → refusal_of check e ≡ None → kind_of_mode e.mode ≢ kinds.Tree
         → GoesOn find check kind (Ok (rs ++ leaf_of front e ∷ [], n)) front after r → GoesOn find check kind (Ok (rs, n)) front bytes r
     goes_leaf r passes other g =
-        (e ∷ g.0, behind (leaf_of front e ∷ []) g.1, (after, first, g.2), leaf n front e g.0 g.1 passes other g.3, g.4 ∙ sym (behind_both rs (leaf_of front e ∷ []) g.1))
+        (e ∷ g.0, with_leaves (leaf_of front e ∷ []) g.1, (after, first, g.2), leaf n front e g.0 g.1 passes other g.3, g.4 ∙ sym (behind_both rs (leaf_of front e ∷ []) g.1))
 
-    pub goes_refused : (number : ℕ) → IsWhole kind after → refusal_of check e ≡ Some number → GoesOn find check kind (Ok (rs, n)) front bytes (Err (InvalidComponent (front ++ e.name) number))
+    pub goes_refused : (number : ℕ) → IsSomeTree kind after → refusal_of check e ≡ Some number → GoesOn find check kind (Ok (rs, n)) front bytes (Err (InvalidComponent (front ++ e.name) number))
     goes_refused number others refuses =
         (e ∷ others.0, Err (InvalidComponent (front ++ e.name) number), (after, first, others.1), refused n front e others.0 number refuses, refl)
 
-    pub goes_below : (x r : Listing) → IsWhole kind after → refusal_of check e ≡ None → kind_of_mode e.mode ≡ kinds.Tree → Yields find check kind n (whole_tree (front ++ e.name ++ 47 ∷ []) e.id) x
-        → GoesOn find check kind (behind rs x) front after r → GoesOn find check kind (Ok (rs, n)) front bytes r
+    pub goes_below : (x r : LeavesAnswer) → IsSomeTree kind after → refusal_of check e ≡ None → kind_of_mode e.mode ≡ kinds.Tree → Yields find check kind n (whole_tree (front ++ e.name ++ 47 ∷ []) e.id) x
+        → GoesOn find check kind (with_leaves rs x) front after r → GoesOn find check kind (Ok (rs, n)) front bytes r
     goes_below (Ok x) r others passes is_tree y g =
-        (e ∷ g.0, behind x.0 g.1, (after, first, g.2), below n x.1 front e g.0 x.0 g.1 passes is_tree y g.3, g.4 ∙ sym (behind_both rs x.0 g.1))
+        (e ∷ g.0, with_leaves x.0 g.1, (after, first, g.2), below n x.1 front e g.0 x.0 g.1 passes is_tree y g.3, g.4 ∙ sym (behind_both rs x.0 g.1))
     goes_below (Err f) r others passes is_tree y g =
         (e ∷ others.0, Err f, (after, first, others.1), stopped n front e others.0 f passes is_tree y, g)
 
@@ -63,7 +63,7 @@ module _ (check : List ℕ → Bool → Option ℕ) (kind : Kind) (old now : Lis
   listing_ends none = λ find n. h.leads find n (Ok (listed_records now, n)) (goes_end find check kind (listed_records now) n front left none)
 
   module _ (e : TreeEntry) (after : List ℕ) (first : IsTreeEntry kind left e after) where
-    others : IsWhole kind after
+    others : IsSomeTree kind after
     others = object_behind kind left e after first h.whole.0 h.whole.1
 
     passed_by : (passed : List ℕ) × (bytes ≡ passed ++ after)
@@ -101,5 +101,5 @@ module _ (check : List ℕ → Bool → Option ℕ) (kind : Kind) (old now : Lis
         whole = others;
         leads = λ find n x r y g. h.leads find n r (goes_below find check kind (listed_records now) n front left e after first x r others passes_as (sym same ∙ is)
             (subst (λ (i : ObjectId). Yields find check kind n (whole_tree (front ++ e.name ++ 47 ∷ []) i) x) id (subst (λ (p : List ℕ). Yields find check kind n (whole_tree p next.id) x) path y))
-            (subst (λ (rs : List Record). GoesOn find check kind (behind rs x) front after r) kept g));
+            (subst (λ (rs : List Record). GoesOn find check kind (with_leaves rs x) front after r) kept g));
       }

@@ -7,8 +7,8 @@ use Rattle.index_parts.specs.declared.hash.Kind.{Kind}
 use Rattle.index_parts.specs.declared.hash.ObjectId.{ObjectId}
 use Rattle.index_parts.specs.declared.object.Kind.TheVariants.{Tree}
 use Rattle.index_entries.specs.Record.{Record}
-use Rattle.index_trees.specs.Leaves.{AreLeaves, IsUnread, Listing, LeavesFault, TooManyObjects, Yields, behind, limit, unread, whole_tree}
-use Rattle.index_trees.specs.Walking.{Begins, Ends, Fails, GoOn, IsPacked, IsSound, IsUnderWay, IsWhole, Reaches, Rise, WalkGoesOn, listed_records}
+use Rattle.index_trees.specs.Leaves.{AreLeaves, IsUnread, LeavesAnswer, LeavesFault, TooManyObjects, Yields, with_leaves, limit, unread, whole_tree}
+use Rattle.index_trees.specs.Walking.{Begins, Ends, HasFault, GoOn, IsPacked, IsSound, IsUnderWay, IsSomeTree, Reaches, Rise, WalkGoesOn, listed_records}
 use Rattle.index_trees.specs.declared.walk.Level.{Level}
 use Rattle.index_trees.specs.declared.walk.Listed.{Listed}
 use Rattle.index_trees.specs.declared.walk.Walk.{Walk}
@@ -16,14 +16,14 @@ use Rattle.index_trees.proofs.Levels.{go_fault, go_opened, rise_push}
 use Rattle.index_trees.proofs.Listings.{behind_none}
 
 module _ (find : ObjectId → Found) (check : List ℕ → Bool → Option ℕ) (kind : Kind) (root : ObjectId) (most : ℕ) (of_root : kind ≡ id_kind root) where
-  listing : (r : Listing) → Yields find check kind most (whole_tree [] root) r → Yields find check (id_kind root) most (whole_tree [] root) r
+  listing : (r : LeavesAnswer) → Yields find check kind most (whole_tree [] root) r → Yields find check (id_kind root) most (whole_tree [] root) r
   listing r y = subst (λ (k : Kind). Yields find check k most (whole_tree [] root) r) of_root y
 
   pub way_begins : (n : ℕ) → n ≡ most → (w : Walk) → w.levels.items ≡ [] → w.listed.path.items ≡ [] → listed_records w.listed ≡ [] → IsPacked w.listed → IsUnderWay find check kind root most n w root
   way_begins n all w levels path none packed = record {
     sound = record { packed = packed; rise = subst (λ (ls : List Level). Rise kind 0 ls (length w.listed.path.items)) (sym levels) (omega arith) };
     leads = λ x r y g.
-        let same : r ≡ x = subst (λ (ls : List Level). GoOn find check kind w.listed.path.items (behind (listed_records w.listed) x) ls r) levels g ∙ ap (λ (rs : List Record). behind rs x) none ∙ behind_none x in
+        let same : r ≡ x = subst (λ (ls : List Level). GoOn find check kind w.listed.path.items (with_leaves (listed_records w.listed) x) ls r) levels g ∙ ap (λ (rs : List Record). with_leaves rs x) none ∙ behind_none x in
         subst (λ (p : List ℕ). Yields find check kind most (whole_tree p root) r) path (subst (λ (i : ℕ). Yields find check kind i (whole_tree w.listed.path.items root) r) all
         (subst (Yields find check kind n (whole_tree w.listed.path.items root)) (sym same) y));
   }
@@ -40,7 +40,7 @@ module _ (find : ObjectId → Found) (check : List ℕ → Bool → Option ℕ) 
           listing (Err f) (h.leads (Err f) (Err f) (subst (λ (i : ℕ). Yields find check kind i (whole_tree w.listed.path.items next) (Err f)) (sym some) (unread k w.listed.path.items next f u))
           (go_fault find check kind w.listed.path.items f w.levels.items))
 
-      module _ (new : Walk) (bytes : List ℕ) (found : find next ≡ object Tree bytes) (whole : IsWhole kind bytes) (b : Begins w new bytes) where
+      module _ (new : Walk) (bytes : List ℕ) (found : find next ≡ object Tree bytes) (whole : IsSomeTree kind bytes) (b : Begins w new bytes) where
         pub way_sound : IsSound kind new
         way_sound = record {
           packed = rw b.listed h.sound.packed;
@@ -49,7 +49,7 @@ module _ (find : ObjectId → Found) (check : List ℕ → Bool → Option ℕ) 
         }
 
         -- what the walk comes to then
-        leads : (r : Listing) → WalkGoesOn find check kind new (Ok (listed_records new.listed, k)) r → Yields find check kind most (whole_tree [] root) r
+        leads : (r : LeavesAnswer) → WalkGoesOn find check kind new (Ok (listed_records new.listed, k)) r → Yields find check kind most (whole_tree [] root) r
         leads r g =
             let path : take b.level.front w.listed.path.items ≡ w.listed.path.items = take_all b.level.front w.listed.path.items (omega (arith, b.front)) in
             let o = go_opened find check kind k w.listed.path.items bytes (listed_records w.listed) w.levels.items b.level next r found path b.bytes
@@ -60,7 +60,7 @@ module _ (find : ObjectId → Found) (check : List ℕ → Bool → Option ℕ) 
         pub way_ends : (last : Walk) → Ends check kind new last → AreLeaves find check root most (Ok (listed_records last.listed))
         way_ends last e = (k, listing (Ok (listed_records last.listed, k)) (leads (Ok (listed_records last.listed, k)) (e find k)))
 
-        pub way_fails : (f : LeavesFault) → Fails check kind new f → AreLeaves find check root most (Err f)
+        pub way_fails : (f : LeavesFault) → HasFault check kind new f → AreLeaves find check root most (Err f)
         way_fails f e = listing (Err f) (leads (Err f) (e find k))
 
         pub way_reaches : (then : Walk) (id : ObjectId) → Reaches check kind new then id → IsUnderWay find check kind root most k then id

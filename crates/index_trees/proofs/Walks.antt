@@ -4,8 +4,8 @@ use Rattle.std.proofs.lemmas.List.{take-append-drop, length-append, drop_at}
 use Rattle.index_parts.specs.Object.{Found}
 use Rattle.index_parts.specs.declared.hash.Kind.{Kind}
 use Rattle.index_parts.specs.declared.hash.ObjectId.{ObjectId}
-use Rattle.index_trees.specs.Leaves.{Listing, LeavesFault, behind}
-use Rattle.index_trees.specs.Walking.{ComesFrom, Fails, GoesOn, GoOn, IsBegun, IsPacked, IsSound, ListsAll, ListsFault, ListsUpTo, Reaches, Rise, listed_records, unlisted}
+use Rattle.index_trees.specs.Leaves.{LeavesAnswer, LeavesFault, with_leaves}
+use Rattle.index_trees.specs.Walking.{ComesFrom, HasFault, GoesOn, GoOn, IsBegun, IsPacked, IsSound, ListsAll, ListsFault, ListsUpTo, Reaches, Rise, listed_records, unlisted}
 use Rattle.index_trees.specs.declared.walk.Level.{Level}
 use Rattle.index_trees.specs.declared.walk.Next.{Next}
 use Rattle.index_trees.specs.declared.walk.Walk.{Walk}
@@ -35,12 +35,12 @@ module _ (check : List ℕ → Bool → Option ℕ) (kind : Kind) (old now : Wal
 
   module _ (comes : ComesFrom check kind old now) where
     -- what the innermost tree comes to, and the others behind it
-    innermost : (find : ObjectId → Found) (n : ℕ) (middle r : Listing) → GoesOn find check kind (Ok (listed_records now.listed, n)) (take l.front path) (unlisted l) middle → GoOn find check kind path middle ls r
+    innermost : (find : ObjectId → Found) (n : ℕ) (middle r : LeavesAnswer) → GoesOn find check kind (Ok (listed_records now.listed, n)) (take l.front path) (unlisted l) middle → GoOn find check kind path middle ls r
         → GoOn find check kind old.listed.path.items (Ok (listed_records old.listed, n)) old.levels.items r
     innermost find n middle r h g =
         comes find n r (subst (λ (x : List Level). GoOn find check kind path (Ok (listed_records now.listed, n)) x r) (sym popped) (go_push find check kind path (Ok (listed_records now.listed, n)) middle ls l r h g))
 
-    pub walk_fails : (f : LeavesFault) → ListsFault check kind now.listed (take l.front now.listed.path.items) (unlisted l) f → Fails check kind old f
+    pub walk_fails : (f : LeavesFault) → ListsFault check kind now.listed (take l.front now.listed.path.items) (unlisted l) f → HasFault check kind old f
     walk_fails f h = λ find n. innermost find n (Err f) (Err f) (h find n) (go_fault find check kind path f ls)
 
     module _ (new : Walk) (packed : IsPacked new.listed) (same : take l.front new.listed.path.items ≡ take l.front now.listed.path.items) (long : l.front ≤ length new.listed.path.items) where
@@ -69,9 +69,9 @@ module _ (check : List ℕ → Bool → Option ℕ) (kind : Kind) (old now : Wal
                 (record { inside = omega (arith, at, ap length bytes); whole = (u.whole.0, rw rest u.whole.1) }) (omega (arith, front, long)));
           };
           leads = λ find n x r y g.
-              let p = go_pop find check kind new.listed.path.items (behind (listed_records new.listed) x) ls k r
-              (subst (λ (m : List Level). GoOn find check kind new.listed.path.items (behind (listed_records new.listed) x) m r) kept g) in
-              let o = subst (λ (b : List ℕ). GoesOn find check kind (behind (listed_records new.listed) x) (take k.front new.listed.path.items) b p.0) rest p.1 in
-              let o = subst (λ (f : List ℕ). GoesOn find check kind (behind (listed_records new.listed) x) f u.rest p.0) (ap (λ (i : ℕ). take i new.listed.path.items) front ∙ same) o in
+              let p = go_pop find check kind new.listed.path.items (with_leaves (listed_records new.listed) x) ls k r
+              (subst (λ (m : List Level). GoOn find check kind new.listed.path.items (with_leaves (listed_records new.listed) x) m r) kept g) in
+              let o = subst (λ (b : List ℕ). GoesOn find check kind (with_leaves (listed_records new.listed) x) (take k.front new.listed.path.items) b p.0) rest p.1 in
+              let o = subst (λ (f : List ℕ). GoesOn find check kind (with_leaves (listed_records new.listed) x) f u.rest p.0) (ap (λ (i : ℕ). take i new.listed.path.items) front ∙ same) o in
               innermost find n p.0 r (u.leads find n x p.0 y o) (go_moved find check kind new.listed.path.items path 0 p.0 ls l.front r parts.0 same p.2);
         }

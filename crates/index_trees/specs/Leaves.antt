@@ -53,13 +53,13 @@ refusal_of check e = refusal_as check e.name (kind_of_mode e.mode)
 -- ---- the leaves
 
 -- the leaves, and how many objects may be read after them; or the first fault
-abbrev pub Listing : Type 0
-Listing = Result (List Record × ℕ) LeavesFault
+abbrev pub LeavesAnswer : Type 0
+LeavesAnswer = Result (List Record × ℕ) LeavesFault
 
 -- these leaves, and a listing behind them
-abbrev pub behind : List Record → Listing → Listing
-behind rs (Ok x) = Ok (rs ++ x.0, x.1)
-behind rs (Err f) = Err f
+abbrev pub with_leaves : List Record → LeavesAnswer → LeavesAnswer
+with_leaves rs (Ok x) = Ok (rs ++ x.0, x.1)
+with_leaves rs (Err f) = Err f
 
 -- what is listed: the tree with an id, or some entries of one. The front of all its paths is empty, or it ends with a slash.
 pub data Part : Type 0 where
@@ -76,19 +76,19 @@ pub data IsUnread (find : ObjectId → Found) (kind : Kind) (id : ObjectId) : Le
 -- Where so many objects may be read, a part has this listing. That limit comes before the store is asked, and a tree is read
 -- whole before its entries are listed. Of each entry the name is checked first; then a leaf is listed, and a tree read. All
 -- that is below a name comes before the next name.
-pub data Yields (find : ObjectId → Found) (check : List ℕ → Bool → Option ℕ) (kind : Kind) : ℕ → Part → Listing → Type 0 where
+pub data Yields (find : ObjectId → Found) (check : List ℕ → Bool → Option ℕ) (kind : Kind) : ℕ → Part → LeavesAnswer → Type 0 where
   limit : (front : List ℕ) (id : ObjectId) → Yields find check kind 0 (whole_tree front id) (Err TooManyObjects)
   unread : (n : ℕ) (front : List ℕ) (id : ObjectId) (f : LeavesFault) → IsUnread find kind id f → Yields find check kind (suc n) (whole_tree front id) (Err f)
-  opened : (n : ℕ) (front : List ℕ) (id : ObjectId) (bytes : List ℕ) (es : List TreeEntry) (r : Listing) → find id ≡ object objects.Tree bytes → IsTreeObject kind bytes es
+  opened : (n : ℕ) (front : List ℕ) (id : ObjectId) (bytes : List ℕ) (es : List TreeEntry) (r : LeavesAnswer) → find id ≡ object objects.Tree bytes → IsTreeObject kind bytes es
       → Yields find check kind n (some_entries front es) r → Yields find check kind (suc n) (whole_tree front id) r
   ended : (n : ℕ) (front : List ℕ) → Yields find check kind n (some_entries front []) (Ok ([], n))
   refused : (n : ℕ) (front : List ℕ) (e : TreeEntry) (es : List TreeEntry) (number : ℕ) → refusal_of check e ≡ Some number
       → Yields find check kind n (some_entries front (e ∷ es)) (Err (InvalidComponent (front ++ e.name) number))
-  leaf : (n : ℕ) (front : List ℕ) (e : TreeEntry) (es : List TreeEntry) (r : Listing) → refusal_of check e ≡ None → kind_of_mode e.mode ≢ kinds.Tree
-      → Yields find check kind n (some_entries front es) r → Yields find check kind n (some_entries front (e ∷ es)) (behind (leaf_of front e ∷ []) r)
-  below : (n left : ℕ) (front : List ℕ) (e : TreeEntry) (es : List TreeEntry) (rs : List Record) (r : Listing) → refusal_of check e ≡ None → kind_of_mode e.mode ≡ kinds.Tree
+  leaf : (n : ℕ) (front : List ℕ) (e : TreeEntry) (es : List TreeEntry) (r : LeavesAnswer) → refusal_of check e ≡ None → kind_of_mode e.mode ≢ kinds.Tree
+      → Yields find check kind n (some_entries front es) r → Yields find check kind n (some_entries front (e ∷ es)) (with_leaves (leaf_of front e ∷ []) r)
+  below : (n left : ℕ) (front : List ℕ) (e : TreeEntry) (es : List TreeEntry) (rs : List Record) (r : LeavesAnswer) → refusal_of check e ≡ None → kind_of_mode e.mode ≡ kinds.Tree
       → Yields find check kind n (whole_tree (front ++ e.name ++ 47 ∷ []) e.id) (Ok (rs, left)) → Yields find check kind left (some_entries front es) r
-      → Yields find check kind n (some_entries front (e ∷ es)) (behind rs r)
+      → Yields find check kind n (some_entries front (e ∷ es)) (with_leaves rs r)
   stopped : (n : ℕ) (front : List ℕ) (e : TreeEntry) (es : List TreeEntry) (f : LeavesFault) → refusal_of check e ≡ None → kind_of_mode e.mode ≡ kinds.Tree
       → Yields find check kind n (whole_tree (front ++ e.name ++ 47 ∷ []) e.id) (Err f) → Yields find check kind n (some_entries front (e ∷ es)) (Err f)
 

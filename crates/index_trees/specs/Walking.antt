@@ -7,15 +7,15 @@ use Rattle.index_parts.specs.declared.hash.Kind.{Kind}
 use Rattle.index_parts.specs.declared.hash.ObjectId.{ObjectId}
 use Rattle.index_parts.specs.declared.object.tree.EntryKind.{EntryKind}
 use Rattle.index_entries.specs.Record.{Record, IsPlaced, records_in}
-use Rattle.index_trees.specs.Leaves.{Listing, LeavesFault, InvalidComponent, Yields, refusal_as, zero_stat, behind, some_entries, whole_tree}
+use Rattle.index_trees.specs.Leaves.{LeavesAnswer, LeavesFault, InvalidComponent, Yields, refusal_as, zero_stat, with_leaves, some_entries, whole_tree}
 use Rattle.index_trees.specs.declared.walk.Level.{Level}
 use Rattle.index_trees.specs.declared.walk.Listed.{Listed}
 use Rattle.index_trees.specs.declared.walk.Next.{Next}
 use Rattle.index_trees.specs.declared.walk.Walk.{Walk}
 
 -- bytes are a tree's object
-abbrev pub IsWhole : Kind → List ℕ → Type 0
-IsWhole kind bytes = (es : List TreeEntry) × IsTreeObject kind bytes es
+abbrev pub IsSomeTree : Kind → List ℕ → Type 0
+IsSomeTree kind bytes = (es : List TreeEntry) × IsTreeObject kind bytes es
 
 -- ---- what is listed
 
@@ -38,9 +38,9 @@ IsRefused check path name kind f = (number : ℕ) × (refusal_as check name kind
 -- ---- what is still to be listed
 
 -- A listing so far, and then the entries that bytes hold, come to a listing. A fault so far stays.
-abbrev pub GoesOn : (ObjectId → Found) → (List ℕ → Bool → Option ℕ) → Kind → Listing → List ℕ → List ℕ → Listing → Type 0
+abbrev pub GoesOn : (ObjectId → Found) → (List ℕ → Bool → Option ℕ) → Kind → LeavesAnswer → List ℕ → List ℕ → LeavesAnswer → Type 0
 GoesOn find check kind (Ok x) front bytes r =
-    (es : List TreeEntry) × (more : Listing) × IsTreeObject kind bytes es × Yields find check kind x.1 (some_entries front es) more × (r ≡ behind x.0 more)
+    (es : List TreeEntry) × (more : LeavesAnswer) × IsTreeObject kind bytes es × Yields find check kind x.1 (some_entries front es) more × (r ≡ with_leaves x.0 more)
 GoesOn find check kind (Err f) front bytes r = r ≡ Err f
 
 -- the bytes of a tree that aren't listed
@@ -48,15 +48,15 @@ abbrev pub unlisted : Level → List ℕ
 unlisted l = drop l.at l.bytes.items
 
 -- the same with the trees that were begun, of which the last is listed first
-abbrev pub GoOn : (ObjectId → Found) → (List ℕ → Bool → Option ℕ) → Kind → List ℕ → Listing → List Level → Listing → Type 0
+abbrev pub GoOn : (ObjectId → Found) → (List ℕ → Bool → Option ℕ) → Kind → List ℕ → LeavesAnswer → List Level → LeavesAnswer → Type 0
 GoOn find check kind path so_far [] r = r ≡ so_far
 GoOn find check kind path so_far (l ∷ ls) r =
-    (inner : Listing) × GoOn find check kind path so_far ls inner × GoesOn find check kind inner (take l.front path) (unlisted l) r
+    (inner : LeavesAnswer) × GoOn find check kind path so_far ls inner × GoesOn find check kind inner (take l.front path) (unlisted l) r
 
 -- a tree was read whole, and what isn't listed of it is one too
 pub record IsBegun (kind : Kind) (l : Level) : Type 0 where
   pub inside : l.at ≤ length l.bytes.items
-  pub whole : IsWhole kind (unlisted l)
+  pub whole : IsSomeTree kind (unlisted l)
 
 -- Trees were begun, and their fronts don't fall, from a first length up to a last one.
 abbrev pub Rise : Kind → ℕ → List Level → ℕ → Type 0
@@ -76,9 +76,9 @@ pub record ListsUpTo (check : List ℕ → Bool → Option ℕ) (kind : Kind) (o
   pub rest : List ℕ
   pub parts : bytes ≡ passed ++ rest
   pub left : next.left ≡ length rest
-  pub whole : IsWhole kind rest
-  pub leads : (find : ObjectId → Found) (n : ℕ) (x r : Listing) → Yields find check kind n (whole_tree new.path.items next.id) x
-      → GoesOn find check kind (behind (listed_records new) x) front rest r → GoesOn find check kind (Ok (listed_records old, n)) front bytes r
+  pub whole : IsSomeTree kind rest
+  pub leads : (find : ObjectId → Found) (n : ℕ) (x r : LeavesAnswer) → Yields find check kind n (whole_tree new.path.items next.id) x
+      → GoesOn find check kind (with_leaves (listed_records new) x) front rest r → GoesOn find check kind (Ok (listed_records old, n)) front bytes r
 
 abbrev pub ListsOn : (List ℕ → Bool → Option ℕ) → Kind → Listed → Listed → List ℕ → List ℕ → Option Next → Type 0
 ListsOn check kind old new front bytes None = ListsAll check kind old new front bytes
@@ -92,13 +92,13 @@ ListsFault check kind old front bytes f = (find : ObjectId → Found) (n : ℕ) 
 pub record IsListing (check : List ℕ → Bool → Option ℕ) (kind : Kind) (old now : Listed) (front bytes left : List ℕ) : Type 0 where
   pub passed : List ℕ
   pub parts : bytes ≡ passed ++ left
-  pub whole : IsWhole kind left
-  pub leads : (find : ObjectId → Found) (n : ℕ) (r : Listing) → GoesOn find check kind (Ok (listed_records now, n)) front left r → GoesOn find check kind (Ok (listed_records old, n)) front bytes r
+  pub whole : IsSomeTree kind left
+  pub leads : (find : ObjectId → Found) (n : ℕ) (r : LeavesAnswer) → GoesOn find check kind (Ok (listed_records now, n)) front left r → GoesOn find check kind (Ok (listed_records old, n)) front bytes r
 
 -- ---- steps from a tree that is read to the next
 
 -- what is listed, and then the trees that were begun, come to a listing
-abbrev pub WalkGoesOn : (ObjectId → Found) → (List ℕ → Bool → Option ℕ) → Kind → Walk → Listing → Listing → Type 0
+abbrev pub WalkGoesOn : (ObjectId → Found) → (List ℕ → Bool → Option ℕ) → Kind → Walk → LeavesAnswer → LeavesAnswer → Type 0
 WalkGoesOn find check kind w so_far r = GoOn find check kind w.listed.path.items so_far w.levels.items r
 
 -- all lies where it should, and the trees that were begun are whole
@@ -113,21 +113,21 @@ Ends check kind old new = (find : ObjectId → Found) (n : ℕ) → WalkGoesOn f
 -- A walk reaches the tree with this id. What that tree and the others come to is what all come to.
 pub record Reaches (check : List ℕ → Bool → Option ℕ) (kind : Kind) (old new : Walk) (id : ObjectId) : Type 0 where
   pub sound : IsSound kind new
-  pub leads : (find : ObjectId → Found) (n : ℕ) (x r : Listing) → Yields find check kind n (whole_tree new.listed.path.items id) x
-      → WalkGoesOn find check kind new (behind (listed_records new.listed) x) r → WalkGoesOn find check kind old (Ok (listed_records old.listed, n)) r
+  pub leads : (find : ObjectId → Found) (n : ℕ) (x r : LeavesAnswer) → Yields find check kind n (whole_tree new.listed.path.items id) x
+      → WalkGoesOn find check kind new (with_leaves (listed_records new.listed) x) r → WalkGoesOn find check kind old (Ok (listed_records old.listed, n)) r
 
-abbrev pub Steps : (List ℕ → Bool → Option ℕ) → Kind → Walk → Walk → Option ObjectId → Type 0
-Steps check kind old new None = Ends check kind old new
-Steps check kind old new (Some id) = Reaches check kind old new id
+abbrev pub GoesTo : (List ℕ → Bool → Option ℕ) → Kind → Walk → Walk → Option ObjectId → Type 0
+GoesTo check kind old new None = Ends check kind old new
+GoesTo check kind old new (Some id) = Reaches check kind old new id
 
 -- a walk has this fault
-abbrev pub Fails : (List ℕ → Bool → Option ℕ) → Kind → Walk → LeavesFault → Type 0
-Fails check kind old f = (find : ObjectId → Found) (n : ℕ) → WalkGoesOn find check kind old (Ok (listed_records old.listed, n)) (Err f)
+abbrev pub HasFault : (List ℕ → Bool → Option ℕ) → Kind → Walk → LeavesFault → Type 0
+HasFault check kind old f = (find : ObjectId → Found) (n : ℕ) → WalkGoesOn find check kind old (Ok (listed_records old.listed, n)) (Err f)
 
 -- what a walk that is under way comes to is what it came to at first
 abbrev pub ComesFrom : (List ℕ → Bool → Option ℕ) → Kind → Walk → Walk → Type 0
 ComesFrom check kind old now =
-    (find : ObjectId → Found) (n : ℕ) (r : Listing) → WalkGoesOn find check kind now (Ok (listed_records now.listed, n)) r → WalkGoesOn find check kind old (Ok (listed_records old.listed, n)) r
+    (find : ObjectId → Found) (n : ℕ) (r : LeavesAnswer) → WalkGoesOn find check kind now (Ok (listed_records now.listed, n)) r → WalkGoesOn find check kind old (Ok (listed_records old.listed, n)) r
 
 -- a tree is begun: its names come behind the path
 pub record Begins (old new : Walk) (object : List ℕ) : Type 0 where
@@ -142,5 +142,5 @@ pub record Begins (old new : Walk) (object : List ℕ) : Type 0 where
 -- is the listing of the first.
 pub record IsUnderWay (find : ObjectId → Found) (check : List ℕ → Bool → Option ℕ) (kind : Kind) (root : ObjectId) (most n : ℕ) (w : Walk) (next : ObjectId) : Type 0 where
   pub sound : IsSound kind w
-  pub leads : (x r : Listing) → Yields find check kind n (whole_tree w.listed.path.items next) x
-      → WalkGoesOn find check kind w (behind (listed_records w.listed) x) r → Yields find check kind most (whole_tree [] root) r
+  pub leads : (x r : LeavesAnswer) → Yields find check kind n (whole_tree w.listed.path.items next) x
+      → WalkGoesOn find check kind w (with_leaves (listed_records w.listed) x) r → Yields find check kind most (whole_tree [] root) r

@@ -5,7 +5,7 @@ ghost use Rattle.index_parts.specs.Object.{object};
 ghost use Rattle.index_parts.specs.TreeObject.{IsMalformedTree};
 ghost use Rattle.index_parts.specs.declared.object.Kind.TheVariants.{Tree};
 ghost use Rattle.index_trees.specs.Leaves.{IsUnread, SaysLeaves};
-ghost use Rattle.index_trees.specs.Walking.{IsWhole};
+ghost use Rattle.index_trees.specs.Walking.{IsSomeTree};
 
 use crate::from_tree::{Error, Traversal};
 use index_parts::hash::{Kind, ObjectId};
@@ -15,7 +15,7 @@ use std::alloc::Global;
 
 /// Whether bytes are entries of a tree, and nothing else.
 fn is_whole(bytes: &[u8], kind: Kind) -> bool
-    ensures whole { IsTrue result → IsWhole kind bytes.now }
+    ensures whole { IsTrue result → IsSomeTree kind bytes.now }
     ensures malformed { result ≡ false → IsMalformedTree kind bytes.now }
 {
     let mut entries = Entries::new(bytes, kind);
@@ -35,7 +35,7 @@ pub(crate) fn read_tree<F: Find>(
     kind: Kind,
 ) -> Result<Vec<u8>, Error>
     ensures found { IfOk result (λ bytes. F.found objects.now id ≡ object Tree bytes.items) }
-    ensures whole { IfOk result (λ bytes. IsWhole kind bytes.items) }
+    ensures whole { IfOk result (λ bytes. IsSomeTree kind bytes.items) }
     ensures fault { IfErr result (λ e. SaysLeaves e (IsUnread (F.found objects.now) kind id)) }
 {
     let mut bytes = Vec::new(alloc);

@@ -3,7 +3,7 @@
 ghost use Rattle.std.specs.Prelude.{◌≡◌, ◌≤◌, ◌++◌, [], ◌∷◌, None, IfOk, IfErr, OnOk, length, take};
 ghost use Rattle.index_trees.specs.Leaves.{SaysLeaves, refusal_as};
 ghost use Rattle.index_trees.specs.declared.from_tree.Error.TheVariants.{Memory};
-ghost use Rattle.index_trees.specs.Walking.{Begins, Fails, IsPacked, IsRefused, IsSound, IsWhole, ListsOn, ListsFault, Steps, last_leaf, listed_records, unlisted};
+ghost use Rattle.index_trees.specs.Walking.{Begins, HasFault, IsPacked, IsRefused, IsSound, IsSomeTree, ListsOn, ListsFault, GoesTo, last_leaf, listed_records, unlisted};
 
 use crate::ComponentCheck;
 use crate::check::refusal_of;
@@ -112,7 +112,7 @@ fn list_entries<C: ComponentCheck>(
 ) -> Result<Option<Next>, Error>
     requires packed { IsPacked listed.old }
     requires front { front ≤ length listed.old.path.items }
-    requires whole { IsWhole kind bytes.now }
+    requires whole { IsSomeTree kind bytes.now }
     ensures lists { IfOk result (ListsOn (C.refusal check.now) kind listed.old listed.new
         (take front listed.old.path.items) bytes.now) }
     ensures packed { OnOk result (IsPacked listed.new) }
@@ -195,9 +195,9 @@ impl Walk {
         check: &C,
     ) -> Result<Option<ObjectId>, Error>
         requires { IsSound kind self.old }
-        ensures steps { IfOk result (Steps (C.refusal check.now) kind self.old self.new) }
+        ensures steps { IfOk result (GoesTo (C.refusal check.now) kind self.old self.new) }
         ensures packed { OnOk result (IsPacked self.new.listed) }
-        ensures fault { IfErr result (λ e. SaysLeaves e (Fails (C.refusal check.now) kind self.old)) }
+        ensures fault { IfErr result (λ e. SaysLeaves e (HasFault (C.refusal check.now) kind self.old)) }
     {
         while let Some(mut level) = self.levels.pop() {
             let bytes = level.unlisted();

@@ -2,7 +2,7 @@ use Rattle.std.proofs.Common.{rules, ◌≡◌, ℕ, ◌-◌, ◌∷◌, [], ◌
 use Rattle.std.proofs.lemmas.Result.{err_from_is_err_and}
 use Rattle.index_trees.proofs.Listings.{says_also}
 use Rattle.index_trees.proofs.Walks.{begun, walk_fails, walk_goes, walk_reaches, within}
-use Rattle.index_trees.specs.Walking.{Fails, IsWhole, ListsOn, ListsAll, ListsFault, ListsUpTo}
+use Rattle.index_trees.specs.Walking.{HasFault, IsSomeTree, ListsOn, ListsAll, ListsFault, ListsUpTo}
 use Rattle.index_trees.specs.declared.walk.Level.{Level}
 use Rattle.index_trees.specs.declared.walk.Next.{Next}
 use Rattle.index_trees.proofs.walk.Walk.next_tree.Goals as goal
@@ -18,7 +18,7 @@ list_entries-requires-clause-front g c =
 pub list_entries-requires-clause-whole : goal.list_entries-requires-clause-whole
 list_entries-requires-clause-whole g c =
     let b = begun (g.C.ComponentCheck.refusal c.args.check.now) c.args.kind c.args.self.now c.loop-level.self c.in-Some.level c.pop.new.self.items c.in-Some.ensures.items c.loop-level.invariant.sound in
-    subst (IsWhole c.args.kind) (sym c.unlisted-bytes.ensures) b.whole
+    subst (IsSomeTree c.args.kind) (sym c.unlisted-bytes.ensures) b.whole
 
 pub returns-in_err-next-clause-fault : goal.returns-in_err-next-clause-fault
 returns-in_err-next-clause-fault g c =
@@ -27,7 +27,7 @@ returns-in_err-next-clause-fault g c =
     let l : Level = c.in-Some.level in
     let front = take l.front c.loop-level.self.listed.path.items in
     let p = err_from_is_err_and c.from_residual.result c.from_residual.ensures.1 in
-    rw (p.1, p.2) (says_also c.in_err-next.field-0.0 (ListsFault check c.args.kind c.loop-level.self.listed front c.unlisted-bytes.result.now) (Fails check c.args.kind c.args.self.now)
+    rw (p.1, p.2) (says_also c.in_err-next.field-0.0 (ListsFault check c.args.kind c.loop-level.self.listed front c.unlisted-bytes.result.now) (HasFault check c.args.kind c.args.self.now)
     (λ f k. walk_fails check c.args.kind c.args.self.now c.loop-level.self l c.pop.new.self.items c.in-Some.ensures.items h.sound h.comes f
     (subst (λ (b : List ℕ). ListsFault check c.args.kind c.loop-level.self.listed front b f) c.unlisted-bytes.ensures k))
     c.in_err-next.ensures.fault)
