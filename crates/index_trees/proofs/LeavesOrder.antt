@@ -14,7 +14,7 @@ use Rattle.index_entries.specs.Order.{path_cmp, IsStrictlyOrdered}
 use Rattle.index_entries.specs.Record.{Record}
 use Rattle.index_entries.specs.TreeOrder.{sorted_name, IsGitOrdered, IsReached, AreGitOrdered, itself, listed}
 use Rattle.index_entries.proofs.TreeOrder.{MayFollow, paths_less, ordered_behind}
-use Rattle.index_trees.specs.Leaves.{Listing, Part, whole_tree, some_entries, Yields, AreLeaves, behind, leaf_of, limit, unread, opened, ended, refused, leaf, below, stopped}
+use Rattle.index_trees.specs.Leaves.{LeavesAnswer, Part, whole_tree, some_entries, Yields, AreLeaves, with_leaves, leaf_of, limit, unread, opened, ended, refused, leaf, below, stopped}
 
 -- ---- trees among the entries
 
@@ -86,11 +86,11 @@ stand_before front e es r q ordered at among =
 -- ---- listings
 
 -- a listing without a fault strictly increases, and this is so of its records
-abbrev Goes : (Record → Type 0) → Listing → Type 0
+abbrev Goes : (Record → Type 0) → LeavesAnswer → Type 0
 Goes P (Ok x) = IsStrictlyOrdered x.0 × All P x.0
 Goes P (Err f) = Unit {0}
 
-goes_weaker : (P Q : Record → Type 0) (l : Listing) → ((r : Record) → P r → Q r) → Goes P l → Goes Q l
+goes_weaker : (P Q : Record → Type 0) (l : LeavesAnswer) → ((r : Record) → P r → Q r) → Goes P l → Goes Q l
 goes_weaker P Q (Ok x) f h = (h.0, λ k d within. f (get_or x.0 k d) (h.1 k d within))
 goes_weaker P Q (Err e) f h = tt
 
@@ -100,8 +100,8 @@ none_ordered = record { less = λ i j d lt within. absurd (omega arith) }
 one_ordered : (r : Record) → IsStrictlyOrdered (r ∷ [])
 one_ordered r = record { less = λ i j d lt within. absurd (omega arith) }
 
-goes_behind : (front : List ℕ) (e : TreeEntry) (es : List TreeEntry) (rs : List Record) (l : Listing) → IsGitOrdered (e ∷ es) → IsStrictlyOrdered rs → All (StandsAt front e) rs
-    → Goes (StandsAmong front es) l → Goes (StandsAmong front (e ∷ es)) (behind rs l)
+goes_behind : (front : List ℕ) (e : TreeEntry) (es : List TreeEntry) (rs : List Record) (l : LeavesAnswer) → IsGitOrdered (e ∷ es) → IsStrictlyOrdered rs → All (StandsAt front e) rs
+    → Goes (StandsAmong front es) l → Goes (StandsAmong front (e ∷ es)) (with_leaves rs l)
 goes_behind front e es rs (Err f) ordered rise at h = tt
 goes_behind front e es rs (Ok x) ordered rise at h = (
   ordered_behind rs x.0 rise h.0 (λ k d within j c inside. stand_before front e es (get_or rs k d) (get_or x.0 j c) ordered (at k d within) (h.1 j c inside)),
@@ -122,14 +122,14 @@ module _ (find : ObjectId → Found) (check : List ℕ → Bool → Option ℕ) 
   Asks (whole_tree front id) = IsReached find kind root id
   Asks (some_entries front es) = IsGitOrdered es × AreReached es
 
-  abbrev Rises : Part → Listing → Type 0
+  abbrev Rises : Part → LeavesAnswer → Type 0
   Rises (whole_tree front id) l = Goes (Under front) l
   Rises (some_entries front es) l = Goes (StandsAmong front es) l
 
   reached_tail : (e : TreeEntry) (es : List TreeEntry) → AreReached (e ∷ es) → AreReached es
   reached_tail e es h d there is = h d (contains_later e d es there) is
 
-  rise : (n : ℕ) (p : Part) (l : Listing) → Yields find check kind n p l → Asks p → Rises p l
+  rise : (n : ℕ) (p : Part) (l : LeavesAnswer) → Yields find check kind n p l → Asks p → Rises p l
   rise n p l (limit front id) asked = tt
   rise n p l (unread m front id f un) asked = tt
   rise n p l (opened m front id bytes es r found whole y) asked =
