@@ -3,6 +3,7 @@ pub mod LeavesOrder
 pub mod Levels
 pub mod Listings
 pub mod Objects
+pub mod OneListing
 pub mod Stats
 pub mod Trees
 pub mod Walks
