@@ -1,7 +1,7 @@
-//! Laws of the definitions that the contracts of `State::from_bytes`, `State::write_to` and those of `File` cite. A law
-//! computes nothing.
+//! Laws of the definitions that the contracts of `State::from_bytes`, `State::from_tree`, `State::write_to` and those of
+//! `File` cite. A law computes nothing.
 
-ghost use Rattle.std.specs.Prelude.{◌≡◌, ℕ, List, Option, Ok, None};
+ghost use Rattle.std.specs.Prelude.{◌≡◌, ℕ, List, Bool, Option, Result, Ok, None};
 ghost use Rattle.index_parts.specs.declared.hash.Kind.{Kind};
 ghost use Rattle.index_parts.specs.declared.entry.stat.FileTime.{FileTime};
 ghost use Rattle.index_extensions.specs.EndMarker.{IsMarked};
@@ -11,8 +11,10 @@ ghost use Rattle.index_extensions.specs.ResolveUndo.{IsResolveUndo};
 ghost use Rattle.index_extensions.specs.Tree.{IsTree};
 ghost use Rattle.index_untracked.specs.Untracked.{IsCache};
 ghost use Rattle.index_state.specs.Link.{LinkFault, IsLink, IsLinkFault};
+ghost use Rattle.index_parts.specs.Object.{Found};
 ghost use Rattle.index_parts.specs.declared.hash.ObjectId.{ObjectId};
-ghost use Rattle.index_entries.specs.Record.{AreBytes};
+ghost use Rattle.index_entries.specs.Record.{Record, AreBytes};
+ghost use Rattle.index_trees.specs.Leaves.{LeavesFault, AreLeaves};
 ghost use Rattle.index_state.specs.declared.decode.Options.{Options};
 ghost use Rattle.index_state.specs.declared.write.Options.{Options as WriteOptions};
 ghost use Rattle.index_state.specs.Answer.{Answer, IsAnswer, checksum_of};
@@ -42,6 +44,13 @@ pub fn one_reading()
     ensures end_marker { (kind : Kind) → HasOneReading (IsMarked kind) }
     ensures walk { HasOneWalk }
     ensures bitmap { HasOneBitmap }
+{}
+
+/// A tree has leaves or a first fault, and no second answer: for all that a store has for ids, all that a check says of
+/// names, each root, and each number of objects that may be read.
+pub fn one_listing()
+    ensures some { (find : ObjectId → Found) (check : List ℕ → Bool → Option ℕ) (root : ObjectId) (most : ℕ) → (a : Result (List Record) LeavesFault) × AreLeaves find check root most a }
+    ensures one { (find : ObjectId → Found) (check : List ℕ → Bool → Option ℕ) (root : ObjectId) (most : ℕ) (a b : Result (List Record) LeavesFault) → AreLeaves find check root most a → AreLeaves find check root most b → a ≡ b }
 {}
 
 /// Reading what is written of a storable index gives what a file keeps of it, and the trailer: for either kind of id and all
