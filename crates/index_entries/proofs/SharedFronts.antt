@@ -1,5 +1,5 @@
 -- What two paths begin with alike.
-use Rattle.std.proofs.Common.{◌≡◌, ℕ, ◌≤◌, ◌⊎◌, inl, inr, Bool, true, false, List, [], ◌∷◌, length, take, refl, ap, arith}
+use Rattle.std.proofs.Common.{◌≡◌, ℕ, zero, suc, ◌+◌, ◌≤◌, ◌⊎◌, inl, inr, Bool, true, false, List, [], ◌∷◌, length, take, drop, get_or, refl, ap, arith}
 use Rattle.std.specs.Prelude.{◌==◌}
 use Rattle.std.proofs.lemmas.Bool.Decides.{nat_tests}
 use Rattle.index_entries.specs.Shared.{shared_len}
@@ -8,6 +8,17 @@ pub shared_end : (xs ys : List ℕ) → (length xs ≡ 0) ⊎ (length ys ≡ 0) 
 shared_end [] ys h = refl
 shared_end (x ∷ xs) [] h = refl
 shared_end (x ∷ xs) (y ∷ ys) h = elim h [ inl e ↦ absurd (omega arith) | inr e ↦ absurd (omega arith) ]
+
+-- behind a front that is the same of both, the rest is compared
+pub shared_behind : (n : ℕ) (xs ys : List ℕ) → n ≤ length xs → n ≤ length ys → take n xs ≡ take n ys → shared_len xs ys ≡ n + shared_len (drop n xs) (drop n ys)
+shared_behind zero xs ys first second same = omega arith
+shared_behind (suc n) [] ys first second same = absurd (omega (arith, first))
+shared_behind (suc n) (x ∷ xs) [] first second same = absurd (omega (arith, second))
+shared_behind (suc n) (x ∷ xs) (y ∷ ys) first second same =
+    let tails = shared_behind n xs ys (omega (arith, first)) (omega (arith, second)) (ap (drop 1) same) in
+    let heads : x ≡ y = ap (λ (zs : List ℕ). get_or zs 0 0) same in
+    let equal : (x == y) ≡ true = grind (arith, nat_tests, heads) in
+    rw equal (omega (arith, tails))
 
 -- the front that both have is the same of each
 pub shared_front : (xs ys : List ℕ) → take (shared_len xs ys) xs ≡ take (shared_len xs ys) ys

@@ -1,11 +1,46 @@
 //! What the paths of entries share, and whether they have a NUL, as their spelling in version 4 asks (gitformat-index).
 
-ghost use Rattle.std.specs.Prelude.{◌≡◌, ◌≢◌, ◌≤◌, ◌↔◌, All, IsTrue, length};
+ghost use Rattle.std.specs.Int.{to_be_bytes, w64};
+ghost use Rattle.std.specs.Prelude.{◌≡◌, ◌≢◌, ◌≤◌, ◌+◌, ◌↔◌, All, IsTrue, drop, length, take};
 ghost use Rattle.index_entries.specs.EntryImage.{LackNul};
 ghost use Rattle.index_entries.specs.Record.{IsPlaced, records_in};
 ghost use Rattle.index_entries.specs.Shared.{shared_len};
 
 use crate::Entry;
+
+/// How many bytes are compared at once.
+const WORD_LEN: usize = 8;
+
+/// The eight bytes at a place, as one number.
+fn word_at(bytes: &[u8], at: usize) -> u64
+    requires { at + 8 ≤ length bytes.now }
+    ensures { to_be_bytes w64 result ≡ take 8 (drop at bytes.now) }
+{
+    u64::from_be_bytes([
+        bytes[at],
+        bytes[at + 1],
+        bytes[at + 2],
+        bytes[at + 3],
+        bytes[at + 4],
+        bytes[at + 5],
+        bytes[at + 6],
+        bytes[at + 7],
+    ])
+}
+
+/// How many bytes both begin with, counted in whole words.
+fn shared_words(a: &[u8], b: &[u8]) -> usize
+    ensures first { result ≤ length a.now }
+    ensures second { result ≤ length b.now }
+    ensures same { take result a.now ≡ take result b.now }
+{
+    let end = a.len().min(b.len());
+    let mut len = 0;
+    while end - len >= WORD_LEN && word_at(a, len) == word_at(b, len) {
+        len += WORD_LEN;
+    }
+    len
+}
 
 /// How many bytes both begin with: the length of the longest front that they share.
 pub fn shared_len(a: &[u8], b: &[u8]) -> usize
@@ -13,7 +48,7 @@ pub fn shared_len(a: &[u8], b: &[u8]) -> usize
     ensures first { result ≤ length a.now }
     ensures second { result ≤ length b.now }
 {
-    let mut len = 0;
+    let mut len = shared_words(a, b);
     while len < a.len() && len < b.len() {
         if a[len] != b[len] {
             return len;
