@@ -1,4 +1,4 @@
-//! The leaves of a tree, in the order in which they are met.
+//! What a tree lists that isn't a tree itself, and why there is no such list.
 
 ghost use Rattle.std.specs.Prelude.{◌≡◌, ◌<◌, Ok, Err, IfOk, IfErr, All, length, flat_map};
 ghost use Rattle.index_parts.specs.Id.{id_kind};
