@@ -1,6 +1,6 @@
 //! `index-change-rows`: what becomes of the index of each row of a table: edited, verified, merged and written.
 //!
-//! The table comes on standard input. A row is a line of words: a call, a kind of hash, and what the call takes. The row is
+//! The table comes on standard input. A row is a line of words: a call, and what the call takes. The row is
 //! printed behind `> `, and below it the answer. A line that is empty or begins with `#` is passed over. The first lines of
 //! the table beside the program, `stdin`, tell how rows and answers are written.
 //!
@@ -15,6 +15,7 @@ mod list;
 mod merges;
 mod trees;
 mod words;
+mod worktree;
 
 use fault::Fault;
 use gix_index::write::VersionChoice;
@@ -26,6 +27,23 @@ use std::str::SplitWhitespace;
 
 /// Tells what the call of this name answers with the words behind it.
 fn call(out: &mut Lines, name: &str, words: &mut SplitWhitespace<'_>) -> Result<(), Fault> {
+    match name {
+        "mode" => worktree::mode(out, words),
+        "racy" => worktree::racy(out, words),
+        "stats" => worktree::stats(out, words),
+        "stat" => worktree::stat(out, words),
+        "time" => worktree::time(out, words),
+        "file-time" => worktree::file_time(out, words),
+        _ => call_on_index(out, name, words),
+    }
+}
+
+/// The same of a call on an index, which takes a kind of hash first.
+fn call_on_index(
+    out: &mut Lines,
+    name: &str,
+    words: &mut SplitWhitespace<'_>,
+) -> Result<(), Fault> {
     let kind = words::kind_of(words.next())?;
     match name {
         "edits" => edits::edits(out, kind, words),
