@@ -1,6 +1,6 @@
 //! Files on the disk: what went wrong with one, and all bytes of one with their digest.
 
-ghost use Rattle.std.specs.Prelude.{◌≡◌, [], IfOk, IfSome};
+ghost use Rattle.std.specs.Prelude.{◌≡◌, [], IfOk, IfSome, OnOk};
 ghost use Rattle.gix_index.specs.Checked.{digest_id};
 
 use index_parts::hash::{Hasher, Kind, ObjectId};
@@ -49,23 +49,25 @@ fn opened<R: Files>(rt: &R, alloc: Global, path: Path<'_>) -> io::Result<(R::Fil
     Ok((file, room))
 }
 
-/// Whether a file's last bytes, of which an id has as many, are all zero. It says no of one that can be read only in order,
-/// as a pipe. The file then stands at its start, and the room is empty.
+/// Whether a file's last bytes, of which an id has as many, are all zero. It says no of what is no plain file, as a pipe,
+/// which can be read only in order. The file then stands at its start, and the room is empty.
 fn ends_in_null<F: OpenFile + Read + Seek>(
     file: &mut F,
     kind: Kind,
     room: &mut Vec<u8>,
 ) -> io::Result<bool>
-    ensures { room.new.items ≡ [] }
+    requires { room.old.items ≡ [] }
+    ensures { OnOk result (room.new.items ≡ []) }
 {
-    room.clear();
-    let len = kind.len_in_bytes();
-    let start = file.metadata()?.len().saturating_sub(len as u64);
-    if file.seek(SeekFrom::Start(start)).is_err() {
+    let metadata = file.metadata()?;
+    if !metadata.is_file() {
         return Ok(false);
     }
-    let is_read = file.by_ref().take(len as u64).read_to_end(room).is_ok();
-    let is_null = is_read && room.len() == len && read::is_null(room);
+    let len = kind.len_in_bytes();
+    let start = metadata.len().saturating_sub(len as u64);
+    file.seek(SeekFrom::Start(start))?;
+    file.by_ref().take(len as u64).read_to_end(room)?;
+    let is_null = room.len() == len && read::is_null(room);
     room.clear();
     file.seek(SeekFrom::Start(0))?;
     Ok(is_null)
