@@ -2,14 +2,14 @@
 use Rattle.std.proofs.Common.{◌≡◌, ℕ, Bool, true, false, List, inl, inr, Err, refl, sym, subst}
 use Rattle.std.specs.Prelude.{◌⊎◌, MatchBool}
 use Rattle.index_parts.specs.declared.hash.Kind.{Kind}
-use Rattle.index_parts.specs.declared.entry.stat.FileTime.{FileTime}
-use Rattle.index_state.specs.declared.decode.Options.{Options}
-use Rattle.index_state.specs.declared.decode.Error.{Error as Decoding}
-use Rattle.index_state.specs.declared.decode.Error.TheVariants as decoding
-use Rattle.index_state.specs.declared.extension.decode.Error.TheVariants as extensions
-use Rattle.index_state.specs.declared.extension.link.decode.Error.TheVariants as links
-use Rattle.index_state.specs.Answer.{Answer, Verify, IsAnswer}
-use Rattle.index_state.specs.Faults.{SaysFault}
+use Rattle.index_metadata.specs.declared.entry.stat.FileTime.{FileTime}
+use Rattle.index_format.specs.declared.decode.Options.{Options}
+use Rattle.index_format.specs.declared.decode.Error.{Error as Decoding}
+use Rattle.index_format.specs.declared.decode.Error.TheVariants as decoding
+use Rattle.index_format.specs.declared.extension.Error.TheVariants as extensions
+use Rattle.index_split.specs.declared.link.decode.Error.TheVariants as links
+use Rattle.index_format.specs.Answer.{Answer, Verify, IsAnswer}
+use Rattle.index_format.specs.DecodeErrors.{SaysFault}
 use Rattle.gix_index.specs.Checked.{needs_check, digest_id, trailer_id, digest_fault, IsIntact, IsBroken, IsFileAnswer, error_of, SaysFile}
 
 to_by : (t : Bool) (E : Type 0) (P N : Type 0) → MatchBool t E (Unit {0}) → P → MatchBool t ((E × P) ⊎ N) P

@@ -7,12 +7,12 @@ use Rattle.index_parts.specs.declared.hash.Kind.{Kind}
 use Rattle.index_parts.specs.Taking.{AppendsFront}
 use Rattle.index_parts.specs.declared.hash.ObjectId.{ObjectId}
 use Rattle.index_parts.proofs.Taking.{front_before, front_after}
-use Rattle.index_state.specs.declared.write.Error.{Error}
-use Rattle.index_state.specs.declared.write.Error.TheVariants as errors
-use Rattle.index_state.specs.declared.write.Options.{Options}
-use Rattle.index_state.specs.Image.{body, trailer}
-use Rattle.index_state.specs.State.{Contents}
-use Rattle.index_state.specs.Writing.{Fails}
+use Rattle.index_format.specs.declared.write.Error.{Error}
+use Rattle.index_format.specs.declared.write.Error.TheVariants as errors
+use Rattle.index_format.specs.declared.write.Options.{Options}
+use Rattle.index_format.specs.Image.{body, trailer}
+use Rattle.index_format.specs.Contents.{Contents}
+use Rattle.index_format.specs.Writing.{Fails}
 
 -- a fault before the rest
 pub fails_more : {S : Type 0} (taken : S → Option (List ℕ)) (failed : S → Bool) (a b : S) (e : Error) (xs ys : List ℕ) → Fails taken failed a b e xs → Fails taken failed a b e (xs ++ ys)

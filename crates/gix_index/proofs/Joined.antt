@@ -3,15 +3,15 @@ use Rattle.std.proofs.Common.{◌≡◌, ℕ, Bool, true, false, List, inl, inr,
 use Rattle.std.specs.Prelude.{◌⊎◌, MatchBool}
 use Rattle.index_parts.specs.declared.hash.Kind.{Kind}
 use Rattle.index_parts.specs.declared.hash.ObjectId.{ObjectId}
-use Rattle.index_parts.specs.declared.entry.stat.FileTime.{FileTime}
-use Rattle.index_state.specs.declared.decode.Options.{Options}
-use Rattle.index_state.specs.Answer.{Answer, Verify, IsAnswer}
+use Rattle.index_metadata.specs.declared.entry.stat.FileTime.{FileTime}
+use Rattle.index_format.specs.declared.decode.Options.{Options}
+use Rattle.index_format.specs.Answer.{Answer, Verify, IsAnswer}
 use Rattle.index_state.specs.Edits.{without_link}
-use Rattle.index_state.specs.Link.{BitmapPair, LinkValue}
-use Rattle.index_state.specs.Merge.{IsDissolved, MergesBy}
-use Rattle.index_state.specs.State.{Contents}
-use Rattle.index_state.specs.Storable.{IsStorable}
-use Rattle.index_state.proofs.ReadValues.{value_is}
+use Rattle.index_split.specs.Link.{BitmapPair, LinkValue}
+use Rattle.index_state.specs.Dissolve.{IsDissolved, MergesBy}
+use Rattle.index_format.specs.Contents.{Contents}
+use Rattle.index_format.specs.Storable.{IsStorable}
+use Rattle.index_format.proofs.ReadValues.{value_is}
 use Rattle.gix_index.specs.Checked.{needs_check, digest_id, trailer_id, IsFileAnswer}
 use Rattle.gix_index.specs.Linked.{IsOnDisk, own, joined}
 

@@ -1,3 +1,4 @@
+mod Absent
 pub mod Checks
 pub mod Files
 pub mod Joined

@@ -5,12 +5,12 @@ use Rattle.index_parts.specs.Digest.{digest}
 use Rattle.index_parts.specs.Id.{id_len, is_null, make_id}
 use Rattle.index_parts.specs.declared.hash.Kind.{Kind}
 use Rattle.index_parts.specs.declared.hash.ObjectId.{ObjectId}
-use Rattle.index_parts.specs.declared.entry.stat.FileTime.{FileTime}
-use Rattle.index_state.specs.declared.decode.Options.{Options}
-use Rattle.index_state.specs.declared.decode.Error.{Error as Decoding}
-use Rattle.index_state.specs.declared.decode.Error.TheVariants as decoding
-use Rattle.index_state.specs.Answer.{Answer, Fault, Verify, IsAnswer}
-use Rattle.index_state.specs.Faults.{IsEarly, SaysFault}
+use Rattle.index_metadata.specs.declared.entry.stat.FileTime.{FileTime}
+use Rattle.index_format.specs.declared.decode.Options.{Options}
+use Rattle.index_format.specs.declared.decode.Error.{Error as Decoding}
+use Rattle.index_format.specs.declared.decode.Error.TheVariants as decoding
+use Rattle.index_format.specs.Answer.{Answer, Fault, Verify, IsAnswer}
+use Rattle.index_format.specs.DecodeErrors.{IsEarly, SaysFault}
 use Rattle.index_state.specs.State.{contents}
 use Rattle.gix_index.specs.declared.file.File.{File}
 use Rattle.gix_index.specs.declared.file.init.Error.{Error}

@@ -1,11 +1,14 @@
--- A file as a value: the index, the path's text, and the id at its end.
-use Rattle.std.specs.Prelude.{◌≡◌, ℕ, List, Option}
+-- A file as a value (the library's own): the index, the path's text, and the id at its end.
+use Rattle.std.specs.Prelude.{◌≡◌, ℕ, List, Option, None}
 use Rattle.std.specs.Borrow.{Lends, MutBor, Fml}
 use Rattle.std.specs.Path.{path_buf_bytes}
 use Rattle.index_parts.specs.declared.hash.ObjectId.{ObjectId}
 use Rattle.index_state.specs.declared.State.{State}
 use Rattle.index_state.specs.contracts.State as state
-use Rattle.index_state.specs.Edits.{IsUnchanged}
+use Rattle.index_metadata.specs.declared.entry.stat.FileTime.{FileTime}
+use Rattle.index_parts.specs.declared.hash.Kind.{Kind}
+use Rattle.index_state.specs.Edits.{IsUnchanged, empty_contents}
+use Rattle.index_state.specs.State.{contents}
 use Rattle.gix_index.specs.declared.file.File.{File}
 use Rattle.gix_index.specs.contracts.file.File as file
 
@@ -23,6 +26,10 @@ pub record IsSameFile (old new : File) : Type 0 where
   pub same_state : IsUnchanged (state_of old) (state_of new)
   pub same_path : path_of new ≡ path_of old
   pub same_checksum : checksum_of new ≡ checksum_of old
+
+-- an empty index of this kind with this time, which no file holds
+abbrev pub IsEmptyFile : Kind → FileTime → File → Type 0
+IsEmptyFile kind time f = (contents (state_of f) ≡ empty_contents kind time) × (checksum_of f ≡ None)
 
 -- the file ends with the last state behind the loan; all else stays
 abbrev pub LendsState : MutBor File → MutBor State → Fml

@@ -1,71 +1,131 @@
--- The definitions that clauses of this crate and of its callers cite, each under one name.
+-- The definitions and types that a caller's clauses cite, each under one name. A type has a name of its own here where a
+-- definition's file has its name already.
 pub mod Checked
 pub mod File
 pub mod Laws
 pub mod Linked
-pub mod Verified
-pub mod Written
+pub mod VerifiedFile
+pub mod WrittenFile
+pub use Rattle.index_parts.specs.Ascending
 pub use Rattle.index_parts.specs.Bitmap
 pub use Rattle.index_parts.specs.Bits
 pub use Rattle.index_parts.specs.Digest
-pub use Rattle.index_parts.specs.Flags
-pub use Rattle.index_parts.specs.Front
 pub use Rattle.index_parts.specs.Id
 pub use Rattle.index_parts.specs.Limit
-pub use Rattle.index_parts.specs.Mode
-pub use Rattle.index_parts.specs.ModeChange
-pub use Rattle.index_parts.specs.Object
+pub use Rattle.index_parts.specs.Numbers
 pub use Rattle.index_parts.specs.Octal
 pub use Rattle.index_parts.specs.Offset
-pub use Rattle.index_parts.specs.Stat
-pub use Rattle.index_parts.specs.StatMatch
 pub use Rattle.index_parts.specs.Taking
-pub use Rattle.index_parts.specs.TreeObject
-pub use Rattle.index_lookups.specs.Digits
+pub use Rattle.index_metadata.specs.Flags
+pub use Rattle.index_metadata.specs.Mode
+pub use Rattle.index_metadata.specs.ModeChange
+pub use Rattle.index_metadata.specs.Object
+pub use Rattle.index_metadata.specs.Stat
+pub use Rattle.index_metadata.specs.StatMatch
+pub use Rattle.index_metadata.specs.TreeObject
 pub use Rattle.index_entries.specs.Entries
 pub use Rattle.index_entries.specs.Entry
+pub use Rattle.index_entries.specs.EntryFaults
 pub use Rattle.index_entries.specs.EntryImage
 pub use Rattle.index_entries.specs.Header
+pub use Rattle.index_entries.specs.Held
 pub use Rattle.index_entries.specs.Limits
-pub use Rattle.index_lookups.specs.Lookup
 pub use Rattle.index_entries.specs.Order
 pub use Rattle.index_entries.specs.Record
-pub use Rattle.index_extensions.specs.Agreement
-pub use Rattle.index_entries.specs.Merge as EntryMerge
 pub use Rattle.index_entries.specs.Removed
 pub use Rattle.index_entries.specs.Shared
+pub use Rattle.index_entries.specs.Slice
 pub use Rattle.index_entries.specs.Sorted
-pub use Rattle.index_extensions.specs.Contents
+pub use Rattle.index_entries.specs.TreeOrder
+pub use Rattle.index_lookups.specs.Closest
+pub use Rattle.index_lookups.specs.Digits
+pub use Rattle.index_lookups.specs.FilterMap
+pub use Rattle.index_lookups.specs.Folded
+pub use Rattle.index_lookups.specs.Lookup
+pub use Rattle.index_lookups.specs.Range
+pub use Rattle.index_lookups.specs.Tables
+pub use Rattle.index_trees.specs.Leaves
 pub use Rattle.index_extensions.specs.EndMarker
+pub use Rattle.index_extensions.specs.ExtensionValue
 pub use Rattle.index_extensions.specs.FsMonitor
+pub use Rattle.index_extensions.specs.ModeDigits
 pub use Rattle.index_extensions.specs.OffsetTable
 pub use Rattle.index_extensions.specs.ResolveUndo
-pub use Rattle.index_extensions.specs.Sound
 pub use Rattle.index_extensions.specs.Spelling
-pub use Rattle.index_extensions.specs.StoredTree
-pub use Rattle.index_extensions.specs.Tree
-pub use Rattle.index_extensions.specs.TreeFaults
-pub use Rattle.index_extensions.specs.TreeImage
-pub use Rattle.index_trees.specs.Leaves
-pub use Rattle.index_entries.specs.TreeOrder
-pub use Rattle.index_untracked.specs.Untracked
 pub use Rattle.index_extensions.specs.Walk
-pub use Rattle.index_state.specs.Answer
+pub use Rattle.index_cached_tree.specs.Agreement
+pub use Rattle.index_cached_tree.specs.Decimal
+pub use Rattle.index_cached_tree.specs.Sound
+pub use Rattle.index_cached_tree.specs.StoredTree
+pub use Rattle.index_cached_tree.specs.Tree
+pub use Rattle.index_cached_tree.specs.TreeFaults
+pub use Rattle.index_cached_tree.specs.TreeImage
+pub use Rattle.index_untracked.specs.Blocks
+pub use Rattle.index_untracked.specs.CacheBitmaps
+pub use Rattle.index_untracked.specs.CachedStat
+pub use Rattle.index_untracked.specs.Untracked
+pub use Rattle.index_split.specs.Link
+pub use Rattle.index_split.specs.Merge
+pub use Rattle.index_format.specs.Answer
+pub use Rattle.index_format.specs.Contents
+pub use Rattle.index_format.specs.DecodeErrors
+pub use Rattle.index_format.specs.HeaderErrors
+pub use Rattle.index_format.specs.Image
+pub use Rattle.index_format.specs.Lending
+pub use Rattle.index_format.specs.Outcome
+pub use Rattle.index_format.specs.Storable
+pub use Rattle.index_format.specs.Stored
+pub use Rattle.index_format.specs.Writing
+pub use Rattle.index_state.specs.Dissolve
 pub use Rattle.index_state.specs.Edits
-pub use Rattle.index_state.specs.Image
-pub use Rattle.index_state.specs.Link
-pub use Rattle.index_state.specs.Merge
-pub use Rattle.index_state.specs.Outcome
+pub use Rattle.index_state.specs.SoundState
 pub use Rattle.index_state.specs.State
-pub use Rattle.index_state.specs.Storable
-pub use Rattle.index_state.specs.Stored
-pub use Rattle.index_state.specs.Verified as StateVerified
-pub use Rattle.index_state.specs.Writing
-pub use Rattle.index_state.specs.Faults
 pub use Rattle.index_parts.specs.declared.hash.Kind
 pub use Rattle.index_parts.specs.declared.hash.ObjectId
-pub use Rattle.index_parts.specs.declared.entry.stat.FileTime
+pub use Rattle.index_parts.specs.declared.hash.Hasher
+pub use Rattle.index_parts.specs.declared.hash.verify.Error as DigestError
+pub use Rattle.index_parts.specs.contracts.hash.ObjectIdOrd
+pub use Rattle.index_parts.specs.declared.ewah.Vec as BitmapType
+pub use Rattle.index_parts.specs.declared.ewah.iter.Malformed as BitmapMalformed
+pub use Rattle.index_parts.specs.declared.ewah.iter.Positions
+pub use Rattle.index_parts.specs.declared.ewah.decode.Error as BitmapError
+pub use Rattle.index_metadata.specs.declared.entry.flags.Flags as FlagsType
+pub use Rattle.index_metadata.specs.declared.entry.flags.Stage
+pub use Rattle.index_metadata.specs.declared.entry.mode.Mode as ModeType
+pub use Rattle.index_metadata.specs.declared.entry.mode.Change
+pub use Rattle.index_metadata.specs.declared.entry.stat.FileTime
+pub use Rattle.index_metadata.specs.declared.entry.stat.Stat as StatType
+pub use Rattle.index_metadata.specs.declared.entry.stat.Time
+pub use Rattle.index_metadata.specs.declared.entry.stat.OutOfRange
+pub use Rattle.index_metadata.specs.declared.entry.stat.Options as StatOptions
+pub use Rattle.index_metadata.specs.declared.fs.FileKind
+pub use Rattle.index_metadata.specs.declared.fs.Metadata
+pub use Rattle.index_metadata.specs.declared.object.Kind as ObjectKind
+pub use Rattle.index_metadata.specs.declared.object.find.Error as FindError
+pub use Rattle.index_metadata.specs.declared.object.tree.EntryKind
 pub use Rattle.index_entries.specs.declared.Entry as EntryType
+pub use Rattle.index_entries.specs.declared.Version
+pub use Rattle.index_format.specs.declared.decode.header.Error as HeaderError
 pub use Rattle.index_entries.specs.declared.write.VersionChoice
+pub use Rattle.index_trees.specs.declared.error.Error as FromTreeError
+pub use Rattle.index_extensions.specs.declared.fs_monitor.FsMonitor as FsMonitorType
+pub use Rattle.index_extensions.specs.declared.fs_monitor.Token
+pub use Rattle.index_extensions.specs.declared.index_entry_offset_table.Offset as OffsetType
+pub use Rattle.index_extensions.specs.declared.resolve_undo.ResolvePath
+pub use Rattle.index_extensions.specs.declared.resolve_undo.Stage as ResolveStage
+pub use Rattle.index_cached_tree.specs.declared.Tree as TreeType
+pub use Rattle.index_cached_tree.specs.declared.verify.Error as TreeError
+pub use Rattle.index_cached_tree.specs.declared.write.Error as TreeWriteError
+pub use Rattle.index_untracked.specs.declared.UntrackedCache
+pub use Rattle.index_untracked.specs.declared.Directory
+pub use Rattle.index_split.specs.declared.link.Link as LinkType
+pub use Rattle.index_split.specs.declared.link.Bitmaps
+pub use Rattle.index_split.specs.declared.link.decode.Error as LinkError
+pub use Rattle.index_format.specs.declared.decode.Error as DecodeError
+pub use Rattle.index_format.specs.declared.decode.Options as DecodeOptions
+pub use Rattle.index_format.specs.declared.extension.Error as ExtensionError
+pub use Rattle.index_format.specs.declared.write.Error as WriteError
+pub use Rattle.index_format.specs.declared.write.Extensions as WriteExtensions
+pub use Rattle.index_format.specs.declared.write.Options as WriteOptions
 pub use Rattle.index_state.specs.declared.State as StateType
-pub use Rattle.index_state.specs.declared.decode.Options as DecodeOptions
+pub use Rattle.index_state.specs.declared.verify.entries.Error as OrderError

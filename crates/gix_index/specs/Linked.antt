@@ -4,12 +4,12 @@ use Rattle.std.specs.Prelude.{◌≡◌, ℕ, Bool, true, false, List, Option, S
 use Rattle.index_parts.specs.Id.{id_bytes, is_null}
 use Rattle.index_parts.specs.declared.hash.Kind.{Kind}
 use Rattle.index_parts.specs.declared.hash.ObjectId.{ObjectId}
-use Rattle.index_parts.specs.declared.entry.stat.FileTime.{FileTime}
-use Rattle.index_state.specs.declared.decode.Options.{Options}
+use Rattle.index_metadata.specs.declared.entry.stat.FileTime.{FileTime}
+use Rattle.index_format.specs.declared.decode.Options.{Options}
 use Rattle.index_state.specs.Edits.{without_link}
-use Rattle.index_state.specs.Link.{LinkValue}
-use Rattle.index_state.specs.Merge.{IsDissolved}
-use Rattle.index_state.specs.State.{Contents}
+use Rattle.index_split.specs.Link.{LinkValue}
+use Rattle.index_state.specs.Dissolve.{IsDissolved}
+use Rattle.index_format.specs.Contents.{Contents}
 use Rattle.gix_index.specs.Checked.{IsFileAnswer}
 
 -- the same, and the trailer has to be this id, unless it is null

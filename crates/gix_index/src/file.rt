@@ -28,8 +28,8 @@ pub struct File {
     checksum: Option<ObjectId>,
 }
 
-/// The clone has a clone of the state, the same path and the same checksum; nothing happens on the disk. An error is want of
-/// memory for the state or the path.
+/// The clone has a clone of the state, the same path and the same checksum; nothing happens on the disk. An error is
+/// want of memory for the state or the path.
 impl Clone for File {
     ghost is_clone = { λ a b. IsSameFile a b };
 

@@ -8,13 +8,13 @@ pub mod extension;
 pub mod file;
 pub mod init;
 pub mod laws;
-#[cfg(test)]
-mod tests;
 
 pub use file::File;
 pub use index_entries::{Entry, PathBacking, PathStorage, PathStorageRef, Version};
+pub use index_format::{decode, write};
 pub use index_lookups::folded::AccelerateLookup;
 pub use index_lookups::paths::FilterMapPaths;
 pub use index_lookups::tables::{DirectoryTable, PathSearch, count_present};
-pub use index_parts::{entry, ewah, fs, hash, object, util};
-pub use index_state::{State, decode, verify, write};
+pub use index_metadata::{entry, fs, object};
+pub use index_parts::{ewah, hash, util};
+pub use index_state::{State, verify};

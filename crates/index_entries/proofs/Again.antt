@@ -4,16 +4,15 @@ use Rattle.std.specs.Prelude.{◌≢◌, replicate}
 use Rattle.std.proofs.lemmas.Bool.{eq-eqb, ne_eqb, cases_lt}
 use Rattle.std.proofs.lemmas.List.{length-append, length-replicate}
 use Rattle.index_parts.specs.Id.{id_len, id_bytes, id_kind, make_id}
-use Rattle.index_parts.specs.Front.{number}
-use Rattle.index_parts.specs.Mode.{kept_mode}
-use Rattle.index_parts.specs.Stat.{stat_of}
+use Rattle.index_parts.specs.Numbers.{number}
+use Rattle.index_metadata.specs.Mode.{stored_mode}
+use Rattle.index_metadata.specs.Stat.{stat_of}
 use Rattle.index_parts.specs.declared.hash.Kind.{Kind}
-use Rattle.index_parts.specs.declared.hash.Kind.TheVariants as kinds
 use Rattle.index_parts.specs.declared.hash.ObjectId.{ObjectId}
 use Rattle.index_parts.specs.declared.hash.ObjectId.TheVariants as ids
-use Rattle.index_parts.specs.declared.entry.stat.Stat.{Stat}
-use Rattle.index_entries.specs.Entry.{Front, front_bytes, IsFront, record_of, length_field, IsPath, IsEntry23}
-use Rattle.index_entries.specs.EntryImage.{numbers_of, front_of, unpadded, padding, entry_bytes}
+use Rattle.index_metadata.specs.declared.entry.stat.Stat.{Stat}
+use Rattle.index_entries.specs.Entry.{EntryHead, head_bytes, IsEntryHead, record_of, length_field, IsPath, IsEntry23}
+use Rattle.index_entries.specs.EntryImage.{numbers_of, head_of, unpadded, padding, entry_bytes}
 use Rattle.index_entries.specs.Record.{Record}
 use Rattle.index_entries.specs.Record.{IsSized}
 use Rattle.index_entries.specs.EntryImage.{stored_record}
@@ -25,7 +24,7 @@ pub record IsStorableIn (kind : Kind) (r : Record) : Type 0 where
   pub path : 4095 ≤ length r.path → All (λ b. b ≢ 0) r.path
   pub fits : IsSized r
 
--- ---- the front
+-- ---- the head
 
 make_again : (id : ObjectId) → make_id (id_kind id) (id_bytes id) ≡ id
 make_again (ids.Sha1 bytes) = refl
@@ -43,8 +42,8 @@ numbers_len : (r : Record) → length (numbers_of r) ≡ 40
 unfolding numbers_of
 numbers_len r = refl
 
-pub front_is : (kind : Kind) (r : Record) → IsStorableIn kind r → IsFront kind (front_of r)
-front_is kind r h = record {
+pub head_is : (kind : Kind) (r : Record) → IsStorableIn kind r → IsEntryHead kind (head_of r)
+head_is kind r h = record {
   numbers = numbers_len r;
   id = h.fits.id ∙ ap id_len h.id;
   word = refl;
@@ -55,10 +54,10 @@ same_record : (p : List ℕ) (s s' : Stat) (i i' : ObjectId) (f f' m m' : ℕ) �
     → ◌≡◌ {A = Record} (record { path = p; stat = s; id = i; flags = f; mode = m }) (record { path = p; stat = s'; id = i'; flags = f'; mode = m' })
 same_record p s s' i i' f f' m m' a b c d = rw (a, b, c, d) refl
 
-pub record_again : (kind : Kind) (r : Record) → IsStorableIn kind r → stored_record r ≡ record_of kind (front_of r) r.path
+pub record_again : (kind : Kind) (r : Record) → IsStorableIn kind r → stored_record r ≡ record_of kind (head_of r) r.path
 record_again kind r h =
     let id : make_id kind (id_bytes r.id) ≡ r.id = rw (← h.id) (make_again r.id) in
-    sym (same_record r.path (stat_of (take 24 (numbers_of r)) (drop 28 (numbers_of r))) r.stat (make_id kind (id_bytes r.id)) r.id _ (stored_record r).flags (kept_mode (number (numbers_of r) 6)) (kept_mode r.mode) (stat_again r h.fits) id (kept_again r) (ap kept_mode (mode_again r h.fits)))
+    sym (same_record r.path (stat_of (take 24 (numbers_of r)) (drop 28 (numbers_of r))) r.stat (make_id kind (id_bytes r.id)) r.id _ (stored_record r).flags (stored_mode (number (numbers_of r) 6)) (stored_mode r.mode) (stat_again r h.fits) id (kept_again r) (ap stored_mode (mode_again r h.fits)))
 
 -- ---- the path
 
@@ -72,7 +71,7 @@ path_is p after h =
 padding_begins : (n : ℕ) → padding n ≡ 0 ∷ replicate (7 - n % 8) 0
 padding_begins n = let k : 8 - n % 8 ≡ suc (7 - n % 8) = omega arith in rw k refl
 
-path_again : (kind : Kind) (r : Record) (n : ℕ) (rest : List ℕ) → IsStorableIn kind r → IsPath (length_field (front_of r)) r.path (padding n ++ rest)
+path_again : (kind : Kind) (r : Record) (n : ℕ) (rest : List ℕ) → IsStorableIn kind r → IsPath (length_field (head_of r)) r.path (padding n ++ rest)
 path_again kind r n rest h = rw (be_first r, first_len r, padding_begins n) (path_is r.path (replicate (7 - n % 8) 0 ++ rest) h.path)
 
 -- ---- an entry
@@ -90,13 +89,13 @@ regroup f p z rest = simp append_assoc
 pub entry_again : (kind : Kind) (r : Record) (rest : List ℕ) → IsStorableIn kind r → IsEntry23 kind (entry_bytes r ++ rest) (stored_record r) rest
 unfolding unpadded
 entry_again kind r rest h =
-    let f : List ℕ = front_bytes (front_of r) in
+    let f : List ℕ = head_bytes (head_of r) in
     let n : ℕ = length (f ++ r.path) in
     let len : n ≡ length f + length r.path = length-append f r.path in
     let pad : length (padding n) ≡ 8 - n % 8 = length-padding n in
     record {
-      front = front_of r;
-      is_front = front_is kind r h;
+      head = head_of r;
+      is_head = head_is kind r h;
       padding = padding n;
       parts = regroup f r.path (padding n) rest;
       path = path_again kind r n rest h;
@@ -112,15 +111,15 @@ entry_again kind r rest h =
 pub whole_entry : (r : Record) → length (entry_bytes r) % 8 ≡ 0
 whole_entry r = omega (arith, length-append (unpadded r) (padding (length (unpadded r))), length-padding (length (unpadded r)))
 
-pub front_len : (kind : Kind) (r : Record) → IsStorableIn kind r → 42 + id_len kind ≤ length (front_bytes (front_of r))
-front_len kind r h =
-    let f : Front = front_of r in
-    let i : IsFront kind f = front_is kind r h in
+pub head_len : (kind : Kind) (r : Record) → IsStorableIn kind r → 42 + id_len kind ≤ length (head_bytes (head_of r))
+head_len kind r h =
+    let f : EntryHead = head_of r in
+    let i : IsEntryHead kind f = head_is kind r h in
     omega (arith, length-append f.numbers (f.id ++ (f.word ++ f.second)), length-append f.id (f.word ++ f.second), length-append f.word f.second)
 
 pub entry_len : (kind : Kind) (r : Record) → IsStorableIn kind r → ((42 + id_len kind) / 8 + 1) * 8 ≤ length (entry_bytes r)
 unfolding unpadded
 entry_len kind r h =
-    let f : List ℕ = front_bytes (front_of r) in
-    let low : 42 + id_len kind ≤ length f = front_len kind r h in
+    let f : List ℕ = head_bytes (head_of r) in
+    let low : 42 + id_len kind ≤ length f = head_len kind r h in
     omega (arith, length-append f r.path, length-append (f ++ r.path) (padding (length (f ++ r.path))), length-padding (length (f ++ r.path)))

@@ -5,11 +5,11 @@ use Rattle.std.proofs.lemmas.List.Elements.{All-drop}
 use Rattle.index_parts.proofs.Spellings.{offset_is, offset_some}
 use Rattle.index_parts.specs.Offset.{offset_bytes}
 use Rattle.index_parts.specs.declared.hash.Kind.{Kind}
-use Rattle.index_entries.specs.Entry.{front_bytes, record_of, joined_path, CanStrip, IsEntry4}
-use Rattle.index_entries.specs.EntryImage.{delta_bytes, front_of, stored_record}
+use Rattle.index_entries.specs.Entry.{head_bytes, record_of, joined_path, CanStrip, IsEntry4}
+use Rattle.index_entries.specs.EntryImage.{delta_bytes, head_of, stored_record}
 use Rattle.index_entries.specs.Record.{Record}
 use Rattle.index_entries.specs.Shared.{shared_len}
-use Rattle.index_entries.proofs.Again.{IsStorableIn, front_is, record_again}
+use Rattle.index_entries.proofs.Again.{IsStorableIn, head_is, record_again}
 use Rattle.index_entries.proofs.Lengths.{delta_len}
 use Rattle.index_entries.proofs.SharedFronts.{shared_front, shared_within, shared_within_second}
 
@@ -40,30 +40,30 @@ delta_again kind before previous r rest is h apart small some =
     let tail : List ℕ = drop (shared_len previous r.path) r.path in
     let joined = joined_again before previous r.path is in
     record {
-      front = front_of r;
-      is_front = front_is kind r h;
+      head = head_of r;
+      is_head = head_is kind r h;
       after = offset_bytes n ++ (tail ++ 0 ∷ rest);
-      parts = delta_parts (front_bytes (front_of r)) (offset_bytes n) tail rest;
+      parts = delta_parts (head_bytes (head_of r)) (offset_bytes n) tail rest;
       stripped = n;
       delta = tail ++ 0 ∷ rest;
       is_offset = record { spelling = offset_bytes n; parts = refl; is_offset = offset_is n (omega arith) };
       tail = tail;
       is_tail = record { parts = refl; apart = All-drop (λ b. b ≢ 0) (shared_len previous r.path) r.path apart; two = omega (arith, length-append tail (0 ∷ rest)) };
       can_strip = joined.0;
-      is = record_again kind r h ∙ ap (record_of kind (front_of r)) (sym joined.1);
+      is = record_again kind r h ∙ ap (record_of kind (head_of r)) (sym joined.1);
     }
 
 -- ---- how many bytes it has
 
-pub delta_smallest : (previous : List ℕ) (r : Record) → length (front_bytes (front_of r)) + 2 ≤ length (delta_bytes previous r)
+pub delta_smallest : (previous : List ℕ) (r : Record) → length (head_bytes (head_of r)) + 2 ≤ length (delta_bytes previous r)
 unfolding delta_bytes
 delta_smallest previous r =
     let n : ℕ = stripped_of previous r.path in
-    omega (arith, delta_len (front_bytes (front_of r)) (offset_bytes n) (drop (shared_len previous r.path) r.path), offset_some n)
+    omega (arith, delta_len (head_bytes (head_of r)) (offset_bytes n) (drop (shared_len previous r.path) r.path), offset_some n)
 
 -- a path is no longer than the one before and the entry
 pub delta_path : (previous : List ℕ) (r : Record) → length r.path ≤ length previous + length (delta_bytes previous r)
 unfolding delta_bytes
 delta_path previous r =
     let n : ℕ = shared_len previous r.path in
-    omega (arith, delta_len (front_bytes (front_of r)) (offset_bytes (length previous - n)) (drop n r.path), shared_within previous r.path, shared_within_second previous r.path, length-drop n r.path)
+    omega (arith, delta_len (head_bytes (head_of r)) (offset_bytes (length previous - n)) (drop n r.path), shared_within previous r.path, shared_within_second previous r.path, length-drop n r.path)

@@ -12,7 +12,7 @@ use Rattle.index_entries.specs.Entry.{IsEntry}
 use Rattle.index_entries.specs.EntryImage.{entry_bytes, entry_in, entries_in, padding, stored_record, unpadded}
 use Rattle.index_entries.specs.Limits.{smallest_entry}
 use Rattle.index_entries.specs.Record.{Record}
-use Rattle.index_entries.proofs.Again.{IsStorableIn, entry_again, entry_len, front_len}
+use Rattle.index_entries.proofs.Again.{IsStorableIn, entry_again, entry_len, head_len}
 use Rattle.index_entries.proofs.DeltasAgain.{IsBefore, delta_again, delta_path, delta_smallest}
 use Rattle.index_entries.proofs.Lengths.{path_within}
 
@@ -62,8 +62,8 @@ smallest_again V2 kinds.Sha1 previous r h = entry_len kinds.Sha1 r h
 smallest_again V2 kinds.Sha256 previous r h = entry_len kinds.Sha256 r h
 smallest_again V3 kinds.Sha1 previous r h = entry_len kinds.Sha1 r h
 smallest_again V3 kinds.Sha256 previous r h = entry_len kinds.Sha256 r h
-smallest_again V4 kinds.Sha1 previous r h = omega (arith, delta_smallest previous r, front_len kinds.Sha1 r h)
-smallest_again V4 kinds.Sha256 previous r h = omega (arith, delta_smallest previous r, front_len kinds.Sha256 r h)
+smallest_again V4 kinds.Sha1 previous r h = omega (arith, delta_smallest previous r, head_len kinds.Sha1 r h)
+smallest_again V4 kinds.Sha256 previous r h = omega (arith, delta_smallest previous r, head_len kinds.Sha256 r h)
 
 one_more : (n m : ℕ) → suc n * m ≡ m + n * m
 one_more n m = suc-mul n m ∙ omega arith

@@ -1,17 +1,15 @@
 -- The first record that isn't above the one before it.
-use Rattle.std.proofs.Common.{◌≡◌, ◌≢◌, ℕ, zero, suc, ◌+◌, ◌-◌, ◌<◌, ◌≤◌, ◌⊎◌, inl, inr, true, false, List, length, get_or, take, refl, sym, ◌∙◌, subst, arith, length-take}
+use Rattle.std.proofs.Common.{◌≡◌, ◌≢◌, ℕ, zero, suc, ◌+◌, ◌-◌, ◌<◌, ◌≤◌, ◌⊎◌, inl, inr, true, false, List, [], ◌∷◌, length, get_or, take, refl, sym, ◌∙◌, subst, arith, length-take}
 use Rattle.std.specs.List.{AllAdjacentBelow}
-use Rattle.std.specs.Ordering.{is_ge}
+use Rattle.std.specs.Ordering.{is_ge, is_lt}
 use Rattle.std.specs.declared.cmp.Ordering.{Ordering}
 use Rattle.std.specs.declared.cmp.Ordering.TheVariants.{Less, Equal, Greater}
-use Rattle.std.proofs.lemmas.Bool.{cases_lt}
-use Rattle.std.proofs.lemmas.List.{get_or-take, length-map, take_all}
-use Rattle.index_entries.specs.declared.Entry.{Entry}
+use Rattle.std.proofs.lemmas.Bool.{cases_lt, false≢true}
+use Rattle.std.proofs.lemmas.List.{get_or-take, take_all}
 use Rattle.index_entries.specs.Order.{record_cmp, IsStrictlyOrdered}
-use Rattle.index_entries.specs.Record.{Record, record_in, records_in}
-use Rattle.index_entries.specs.Sorted.{IsFall}
-use Rattle.index_entries.proofs.Order.{records_total}
-use Rattle.index_entries.proofs.Sorting.{record_at}
+use Rattle.index_entries.specs.Record.{Record}
+use Rattle.index_entries.specs.Sorted.{IsFall, IsOrdered}
+use Rattle.index_entries.proofs.Orders.{records_total}
 
 -- a record is below the next
 abbrev pub Rises : Record → Record → Type 0
@@ -26,12 +24,6 @@ not_less_from : (o : Ordering) → is_ge o ≡ true → o ≢ Less
 not_less_from Less e = λ _. cc
 not_less_from Equal e = λ t. cc
 not_less_from Greater e = λ t. cc
-
-pub compared : (storage : List ℕ) (es : List Entry) (i : ℕ) (z : Entry) (o : Ordering) → 0 < i → i < length es → o ≡ record_cmp (record_in storage (get_or es (i - 1) z)) (record_in storage (get_or es i z)) → (d : Record) → record_cmp (get_or (records_in storage es) (i - 1) d) (get_or (records_in storage es) i d) ≡ o
-compared storage es i z o pos h e d =
-    let at : get_or (records_in storage es) i d ≡ record_in storage (get_or es i z) = record_at storage es i z d h in
-    let before : get_or (records_in storage es) (i - 1) d ≡ record_in storage (get_or es (i - 1) z) = record_at storage es (i - 1) z d (omega arith) in
-    rw (at, before) (sym e)
 
 -- neighbours that rise, below n, make all of those rise
 pairs_from : (rs : List Record) (n : ℕ) → AllAdjacentBelow Rises rs n → (i j : ℕ) (d : Record) → i < j → j < n → record_cmp (get_or rs i d) (get_or rs j d) ≡ Less
@@ -55,18 +47,15 @@ rise_upto rs n h = record {
       rw (a, b) (pairs_from rs n h i j d lt inside);
 }
 
-pub all_rise : (storage : List ℕ) (es : List Entry) (n : ℕ) → length es ≤ n → AllAdjacentBelow Rises (records_in storage es) n → IsStrictlyOrdered (records_in storage es)
-all_rise storage es n le h =
-    let long : length (records_in storage es) ≤ n = omega (arith, length-map es (record_in storage)) in
-    subst IsStrictlyOrdered (take_all n (records_in storage es) long) (rise_upto (records_in storage es) n h)
+pub rises_throughout : (rs : List Record) (n : ℕ) → length rs ≤ n → AllAdjacentBelow Rises rs n → IsStrictlyOrdered rs
+rises_throughout rs n le h = subst IsStrictlyOrdered (take_all n rs le) (rise_upto rs n h)
 
-pub fall_at : (storage : List ℕ) (es : List Entry) (i : ℕ) (z : Entry) (o : Ordering) → 0 < i → i < length es → AllAdjacentBelow Rises (records_in storage es) i → o ≡ record_cmp (record_in storage (get_or es (i - 1) z)) (record_in storage (get_or es i z)) → is_ge o ≡ true
-    → IsFall (records_in storage es) i × IsStrictlyOrdered (take i (records_in storage es))
-fall_at storage es i z o pos lt h e ge = (
-  record {
-    behind_one = pos;
-    in_range = omega (arith, lt, length-map es (record_in storage));
-    falls = λ d less. not_less_from o ge (sym (compared storage es i z o pos lt e d) ∙ less);
-  },
-  rise_upto (records_in storage es) i h,
-)
+pub falls_first : (rs : List Record) (i : ℕ) (o : Ordering) → 0 < i → i < length rs → AllAdjacentBelow Rises rs i → ((d : Record) → record_cmp (get_or rs (i - 1) d) (get_or rs i d) ≡ o) → is_ge o ≡ true → IsFall rs i × IsStrictlyOrdered (take i rs)
+falls_first rs i o pos lt h e ge = (record { behind_one = pos; in_range = lt; falls = λ d less. not_less_from o ge (sym (e d) ∙ less) }, rise_upto rs i h)
+
+pub isnt_ordered : (rs : List Record) (i : ℕ) → 0 < i → i < length rs → ((d : Record) → is_lt (record_cmp (get_or rs i d) (get_or rs (i - 1) d)) ≡ true) → IsOrdered rs → ⊥
+isnt_ordered [] i pos lt less s = absurd (omega arith)
+isnt_ordered (r ∷ rs) i pos lt less s =
+    let same : i - 1 + 1 ≡ i = omega arith in
+    let not = rw same at (s (i - 1) r (omega arith) (omega arith)) in
+    false≢true (sym not ∙ less r)

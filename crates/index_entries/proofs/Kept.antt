@@ -2,7 +2,7 @@
 use Rattle.std.proofs.Common.{◌≡◌, ℕ, Bool, true, false, eqb, List, [], ◌∷◌, map, refl, ap, ◌∙◌}
 use Rattle.std.specs.Prelude.{bit_and}
 use Rattle.std.proofs.lemmas.Nat.{and_assoc, and_comm}
-use Rattle.index_parts.specs.Flags.{is_extended, kept_flags}
+use Rattle.index_metadata.specs.Flags.{is_extended, stored_flags}
 use Rattle.index_entries.specs.EntryImage.{is_removed, written, stored_record, stored_records}
 use Rattle.index_entries.specs.Record.{Record}
 
@@ -22,18 +22,18 @@ extended_by m f e = ap (λ (n : ℕ). eqb n 0x4000) (mask_twice m f 0x4000 e)
 
 -- the flags that a file keeps are kept, and they aren't marked
 pub record AreKeptFlags (f : ℕ) : Type 0 where
-  pub flags : kept_flags (kept_flags f) ≡ kept_flags f
-  pub unmarked : is_removed (kept_flags f) ≡ false
+  pub flags : stored_flags (stored_flags f) ≡ stored_flags f
+  pub unmarked : is_removed (stored_flags f) ≡ false
 
 kept_by : (b : Bool) (f : ℕ) → is_extended f ≡ b → AreKeptFlags f
 kept_by true f e =
     let m : ℕ = 0x6000f000 in
-    let is : kept_flags f ≡ bit_and f m = rw e refl in
+    let is : stored_flags f ≡ bit_and f m = rw e refl in
     let same : is_extended (bit_and f m) ≡ true = extended_by m f refl ∙ e in
     record { flags = rw is (rw same (mask_twice m f m refl)); unmarked = rw is (unmarked_by m f refl) }
 kept_by false f e =
     let m : ℕ = 0xf000 in
-    let is : kept_flags f ≡ bit_and f m = rw e refl in
+    let is : stored_flags f ≡ bit_and f m = rw e refl in
     let same : is_extended (bit_and f m) ≡ false = extended_by m f refl ∙ e in
     record { flags = rw is (rw same (mask_twice m f m refl)); unmarked = rw is (unmarked_by m f refl) }
 

@@ -7,7 +7,8 @@ use Rattle.index_parts.specs.declared.hash.Kind.{Kind}
 use Rattle.index_entries.specs.declared.Version.{Version}
 use Rattle.index_entries.specs.declared.Version.TheVariants.{V2, V3, V4}
 use Rattle.index_entries.specs.Entries.{AreEntries, LacksEntry, last_path}
-use Rattle.index_entries.specs.Entry.{Front, record_of, IsEntry23, IsEntry4, IsEntry}
+use Rattle.index_entries.specs.EntrySteps.{HeadValues, values_of, record_from}
+use Rattle.index_entries.specs.Entry.{record_of, IsEntry23, IsEntry4, IsEntry}
 use Rattle.index_entries.specs.Record.{Record}
 use Rattle.index_entries.proofs.Deltas.{entry4_again, kept_from}
 use Rattle.index_entries.proofs.Pieces.{entry_again}
@@ -15,29 +16,29 @@ use Rattle.index_entries.proofs.Pieces.{entry_again}
 -- ---- one entry
 
 -- what was read of an entry of version 2 or 3, as its record and the rest
-abbrev read23 : Kind → (Front × List ℕ) × List ℕ → Record × List ℕ
-read23 kind x = (record_of kind x.0.0 x.0.1, x.1)
+abbrev read23 : Kind → (HeadValues × List ℕ) × List ℕ → Record × List ℕ
+read23 kind x = (record_from kind x.0.0 x.0.1, x.1)
 
 -- of an entry of version 4, behind this path
-abbrev read4 : Kind → Option (List ℕ) → (Front × ℕ × List ℕ) × List ℕ → Record × List ℕ
-read4 kind previous x = (record_of kind x.0.0 (take x.0.1 (unwrap_or previous []) ++ x.0.2), x.1)
+abbrev read4 : Kind → Option (List ℕ) → (HeadValues × ℕ × List ℕ) × List ℕ → Record × List ℕ
+read4 kind previous x = (record_from kind x.0.0 (take x.0.1 (unwrap_or previous []) ++ x.0.2), x.1)
 
 one_entry23 : (kind : Kind) (bytes : List ℕ) (r q : Record) (rest end : List ℕ) → IsEntry23 kind bytes r rest → IsEntry23 kind bytes q end → ◌≡◌ {A = Record × List ℕ} (r, rest) (q, end)
 one_entry23 kind bytes r q rest end h k =
-    let read = same_Some ((h.front, r.path), rest) ((k.front, q.path), end) (sym (entry_again kind bytes r rest h) ∙ entry_again kind bytes q end k) in
+    let read = same_Some ((values_of h.head, r.path), rest) ((values_of k.head, q.path), end) (sym (entry_again kind bytes r rest h) ∙ entry_again kind bytes q end k) in
     ap (λ (x : Record). (x, rest)) h.is ∙ ap (read23 kind) read ∙ ap (λ (x : Record). (x, end)) (sym k.is)
 
 -- the record of an entry of version 4, by what was read of it
-record4 : (kind : Kind) (previous : Option (List ℕ)) (bytes : List ℕ) (r : Record) (rest : List ℕ) (h : IsEntry4 kind previous bytes r rest) → r ≡ record_of kind h.front (take (entry4_again kind previous bytes r rest h).0 (unwrap_or previous []) ++ h.tail)
+record4 : (kind : Kind) (previous : Option (List ℕ)) (bytes : List ℕ) (r : Record) (rest : List ℕ) (h : IsEntry4 kind previous bytes r rest) → r ≡ record_of kind h.head (take (entry4_again kind previous bytes r rest h).0 (unwrap_or previous []) ++ h.tail)
 record4 kind previous bytes r rest h =
     let again = entry4_again kind previous bytes r rest h in
-    h.is ∙ ap (record_of kind h.front) (kept_from previous _ h.stripped again.0 h.tail refl again.1).1
+    h.is ∙ ap (record_of kind h.head) (kept_from previous _ h.stripped again.0 h.tail refl again.1).1
 
 one_entry4 : (kind : Kind) (previous : Option (List ℕ)) (bytes : List ℕ) (r q : Record) (rest end : List ℕ) → IsEntry4 kind previous bytes r rest → IsEntry4 kind previous bytes q end → ◌≡◌ {A = Record × List ℕ} (r, rest) (q, end)
 one_entry4 kind previous bytes r q rest end h k =
     let a = entry4_again kind previous bytes r rest h in
     let b = entry4_again kind previous bytes q end k in
-    let read = same_Some ((h.front, a.0, h.tail), rest) ((k.front, b.0, k.tail), end) (sym a.2 ∙ b.2) in
+    let read = same_Some ((values_of h.head, a.0, h.tail), rest) ((values_of k.head, b.0, k.tail), end) (sym a.2 ∙ b.2) in
     ap (λ (x : Record). (x, rest)) (record4 kind previous bytes r rest h) ∙ ap (read4 kind previous) read ∙ ap (λ (x : Record). (x, end)) (sym (record4 kind previous bytes q end k))
 
 -- one entry begins bytes, or none

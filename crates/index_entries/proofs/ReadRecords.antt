@@ -6,14 +6,14 @@ use Rattle.std.proofs.lemmas.Bool.{eqb-false}
 use Rattle.std.proofs.lemmas.Nat.{and_le_r}
 use Rattle.std.proofs.lemmas.List.Elements.{All-nil, All-cons, All-head, All-tail, All-append, All-take, All-drop}
 use Rattle.index_parts.proofs.Ids.{id_kind-make_id, id_bytes-make_id}
-use Rattle.index_parts.specs.Flags.{joined_words}
-use Rattle.index_parts.specs.Front.{be, number, IsUpTo}
+use Rattle.index_metadata.specs.Flags.{joined_words}
+use Rattle.index_parts.specs.Numbers.{be, number, IsUpTo}
 use Rattle.index_parts.specs.Id.{id_len, id_bytes, id_kind, make_id}
 use Rattle.index_parts.specs.declared.hash.Kind.{Kind}
 use Rattle.index_entries.specs.declared.Version.{Version}
 use Rattle.index_entries.specs.declared.Version.TheVariants.{V2, V3, V4}
 use Rattle.index_entries.specs.Entries.{AreEntries}
-use Rattle.index_entries.specs.Entry.{Front, front_bytes, IsFront, record_of, length_field, IsPath, IsEntry23, IsEntry4, joined_path}
+use Rattle.index_entries.specs.Entry.{EntryHead, head_bytes, IsEntryHead, record_of, length_field, IsPath, IsEntry23, IsEntry4, joined_path}
 use Rattle.index_entries.specs.EntryImage.{is_removed, stored_record}
 use Rattle.index_entries.specs.Record.{Record, AreBytes, IsSized}
 use Rattle.index_entries.proofs.Kept.{kept_twice, mask_twice}
@@ -60,12 +60,12 @@ pub record IsKept (kind : Kind) (r : Record) : Type 0 where
 made_len : (kind : Kind) (l : List ℕ) → length l ≡ id_len kind → length (id_bytes (make_id kind l)) ≡ id_len (id_kind (make_id kind l))
 made_len kind l e = ap length (id_bytes-make_id kind l) ∙ e ∙ ap id_len (sym (id_kind-make_id kind l))
 
-kept_of : (kind : Kind) (f : Front) (path : List ℕ) → (4095 ≤ length path → All (λ b. b ≢ 0) path) → IsKept kind (record_of kind f path)
+kept_of : (kind : Kind) (f : EntryHead) (path : List ℕ) → (4095 ≤ length path → All (λ b. b ≢ 0) path) → IsKept kind (record_of kind f path)
 kept_of kind f path apart =
     let twice = kept_twice (joined_words (be f.word) (be f.second)) in
     record { stays = rw (twice.flags, mask_twice 0o160755 (number f.numbers 6) 0o160755 refl) refl; unmarked = twice.unmarked; id = id_kind-make_id kind f.id; path = apart }
 
-fits_of : (kind : Kind) (f : Front) (path : List ℕ) → IsFront kind f → AreBytes f.numbers → IsSized (record_of kind f path)
+fits_of : (kind : Kind) (f : EntryHead) (path : List ℕ) → IsEntryHead kind f → AreBytes f.numbers → IsSized (record_of kind f path)
 fits_of kind f path h b =
     let first : length (take 24 f.numbers) ≡ 24 = omega (arith, h.numbers, length-take 24 f.numbers) in
     let last : length (drop 28 f.numbers) ≡ 12 = omega (arith, h.numbers, length-drop 28 f.numbers) in
@@ -98,16 +98,16 @@ record IsReadEntry (version : Version) (kind : Kind) (bytes : List ℕ) (r : Rec
   fits : AreBytes bytes → IsSized r
   behind : AreBytes bytes → AreBytes rest
 
-before_front : (f : Front) (after bytes : List ℕ) → bytes ≡ front_bytes f ++ after → AreBytes bytes → AreBytes f.numbers × AreBytes after
-before_front f after bytes e h =
-    let all : AreBytes (front_bytes f ++ after) = subst AreBytes e h in
-    (all_left (λ b. b < 256) f.numbers (f.id ++ (f.word ++ f.second)) (all_left (λ b. b < 256) (front_bytes f) after all), all_right (λ b. b < 256) (front_bytes f) after all)
+before_head : (f : EntryHead) (after bytes : List ℕ) → bytes ≡ head_bytes f ++ after → AreBytes bytes → AreBytes f.numbers × AreBytes after
+before_head f after bytes e h =
+    let all : AreBytes (head_bytes f ++ after) = subst AreBytes e h in
+    (all_left (λ b. b < 256) f.numbers (f.id ++ (f.word ++ f.second)) (all_left (λ b. b < 256) (head_bytes f) after all), all_right (λ b. b < 256) (head_bytes f) after all)
 
 read23 : (version : Version) (kind : Kind) (bytes : List ℕ) (r : Record) (rest : List ℕ) → IsEntry23 kind bytes r rest → IsReadEntry version kind bytes r rest
 read23 version kind bytes r rest h = record {
-  kept = subst (IsKept kind) (sym h.is) (kept_of kind h.front r.path (path_apart (length_field h.front) r.path (h.padding ++ rest) (and_le_r (be h.front.word) 0xfff) h.path));
-  fits = λ b. subst IsSized (sym h.is) (fits_of kind h.front r.path h.is_front (before_front h.front (r.path ++ (h.padding ++ rest)) bytes h.parts b).0);
-  behind = λ b. all_right (λ x. x < 256) h.padding rest (all_right (λ x. x < 256) r.path (h.padding ++ rest) (before_front h.front (r.path ++ (h.padding ++ rest)) bytes h.parts b).1);
+  kept = subst (IsKept kind) (sym h.is) (kept_of kind h.head r.path (path_apart (length_field h.head) r.path (h.padding ++ rest) (and_le_r (be h.head.word) 0xfff) h.path));
+  fits = λ b. subst IsSized (sym h.is) (fits_of kind h.head r.path h.is_head (before_head h.head (r.path ++ (h.padding ++ rest)) bytes h.parts b).0);
+  behind = λ b. all_right (λ x. x < 256) h.padding rest (all_right (λ x. x < 256) r.path (h.padding ++ rest) (before_head h.head (r.path ++ (h.padding ++ rest)) bytes h.parts b).1);
 }
 
 -- the path before has no NUL
@@ -125,10 +125,10 @@ read4 : (kind : Kind) (previous : Option (List ℕ)) (bytes : List ℕ) (r : Rec
 read4 kind previous bytes r rest a h =
     let path = joined_path previous h.stripped h.tail in
     record {
-      kept = subst (IsKept kind) (sym h.is) (kept_of kind h.front path (λ long. joined_apart previous h.stripped h.tail a h.is_tail.apart));
-      fits = λ b. subst IsSized (sym h.is) (fits_of kind h.front path h.is_front (before_front h.front h.after bytes h.parts b).0);
+      kept = subst (IsKept kind) (sym h.is) (kept_of kind h.head path (λ long. joined_apart previous h.stripped h.tail a h.is_tail.apart));
+      fits = λ b. subst IsSized (sym h.is) (fits_of kind h.head path h.is_head (before_head h.head h.after bytes h.parts b).0);
       behind = λ b.
-          let delta = all_right (λ x. x < 256) h.is_offset.spelling h.delta (subst AreBytes h.is_offset.parts (before_front h.front h.after bytes h.parts b).1) in
+          let delta = all_right (λ x. x < 256) h.is_offset.spelling h.delta (subst AreBytes h.is_offset.parts (before_head h.head h.after bytes h.parts b).1) in
           All-tail (λ x. x < 256) 0 rest (all_right (λ x. x < 256) h.tail (0 ∷ rest) (subst AreBytes h.is_tail.parts delta));
     }
 

@@ -6,8 +6,8 @@ use Rattle.index_parts.specs.declared.hash.Kind.{Kind}
 use Rattle.index_entries.specs.declared.Version.{Version}
 use Rattle.index_entries.specs.declared.Version.TheVariants.{V2, V3, V4}
 use Rattle.index_entries.specs.Entries.{AreEntries, LacksEntry, last_path}
-use Rattle.index_entries.specs.Entry.{Front, record_of, IsEntry23, IsEntry4, IsEntry}
-use Rattle.index_entries.specs.Reading.{entry23_at, entry4_at}
+use Rattle.index_entries.specs.Entry.{IsEntry23, IsEntry4, IsEntry}
+use Rattle.index_entries.specs.EntrySteps.{HeadValues, record_from, entry23_at, entry4_at}
 use Rattle.index_entries.specs.Record.{Record}
 use Rattle.index_entries.proofs.Deltas.{entry4_takes, entry4_again}
 use Rattle.index_entries.proofs.Pieces.{entry_takes, entry_again}
@@ -22,12 +22,12 @@ Decided {A} P = ((x : A) × P x) ⊎ ((x : A) → P x → ⊥)
 abbrev EntryAt : Version → Kind → Option (List ℕ) → List ℕ → Type 0
 EntryAt version kind previous bytes = Decided (λ (x : Record × List ℕ). IsEntry version kind previous bytes x.0 x.1)
 
-entry23_by : (kind : Kind) (bytes : List ℕ) (o : Option ((Front × List ℕ) × List ℕ)) → entry23_at kind bytes ≡ o → Decided (λ (x : Record × List ℕ). IsEntry23 kind bytes x.0 x.1)
-entry23_by kind bytes (Some x) e = inl ((record_of kind x.0.0 x.0.1, x.1), entry_takes kind bytes x e)
+entry23_by : (kind : Kind) (bytes : List ℕ) (o : Option ((HeadValues × List ℕ) × List ℕ)) → entry23_at kind bytes ≡ o → Decided (λ (x : Record × List ℕ). IsEntry23 kind bytes x.0 x.1)
+entry23_by kind bytes (Some x) e = inl ((record_from kind x.0.0 x.0.1, x.1), entry_takes kind bytes x e)
 entry23_by kind bytes None e = inr (λ x h. absurd (cc (entry_again kind bytes x.0 x.1 h, e)))
 
-entry4_by : (kind : Kind) (previous : Option (List ℕ)) (bytes : List ℕ) (o : Option ((Front × ℕ × List ℕ) × List ℕ)) → entry4_at kind (option_map length previous) bytes ≡ o → Decided (λ (x : Record × List ℕ). IsEntry4 kind previous bytes x.0 x.1)
-entry4_by kind previous bytes (Some x) e = inl ((record_of kind x.0.0 (take x.0.1 (unwrap_or previous []) ++ x.0.2), x.1), entry4_takes kind previous (option_map length previous) bytes x refl e)
+entry4_by : (kind : Kind) (previous : Option (List ℕ)) (bytes : List ℕ) (o : Option ((HeadValues × ℕ × List ℕ) × List ℕ)) → entry4_at kind (option_map length previous) bytes ≡ o → Decided (λ (x : Record × List ℕ). IsEntry4 kind previous bytes x.0 x.1)
+entry4_by kind previous bytes (Some x) e = inl ((record_from kind x.0.0 (take x.0.1 (unwrap_or previous []) ++ x.0.2), x.1), entry4_takes kind previous (option_map length previous) bytes x refl e)
 entry4_by kind previous bytes None e = inr (λ x h. absurd (cc ((entry4_again kind previous bytes x.0 x.1 h).2, e)))
 
 pub entry_reading : (version : Version) (kind : Kind) (previous : Option (List ℕ)) (bytes : List ℕ) → EntryAt version kind previous bytes

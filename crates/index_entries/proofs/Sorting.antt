@@ -1,5 +1,5 @@
 -- What a sort of entries says of their records.
-use Rattle.std.proofs.Common.{Bool, true, false, cond, not, ◌&&◌, ◌≡◌, ℕ, ◌+◌, ◌-◌, ◌<◌, ◌⊎◌, inl, inr, List, [], ◌∷◌, length, map, get_or, refl, sym, ap, ◌∙◌, arith, Bor}
+use Rattle.std.proofs.Common.{Bool, true, false, cond, not, ◌&&◌, ◌≡◌, ℕ, ◌+◌, ◌<◌, ◌⊎◌, inl, inr, List, [], ◌∷◌, length, map, get_or, refl, sym, ap, ◌∙◌, arith, Bor}
 use denote.Param.Members.{Mut}
 use Rattle.std.specs.Fn.{Called}
 use Rattle.std.specs.Cmp.{IsStrictWeakOrder}
@@ -8,7 +8,6 @@ use Rattle.std.specs.List.Sorted.{IsSortedBy, IsStable, IsStableBy, IsSortedByCl
 use Rattle.std.specs.Ordering.{is_lt, is_eq, ordering_reverse}
 use Rattle.std.specs.declared.cmp.Ordering.{Ordering}
 use Rattle.std.specs.declared.cmp.Ordering.TheVariants.{Less, Equal, Greater}
-use Rattle.std.proofs.lemmas.Bool.{false≢true}
 use Rattle.std.proofs.lemmas.Fn.{always_returns_same}
 use Rattle.std.proofs.lemmas.List.{get_or-map, length-map}
 use Rattle.std.proofs.lemmas.List.Sorted.{ranks_by}
@@ -16,27 +15,10 @@ use Rattle.index_entries.specs.declared.Entry.{Entry}
 use Rattle.index_entries.specs.Record.{Record, record_in, records_in}
 use Rattle.index_entries.specs.Order.{record_cmp}
 use Rattle.index_entries.specs.Sorted.{IsOrdered, is_entry_before}
-use Rattle.index_entries.proofs.Order.{records_total}
+use Rattle.index_entries.proofs.Orders.{records_total}
 
 pub record_at : (storage : List ℕ) (es : List Entry) (i : ℕ) (z : Entry) (d : Record) → i < length es → get_or (records_in storage es) i d ≡ record_in storage (get_or es i z)
 record_at storage es i z d h = get_or-map (record_in storage) es i z d h
-
--- what the comparison of two neighbours says of the records
-pub neighbours : (storage : List ℕ) (es : List Entry) (i : ℕ) (z : Entry) (b : Bool) → 0 < i → i < length es → is_lt (record_cmp (record_in storage (get_or es i z)) (record_in storage (get_or es (i - 1) z))) ≡ b → (d : Record) → is_lt (record_cmp (get_or (records_in storage es) i d) (get_or (records_in storage es) (i - 1) d)) ≡ b
-neighbours storage es i z b pos h e d =
-    let at : get_or (records_in storage es) i d ≡ record_in storage (get_or es i z) = record_at storage es i z d h in
-    let before : get_or (records_in storage es) (i - 1) d ≡ record_in storage (get_or es (i - 1) z) = record_at storage es (i - 1) z d (omega arith) in
-    rw (at, before) e
-
--- a record below the one before it stands in no list in order
-pub falls : (storage : List ℕ) (es : List Entry) (i : ℕ) (z : Entry) → 0 < i → i < length es → is_lt (record_cmp (record_in storage (get_or es i z)) (record_in storage (get_or es (i - 1) z))) ≡ true → IsOrdered (records_in storage es) → ⊥
-falls storage es i z pos h e s =
-    let d : Record = record_in storage z in
-    let less = neighbours storage es i z true pos h e d in
-    let same : i - 1 + 1 ≡ i = omega arith in
-    let long : i - 1 + 1 < length (records_in storage es) = omega (arith, length-map es (record_in storage)) in
-    let not = rw same at (s (i - 1) d (omega arith) long) in
-    false≢true (sym not ∙ less)
 
 pub weak : (storage : List ℕ) → IsStrictWeakOrder (is_entry_before storage)
 weak storage = ranks_by records_total (record_in storage)

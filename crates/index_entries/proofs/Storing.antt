@@ -1,6 +1,6 @@
 -- Records keep their paths where the storage grows, and entries read one after the other.
-use Rattle.std.proofs.Common.{◌≡◌, ℕ, ◌-◌, ◌≤◌, List, [], ◌∷◌, ◌++◌, length, take, drop, Option, Some, None, All, refl, sym, ap, subst, ◌∙◌, arith}
-use Rattle.std.proofs.lemmas.List.{take-append-le, drop-append-le, length-append, length-drop, append-nil, length-take, map-append, take_at, drop_at}
+use Rattle.std.proofs.Common.{◌≡◌, ℕ, ◌-◌, ◌≤◌, List, [], ◌∷◌, ◌++◌, length, take, drop, Option, Some, All, refl, sym, ap, subst, ◌∙◌, arith}
+use Rattle.std.proofs.lemmas.List.{take-append-le, drop-append-le, length-append, length-drop, append-nil, map-append, take_at, drop_at}
 use Rattle.std.proofs.lemmas.List.Elements.{All-head, All-tail, All-push, All-weaker}
 use Rattle.std.specs.Prelude.{slice_range}
 use Rattle.index_parts.specs.declared.hash.Kind.{Kind}
@@ -8,10 +8,6 @@ use Rattle.index_entries.specs.declared.Version.{Version}
 use Rattle.index_entries.specs.declared.Entry.{Entry}
 use Rattle.index_entries.specs.Entries.{AreEntries, last_path}
 use Rattle.index_entries.specs.Entry.{IsEntry}
-use Rattle.std.specs.Prelude.{unwrap_or}
-use Rattle.std.specs.Option.{option_map}
-use Rattle.index_entries.specs.declared.decode.entry.Place.{Place}
-use Rattle.index_entries.specs.Lent.{place_path, InStorage}
 use Rattle.index_entries.specs.Record.{Record, record_in, records_in, IsPlaced}
 
 -- a part of a list stays where the list grows
@@ -61,14 +57,6 @@ entries_push version kind previous bytes [] r middle rest h e = (rest, subst (λ
 entries_push version kind previous bytes (x ∷ rs) r middle rest h e = (h.0, h.1, entries_push version kind (Some x.path) h.0 rs r middle rest h.2 e)
 
 -- ---- the path before
-
-pub place_room : (s : List ℕ) (o : Option Place) → InStorage (length s) o → option_map length (place_path s o) ≡ option_map (λ p. p.end - p.start) o
-place_room s None h = refl
-place_room s (Some p) h = ap (λ (n : ℕ). Some n) (omega (arith, h.0, h.1, length-take (p.end - p.start) (drop p.start s), length-drop p.start s))
-
-pub kept_fits : (s : List ℕ) (o : Option Place) (k : ℕ) → InStorage (length s) o → k ≤ unwrap_or (option_map (λ p. p.end - p.start) o) 0 → k ≤ length (unwrap_or (place_path s o) [])
-kept_fits s None k h le = le
-kept_fits s (Some p) k h le = omega (arith, h.0, h.1, length-take (p.end - p.start) (drop p.start s), length-drop p.start s)
 
 pub last_path-push : (previous : Option (List ℕ)) (rs : List Record) (r : Record) → last_path previous (rs ++ r ∷ []) ≡ Some r.path
 last_path-push previous [] r = refl

@@ -12,7 +12,7 @@ use Rattle.index_entries.specs.declared.Entry.{Entry}
 use Rattle.index_entries.specs.Order.{record_cmp}
 use Rattle.index_entries.specs.Record.{record_in, records_in}
 use Rattle.index_entries.specs.Sorted.{IsOrElse, IsOrdered, is_before_by, is_below_or}
-use Rattle.index_entries.proofs.Order.{records_total}
+use Rattle.index_entries.proofs.Orders.{records_total}
 use Rattle.index_entries.proofs.Sorting.{sorted_map}
 
 module _ {F : Type 0} (g : Mut F (Bor Entry × (Bor Entry × Unit {0})) Ordering) where

@@ -4,9 +4,10 @@ use Rattle.std.specs.Prelude.{MatchBool, bit_and}
 use Rattle.std.specs.Int.{w16, w32, from_be_bytes}
 use Rattle.std.proofs.lemmas.Nat.{from_be_bytes-to_be_bytes_4, from_be_bytes-to_be_bytes_2, or_shifted, or_comm, and_block, and_assoc, and_le_r, and_mask, shr_split}
 use Rattle.std.proofs.lemmas.Nat.Bits.{and_high, and_pow}
-use Rattle.index_parts.specs.Flags.{is_extended, extended_flags, joined_words, kept_flags}
-use Rattle.index_parts.specs.Front.{be}
-use Rattle.index_entries.specs.EntryImage.{be16, be32, first_word, second_word}
+use Rattle.index_metadata.specs.Flags.{is_extended, extended_flags, joined_words, stored_flags}
+use Rattle.index_parts.specs.Numbers.{be}
+use Rattle.index_entries.specs.EntryImage.{be16, first_word, second_word}
+use Rattle.index_parts.specs.Numbers.{be32}
 use Rattle.index_entries.specs.Record.{Record}
 
 four : (a b c d : ℕ) → be (a ∷ b ∷ c ∷ d ∷ []) ≡ from_be_bytes w32 (a ∷ b ∷ c ∷ d ∷ [])
@@ -77,7 +78,7 @@ masked_same f g e h =
     let low : bit_and (f % 2 ^ 16) 0xf000 ≡ bit_and (g % 2 ^ 16) 0xf000 = rest_same (f % 2 ^ 16) (g % 2 ^ 16) (omega arith) in
     halves f ∙ (let k : bit_and (f / 2 ^ 16) 0x6000 * 2 ^ 16 + bit_and (f % 2 ^ 16) 0xf000 ≡ bit_and (g / 2 ^ 16) 0x6000 * 2 ^ 16 + bit_and (g % 2 ^ 16) 0xf000 = rw (e, low) refl in k) ∙ sym (halves g)
 
-kept_by : (b : Bool) (r : Record) → is_extended r.flags ≡ b → kept_flags (joined_words (first_word r) (cond b (extended_flags r.flags) 0)) ≡ kept_flags r.flags
+kept_by : (b : Bool) (r : Record) → is_extended r.flags ≡ b → stored_flags (joined_words (first_word r) (cond b (extended_flags r.flags) 0)) ≡ stored_flags r.flags
 kept_by true r e =
     let s : ℕ = extended_flags r.flags in
     let j : joined_words (first_word r) s ≡ s * 2 ^ 16 + first_word r = joined_is (first_word r) s (word_small r) in
@@ -91,5 +92,5 @@ kept_by false r e =
     rw (same, e) (rest_same (joined_words (first_word r) 0) r.flags (omega (arith, j, word_is r)))
 
 -- what is kept of the words that were written is what is kept of the flags
-pub kept_again : (r : Record) → kept_flags (joined_words (be (be16 (first_word r))) (be (second_word r))) ≡ kept_flags r.flags
+pub kept_again : (r : Record) → stored_flags (joined_words (be (be16 (first_word r))) (be (second_word r))) ≡ stored_flags r.flags
 kept_again r = rw (be_first r, second_by (is_extended r.flags) r.flags) (kept_by (is_extended r.flags) r refl)

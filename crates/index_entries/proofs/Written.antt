@@ -7,7 +7,7 @@ use Rattle.std.proofs.lemmas.List.{map-append}
 use Rattle.std.proofs.lemmas.List.Elements.{All-push, filter-append, filter_more}
 use Rattle.std.proofs.lemmas.List.Folds.{list_any_more}
 use Rattle.index_parts.proofs.Taking.{Took-trans}
-use Rattle.index_parts.specs.Flags.{is_extended}
+use Rattle.index_metadata.specs.Flags.{is_extended}
 use Rattle.index_parts.specs.Taking.{Took}
 use Rattle.index_parts.specs.declared.hash.Kind.{Kind}
 use Rattle.index_entries.specs.declared.Entry.{Entry}

@@ -1,48 +1,48 @@
 -- One entry of a file as bytes that stand one after another (gitformat-index, "Index entry").
 use Rattle.std.specs.Prelude.{◌≡◌, ℕ, ◌+◌, ◌-◌, ◌%◌, ◌≤◌, ◌==◌, List, [], ◌++◌, length, take, drop, Option, Some, None, MatchBool, bit_and}
-use Rattle.index_parts.specs.Front.{be, number, IsUpTo}
+use Rattle.index_parts.specs.Numbers.{be, number, IsUpTo}
 use Rattle.index_parts.specs.Id.{id_len, make_id}
-use Rattle.index_parts.specs.Flags.{is_extended, joined_words, kept_flags}
-use Rattle.index_parts.specs.Mode.{kept_mode}
+use Rattle.index_metadata.specs.Flags.{is_extended, joined_words, stored_flags}
+use Rattle.index_metadata.specs.Mode.{stored_mode}
 use Rattle.index_parts.specs.Offset.{StartsWithOffset}
 use Rattle.index_parts.specs.declared.hash.Kind.{Kind}
-use Rattle.index_parts.specs.Stat.{stat_of}
+use Rattle.index_metadata.specs.Stat.{stat_of}
 use Rattle.index_entries.specs.declared.Version.{Version}
 use Rattle.index_entries.specs.declared.Version.TheVariants.{V2, V3, V4}
 use Rattle.index_entries.specs.Record.{Record}
 
 -- an entry up to its path: ten numbers of four bytes, the id, a word of flags, and a second word or nothing
-pub record Front : Type 0 where
+pub record EntryHead : Type 0 where
   pub numbers : List ℕ
   pub id : List ℕ
   pub word : List ℕ
   pub second : List ℕ
 
-abbrev pub front_bytes : Front → List ℕ
-front_bytes f = f.numbers ++ (f.id ++ (f.word ++ f.second))
+abbrev pub head_bytes : EntryHead → List ℕ
+head_bytes f = f.numbers ++ (f.id ++ (f.word ++ f.second))
 
 -- a second word stands exactly where bit 14 of the first is set, and has no bit but 13 and 14
 abbrev pub IsSecondWord : ℕ → List ℕ → Type 0
 IsSecondWord word second = MatchBool (is_extended word) ((length second ≡ 2) × (bit_and (be second) 0x6000 ≡ be second)) (second ≡ [])
 
-pub record IsFront (kind : Kind) (f : Front) : Type 0 where
+pub record IsEntryHead (kind : Kind) (f : EntryHead) : Type 0 where
   pub numbers : length f.numbers ≡ 40
   pub id : length f.id ≡ id_len kind
   pub word : length f.word ≡ 2
   pub second : IsSecondWord (be f.word) f.second
 
--- the record of an entry with this front and this path; the mode is the seventh number
-abbrev pub record_of : Kind → Front → List ℕ → Record
+-- the record of an entry with this head and this path; the mode is the seventh number
+abbrev pub record_of : Kind → EntryHead → List ℕ → Record
 record_of kind f path = record {
   path = path;
   stat = stat_of (take 24 f.numbers) (drop 28 f.numbers);
   id = make_id kind f.id;
-  flags = kept_flags (joined_words (be f.word) (be f.second));
-  mode = kept_mode (number f.numbers 6);
+  flags = stored_flags (joined_words (be f.word) (be f.second));
+  mode = stored_mode (number f.numbers 6);
 }
 
 -- bits 0 to 11 of the first word
-abbrev pub length_field : Front → ℕ
+abbrev pub length_field : EntryHead → ℕ
 length_field f = bit_and (be f.word) 0xfff
 
 -- The length field is the path's length. Where it is full, the path has no NUL, and one follows it.
@@ -51,15 +51,15 @@ IsPath field path after = MatchBool (field == 0xfff) ((rest : List ℕ) × IsUpT
 
 -- An entry of version 2 or 3 at the front of bytes: 1 to 8 bytes of any value fill it up to a multiple of 8.
 pub record IsEntry23 (kind : Kind) (bytes : List ℕ) (r : Record) (rest : List ℕ) : Type 0 where
-  pub front : Front
-  pub is_front : IsFront kind front
+  pub head : EntryHead
+  pub is_head : IsEntryHead kind head
   pub padding : List ℕ
-  pub parts : bytes ≡ front_bytes front ++ (r.path ++ (padding ++ rest))
-  pub path : IsPath (length_field front) r.path (padding ++ rest)
+  pub parts : bytes ≡ head_bytes head ++ (r.path ++ (padding ++ rest))
+  pub path : IsPath (length_field head) r.path (padding ++ rest)
   pub some_padding : 1 ≤ length padding
   pub small_padding : length padding ≤ 8
-  pub whole : (length (front_bytes front) + length r.path + length padding) % 8 ≡ 0
-  pub is : r ≡ record_of kind front r.path
+  pub whole : (length (head_bytes head) + length r.path + length padding) % 8 ≡ 0
+  pub is : r ≡ record_of kind head r.path
 
 -- the path before without its last n bytes, followed by the tail; the tail alone where no path is before
 abbrev pub joined_path : Option (List ℕ) → ℕ → List ℕ → List ℕ
@@ -73,17 +73,17 @@ CanStrip (Some previous) n = n ≤ length previous
 
 -- An entry of version 4 at the front of bytes: an offset number of bytes to take off, and a tail up to a NUL.
 pub record IsEntry4 (kind : Kind) (previous : Option (List ℕ)) (bytes : List ℕ) (r : Record) (rest : List ℕ) : Type 0 where
-  pub front : Front
-  pub is_front : IsFront kind front
+  pub head : EntryHead
+  pub is_head : IsEntryHead kind head
   pub after : List ℕ
-  pub parts : bytes ≡ front_bytes front ++ after
+  pub parts : bytes ≡ head_bytes head ++ after
   pub stripped : ℕ
   pub delta : List ℕ
   pub is_offset : StartsWithOffset after stripped delta
   pub tail : List ℕ
   pub is_tail : IsUpTo 0 delta tail rest
   pub can_strip : CanStrip previous stripped
-  pub is : r ≡ record_of kind front (joined_path previous stripped tail)
+  pub is : r ≡ record_of kind head (joined_path previous stripped tail)
 
 -- an entry of a version at the front of bytes, where previous is the path before it, if one is
 abbrev pub IsEntry : Version → Kind → Option (List ℕ) → List ℕ → Record → List ℕ → Type 0

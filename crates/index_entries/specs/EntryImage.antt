@@ -1,16 +1,17 @@
 -- Entries as bytes (gitformat-index, "Index entry"): the one spelling that is written of a record, and what it keeps.
 use Rattle.std.specs.Prelude.{◌≢◌, ℕ, ◌-◌, ◌%◌, ◌==◌, Bool, not, min, List, [], ◌∷◌, ◌++◌, All, length, map, drop, replicate, bit_and, bit_or, if◌then◌else◌}
 use Rattle.std.specs.List.{filter, list_any}
-use Rattle.std.specs.Int.{w16, w32, to_be_bytes}
-use Rattle.index_parts.specs.Flags.{is_extended, kept_flags, rest_flags, extended_flags}
+use Rattle.std.specs.Int.{w16, to_be_bytes}
+use Rattle.index_metadata.specs.Flags.{is_extended, stored_flags, storage_flags, extended_flags}
+use Rattle.index_parts.specs.Numbers.{be32}
 use Rattle.index_parts.specs.Id.{id_bytes}
-use Rattle.index_parts.specs.Mode.{kept_mode}
+use Rattle.index_metadata.specs.Mode.{stored_mode}
 use Rattle.index_parts.specs.Offset.{offset_bytes}
 use Rattle.index_entries.specs.declared.Version.{Version}
 use Rattle.index_entries.specs.declared.Version.TheVariants.{V2, V3, V4}
 use Rattle.index_entries.specs.declared.write.VersionChoice.{VersionChoice}
 use Rattle.index_entries.specs.declared.write.VersionChoice.TheVariants as choices
-use Rattle.index_entries.specs.Entry.{Front, front_bytes}
+use Rattle.index_entries.specs.Entry.{EntryHead, head_bytes}
 use Rattle.index_entries.specs.Header.{signature}
 use Rattle.index_entries.specs.Record.{Record}
 use Rattle.index_entries.specs.Shared.{shared_len}
@@ -18,9 +19,6 @@ use Rattle.index_entries.specs.Shared.{shared_len}
 -- numbers of two and of four bytes, the highest byte first
 abbrev pub be16 : ℕ → List ℕ
 be16 n = to_be_bytes w16 n
-
-abbrev pub be32 : ℕ → List ℕ
-be32 n = to_be_bytes w32 n
 
 -- ---- one entry
 
@@ -32,18 +30,18 @@ numbers_of r =
 
 -- the first word of flags: bits 12 to 15, and the path's length as far as 12 bits hold it
 abbrev pub first_word : Record → ℕ
-first_word r = bit_or (rest_flags r.flags) (min (length r.path) 0xfff)
+first_word r = bit_or (storage_flags r.flags) (min (length r.path) 0xfff)
 
 -- the second word of flags, where bit 14 of the first is set: bits 13 and 14
 abbrev pub second_word : Record → List ℕ
 second_word r = if is_extended r.flags then be16 (extended_flags r.flags) else []
 
-abbrev pub front_of : Record → Front
-front_of r = record { numbers = numbers_of r; id = id_bytes r.id; word = be16 (first_word r); second = second_word r }
+abbrev pub head_of : Record → EntryHead
+head_of r = record { numbers = numbers_of r; id = id_bytes r.id; word = be16 (first_word r); second = second_word r }
 
 -- an entry up to the end of its path
 unfoldable pub unpadded : Record → List ℕ
-unpadded r = front_bytes (front_of r) ++ r.path
+unpadded r = head_bytes (head_of r) ++ r.path
 
 -- 1 to 8 NULs behind so many bytes, up to a multiple of 8
 abbrev pub padding : ℕ → List ℕ
@@ -53,10 +51,11 @@ padding n = replicate (8 - n % 8) 0
 abbrev pub entry_bytes : Record → List ℕ
 entry_bytes r = unpadded r ++ padding (length (unpadded r))
 
--- an entry of version 4 behind a path: how many bytes of that path are taken off, those of its own that follow, and a NUL
+-- an entry of version 4 behind a path: how many bytes of that path are taken off, as an offset number, the bytes of its
+-- own that follow, and a NUL
 unfoldable pub delta_bytes : List ℕ → Record → List ℕ
 delta_bytes previous r =
-    front_bytes (front_of r) ++ (offset_bytes (length previous - shared_len previous r.path) ++ (drop (shared_len previous r.path) r.path ++ 0 ∷ []))
+    head_bytes (head_of r) ++ (offset_bytes (length previous - shared_len previous r.path) ++ (drop (shared_len previous r.path) r.path ++ 0 ∷ []))
 
 -- an entry of a version behind a path, which makes a difference in version 4 alone
 abbrev pub entry_in : Version → List ℕ → Record → List ℕ
@@ -105,7 +104,7 @@ header_bytes version count = signature ++ be32 (version_code version) ++ be32 co
 
 -- the bits of a record that have a place in a file
 abbrev pub stored_record : Record → Record
-stored_record r = record r { flags = kept_flags r.flags; mode = kept_mode r.mode }
+stored_record r = record r { flags = stored_flags r.flags; mode = stored_mode r.mode }
 
 -- the records that a file has, as it has them
 abbrev pub stored_records : List Record → List Record

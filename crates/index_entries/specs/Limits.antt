@@ -1,4 +1,5 @@
--- How many entries a file can hold, and how much memory they are counted as.
+-- How many entries a file can hold, by the sizes that follow from gitformat-index, "Index entry"; and how much memory
+-- they are counted as (the library's own).
 use Rattle.std.specs.Prelude.{ℕ, ◌-◌, ◌*◌, ◌+◌, ◌/◌, ◌||◌, not, min, Bool, Option, Some, None}
 use Rattle.index_parts.specs.Limit.{is_within}
 use Rattle.index_parts.specs.Id.{id_len}

@@ -6,7 +6,7 @@ use Rattle.std.specs.List.{AllPairs}
 use Rattle.std.specs.Ordering.{nat_cmp, ordering_then}
 use Rattle.std.specs.declared.cmp.Ordering.{Ordering}
 use Rattle.std.specs.declared.cmp.Ordering.TheVariants.{Less, Greater}
-use Rattle.index_parts.specs.Flags.{stage_number}
+use Rattle.index_metadata.specs.Flags.{stage_number}
 use Rattle.index_entries.specs.Record.{Record}
 
 -- the first bytes that differ decide; a path stands before those that it begins

@@ -1,5 +1,5 @@
--- Entries in order, by path and then by stage, and where a list of records isn't so (gitformat-index, "Index entries are
--- sorted in ascending order").
+-- Entries in order, by path and then by stage, and where a list of records isn't so (gitformat-index, "Index entries
+-- are sorted in ascending order").
 use Rattle.std.specs.Prelude.{◌≡◌, ◌≢◌, ℕ, ◌-◌, ◌<◌, Bool, true, false, List, length, take, slice_index_or, Option, Some, None}
 use denote.Param.Members.{Mut}
 use denote.Ref.{Bor}
@@ -48,12 +48,13 @@ abbrev pub IsFirstFall : List Record → Option ℕ → Type 0
 IsFirstFall rs None = IsStrictlyOrdered rs
 IsFirstFall rs (Some place) = IsFall rs place × IsStrictlyOrdered (take place rs)
 
--- the answer to a question is the first order, without a change of the closure; where that is equal, it is the closure's
+-- the answer is the first order, without a change of the closure; where that is equal, it is the closure's
 abbrev pub IsOrElse : {F : Type 0} → Ordering → (Ordering → F → Type 0) → F → Ordering → F → Type 0
 IsOrElse Less asks f r g = (r ≡ Less) × (g ≡ f)
 IsOrElse Equal asks f r g = asks r g
 IsOrElse Greater asks f r g = (r ≡ Greater) × (g ≡ f)
 
--- Where an entry stands to another: by path, by stage, and then as a call of the closure answers. No public clause cites it.
+-- Where an entry stands to another: by path, by stage, and then as a call of the closure answers. No public clause
+-- cites it.
 abbrev pub AsksThird : {F : Type 0} → (F → Bor Entry → Bor Entry → Ordering → F → Type 0) → List ℕ → F → Bor Entry → Bor Entry → Ordering → F → Type 0
 AsksThird step storage f a b r g = IsOrElse (record_cmp (record_in storage a.now) (record_in storage b.now)) (step f a b) f r g

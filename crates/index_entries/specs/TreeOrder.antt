@@ -2,11 +2,11 @@
 use Rattle.std.specs.Prelude.{◌≡◌, ◌≢◌, ℕ, List, [], ◌∷◌, ◌++◌, All, Contains, IsTrue, if◌then◌else◌}
 use Rattle.std.specs.List.{AllPairs}
 use Rattle.std.specs.declared.cmp.Ordering.TheVariants.{Less}
-use Rattle.index_parts.specs.Object.{Found, object}
-use Rattle.index_parts.specs.TreeObject.{TreeEntry, IsTreeObject, is_tree_mode}
+use Rattle.index_metadata.specs.Object.{Found, object}
+use Rattle.index_metadata.specs.TreeObject.{TreeEntry, IsTreeObject, is_tree_mode}
 use Rattle.index_parts.specs.declared.hash.Kind.{Kind}
 use Rattle.index_parts.specs.declared.hash.ObjectId.{ObjectId}
-use Rattle.index_parts.specs.declared.object.Kind.TheVariants as objects
+use Rattle.index_metadata.specs.declared.object.Kind.TheVariants as objects
 use Rattle.index_entries.specs.Order.{path_cmp}
 
 -- what an entry is sorted by: its name, and behind that of a directory a slash
@@ -18,7 +18,8 @@ pub record IsGitOrdered (es : List TreeEntry) : Type 0 where
   pub components : All (λ e. All (λ b. b ≢ 47) e.name) es
   pub less : AllPairs (λ d e. path_cmp (sorted_name d) (sorted_name e) ≡ Less) es
 
--- the objects that a walk over a tree may read: that of the tree, and those of the directories that trees among them list
+-- the objects that a walk over a tree may read: that of the tree, and those of the directories that trees among them
+-- list
 pub data IsReached (find : ObjectId → Found) (kind : Kind) (root : ObjectId) : ObjectId → Type 0 where
   itself : IsReached find kind root root
   listed : (id : ObjectId) (bytes : List ℕ) (es : List TreeEntry) (e : TreeEntry) → IsReached find kind root id → find id ≡ object objects.Tree bytes → IsTreeObject kind bytes es

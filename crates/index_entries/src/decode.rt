@@ -2,5 +2,3 @@
 
 pub mod entries;
 mod entry;
-pub mod header;
-pub mod limits;

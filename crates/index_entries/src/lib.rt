@@ -1,19 +1,23 @@
-//! The entries of a git index: how a file spells them, in which order they stand, how they are put in order and merged.
+//! The entries of a git index: how a file encodes them, in which order they stand, how they are sorted and taken out.
 //!
 //! What is here speaks of entries as a slice, and of the storage in which their paths lie as bytes.
 #![tactic(auto)]
 
 ghost use Rattle.std.specs.Prelude.{◌≡◌, ◌↔◌, ℕ, List, length, All, IsTrue};
 
-use index_parts::entry::{Flags, Mode, Stage, StageRaw, Stat};
+use index_metadata::entry::{Flags, Mode, Stage, StageRaw, Stat};
 use index_parts::hash::ObjectId;
 use std::cmp::Ordering;
 use std::ops::Range;
 
-pub mod access;
 pub mod decode;
-pub mod merge;
+pub mod list;
+pub mod order;
 pub mod paths;
+pub mod remove;
+pub mod sizes;
+pub mod slice;
+pub mod sort;
 pub mod write;
 
 /// The version of a file's format (gitformat-index, "The Git index file has the following format").
@@ -53,7 +57,7 @@ pub struct Entry {
     pub stat: Stat,
     /// The object that holds the contents.
     pub id: ObjectId,
-    /// Marks, and the stage.
+    /// What else is noted of the entry, and the stage.
     pub flags: Flags,
     /// The kind of file.
     pub mode: Mode,
@@ -65,7 +69,7 @@ impl Entry {
     ghost use Rattle.std.specs.declared.cmp.Ordering.TheVariants.{Equal};
     ghost use Rattle.index_entries.specs.Order.{IsSameKey, path_cmp, record_cmp};
     ghost use Rattle.index_entries.specs.Record.{IsPlaced, record_in};
-    ghost use Rattle.index_parts.specs.Flags.{stage_number, stage_of};
+    ghost use Rattle.index_metadata.specs.Flags.{stage_number, stage_of};
 
     /// Whether the path lies inside a storage of so many bytes.
     fn is_placed(&self, len: usize) -> bool
@@ -90,7 +94,7 @@ impl Entry {
         &backing[self.path.start..self.path.end]
     }
 
-    /// Where this entry stands to another of the same state: by path, and at the same path by the number of the
+    /// How this entry compares to another of the same state: by path, and at the same path by the number of the
     /// stage. Equal exactly where both agree.
     pub fn cmp<S: PathBacking>(&self, other: &Entry, state: &S) -> Ordering
         requires this_placed { IsPlaced (length (S.paths state.now)) self.now }
@@ -106,7 +110,7 @@ impl Entry {
         )
     }
 
-    /// Where a path stands to another, byte by byte: the first bytes that differ decide, as unsigned numbers, and
+    /// How a path compares to another, byte by byte: the first bytes that differ decide, as unsigned numbers, and
     /// a path stands before those that it begins. Equal exactly where the paths are.
     pub fn cmp_filepaths(a: &[u8], b: &[u8]) -> Ordering
         ensures order { result ≡ path_cmp a.now b.now }

@@ -1,4 +1,4 @@
-//! What the paths of entries share, and whether they have a NUL, as their spelling in version 4 asks (gitformat-index).
+//! What the paths of entries share, and whether they have a NUL, as their encoding in version 4 asks (gitformat-index).
 
 ghost use Rattle.std.specs.Int.{to_be_bytes, w64};
 ghost use Rattle.std.specs.Prelude.{◌≡◌, ◌≢◌, ◌≤◌, ◌+◌, ◌↔◌, All, IsTrue, drop, length, take};
@@ -42,7 +42,7 @@ fn shared_words(a: &[u8], b: &[u8]) -> usize
     len
 }
 
-/// How many bytes both begin with: the length of the longest front that they share.
+/// How many bytes both begin with: the length of their longest shared prefix.
 pub fn shared_len(a: &[u8], b: &[u8]) -> usize
     ensures value { result ≡ shared_len a.now b.now }
     ensures first { result ≤ length a.now }

@@ -9,10 +9,10 @@ ghost use Rattle.index_entries.specs.EntryImage.{chosen_version, entries_in, hea
 ghost use Rattle.index_entries.specs.Header.{header_len};
 ghost use Rattle.index_entries.specs.Record.{IsPlaced, records_in};
 
-use crate::decode::header::HEADER_LEN;
+use crate::sizes::HEADER_LEN;
 use crate::{Entry, Version};
 use bitflags::Flags as _;
-use index_parts::entry::Flags;
+use index_metadata::entry::Flags;
 use index_parts::hash::io::Out;
 use std::io;
 
@@ -37,7 +37,7 @@ pub struct Totals {
     pub end: u32,
 }
 
-/// The bytes at the front of a file.
+/// The header of a file of this version with so many entries, as bytes.
 pub fn header(version: Version, count: u32) -> [u8; HEADER_LEN]
     ensures { result ≡ header_bytes version count }
 {
@@ -55,7 +55,8 @@ pub fn put_entries<W: Out>(
 ) -> io::Result<()>
     requires placed { All (IsPlaced (length storage.now)) entries.now }
     requires unfailed { W.failed out.old ≡ false }
-    ensures bytes { Puts W.taken W.hashed out.old out.new result (entries_in version [] (written (records_in storage.now entries.now))) }
+    ensures bytes { Puts W.taken W.hashed out.old out.new result
+        (entries_in version [] (written (records_in storage.now entries.now))) }
     ensures mark { W.failed out.new ≡ is_err result }
     ensures loan { W.loan out.new ≡ W.loan out.old }
 {
@@ -85,10 +86,17 @@ fn version_by(choice: VersionChoice, is_extended: bool) -> Version
 pub fn totals_of(choice: VersionChoice, entries: &[Entry], storage: &[u8]) -> Option<Totals>
     requires placed { All (IsPlaced (length storage.now)) entries.now }
     requires few { length entries.now < 2 ^ 32 }
-    ensures version { IfSome result (λ t. t.version ≡ chosen_version choice (records_in storage.now entries.now)) }
-    ensures count { IfSome result (λ t. t.count ≡ length (written (records_in storage.now entries.now))) }
-    ensures end { IfSome result (λ t. t.end ≡ header_len + length (entries_in t.version [] (written (records_in storage.now entries.now)))) }
-    ensures none { IfNone result (2 ^ 32 ≤ header_len + length (entries_in (chosen_version choice (records_in storage.now entries.now)) [] (written (records_in storage.now entries.now)))) }
+    ensures version { IfSome result
+        (λ t. t.version ≡ chosen_version choice (records_in storage.now entries.now)) }
+    ensures count { IfSome result
+        (λ t. t.count ≡ length (written (records_in storage.now entries.now))) }
+    ensures end { IfSome result
+        (λ t. t.end ≡ header_len + length
+        (entries_in t.version [] (written (records_in storage.now entries.now)))) }
+    ensures none { IfNone result
+        (2 ^ 32 ≤ header_len + length
+        (entries_in (chosen_version choice (records_in storage.now entries.now)) []
+        (written (records_in storage.now entries.now)))) }
 {
     // Versions 2 and 3 differ in their number alone.
     let counted = version_by(choice, false);

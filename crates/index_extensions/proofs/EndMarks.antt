@@ -10,12 +10,12 @@ use Rattle.std.proofs.lemmas.Slice.Eq.{starts_is, slice_eq-Decides}
 use Rattle.index_parts.proofs.Splits.{piece_takes, piece_again}
 use Rattle.index_parts.proofs.Steps.{bind_some}
 use Rattle.index_parts.specs.Digest.{digest}
-use Rattle.index_parts.specs.Front.{be}
-use Rattle.index_parts.specs.Reading.{◌>>=◌, piece_at}
+use Rattle.index_parts.specs.Numbers.{be}
+use Rattle.index_parts.specs.ReadingSteps.{◌>>=◌, piece_at}
 use Rattle.index_parts.specs.declared.hash.Kind.{Kind}
 use Rattle.index_parts.specs.declared.hash.Kind.TheVariants.{Sha1}
-use Rattle.index_extensions.specs.EndMarker.{heads, IsMarked}
-use Rattle.index_extensions.specs.Reading.{ending_of, marker_start, offset_in, marker_at}
+use Rattle.index_extensions.specs.EndMarker.{heads, EndsInMarker}
+use Rattle.index_extensions.specs.WalkSteps.{ending_of, marker_start, offset_in, marker_at}
 use Rattle.index_extensions.specs.Walk.{Item, AreItems}
 use Rattle.index_extensions.proofs.Walks.{walk_one, no_empty}
 
@@ -110,24 +110,24 @@ marker_again bytes x h =
 
 -- ---- the marker over the extensions
 
-marked_sha1 : (kind : Kind) (bytes : List ℕ) (place : ℕ) → IsMarked kind bytes place → IsMarked Sha1 bytes place
-marked_sha1 kind bytes place h = subst (λ (t : Kind). IsMarked t bytes place) h.is_sha1 h
+marked_sha1 : (kind : Kind) (bytes : List ℕ) (place : ℕ) → EndsInMarker kind bytes place → EndsInMarker Sha1 bytes place
+marked_sha1 kind bytes place h = subst (λ (t : Kind). EndsInMarker t bytes place) h.is_sha1 h
 
-pub marked_has : (bytes : List ℕ) (place : ℕ) (h : IsMarked Sha1 bytes place) → HasMarker bytes (place, h.between, h.hash)
+pub marked_has : (bytes : List ℕ) (place : ℕ) (h : EndsInMarker Sha1 bytes place) → HasMarker bytes (place, h.between, h.hash)
 marked_has bytes place h = record { front = h.front; offset = h.offset; trailer = h.trailer; parts = h.parts; offset_len = h.offset_len; hash_len = h.hash_len; trailer_len = h.trailer_len; is_offset = h.is_offset; behind_header = h.behind_header; place_is = h.place_is }
 
-pub marked_from : (bytes : List ℕ) (x : ℕ × List ℕ × List ℕ) → HasMarker bytes x → (first : Item) (others : List Item) → AreItems x.1 (first ∷ others) [] → x.2 ≡ digest Sha1 (heads (first ∷ others)) → IsMarked Sha1 bytes x.0
+pub marked_from : (bytes : List ℕ) (x : ℕ × List ℕ × List ℕ) → HasMarker bytes x → (first : Item) (others : List Item) → AreItems x.1 (first ∷ others) [] → x.2 ≡ digest Sha1 (heads (first ∷ others)) → EndsInMarker Sha1 bytes x.0
 marked_from bytes x m first others items e = record { front = m.front; between = x.1; offset = m.offset; hash = x.2; trailer = m.trailer; is_sha1 = refl; parts = m.parts; offset_len = m.offset_len; hash_len = m.hash_len; trailer_len = m.trailer_len; is_offset = m.is_offset; behind_header = m.behind_header; first = first; others = others; items = items; is_digest = e; place_is = m.place_is }
 
 -- what a marker says of the pieces that were read
-pub marked_same : (bytes : List ℕ) (place : ℕ) (x : ℕ × List ℕ × List ℕ) → IsMarked Sha1 bytes place → marker_at bytes ≡ Some x
+pub marked_same : (bytes : List ℕ) (place : ℕ) (x : ℕ × List ℕ × List ℕ) → EndsInMarker Sha1 bytes place → marker_at bytes ≡ Some x
     → (first : Item) × (others : List Item) × AreItems x.1 (first ∷ others) [] × (x.2 ≡ digest Sha1 (heads (first ∷ others))) × (x.0 ≡ place)
 marked_same bytes place x h e =
     let same : ◌≡◌ {A = ℕ × List ℕ × List ℕ} (place, h.between, h.hash) x = same_Some (place, h.between, h.hash) x (sym (marker_again bytes (place, h.between, h.hash) (marked_has bytes place h)) ∙ e) in
     subst (λ (y : ℕ × List ℕ × List ℕ). (first : Item) × (others : List Item) × AreItems y.1 (first ∷ others) [] × (y.2 ≡ digest Sha1 (heads (first ∷ others))) × (y.0 ≡ place)) same (h.first, h.others, h.items, h.is_digest, refl)
 
 -- bytes have one marker, or none
-pub marked_one : (kind : Kind) (bytes : List ℕ) (p q : ℕ) → IsMarked kind bytes p → IsMarked kind bytes q → p ≡ q
+pub marked_one : (kind : Kind) (bytes : List ℕ) (p q : ℕ) → EndsInMarker kind bytes p → EndsInMarker kind bytes q → p ≡ q
 marked_one kind bytes p q h k =
     let a = marked_sha1 kind bytes p h in
     let b = marked_sha1 kind bytes q k in
@@ -135,15 +135,15 @@ marked_one kind bytes p q h k =
 
 -- ---- where there is no marker
 
-pub marked_none : (kind : Kind) (bytes : List ℕ) (place : ℕ) → marker_at bytes ≡ None → IsMarked kind bytes place → ⊥
+pub marked_none : (kind : Kind) (bytes : List ℕ) (place : ℕ) → marker_at bytes ≡ None → EndsInMarker kind bytes place → ⊥
 marked_none kind bytes place e h =
     let m = marked_sha1 kind bytes place h in
     absurd (cc (marker_again bytes (place, m.between, m.hash) (marked_has bytes place m), e))
 
-pub marked_items : (kind : Kind) (bytes : List ℕ) (place : ℕ) (x : ℕ × List ℕ × List ℕ) → marker_at bytes ≡ Some x → ((first : Item) (others : List Item) → AreItems x.1 (first ∷ others) [] → ⊥) → IsMarked kind bytes place → ⊥
+pub marked_items : (kind : Kind) (bytes : List ℕ) (place : ℕ) (x : ℕ × List ℕ × List ℕ) → marker_at bytes ≡ Some x → ((first : Item) (others : List Item) → AreItems x.1 (first ∷ others) [] → ⊥) → EndsInMarker kind bytes place → ⊥
 marked_items kind bytes place x e none h = let m = marked_same bytes place x (marked_sha1 kind bytes place h) e in none m.0 m.1 m.2
 
-pub marked_digest : (kind : Kind) (bytes : List ℕ) (place : ℕ) (x : ℕ × List ℕ × List ℕ) (first : Item) (others : List Item) → marker_at bytes ≡ Some x → AreItems x.1 (first ∷ others) [] → (digest Sha1 (heads (first ∷ others)) ≡ x.2 → ⊥) → IsMarked kind bytes place → ⊥
+pub marked_digest : (kind : Kind) (bytes : List ℕ) (place : ℕ) (x : ℕ × List ℕ × List ℕ) (first : Item) (others : List Item) → marker_at bytes ≡ Some x → AreItems x.1 (first ∷ others) [] → (digest Sha1 (heads (first ∷ others)) ≡ x.2 → ⊥) → EndsInMarker kind bytes place → ⊥
 marked_digest kind bytes place x first others e items other h =
     let m = marked_same bytes place x (marked_sha1 kind bytes place h) e in
     other (heads_one x.1 (first ∷ others) (m.0 ∷ m.1) items m.2 ∙ sym m.3)

@@ -4,10 +4,10 @@ use Rattle.std.specs.Prelude.{◌≢◌}
 use Rattle.std.proofs.lemmas.List.{length-append, length-drop, length-take-le, nil_from_length, take-append-drop}
 use Rattle.std.proofs.lemmas.Option.{same_Some}
 use Rattle.index_parts.proofs.Splits.{piece_again}
-use Rattle.index_parts.specs.Front.{be, StartsWithNumber}
-use Rattle.index_parts.specs.Reading.{piece_at}
+use Rattle.index_parts.specs.Numbers.{be, StartsWithNumber}
+use Rattle.index_parts.specs.ReadingSteps.{piece_at}
 use Rattle.index_extensions.specs.OffsetTable.{IsEntryBlock, AreEntryBlocks, IsTable}
-use Rattle.index_extensions.specs.declared.extension.index_entry_offset_table.Offset.{Offset}
+use Rattle.index_extensions.specs.declared.index_entry_offset_table.Offset.{Offset}
 
 -- pieces of one length at the front of the same bytes are one
 same_fronts : (a b c d : List ℕ) → a ++ b ≡ c ++ d → length a ≡ length c → ◌≡◌ {A = List ℕ × List ℕ} (a, b) (c, d)

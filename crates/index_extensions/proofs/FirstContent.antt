@@ -1,6 +1,6 @@
 -- The first content of a signature, behind extensions that don't have it.
 use Rattle.std.proofs.Common.{◌≡◌, ℕ, true, false, List, [], ◌∷◌, ◌++◌, Option, Some, None, refl}
-use Rattle.index_extensions.specs.Contents.{is_named, or_else, content_named, first_content}
+use Rattle.index_extensions.specs.ExtensionValue.{is_named, or_else, content_named, first_content}
 use Rattle.index_extensions.specs.Walk.{Item, IsItem, AreItems, IsWalk}
 use Rattle.index_extensions.proofs.Walks.{walk_of, more_items}
 

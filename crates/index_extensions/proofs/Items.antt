@@ -4,9 +4,9 @@ use Rattle.std.proofs.lemmas.List.{length-append}
 use Rattle.std.proofs.lemmas.Option.{same_Some}
 use Rattle.index_parts.proofs.Splits.{piece_takes, piece_again}
 use Rattle.index_parts.proofs.Steps.{bind_some}
-use Rattle.index_parts.specs.Front.{be}
-use Rattle.index_parts.specs.Reading.{◌>>=◌, piece_at}
-use Rattle.index_extensions.specs.Reading.{item_at}
+use Rattle.index_parts.specs.Numbers.{be}
+use Rattle.index_parts.specs.ReadingSteps.{◌>>=◌, piece_at}
+use Rattle.index_extensions.specs.WalkSteps.{item_at}
 use Rattle.index_extensions.specs.Walk.{Item, IsItem, NoItem}
 
 item_from : (bytes signature behind size after content rest : List ℕ) → bytes ≡ signature ++ behind → length signature ≡ 4 → behind ≡ size ++ after → length size ≡ 4 → after ≡ content ++ rest → length content ≡ be size

@@ -7,14 +7,14 @@ use Rattle.index_parts.proofs.Bitmaps.{one_bitmap}
 use Rattle.index_parts.proofs.Splits.{split_takes, split_again}
 use Rattle.index_parts.proofs.Readers.{number_takes, number_again}
 use Rattle.index_parts.proofs.Steps.{bind_some}
-use Rattle.index_parts.specs.Bitmap.{Bitmap, IsBitmap, HasBitmap, Lacks, Says}
-use Rattle.index_parts.specs.Front.{be, number}
-use Rattle.index_parts.specs.Reading.{◌>>=◌, split_at_byte, number_at}
+use Rattle.index_parts.specs.Bitmap.{Bitmap, IsBitmap, HasBitmap, Lacks, SaysBitmapFault}
+use Rattle.index_parts.specs.Numbers.{be, number}
+use Rattle.index_parts.specs.ReadingSteps.{◌>>=◌, split_at_byte, number_at}
 use Rattle.index_parts.specs.declared.ewah.decode.Error.{Error}
 use Rattle.index_parts.specs.declared.ewah.decode.Error.TheVariants as errors
-use Rattle.index_extensions.specs.Contents.{IsRead}
+use Rattle.index_extensions.specs.ExtensionValue.{IsRead}
 use Rattle.index_extensions.specs.FsMonitor.{TokenValue, nanoseconds, opaque, Monitor, IsToken, version_1, version_2, IsMonitor, HasMonitor}
-use Rattle.index_extensions.specs.ReadingMonitor.{token_at, parts_at, has_bitmap_len, IsSized}
+use Rattle.index_extensions.specs.MonitorSteps.{token_at, parts_at, has_bitmap_len, IsSizedBitmap}
 use Rattle.index_extensions.proofs.Readings.{one_read}
 
 -- ---- numbers
@@ -120,7 +120,7 @@ parts_again bytes token count rest h =
 
 -- ---- the bitmap
 
-says_lacks : (error : Error) (bytes : List ℕ) → Says error bytes → (error ≡ errors.Memory → ⊥) → Lacks error bytes
+says_lacks : (error : Error) (bytes : List ℕ) → SaysBitmapFault error bytes → (error ≡ errors.Memory → ⊥) → Lacks error bytes
 says_lacks errors.NumBits bytes h other = h
 says_lacks errors.Length bytes h other = h
 says_lacks errors.Words bytes h other = h
@@ -128,7 +128,7 @@ says_lacks errors.LastRun bytes h other = h
 says_lacks errors.Memory bytes h other = absurd (other refl)
 
 -- bytes with a fault are no bitmap
-pub no_bitmap : (error : Error) (size : ℕ) (bytes : List ℕ) (b : Bitmap) → Says error bytes → (error ≡ errors.Memory → ⊥) → IsSized size bytes b → ⊥
+pub no_bitmap : (error : Error) (size : ℕ) (bytes : List ℕ) (b : Bitmap) → SaysBitmapFault error bytes → (error ≡ errors.Memory → ⊥) → IsSizedBitmap size bytes b → ⊥
 no_bitmap error size bytes b says other s = no_fault bytes error (record { value = b; rest = []; is_bitmap = s.is_bitmap }) (says_lacks error bytes says other)
 
 -- ---- the length of a bitmap
@@ -147,23 +147,23 @@ bitmap_len bytes b rest h =
     omega (arith, ap length h.parts, a, l, w, e, word_count bytes b rest h, h.bits_size, h.len_size, h.words_size, h.last_size)
 
 -- bytes of another length than a bitmap declares are none
-pub no_len : (size : ℕ) (bytes : List ℕ) (b : Bitmap) → has_bitmap_len bytes ≡ false → IsSized size bytes b → ⊥
+pub no_len : (size : ℕ) (bytes : List ℕ) (b : Bitmap) → has_bitmap_len bytes ≡ false → IsSizedBitmap size bytes b → ⊥
 no_len size bytes b e s =
     let len = bitmap_len bytes b [] s.is_bitmap in
     let t : has_bitmap_len bytes ≡ true = and_from (leb 12 (length bytes)) (eqb (length bytes) (12 + 8 * number bytes 1)) (le-leb 12 (length bytes) (omega arith)) (eq-eqb (length bytes) (12 + 8 * number bytes 1) (omega arith)) in
     absurd (cc (t, e))
 
 -- and behind a bitmap of its length stands nothing
-pub sized_from : (size : ℕ) (bytes : List ℕ) (b : Bitmap) (rest : List ℕ) → length bytes ≡ size → has_bitmap_len bytes ≡ true → IsBitmap bytes b rest → IsSized size bytes b
+pub sized_from : (size : ℕ) (bytes : List ℕ) (b : Bitmap) (rest : List ℕ) → length bytes ≡ size → has_bitmap_len bytes ≡ true → IsBitmap bytes b rest → IsSizedBitmap size bytes b
 sized_from size bytes b rest len e h =
     let whole : length bytes ≡ 12 + 8 * number bytes 1 = eqb-true _ _ (and_parts (leb 12 (length bytes)) _ e).1 in
     let none : length rest ≡ 0 = omega (arith, bitmap_len bytes b rest h) in
     record { len = len; is_bitmap = subst (λ (l : List ℕ). IsBitmap bytes b l) (nil_from_length rest none) h }
 
 -- where memory is wanted for a bitmap of its length, the bytes are one
-pub wanted : (error : Error) (size : ℕ) (bytes : List ℕ) → Says error bytes → error ≡ errors.Memory → length bytes ≡ size → has_bitmap_len bytes ≡ true → (b : Bitmap) × IsSized size bytes b
+pub wanted : (error : Error) (size : ℕ) (bytes : List ℕ) → SaysBitmapFault error bytes → error ≡ errors.Memory → length bytes ≡ size → has_bitmap_len bytes ≡ true → (b : Bitmap) × IsSizedBitmap size bytes b
 wanted error size bytes says e len whole =
-    let has : HasBitmap bytes = subst (λ (x : Error). Says x bytes) e says in
+    let has : HasBitmap bytes = subst (λ (x : Error). SaysBitmapFault x bytes) e says in
     (has.value, sized_from size bytes has.value has.rest len whole has.is_bitmap)
 
 -- ---- the whole
@@ -171,21 +171,21 @@ wanted error size bytes says e len whole =
 pub front_of : (bytes : List ℕ) (m : Monitor) (h : IsMonitor bytes m) → StartsWithParts bytes m.token (be h.size) h.dirty
 front_of bytes m h = record { version = h.version; token = h.token; size = h.size; parts = h.parts; version_len = h.version_len; is_token = h.is_token; size_len = h.size_len; count_is = refl }
 
-pub monitor_from : (bytes : List ℕ) (token : TokenValue) (count : ℕ) (rest : List ℕ) (dirty : Bitmap) → parts_at bytes ≡ Some (token, count, rest) → IsSized count rest dirty → IsMonitor bytes (record { token = token; dirty = dirty })
+pub monitor_from : (bytes : List ℕ) (token : TokenValue) (count : ℕ) (rest : List ℕ) (dirty : Bitmap) → parts_at bytes ≡ Some (token, count, rest) → IsSizedBitmap count rest dirty → IsMonitor bytes (record { token = token; dirty = dirty })
 monitor_from bytes token count rest dirty e s =
     let f = parts_takes bytes (token, count, rest) e in
     record { version = f.version; token = f.token; size = f.size; dirty = rest; parts = f.parts; version_len = f.version_len; is_token = f.is_token; size_len = f.size_len; dirty_len = s.len ∙ f.count_is; is_dirty = s.is_bitmap }
 
-pub has_monitor : (bytes : List ℕ) (token : TokenValue) (count : ℕ) (rest : List ℕ) (dirty : Bitmap) → parts_at bytes ≡ Some (token, count, rest) → IsSized count rest dirty → HasMonitor bytes
+pub has_monitor : (bytes : List ℕ) (token : TokenValue) (count : ℕ) (rest : List ℕ) (dirty : Bitmap) → parts_at bytes ≡ Some (token, count, rest) → IsSizedBitmap count rest dirty → HasMonitor bytes
 has_monitor bytes token count rest dirty e s = record { monitor = record { token = token; dirty = dirty }; is_monitor = monitor_from bytes token count rest dirty e s }
 
 -- the parts that are read are a monitor's own
-pub monitor_parts : (bytes : List ℕ) (token : TokenValue) (count : ℕ) (rest : List ℕ) (m : Monitor) → parts_at bytes ≡ Some (token, count, rest) → IsMonitor bytes m → (m.token ≡ token) × IsSized count rest m.dirty
+pub monitor_parts : (bytes : List ℕ) (token : TokenValue) (count : ℕ) (rest : List ℕ) (m : Monitor) → parts_at bytes ≡ Some (token, count, rest) → IsMonitor bytes m → (m.token ≡ token) × IsSizedBitmap count rest m.dirty
 monitor_parts bytes token count rest m e h =
     let f = parts_again bytes m.token (be h.size) h.dirty (front_of bytes m h) in
     let same : ◌≡◌ {A = TokenValue × ℕ × List ℕ} (m.token, be h.size, h.dirty) (token, count, rest) = cc in
-    let sized : IsSized (be h.size) h.dirty m.dirty = record { len = h.dirty_len; is_bitmap = h.is_dirty } in
-    (ap (λ (x : TokenValue × ℕ × List ℕ). x.0) same, subst (λ (x : TokenValue × ℕ × List ℕ). IsSized x.1 x.2 m.dirty) same sized)
+    let sized : IsSizedBitmap (be h.size) h.dirty m.dirty = record { len = h.dirty_len; is_bitmap = h.is_dirty } in
+    (ap (λ (x : TokenValue × ℕ × List ℕ). x.0) same, subst (λ (x : TokenValue × ℕ × List ℕ). IsSizedBitmap x.1 x.2 m.dirty) same sized)
 
 pub no_monitor : (bytes : List ℕ) (m : Monitor) → parts_at bytes ≡ None → IsMonitor bytes m → ⊥
 no_monitor bytes m e h = let f = parts_again bytes m.token (be h.size) h.dirty (front_of bytes m h) in cc
@@ -204,18 +204,18 @@ one_monitor bytes a b h k =
 
 -- ---- bytes are a monitor or none
 
-sized_by : (size : ℕ) (bytes : List ℕ) (t : Bool) → has_bitmap_len bytes ≡ t → length bytes ≡ size → (HasBitmap bytes ⊎ ((e : Error) × Lacks e bytes)) → (v : Option Bitmap) × IsRead (IsSized size) bytes v
+sized_by : (size : ℕ) (bytes : List ℕ) (t : Bool) → has_bitmap_len bytes ≡ t → length bytes ≡ size → (HasBitmap bytes ⊎ ((e : Error) × Lacks e bytes)) → (v : Option Bitmap) × IsRead (IsSizedBitmap size) bytes v
 sized_by size bytes false e len h = (None, λ b s. no_len size bytes b e s)
 sized_by size bytes true e len (inl has) = (Some has.value, sized_from size bytes has.value has.rest len e has.is_bitmap)
 sized_by size bytes true e len (inr lacks) = (None, λ b s. no_fault bytes lacks.0 (record { value = b; rest = []; is_bitmap = s.is_bitmap }) lacks.1)
 
-sized_reading : (size : ℕ) (bytes : List ℕ) → (v : Option Bitmap) × IsRead (IsSized size) bytes v
-sized_reading size bytes = elim (eqb (length bytes) size) as (λ t. eqb (length bytes) size ≡ t → (v : Option Bitmap) × IsRead (IsSized size) bytes v) [
+sized_reading : (size : ℕ) (bytes : List ℕ) → (v : Option Bitmap) × IsRead (IsSizedBitmap size) bytes v
+sized_reading size bytes = elim (eqb (length bytes) size) as (λ t. eqb (length bytes) size ≡ t → (v : Option Bitmap) × IsRead (IsSizedBitmap size) bytes v) [
   | false ↦ λ e. (None, λ b s. eqb-false _ _ e s.len)
   | true ↦ λ e. sized_by size bytes (has_bitmap_len bytes) refl (eqb-true _ _ e) (bitmap_or_fault bytes)
 ] refl
 
-monitor_by : (bytes : List ℕ) (token : TokenValue) (count : ℕ) (rest : List ℕ) (v : Option Bitmap) → parts_at bytes ≡ Some (token, count, rest) → IsRead (IsSized count) rest v → (m : Option Monitor) × IsRead IsMonitor bytes m
+monitor_by : (bytes : List ℕ) (token : TokenValue) (count : ℕ) (rest : List ℕ) (v : Option Bitmap) → parts_at bytes ≡ Some (token, count, rest) → IsRead (IsSizedBitmap count) rest v → (m : Option Monitor) × IsRead IsMonitor bytes m
 monitor_by bytes token count rest None e none = (None, λ m h. none m.dirty (monitor_parts bytes token count rest m e h).1)
 monitor_by bytes token count rest (Some dirty) e s = (Some (record { token = token; dirty = dirty }), monitor_from bytes token count rest dirty e s)
 

@@ -5,9 +5,9 @@ use Rattle.std.proofs.lemmas.Bool.{eqb-true, ne_eqb}
 use Rattle.std.proofs.lemmas.List.Elements.{All-cons, All-head}
 use Rattle.index_parts.proofs.Octals.{octal_takes, octal_again, octal_without, octal_some}
 use Rattle.index_parts.specs.Octal.{IsOctalDigit, IsOctal}
-use Rattle.index_parts.specs.Reading.{octal_of}
-use Rattle.index_extensions.specs.Octal.{IsMode, plain, plus}
-use Rattle.index_extensions.specs.ReadingPaths.{mode_of}
+use Rattle.index_parts.specs.ReadingSteps.{octal_of}
+use Rattle.index_extensions.specs.ModeDigits.{IsMode, plain, plus}
+use Rattle.index_extensions.specs.ResolveUndoSteps.{mode_of}
 
 mode_by : (b : ℕ) (text : List ℕ) (n : ℕ) (t : Bool) → eqb b 43 ≡ t → cond t (octal_of text) (octal_of (b ∷ text)) ≡ Some n → IsMode (b ∷ text) n
 mode_by b text n true p e = plus text (ap (λ (s : ℕ). s ∷ text) (eqb-true b 43 p)) (octal_takes text n e)

@@ -11,12 +11,12 @@ use Rattle.index_parts.proofs.Readers.{id_takes, id_again}
 use Rattle.index_parts.specs.declared.hash.ObjectId.{ObjectId}
 use Rattle.index_parts.proofs.Steps.{bind_some}
 use Rattle.index_parts.specs.Id.{id_len, id_kind, make_id}
-use Rattle.index_parts.specs.Reading.{◌>>=◌, split_at_byte, object_id_at}
+use Rattle.index_parts.specs.ReadingSteps.{◌>>=◌, split_at_byte, object_id_at}
 use Rattle.index_parts.specs.declared.hash.Kind.{Kind}
-use Rattle.index_extensions.specs.Octal.{IsMode}
-use Rattle.index_extensions.specs.ReadingPaths.{mode_of, mode_at, stage_at, resolve_path_at}
+use Rattle.index_extensions.specs.ModeDigits.{IsMode}
+use Rattle.index_extensions.specs.ResolveUndoSteps.{mode_of, mode_at, stage_at, resolve_path_at}
 use Rattle.index_extensions.specs.ResolveUndo.{PathStages, IsStage, absent, present, IsResolvePath}
-use Rattle.index_extensions.specs.declared.extension.resolve_undo.Stage.{Stage}
+use Rattle.index_extensions.specs.declared.resolve_undo.Stage.{Stage}
 use Rattle.index_extensions.proofs.Octals.{mode_takes, mode_again, mode_apart, mode_some}
 
 -- ---- a mode

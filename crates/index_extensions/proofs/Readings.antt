@@ -1,7 +1,7 @@
 -- What is read of bytes, decided: a value, or that there is none.
 use Rattle.std.proofs.Common.{◌≡◌, ℕ, true, false, eqb, ◌⊎◌, inl, inr, List, Option, Some, None, refl, sym, ap, ◌∙◌}
 use Rattle.std.proofs.lemmas.Bool.{eqb-true, eqb-false}
-use Rattle.index_extensions.specs.Contents.{IsRead, IsValue}
+use Rattle.index_extensions.specs.ExtensionValue.{IsRead, IsValue}
 
 -- a value that is so, or that no value is
 abbrev pub Decided : {A : Type 0} → (A → Type 0) → Type 0

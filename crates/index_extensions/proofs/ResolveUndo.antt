@@ -4,8 +4,8 @@ use Rattle.std.specs.Prelude.{IfSome}
 use Rattle.std.proofs.lemmas.List.Elements.{All-nil, All-cons}
 use Rattle.index_parts.specs.Id.{id_kind}
 use Rattle.index_parts.specs.declared.hash.Kind.{Kind}
-use Rattle.index_extensions.specs.Contents.{IsRead}
-use Rattle.index_extensions.specs.ReadingPaths.{resolve_path_at}
+use Rattle.index_extensions.specs.ExtensionValue.{IsRead}
+use Rattle.index_extensions.specs.ResolveUndoSteps.{resolve_path_at}
 use Rattle.index_extensions.specs.ResolveUndo.{PathStages, IsResolvePath, HasResolvePath, AreResolvePaths, IsResolveUndo, PathIdsAreOf}
 use Rattle.index_extensions.proofs.Paths.{path_takes, path_again, one_path, path_fewer, path_kind}
 use Rattle.index_extensions.proofs.Readings.{one_read}

@@ -4,14 +4,14 @@ use Rattle.std.specs.Prelude.{codes}
 use Rattle.std.proofs.lemmas.List.{length-append, length-drop, take-append-drop}
 use Rattle.index_parts.proofs.Readers.{number_takes, number_again}
 use Rattle.index_parts.proofs.Unpackings.{le_or_lt}
-use Rattle.index_parts.specs.Front.{be, StartsWithNumber}
+use Rattle.index_parts.specs.Numbers.{be, StartsWithNumber}
 use Rattle.index_parts.specs.Id.{id_len}
-use Rattle.index_parts.specs.Reading.{number_at}
+use Rattle.index_parts.specs.ReadingSteps.{number_at}
 use Rattle.index_parts.specs.declared.hash.Kind.{Kind}
-use Rattle.index_extensions.specs.Contents.{first_content, IsRead, IsValue}
+use Rattle.index_extensions.specs.ExtensionValue.{first_content, IsRead, IsValue}
 use Rattle.index_extensions.specs.OffsetTable.{IsEntryBlock, AreEntryBlocks, IsTable, IsFound, short, walked}
 use Rattle.index_extensions.specs.Walk.{IsWalk}
-use Rattle.index_extensions.specs.declared.extension.index_entry_offset_table.Offset.{Offset}
+use Rattle.index_extensions.specs.declared.index_entry_offset_table.Offset.{Offset}
 use Rattle.index_extensions.proofs.EntryBlocks.{same_front, same_back, block_len, blocks_there, blocks_whole, table_parts, table_from}
 use Rattle.index_extensions.proofs.Readings.{Decided, read_of, one_read, value_reading, one_value, same_or_not}
 use Rattle.index_extensions.proofs.Walks.{walk_of, walk_one}

@@ -2,7 +2,7 @@
 use Rattle.std.proofs.Common.{◌≡◌, ℕ, zero, suc, ◌+◌, ◌%◌, ◌^◌, ◌<◌, ◌≤◌, Bool, true, false, ltb, List, [], ◌∷◌, ◌++◌, length, Option, Some, None, refl, sym, ap, subst, ◌∙◌, arith}
 use Rattle.std.specs.Prelude.{MatchBool}
 use Rattle.std.proofs.lemmas.Bool.{ltb-false}
-use Rattle.index_extensions.specs.Reading.{item_at}
+use Rattle.index_extensions.specs.WalkSteps.{item_at}
 use Rattle.index_extensions.specs.Walk.{Item, IsItem, AreItems, NoItem, IsWalk, left_of, Cursor, Steps}
 use Rattle.index_extensions.proofs.Items.{item_takes, no_item, one_item, item_len, short_item}
 

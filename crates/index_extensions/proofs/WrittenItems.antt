@@ -7,12 +7,13 @@ use Rattle.std.proofs.lemmas.List.Concat.{flat_map-cons}
 use Rattle.std.proofs.lemmas.Nat.{from_be_bytes-to_be_bytes_4}
 use Rattle.index_parts.proofs.Digests.{length-digest}
 use Rattle.index_parts.specs.Digest.{digest}
-use Rattle.index_parts.specs.Front.{be}
+use Rattle.index_parts.specs.Numbers.{be}
 use Rattle.index_parts.specs.Id.{id_len}
 use Rattle.index_parts.specs.declared.hash.Kind.{Kind}
 use Rattle.index_parts.specs.declared.hash.Kind.TheVariants.{Sha1}
-use Rattle.index_extensions.specs.EndMarker.{heads, IsMarked}
-use Rattle.index_extensions.specs.Spelling.{be32, item_bytes, item_of, marker_item}
+use Rattle.index_extensions.specs.EndMarker.{heads, EndsInMarker}
+use Rattle.index_extensions.specs.Spelling.{item_bytes, item_of, marker_item}
+use Rattle.index_parts.specs.Numbers.{be32}
 use Rattle.index_extensions.specs.Walk.{Item, IsItem, AreItems}
 
 four : (a b c d : ℕ) → be (a ∷ b ∷ c ∷ d ∷ []) ≡ from_be_bytes w32 (a ∷ b ∷ c ∷ d ∷ [])
@@ -51,7 +52,7 @@ marker_size offset hs = let n : length (be32 offset ++ digest Sha1 hs) ≡ 24 = 
 
 -- the marker behind extensions, one or more
 pub marker_there : (front trailer : List ℕ) (first : Item) (others : List Item) → 12 ≤ length front → length front < 2 ^ 32 → AllByRecursion IsWhole (first ∷ others) → length trailer ≡ 20
-    → IsMarked Sha1 (front ++ (flat_map item_bytes (first ∷ others) ++ (item_bytes (marker_item Sha1 (length front) (heads (first ∷ others))) ++ trailer))) (length front)
+    → EndsInMarker Sha1 (front ++ (flat_map item_bytes (first ∷ others) ++ (item_bytes (marker_item Sha1 (length front) (heads (first ∷ others))) ++ trailer))) (length front)
 marker_there front trailer first others low high whole len =
     let items : List Item = first ∷ others in
     let between : List ℕ = flat_map item_bytes items in

@@ -1,11 +1,11 @@
 -- The end marker (gitformat-index, "End of Index Entry"): where the extensions begin.
 use Rattle.std.specs.Prelude.{◌≡◌, ℕ, ◌≤◌, List, [], ◌∷◌, ◌++◌, length, codes, Option}
 use Rattle.std.specs.List.{flat_map}
-use Rattle.index_parts.specs.Front.{be}
+use Rattle.index_parts.specs.Numbers.{be}
 use Rattle.index_parts.specs.Digest.{digest}
 use Rattle.index_parts.specs.declared.hash.Kind.{Kind}
 use Rattle.index_parts.specs.declared.hash.Kind.TheVariants.{Sha1}
-use Rattle.index_extensions.specs.Contents.{IsRead}
+use Rattle.index_extensions.specs.ExtensionValue.{IsRead}
 use Rattle.index_extensions.specs.Walk.{Item, AreItems}
 
 -- the signatures and sizes of extensions, one after another
@@ -14,7 +14,7 @@ heads items = flat_map (λ i. i.signature ++ i.size) items
 
 -- A file of SHA-1 ends in whole extensions, one or more, the marker, and the trailer. The marker has the size 24, the offset at
 -- which the extensions begin, and the digest of their signatures and sizes.
-pub record IsMarked (kind : Kind) (bytes : List ℕ) (place : ℕ) : Type 0 where
+pub record EndsInMarker (kind : Kind) (bytes : List ℕ) (place : ℕ) : Type 0 where
   pub front : List ℕ
   pub between : List ℕ
   pub offset : List ℕ
@@ -35,4 +35,4 @@ pub record IsMarked (kind : Kind) (bytes : List ℕ) (place : ℕ) : Type 0 wher
 
 -- the place that an end marker names, or None where there is no marker
 abbrev pub IsMarker : Kind → List ℕ → Option ℕ → Type 0
-IsMarker kind bytes place = IsRead (IsMarked kind) bytes place
+IsMarker kind bytes place = IsRead (EndsInMarker kind) bytes place

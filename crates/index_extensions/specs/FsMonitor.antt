@@ -3,10 +3,10 @@
 use Rattle.std.specs.Prelude.{◌≡◌, ◌≢◌, ℕ, List, [], ◌∷◌, ◌++◌, All, length}
 use Rattle.bstr.specs.Owned.{bstring_bytes}
 use Rattle.index_parts.specs.Bitmap.{Bitmap, bitmap, IsBitmap}
-use Rattle.index_parts.specs.Front.{be}
-use Rattle.index_extensions.specs.declared.extension.fs_monitor.FsMonitor.{FsMonitor}
-use Rattle.index_extensions.specs.declared.extension.fs_monitor.Token.{Token}
-use Rattle.index_extensions.specs.declared.extension.fs_monitor.Token.TheVariants as tokens
+use Rattle.index_parts.specs.Numbers.{be}
+use Rattle.index_extensions.specs.declared.fs_monitor.FsMonitor.{FsMonitor}
+use Rattle.index_extensions.specs.declared.fs_monitor.Token.{Token}
+use Rattle.index_extensions.specs.declared.fs_monitor.Token.TheVariants as tokens
 
 -- a token: nanoseconds since 1970, or a text that the monitor alone understands
 pub data TokenValue : Type 0 where

@@ -1,11 +1,11 @@
 -- The offset table (gitformat-index, "Index Entry Offset Table"): where blocks of entries begin.
 use Rattle.std.specs.Prelude.{◌≡◌, ◌≢◌, ℕ, ◌<◌, List, [], ◌∷◌, ◌++◌, length, codes, Option, None}
-use Rattle.index_parts.specs.Front.{be}
+use Rattle.index_parts.specs.Numbers.{be}
 use Rattle.index_parts.specs.Id.{id_len}
 use Rattle.index_parts.specs.declared.hash.Kind.{Kind}
-use Rattle.index_extensions.specs.Contents.{first_content, IsValue}
+use Rattle.index_extensions.specs.ExtensionValue.{first_content, IsValue}
 use Rattle.index_extensions.specs.Walk.{Item, IsWalk}
-use Rattle.index_extensions.specs.declared.extension.index_entry_offset_table.Offset.{Offset}
+use Rattle.index_extensions.specs.declared.index_entry_offset_table.Offset.{Offset}
 
 -- bytes are an offset and a count of entries, of four bytes each, and the rest
 pub record IsEntryBlock (bytes : List ℕ) (o : Offset) (rest : List ℕ) : Type 0 where

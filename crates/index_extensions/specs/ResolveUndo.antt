@@ -3,9 +3,9 @@ use Rattle.std.specs.Prelude.{◌≡◌, ◌≢◌, ℕ, List, [], ◌∷◌, �
 use Rattle.bstr.specs.Owned.{bstring_bytes}
 use Rattle.index_parts.specs.Id.{id_len, id_kind, make_id}
 use Rattle.index_parts.specs.declared.hash.Kind.{Kind}
-use Rattle.index_extensions.specs.Octal.{IsMode}
-use Rattle.index_extensions.specs.declared.extension.resolve_undo.Stage.{Stage}
-use Rattle.index_extensions.specs.declared.extension.resolve_undo.ResolvePath.{ResolvePath}
+use Rattle.index_extensions.specs.ModeDigits.{IsMode}
+use Rattle.index_extensions.specs.declared.resolve_undo.Stage.{Stage}
+use Rattle.index_extensions.specs.declared.resolve_undo.ResolvePath.{ResolvePath}
 
 -- a path, and its stages 1 to 3, where it had them
 pub record PathStages : Type 0 where

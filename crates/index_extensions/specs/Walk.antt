@@ -1,7 +1,7 @@
 -- Extensions, one after another (gitformat-index, "Extensions").
 use Rattle.std.specs.Prelude.{◌≡◌, ℕ, ◌+◌, ◌-◌, ◌%◌, ◌^◌, nat_lt, List, [], ◌∷◌, ◌++◌, length, Option, Some, None, MatchBool, if◌then◌else◌}
-use Rattle.index_parts.specs.Front.{be}
-use Rattle.index_extensions.specs.declared.extension.iter.Iter.{Iter}
+use Rattle.index_parts.specs.Numbers.{be}
+use Rattle.index_extensions.specs.declared.iter.Iter.{Iter}
 
 -- an extension: its signature, the bytes that give its size, and its content
 pub record Item : Type 0 where

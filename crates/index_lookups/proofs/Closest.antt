@@ -16,7 +16,7 @@ use Rattle.index_entries.specs.declared.Entry.{Entry}
 use Rattle.index_entries.specs.Record.{Record, record_in, records_in}
 use Rattle.index_lookups.specs.Closest.{closest, is_below, is_itself, stands_in}
 use Rattle.index_lookups.specs.Range.{is_at}
-use Rattle.index_lookups.specs.Search.{IsEqualAt, IsGapAt, IsPartedAt, front_cmp}
+use Rattle.index_lookups.specs.SearchSteps.{IsEqualAt, IsGapAt, IsPartedAt, prefix_cmp}
 use Rattle.index_lookups.proofs.Halving.{position_is, position_none}
 use Rattle.index_lookups.proofs.Parting.{less_from}
 use Rattle.index_lookups.proofs.RunsFound.{begins_is}
@@ -29,16 +29,16 @@ any_none p (x ∷ xs) h = rw (h 0 x (omega arith)) (any_none p xs (λ k d within
 
 module _ (directory : List ℕ) (rs : List Record) where
   abbrev answer : Record → Ordering
-  answer r = front_cmp (directory ++ 47 ∷ []) r.path
+  answer r = prefix_cmp (directory ++ 47 ∷ []) r.path
 
-  below_is : (o : Ordering) (k : ℕ) (d : Record) → front_cmp (directory ++ 47 ∷ []) (get_or rs k d).path ≡ o → is_below directory (get_or rs k d) ≡ is_eq o
+  below_is : (o : Ordering) (k : ℕ) (d : Record) → prefix_cmp (directory ++ 47 ∷ []) (get_or rs k d).path ≡ o → is_below directory (get_or rs k d) ≡ is_eq o
   below_is o k d e = sym (begins_is (directory ++ 47 ∷ []) (get_or rs k d)) ∙ ap is_eq e
 
-  pub below_found : (r : Result ℕ ℕ) → IfOk r (IsEqualAt (λ r. front_cmp (directory ++ 47 ∷ []) r.path) rs) → IfSome (result_ok r) (λ i. (i < length rs) × HoldsAt (λ r. is_below directory r ≡ true) rs i)
+  pub below_found : (r : Result ℕ ℕ) → IfOk r (IsEqualAt (λ r. prefix_cmp (directory ++ 47 ∷ []) r.path) rs) → IfSome (result_ok r) (λ i. (i < length rs) × HoldsAt (λ r. is_below directory r ≡ true) rs i)
   below_found (Ok i) h = (h.in_range, λ d. below_is Equal i d (h.here d))
   below_found (Err i) h = tt
 
-  pub below_first : (r : Result ℕ ℕ) → IfOk r (IsEqualAt (λ r. front_cmp (directory ++ 47 ∷ []) r.path) rs) → IfOk r (IsPartedAt false (map (λ r. front_cmp (directory ++ 47 ∷ []) r.path) rs)) → IfErr r (IsGapAt (λ r. front_cmp (directory ++ 47 ∷ []) r.path) rs) → result_ok r ≡ position (is_below directory) rs
+  pub below_first : (r : Result ℕ ℕ) → IfOk r (IsEqualAt (λ r. prefix_cmp (directory ++ 47 ∷ []) r.path) rs) → IfOk r (IsPartedAt false (map (λ r. prefix_cmp (directory ++ 47 ∷ []) r.path) rs)) → IfErr r (IsGapAt (λ r. prefix_cmp (directory ++ 47 ∷ []) r.path) rs) → result_ok r ≡ position (is_below directory) rs
   below_first (Ok i) here first gap = sym (position_is (is_below directory) rs i here.in_range
       (λ k d l u. below_is Less k d (sym (shift answer rs k d) ∙ less_from _ (first.before k (answer d) l u)))
       (λ d. below_is Equal i d (here.here d)))

@@ -15,9 +15,9 @@ use Rattle.std.proofs.lemmas.List.Elements.{Contains-append_left, Contains-appen
 use Rattle.std.proofs.lemmas.List.Quantifiers.{all_pairs_push}
 use Rattle.index_entries.specs.Order.{path_cmp}
 use Rattle.index_entries.specs.Record.{Record}
-use Rattle.index_entries.proofs.Order.{paths_total, same_path}
+use Rattle.index_entries.proofs.Orders.{paths_total, same_path}
 use Rattle.index_lookups.specs.Folded.{folded, stands_in_folded, IsNamed}
-use Rattle.index_lookups.specs.Names.{Key, key_of, key_cmp, IsTableOf, IsFirstOfEach}
+use Rattle.index_lookups.specs.NameSteps.{NamedValue, named_value, named_cmp, IsTableOf, IsFirstOfEach}
 use Rattle.index_lookups.proofs.TableMade.{contains_one, contains_map, contains_map_in}
 use Rattle.index_lookups.proofs.RunsFound.{pairs_map}
 
@@ -46,7 +46,7 @@ place_rises Equal m n e g = by (cases_lt n m)
     by (inl a) = let above : nat_cmp m n ≡ Greater = grind (arith, nat_tests, a) in absurd (g above)
     by (inr b) = b
 
-module _ (ignore_case : Bool) (ks : List Key) (ordered : AllPairs (λ a b. key_cmp ignore_case a b ≢ Greater) ks) (kept : List Key) (i : ℕ) (z : Key) (within : i < length ks) (so_far : IsFirstOfEach ignore_case (take i ks) kept) where
+module _ (ignore_case : Bool) (ks : List NamedValue) (ordered : AllPairs (λ a b. named_cmp ignore_case a b ≢ Greater) ks) (kept : List NamedValue) (i : ℕ) (z : NamedValue) (within : i < length ks) (so_far : IsFirstOfEach ignore_case (take i ks) kept) where
   next : take (i + 1) ks ≡ take i ks ++ get_or ks i z ∷ []
   next = take_more ks i z within
 
@@ -55,42 +55,42 @@ module _ (ignore_case : Bool) (ks : List Key) (ordered : AllPairs (λ a b. key_c
 
   -- one that is the same as the one before
   pub first_skip : 0 < i → path_cmp (folded ignore_case (get_or ks (i - 1) z).name) (folded ignore_case (get_or ks i z).name) ≡ Equal → IsFirstOfEach ignore_case (take (i + 1) ks) kept
-  first_skip some same = subst (λ (xs : List Key). IsFirstOfEach ignore_case xs kept) (sym next) (record {
+  first_skip some same = subst (λ (xs : List NamedValue). IsFirstOfEach ignore_case xs kept) (sym next) (record {
     taken = λ k d l. Contains-append_left (take i ks) (get_or ks i z ∷ []) (get_or kept k d) (so_far.taken k d l);
     covers = λ k c. by k (Contains-append_cases (take i ks) (get_or ks i z ∷ []) k c);
     rises = so_far.rises;
   })
     where
-      by : (k : Key) → Contains (take i ks) k ⊎ Contains (get_or ks i z ∷ []) k → (f : Key) × Contains kept f × (folded ignore_case f.name ≡ folded ignore_case k.name) × (f.place ≤ k.place)
+      by : (k : NamedValue) → Contains (take i ks) k ⊎ Contains (get_or ks i z ∷ []) k → (f : NamedValue) × Contains kept f × (folded ignore_case f.name ≡ folded ignore_case k.name) × (f.place ≤ k.place)
       by k (inl c) = so_far.covers k c
       by k (inr c) =
           let one : get_or ks i z ≡ k = contains_one (get_or ks i z) k c in
           let read : get_or (take i ks) (i - 1) z ≡ get_or ks (i - 1) z = get_or-take i ks (i - 1) z (omega arith) in
-          let there : Contains (take i ks) (get_or ks (i - 1) z) = subst (λ (x : Key). Contains (take i ks) x) read (Contains-get_or (take i ks) (i - 1) z (omega (arith, length-take i ks))) in
+          let there : Contains (take i ks) (get_or ks (i - 1) z) = subst (λ (x : NamedValue). Contains (take i ks) x) read (Contains-get_or (take i ks) (i - 1) z (omega (arith, length-take i ks))) in
           let f = so_far.covers (get_or ks (i - 1) z) there in
           let names : folded ignore_case (get_or ks (i - 1) z).name ≡ folded ignore_case (get_or ks i z).name = (same_path (folded ignore_case (get_or ks (i - 1) z).name) (folded ignore_case (get_or ks i z).name)).0 same in
           let places : (get_or ks (i - 1) z).place ≤ (get_or ks i z).place = place_rises _ _ _ same (ordered (i - 1) i z (omega arith) within) in
-          let P : Key → Type 0 = λ x. (f : Key) × Contains kept f × (folded ignore_case f.name ≡ folded ignore_case x.name) × (f.place ≤ x.place) in
+          let P : NamedValue → Type 0 = λ x. (f : NamedValue) × Contains kept f × (folded ignore_case f.name ≡ folded ignore_case x.name) × (f.place ≤ x.place) in
           subst P one (f.0, f.1, f.2 ∙ names, omega (arith, f.3, places))
 
   -- one that is above all before it
-  pub first_push : ((k : Key) → Contains (take i ks) k → path_cmp (folded ignore_case k.name) (folded ignore_case (get_or ks i z).name) ≡ Less) → IsFirstOfEach ignore_case (take (i + 1) ks) (kept ++ get_or ks i z ∷ [])
-  first_push above = subst (λ (xs : List Key). IsFirstOfEach ignore_case xs (kept ++ get_or ks i z ∷ [])) (sym next) (record {
+  pub first_push : ((k : NamedValue) → Contains (take i ks) k → path_cmp (folded ignore_case k.name) (folded ignore_case (get_or ks i z).name) ≡ Less) → IsFirstOfEach ignore_case (take (i + 1) ks) (kept ++ get_or ks i z ∷ [])
+  first_push above = subst (λ (xs : List NamedValue). IsFirstOfEach ignore_case xs (kept ++ get_or ks i z ∷ [])) (sym next) (record {
     taken = λ k d l. from (get_or (kept ++ get_or ks i z ∷ []) k d) (Contains-append_cases kept (get_or ks i z ∷ []) (get_or (kept ++ get_or ks i z ∷ []) k d) (Contains-get_or (kept ++ get_or ks i z ∷ []) k d l));
     covers = λ k c. by k (Contains-append_cases (take i ks) (get_or ks i z ∷ []) k c);
     rises = all_pairs_push (λ a b. path_cmp (folded ignore_case a.name) (folded ignore_case b.name) ≡ Less) kept (get_or ks i z) so_far.rises (λ k d l. above (get_or kept k d) (so_far.taken k d l));
   })
     where
-      from : (k : Key) → Contains kept k ⊎ Contains (get_or ks i z ∷ []) k → Contains (take i ks ++ get_or ks i z ∷ []) k
-      from k (inl c) = Contains-append_left (take i ks) (get_or ks i z ∷ []) k (let read = so_far.taken c.0 k c.1 in subst (λ (x : Key). Contains (take i ks) x) c.2 read)
+      from : (k : NamedValue) → Contains kept k ⊎ Contains (get_or ks i z ∷ []) k → Contains (take i ks ++ get_or ks i z ∷ []) k
+      from k (inl c) = Contains-append_left (take i ks) (get_or ks i z ∷ []) k (let read = so_far.taken c.0 k c.1 in subst (λ (x : NamedValue). Contains (take i ks) x) c.2 read)
       from k (inr c) = Contains-append_right (take i ks) (get_or ks i z ∷ []) k c
 
-      by : (k : Key) → Contains (take i ks) k ⊎ Contains (get_or ks i z ∷ []) k → (f : Key) × Contains (kept ++ get_or ks i z ∷ []) f × (folded ignore_case f.name ≡ folded ignore_case k.name) × (f.place ≤ k.place)
+      by : (k : NamedValue) → Contains (take i ks) k ⊎ Contains (get_or ks i z ∷ []) k → (f : NamedValue) × Contains (kept ++ get_or ks i z ∷ []) f × (folded ignore_case f.name ≡ folded ignore_case k.name) × (f.place ≤ k.place)
       by k (inl c) = let f = so_far.covers k c in (f.0, Contains-append_left kept (get_or ks i z ∷ []) f.0 f.1, f.2, f.3)
       by k (inr c) = let one : get_or ks i z ≡ k = contains_one (get_or ks i z) k c in (k, Contains-append_right kept (get_or ks i z ∷ []) k c, refl, omega arith)
 
   -- where the one before isn't the same, all before are below
-  pub all_below : (path_cmp (folded ignore_case (get_or ks (i - 1) z).name) (folded ignore_case (get_or ks i z).name) ≢ Equal) → (k : Key) → Contains (take i ks) k → path_cmp (folded ignore_case k.name) (folded ignore_case (get_or ks i z).name) ≡ Less
+  pub all_below : (path_cmp (folded ignore_case (get_or ks (i - 1) z).name) (folded ignore_case (get_or ks i z).name) ≢ Equal) → (k : NamedValue) → Contains (take i ks) k → path_cmp (folded ignore_case k.name) (folded ignore_case (get_or ks i z).name) ≡ Less
   all_below other k c = by (cases_lt c.0 (i - 1))
     where
       short : c.0 < i
@@ -107,19 +107,19 @@ module _ (ignore_case : Bool) (ks : List Key) (ordered : AllPairs (λ a b. key_c
 
       by : (c.0 < i - 1) ⊎ (i - 1 ≤ c.0) → path_cmp (folded ignore_case k.name) (folded ignore_case (get_or ks i z).name) ≡ Less
       by (inl front) =
-          let P : Key → Type 0 = λ x. path_cmp (folded ignore_case x.name) (folded ignore_case (get_or ks (i - 1) z).name) ≢ Greater in
+          let P : NamedValue → Type 0 = λ x. path_cmp (folded ignore_case x.name) (folded ignore_case (get_or ks (i - 1) z).name) ≢ Greater in
           chain (path_cmp (folded ignore_case k.name) (folded ignore_case (get_or ks (i - 1) z).name)) (folded ignore_case k.name) (folded ignore_case (get_or ks (i - 1) z).name) (folded ignore_case (get_or ks i z).name) refl (subst P read_z (then_not (path_cmp (folded ignore_case (get_or ks c.0 z).name) (folded ignore_case (get_or ks (i - 1) z).name)) (nat_cmp (get_or ks c.0 z).place (get_or ks (i - 1) z).place) (ordered c.0 (i - 1) z front (omega (arith, short))))) step
       by (inr back) =
           let same : i - 1 ≡ c.0 = omega (arith, short) in
           let one : get_or ks (i - 1) z ≡ k = ap (λ (j : ℕ). get_or ks j z) same ∙ read_z in
-          let P : Key → Type 0 = λ x. path_cmp (folded ignore_case x.name) (folded ignore_case (get_or ks i z).name) ≡ Less in
+          let P : NamedValue → Type 0 = λ x. path_cmp (folded ignore_case x.name) (folded ignore_case (get_or ks i z).name) ≡ Less in
           subst P one step
 
 -- the first of each serve as a table as well as all
-pub table_of_first : (ignore_case : Bool) (test : List ℕ → Record → Bool) (rs : List Record) (ks kept : List Key) → IsTableOf ignore_case test rs ks → IsFirstOfEach ignore_case ks kept → IsTableOf ignore_case test rs kept
+pub table_of_first : (ignore_case : Bool) (test : List ℕ → Record → Bool) (rs : List Record) (ks kept : List NamedValue) → IsTableOf ignore_case test rs ks → IsFirstOfEach ignore_case ks kept → IsTableOf ignore_case test rs kept
 table_of_first ignore_case test rs ks kept t f = record {
-  within = λ j d l. let c = f.taken j d l in let P : Key → Type 0 = λ k. k.place < length rs in subst P c.2 (t.within c.0 (get_or kept j d) c.1);
-  sound = λ j d q l. let c = f.taken j d l in let P : Key → Type 0 = λ k. test k.name (get_or rs k.place q) ≡ true in subst P c.2 (t.sound c.0 (get_or kept j d) q c.1);
+  within = λ j d l. let c = f.taken j d l in let P : NamedValue → Type 0 = λ k. k.place < length rs in subst P c.2 (t.within c.0 (get_or kept j d) c.1);
+  sound = λ j d q l. let c = f.taken j d l in let P : NamedValue → Type 0 = λ k. test k.name (get_or rs k.place q) ≡ true in subst P c.2 (t.sound c.0 (get_or kept j d) q c.1);
   complete = λ name i q within told. let c = t.complete name i q within told in let g = f.covers c.0 c.1 in (g.0, g.1, g.2 ∙ c.2, omega (arith, g.3, c.3));
   alike = t.alike;
   ordered = λ i j d before within e. let less = f.rises i j d before within in falls _ _ less e;
@@ -142,27 +142,27 @@ not_equal Less e f = cc
 not_equal Equal e f = cc
 not_equal Greater e f = cc
 
-module _ (ignore_case : Bool) (names kept : List Named) (i : ℕ) (z : Named) (ordered : AllPairs (λ a b. key_cmp ignore_case a b ≢ Greater) (map key_of names)) (within : i < length names) (so_far : IsFirstOfEach ignore_case (take i (map key_of names)) (map key_of kept)) where
-  inside : i < length (map key_of names)
-  inside = omega (arith, length-map names key_of)
+module _ (ignore_case : Bool) (names kept : List Named) (i : ℕ) (z : Named) (ordered : AllPairs (λ a b. named_cmp ignore_case a b ≢ Greater) (map named_value names)) (within : i < length names) (so_far : IsFirstOfEach ignore_case (take i (map named_value names)) (map named_value kept)) where
+  inside : i < length (map named_value names)
+  inside = omega (arith, length-map names named_value)
 
-  named_cmp : path_cmp (folded ignore_case (get_or (map key_of names) (i - 1) (key_of z)).name) (folded ignore_case (get_or (map key_of names) i (key_of z)).name) ≡ path_cmp (folded ignore_case (get_or names (i - 1) z).name.now) (folded ignore_case (get_or names i z).name.now)
-  named_cmp =
-      ap (λ (k : Key). path_cmp (folded ignore_case k.name) (folded ignore_case (get_or (map key_of names) i (key_of z)).name)) (get_or-map key_of names (i - 1) z)
-      ∙ ap (λ (k : Key). path_cmp (folded ignore_case (get_or names (i - 1) z).name.now) (folded ignore_case k.name)) (get_or-map key_of names i z)
+  answer_is : path_cmp (folded ignore_case (get_or (map named_value names) (i - 1) (named_value z)).name) (folded ignore_case (get_or (map named_value names) i (named_value z)).name) ≡ path_cmp (folded ignore_case (get_or names (i - 1) z).name.now) (folded ignore_case (get_or names i z).name.now)
+  answer_is =
+      ap (λ (k : NamedValue). path_cmp (folded ignore_case k.name) (folded ignore_case (get_or (map named_value names) i (named_value z)).name)) (get_or-map named_value names (i - 1) z)
+      ∙ ap (λ (k : NamedValue). path_cmp (folded ignore_case (get_or names (i - 1) z).name.now) (folded ignore_case k.name)) (get_or-map named_value names i z)
 
-  pub skip_one : 0 < i → (o : Ordering) → o ≡ path_cmp (folded ignore_case (get_or names (i - 1) z).name.now) (folded ignore_case (get_or names i z).name.now) → is_ne o ≡ false → IsFirstOfEach ignore_case (take (i + 1) (map key_of names)) (map key_of kept)
-  skip_one some o told e = first_skip ignore_case (map key_of names) ordered (map key_of kept) i (key_of z) inside so_far some (named_cmp ∙ sym told ∙ is_equal o e)
+  pub skip_one : 0 < i → (o : Ordering) → o ≡ path_cmp (folded ignore_case (get_or names (i - 1) z).name.now) (folded ignore_case (get_or names i z).name.now) → is_ne o ≡ false → IsFirstOfEach ignore_case (take (i + 1) (map named_value names)) (map named_value kept)
+  skip_one some o told e = first_skip ignore_case (map named_value names) ordered (map named_value kept) i (named_value z) inside so_far some (answer_is ∙ sym told ∙ is_equal o e)
 
   module _ (new : List Named) (pushed : new ≡ kept ++ get_or names i z ∷ []) where
-    pushed_keys : map key_of new ≡ map key_of kept ++ get_or (map key_of names) i (key_of z) ∷ []
-    pushed_keys = ap (map key_of) pushed ∙ map-append key_of kept (get_or names i z ∷ []) ∙ ap (λ (k : Key). map key_of kept ++ k ∷ []) (sym (get_or-map key_of names i z))
+    pushed_named : map named_value new ≡ map named_value kept ++ get_or (map named_value names) i (named_value z) ∷ []
+    pushed_named = ap (map named_value) pushed ∙ map-append named_value kept (get_or names i z ∷ []) ∙ ap (λ (k : NamedValue). map named_value kept ++ k ∷ []) (sym (get_or-map named_value names i z))
 
-    pub push_first : i ≡ 0 → IsFirstOfEach ignore_case (take (i + 1) (map key_of names)) (map key_of new)
-    push_first zero_is = subst (λ (xs : List Key). IsFirstOfEach ignore_case (take (i + 1) (map key_of names)) xs) (sym pushed_keys) (first_push ignore_case (map key_of names) ordered (map key_of kept) i (key_of z) inside so_far (λ k c. absurd (omega (arith, c.1, length-take i (map key_of names)))))
+    pub push_first : i ≡ 0 → IsFirstOfEach ignore_case (take (i + 1) (map named_value names)) (map named_value new)
+    push_first zero_is = subst (λ (xs : List NamedValue). IsFirstOfEach ignore_case (take (i + 1) (map named_value names)) xs) (sym pushed_named) (first_push ignore_case (map named_value names) ordered (map named_value kept) i (named_value z) inside so_far (λ k c. absurd (omega (arith, c.1, length-take i (map named_value names)))))
 
-    pub push_other : (o : Ordering) → o ≡ path_cmp (folded ignore_case (get_or names (i - 1) z).name.now) (folded ignore_case (get_or names i z).name.now) → is_ne o ≡ true → IsFirstOfEach ignore_case (take (i + 1) (map key_of names)) (map key_of new)
-    push_other o told e = subst (λ (xs : List Key). IsFirstOfEach ignore_case (take (i + 1) (map key_of names)) xs) (sym pushed_keys) (first_push ignore_case (map key_of names) ordered (map key_of kept) i (key_of z) inside so_far (all_below ignore_case (map key_of names) ordered (map key_of kept) i (key_of z) inside so_far (λ same. not_equal o e (told ∙ sym named_cmp ∙ same))))
+    pub push_other : (o : Ordering) → o ≡ path_cmp (folded ignore_case (get_or names (i - 1) z).name.now) (folded ignore_case (get_or names i z).name.now) → is_ne o ≡ true → IsFirstOfEach ignore_case (take (i + 1) (map named_value names)) (map named_value new)
+    push_other o told e = subst (λ (xs : List NamedValue). IsFirstOfEach ignore_case (take (i + 1) (map named_value names)) xs) (sym pushed_named) (first_push ignore_case (map named_value names) ordered (map named_value kept) i (named_value z) inside so_far (all_below ignore_case (map named_value names) ordered (map named_value kept) i (named_value z) inside so_far (λ same. not_equal o e (told ∙ sym answer_is ∙ same))))
 
 pub ok_then : {T E : Type 0} (r : Result T E) (P Q : T → Type 0) → ((v : T) → P v → Q v) → IfOk r P → IfOk r Q
 ok_then (Ok v) P Q f h = f v h
@@ -182,21 +182,21 @@ folded_twice false n = refl
 folded_twice true [] = refl
 folded_twice true (x ∷ n) = ap (λ (y : ℕ). y ∷ folded true (folded true n)) (lower_twice x) ∙ ap (λ (ys : List ℕ). to_ascii_lowercase x ∷ ys) (folded_twice true n)
 
-pub named_of : (ignore_case : Bool) (rs : List Record) (ks : List Key) → IsTableOf ignore_case (stands_in_folded ignore_case) rs ks → AllPairs (λ a b. path_cmp (folded ignore_case a.name) (folded ignore_case b.name) ≡ Less) ks → IsNamed ignore_case rs (map (λ k. folded ignore_case k.name) ks)
+pub named_of : (ignore_case : Bool) (rs : List Record) (ks : List NamedValue) → IsTableOf ignore_case (stands_in_folded ignore_case) rs ks → AllPairs (λ a b. path_cmp (folded ignore_case a.name) (folded ignore_case b.name) ≡ Less) ks → IsNamed ignore_case rs (map (λ k. folded ignore_case k.name) ks)
 named_of ignore_case rs ks t once =
-    let f : Key → List ℕ = λ k. folded ignore_case k.name in
+    let f : NamedValue → List ℕ = λ k. folded ignore_case k.name in
     record {
       once = pairs_map (λ a b. path_cmp a b ≡ Less) f ks once;
       in_case = all_map f (λ n. folded ignore_case n ≡ n) (λ k. folded_twice ignore_case k.name) ks;
       each = λ name. (
         λ c. let k = contains_map f ks (folded ignore_case name) c in
-            let P : Key → Type 0 = λ x. x.place < length rs in
+            let P : NamedValue → Type 0 = λ x. x.place < length rs in
             any_from (stands_in_folded ignore_case name) rs k.0.place (subst P k.1.2 (t.within k.1.0 k.0 k.1.1)) (λ q.
-            let Q : Key → Type 0 = λ x. stands_in_folded ignore_case x.name (get_or rs x.place q) ≡ true in
+            let Q : NamedValue → Type 0 = λ x. stands_in_folded ignore_case x.name (get_or rs x.place q) ≡ true in
             t.alike name k.0.name (get_or rs k.0.place q) (sym k.2) ∙ subst Q k.1.2 (t.sound k.1.0 k.0 q k.1.1)),
         λ h. let a = any_place (stands_in_folded ignore_case name) rs h in
             let q : Record = some_of rs a.0 a.1 in
             let c = t.complete name a.0 q a.1 (a.2 q) in
-            subst (λ (x : List ℕ). Contains (map (λ (k : Key). folded ignore_case k.name) ks) x) c.2 (contains_map_in f ks c.0 c.1),
+            subst (λ (x : List ℕ). Contains (map (λ (k : NamedValue). folded ignore_case k.name) ks) x) c.2 (contains_map_in f ks c.0 c.1),
       );
     }

@@ -8,7 +8,7 @@ use Rattle.std.specs.declared.cmp.Ordering.TheVariants.{Less, Equal, Greater}
 use Rattle.std.proofs.lemmas.Bool.{false_from_ne_true}
 use Rattle.std.proofs.lemmas.Bool.Decides.{nat_tests}
 use Rattle.std.proofs.lemmas.List.Sums.{sum_by-cons, position_or_len_is}
-use Rattle.index_lookups.specs.Search.{IsSplitBy}
+use Rattle.index_lookups.specs.SearchSteps.{IsSplitBy}
 
 -- ---- a list whose keys never fall is split by each key
 

@@ -5,7 +5,7 @@ use Rattle.std.specs.Ordering.{is_lt, is_le, is_eq}
 use Rattle.std.specs.declared.cmp.Ordering.{Ordering}
 use Rattle.std.specs.declared.cmp.Ordering.TheVariants.{Less, Equal, Greater}
 use Rattle.std.proofs.lemmas.Bool.{cases_lt}
-use Rattle.index_lookups.specs.Search.{is_before, IsRising, IsPartedAt, IsBracket, IsGapAt}
+use Rattle.index_lookups.specs.SearchSteps.{is_before, IsRising, IsPartedAt, IsBracket, IsGapAt}
 
 -- what stands in front of one that is before is so too
 pub less_from : (o : Ordering) → is_lt o ≡ true → o ≡ Less

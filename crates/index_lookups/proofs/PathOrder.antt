@@ -1,17 +1,16 @@
 -- Whether paths never fall, told neighbour by neighbour.
 use Rattle.std.proofs.Common.{◌≡◌, ◌≢◌, ℕ, ◌+◌, ◌-◌, ◌<◌, ◌≤◌, ◌⊎◌, inl, inr, true, false, List, [], ◌∷◌, ◌++◌, length, get_or, take, refl, sym, ap, ◌∙◌, subst, arith, length-take}
-use Rattle.std.proofs.Math.ListN.{get_or-map}
-use Rattle.std.specs.List.{AllPairs}
+use Rattle.std.specs.List.{AllPairs, HoldsAt}
 use Rattle.std.specs.Ordering.{is_gt}
 use Rattle.std.specs.declared.cmp.Ordering.{Ordering}
 use Rattle.std.specs.declared.cmp.Ordering.TheVariants.{Less, Equal, Greater}
 use Rattle.std.proofs.lemmas.Bool.{cases_lt}
-use Rattle.std.proofs.lemmas.List.{length-map, get_or-take, get_or_default, take_more}
+use Rattle.std.proofs.lemmas.List.{get_or-take, get_or_default, take_more}
 use Rattle.std.proofs.lemmas.List.Quantifiers.{all_pairs_push}
-use Rattle.index_entries.specs.declared.Entry.{Entry}
 use Rattle.index_entries.specs.Order.{path_cmp, IsOrderedByPath}
-use Rattle.index_entries.specs.Record.{Record, record_in, records_in}
-use Rattle.index_entries.proofs.Order.{paths_total, same_path}
+use Rattle.index_entries.specs.Record.{Record}
+use Rattle.index_entries.proofs.Orders.{paths_total, same_path}
+use Rattle.index_lookups.proofs.Places.{some_of}
 
 chain : (o : Ordering) (x y z : List ℕ) → path_cmp x y ≡ o → o ≢ Greater → path_cmp y z ≢ Greater → path_cmp x z ≢ Greater
 chain Less x y z e g h = by (path_cmp y z) refl h
@@ -36,43 +35,37 @@ gt_is Greater e = refl
 pub first_one : (rs : List Record) (i : ℕ) → i ≡ 0 → AllPairs (λ r q. path_cmp r.path q.path ≢ Greater) (take (i + 1) rs)
 first_one rs i e j k d before inside = absurd (omega (arith, length-take (i + 1) rs))
 
-module _ (storage : List ℕ) (es : List Entry) (i : ℕ) (z : Entry) (within : i < length es) where
-  abbrev rs : List Record
-  rs = records_in storage es
+module _ (rs : List Record) (i : ℕ) (within : i < length rs) where
+  z : Record
+  z = some_of rs i within
 
-  n : length (records_in storage es) ≡ length es
-  n = length-map es (record_in storage)
+  step_is : (a b : List ℕ) (o : Ordering) → HoldsAt (λ r. r.path ≡ a) rs (i - 1) → HoldsAt (λ r. r.path ≡ b) rs i → o ≡ path_cmp a b → path_cmp (get_or rs (i - 1) z).path (get_or rs i z).path ≡ o
+  step_is a b o ea eb eo = rw (ea z, eb z) (sym eo)
 
-  at : (j : ℕ) (x y : Entry) → get_or (records_in storage es) j (record_in storage x) ≡ record_in storage (get_or es j x)
-  at j x y = get_or-map (record_in storage) es j x
+  pub falls_here : (a b : List ℕ) (o : Ordering) → 0 < i → HoldsAt (λ r. r.path ≡ a) rs (i - 1) → HoldsAt (λ r. r.path ≡ b) rs i → o ≡ path_cmp a b → is_gt o ≡ true → IsOrderedByPath rs → ⊥
+  falls_here a b o some ea eb eo g ordered = ordered.never_falls (i - 1) i z (omega arith) (omega (arith, within)) (step_is a b o ea eb eo ∙ gt_is o g)
 
-  step_is : (a b : List ℕ) (o : Ordering) → a ≡ (record_in storage (get_or es (i - 1) z)).path → b ≡ (record_in storage (get_or es i z)).path → o ≡ path_cmp a b → path_cmp (get_or (records_in storage es) (i - 1) (record_in storage z)).path (get_or (records_in storage es) i (record_in storage z)).path ≡ o
-  step_is a b o ea eb eo = ap (λ (r : Record). path_cmp r.path (get_or (records_in storage es) i (record_in storage z)).path) (at (i - 1) z z) ∙ ap (λ (r : Record). path_cmp (record_in storage (get_or es (i - 1) z)).path r.path) (at i z z) ∙ ap (λ (x : List ℕ). path_cmp x (record_in storage (get_or es i z)).path) (sym ea) ∙ ap (path_cmp a) (sym eb) ∙ sym eo
+  module _ (so_far : AllPairs (λ r q. path_cmp r.path q.path ≢ Greater) (take i rs)) where
+    more : take (i + 1) rs ≡ take i rs ++ get_or rs i z ∷ []
+    more = take_more rs i z (omega (arith, within))
 
-  pub falls_here : (a b : List ℕ) (o : Ordering) → 0 < i → a ≡ (record_in storage (get_or es (i - 1) z)).path → b ≡ (record_in storage (get_or es i z)).path → o ≡ path_cmp a b → is_gt o ≡ true → IsOrderedByPath (records_in storage es) → ⊥
-  falls_here a b o some ea eb eo g ordered = ordered.never_falls (i - 1) i (record_in storage z) (omega arith) (omega (arith, n)) (step_is a b o ea eb eo ∙ gt_is o g)
-
-  module _ (so_far : AllPairs (λ r q. path_cmp r.path q.path ≢ Greater) (take i (records_in storage es))) where
-    more : take (i + 1) (records_in storage es) ≡ take i (records_in storage es) ++ get_or (records_in storage es) i (record_in storage z) ∷ []
-    more = take_more (records_in storage es) i (record_in storage z) (omega (arith, n))
-
-    pub next_one : (a b : List ℕ) (o : Ordering) → 0 < i → a ≡ (record_in storage (get_or es (i - 1) z)).path → b ≡ (record_in storage (get_or es i z)).path → o ≡ path_cmp a b → is_gt o ≡ false → AllPairs (λ r q. path_cmp r.path q.path ≢ Greater) (take (i + 1) (records_in storage es))
-    next_one a b o some ea eb eo g = subst (λ (xs : List Record). AllPairs (λ r q. path_cmp r.path q.path ≢ Greater) xs) (sym more) (all_pairs_push (λ r q. path_cmp r.path q.path ≢ Greater) (take i (records_in storage es)) (get_or (records_in storage es) i (record_in storage z)) so_far (λ k d inside. by k d (omega (arith, inside, length-take i (records_in storage es))) (cases_lt k (i - 1))))
+    pub next_one : (a b : List ℕ) (o : Ordering) → 0 < i → HoldsAt (λ r. r.path ≡ a) rs (i - 1) → HoldsAt (λ r. r.path ≡ b) rs i → o ≡ path_cmp a b → is_gt o ≡ false → AllPairs (λ r q. path_cmp r.path q.path ≢ Greater) (take (i + 1) rs)
+    next_one a b o some ea eb eo g = subst (λ (xs : List Record). AllPairs (λ r q. path_cmp r.path q.path ≢ Greater) xs) (sym more) (all_pairs_push (λ r q. path_cmp r.path q.path ≢ Greater) (take i rs) (get_or rs i z) so_far (λ k d inside. by k d (omega (arith, inside, length-take i rs)) (cases_lt k (i - 1))))
       where
         last : List ℕ
-        last = (get_or (records_in storage es) (i - 1) (record_in storage z)).path
+        last = (get_or rs (i - 1) z).path
 
-        step : path_cmp (get_or (records_in storage es) (i - 1) (record_in storage z)).path (get_or (records_in storage es) i (record_in storage z)).path ≢ Greater
+        step : path_cmp (get_or rs (i - 1) z).path (get_or rs i z).path ≢ Greater
         step t = not_gt o g (sym (step_is a b o ea eb eo) ∙ t)
 
-        read : (k : ℕ) (d : Record) → k < i → get_or (take i (records_in storage es)) k d ≡ get_or (records_in storage es) k (record_in storage z)
-        read k d u = get_or-take i (records_in storage es) k d u ∙ get_or_default (records_in storage es) k d (record_in storage z) (omega (arith, n, within))
+        read : (k : ℕ) (d : Record) → k < i → get_or (take i rs) k d ≡ get_or rs k z
+        read k d u = get_or-take i rs k d u ∙ get_or_default rs k d z (omega (arith, within))
 
-        by : (k : ℕ) (d : Record) → k < i → (k < i - 1) ⊎ (i - 1 ≤ k) → path_cmp (get_or (take i (records_in storage es)) k d).path (get_or (records_in storage es) i (record_in storage z)).path ≢ Greater
+        by : (k : ℕ) (d : Record) → k < i → (k < i - 1) ⊎ (i - 1 ≤ k) → path_cmp (get_or (take i rs) k d).path (get_or rs i z).path ≢ Greater
         by k d u (inl before) =
-            let z' : Record = record_in storage z in
-            let pair : path_cmp (get_or (records_in storage es) k (record_in storage z)).path (get_or (records_in storage es) (i - 1) (record_in storage z)).path ≢ Greater = subst (λ (r : Record). path_cmp r.path (get_or (records_in storage es) (i - 1) (record_in storage z)).path ≢ Greater) (read k z' u) (subst (λ (r : Record). path_cmp (get_or (take i (records_in storage es)) k (record_in storage z)).path r.path ≢ Greater) (read (i - 1) z' (omega arith)) (so_far k (i - 1) (record_in storage z) before (omega (arith, length-take i (records_in storage es), n, within)))) in
-            subst (λ (r : Record). path_cmp r.path (get_or (records_in storage es) i (record_in storage z)).path ≢ Greater) (sym (read k d u)) (chain _ (get_or (records_in storage es) k (record_in storage z)).path (get_or (records_in storage es) (i - 1) (record_in storage z)).path (get_or (records_in storage es) i (record_in storage z)).path refl pair step)
+            let z' : Record = z in
+            let pair : path_cmp (get_or rs k z).path (get_or rs (i - 1) z).path ≢ Greater = subst (λ (r : Record). path_cmp r.path (get_or rs (i - 1) z).path ≢ Greater) (read k z' u) (subst (λ (r : Record). path_cmp (get_or (take i rs) k z).path r.path ≢ Greater) (read (i - 1) z' (omega arith)) (so_far k (i - 1) z before (omega (arith, length-take i rs, within)))) in
+            subst (λ (r : Record). path_cmp r.path (get_or rs i z).path ≢ Greater) (sym (read k d u)) (chain _ (get_or rs k z).path (get_or rs (i - 1) z).path (get_or rs i z).path refl pair step)
         by k d u (inr back) =
             let same : k ≡ i - 1 = omega arith in
-            subst (λ (r : Record). path_cmp r.path (get_or (records_in storage es) i (record_in storage z)).path ≢ Greater) (sym (read k d u ∙ ap (λ (j : ℕ). get_or (records_in storage es) j (record_in storage z)) same)) step
+            subst (λ (r : Record). path_cmp r.path (get_or rs i z).path ≢ Greater) (sym (read k d u ∙ ap (λ (j : ℕ). get_or rs j z) same)) step

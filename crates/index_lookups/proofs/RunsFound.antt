@@ -12,12 +12,12 @@ use Rattle.std.proofs.lemmas.List.{length-map, get_or-map as at_map, append-nil}
 use Rattle.index_lookups.specs.Lookup.{insertion_of_path}
 use Rattle.index_entries.specs.Order.{path_cmp, IsOrderedByPath}
 use Rattle.index_entries.specs.Record.{Record}
-use Rattle.index_lookups.specs.Search.{IsSplitBy, IsRising, IsPartedAt, front_cmp}
+use Rattle.index_lookups.specs.SearchSteps.{IsSplitBy, IsRising, IsPartedAt, prefix_cmp}
 use Rattle.index_lookups.proofs.Halving.{split_by, count_by_is}
 use Rattle.index_lookups.proofs.Lookup.{split_by_path}
-use Rattle.index_entries.proofs.Order.{paths_total}
+use Rattle.index_entries.proofs.Orders.{paths_total}
 use Rattle.index_lookups.specs.Range.{IsRun, IsRange, IsPrefixRange, is_at, begins_with}
-use Rattle.index_lookups.proofs.Fronts.{fronts_rise, below_by_front}
+use Rattle.index_lookups.proofs.Prefixes.{prefixes_rise, below_by_prefix}
 
 -- ---- what holds of a row holds of the list behind it
 
@@ -45,11 +45,11 @@ rising_of cmp xs split = record {
 pub rising_paths : (path : List ℕ) (rs : List Record) → IsOrderedByPath rs → IsRising (map (λ r. path_cmp r.path path) rs)
 rising_paths path rs o = rising_of (λ (r : Record). path_cmp r.path path) rs (split_by_path path rs o)
 
-pub split_fronts : (prefix : List ℕ) (rs : List Record) → IsOrderedByPath rs → IsSplitBy (λ r. front_cmp prefix r.path) rs
-split_fronts prefix rs o = split_by paths_total (λ (r : Record). take (length prefix) r.path) prefix rs (λ i j d before within. fronts_rise (length prefix) _ _ (o.never_falls i j d before within))
+pub split_prefixes : (prefix : List ℕ) (rs : List Record) → IsOrderedByPath rs → IsSplitBy (λ r. prefix_cmp prefix r.path) rs
+split_prefixes prefix rs o = split_by paths_total (λ (r : Record). take (length prefix) r.path) prefix rs (λ i j d before within. prefixes_rise (length prefix) _ _ (o.never_falls i j d before within))
 
-pub rising_fronts : (prefix : List ℕ) (rs : List Record) → IsOrderedByPath rs → IsRising (map (λ r. front_cmp prefix r.path) rs)
-rising_fronts prefix rs o = rising_of (λ (r : Record). front_cmp prefix r.path) rs (split_fronts prefix rs o)
+pub rising_prefixes : (prefix : List ℕ) (rs : List Record) → IsOrderedByPath rs → IsRising (map (λ r. prefix_cmp prefix r.path) rs)
+rising_prefixes prefix rs o = rising_of (λ (r : Record). prefix_cmp prefix r.path) rs (split_prefixes prefix rs o)
 
 -- ---- the run between the two ends
 
@@ -106,18 +106,18 @@ module _ {X : Type 0} (cmp : X → Ordering) (test : X → Bool) (same : (x : X)
 pub at_is : (path : List ℕ) (r : Record) → is_eq (path_cmp r.path path) ≡ is_at path r
 at_is path r = sym (texts_ties r.path path)
 
-pub begins_is : (prefix : List ℕ) (r : Record) → is_eq (front_cmp prefix r.path) ≡ begins_with prefix r
+pub begins_is : (prefix : List ℕ) (r : Record) → is_eq (prefix_cmp prefix r.path) ≡ begins_with prefix r
 begins_is prefix r = sym (texts_ties (take (length prefix) r.path) prefix) ∙ nat_list_eq_equiv.symm (take (length prefix) r.path) prefix
 
 -- ---- how many are in front
 
-pub front_count : (prefix : List ℕ) (rs : List Record) (i : ℕ) → IsPartedAt false (map (λ r. front_cmp prefix r.path) rs) i → i ≡ insertion_of_path prefix rs
-front_count prefix rs i h =
-    let f : Record → Ordering = λ r. front_cmp prefix r.path in
+pub prefix_count : (prefix : List ℕ) (rs : List Record) (i : ℕ) → IsPartedAt false (map (λ r. prefix_cmp prefix r.path) rs) i → i ≡ insertion_of_path prefix rs
+prefix_count prefix rs i h =
+    let f : Record → Ordering = λ r. prefix_cmp prefix r.path in
     let n : length (map f rs) ≡ length rs = length-map rs f in
     sym (count_by_is (λ (r : Record). is_lt (path_cmp r.path prefix)) rs i (omega (arith, h.in_range))
-    (within_map is_lt f (λ r. is_lt (path_cmp r.path prefix)) true rs 0 i (λ r. sym (below_by_front r.path prefix)) h.before)
-    (λ k d l u. within_map is_lt f (λ r. is_lt (path_cmp r.path prefix)) false rs i (length (map f rs)) (λ r. sym (below_by_front r.path prefix)) h.behind k d l (omega arith)))
+    (within_map is_lt f (λ r. is_lt (path_cmp r.path prefix)) true rs 0 i (λ r. sym (below_by_prefix r.path prefix)) h.before)
+    (λ k d l u. within_map is_lt f (λ r. is_lt (path_cmp r.path prefix)) false rs i (length (map f rs)) (λ r. sym (below_by_prefix r.path prefix)) h.behind k d l (omega arith)))
 
 -- ---- a prefix with nothing behind it
 

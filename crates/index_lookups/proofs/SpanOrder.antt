@@ -7,14 +7,14 @@ use Rattle.std.specs.declared.cmp.Ordering.{Ordering}
 use Rattle.std.specs.declared.cmp.Ordering.TheVariants.{Less, Equal, Greater}
 use Rattle.std.proofs.lemmas.List.{length-map, get_or-map as at_map}
 use Rattle.std.proofs.lemmas.List.Sums.{sum_by-cons}
-use Rattle.index_parts.specs.Flags.{stage_code}
-use Rattle.index_parts.specs.declared.entry.flags.Stage.{Stage}
+use Rattle.index_metadata.specs.Flags.{stage_code}
+use Rattle.index_metadata.specs.declared.entry.flags.Stage.{Stage}
 use Rattle.index_entries.specs.Order.{path_cmp, record_stage}
 use Rattle.index_entries.specs.Record.{Record}
-use Rattle.index_lookups.specs.Search.{asked_cmp, IsBracket, front_cmp}
+use Rattle.index_lookups.specs.SearchSteps.{asked_cmp, IsBracket, prefix_cmp}
 use Rattle.index_lookups.proofs.Halving.{count_by_is}
 use Rattle.index_lookups.specs.Closest.{is_below}
-use Rattle.index_lookups.specs.Spans.{NamedSpan, IsSpan}
+use Rattle.index_lookups.specs.SpanSteps.{SpanValue, IsSpan}
 use Rattle.index_lookups.specs.Range.{IsRun}
 use Rattle.index_lookups.proofs.Parting.{greater_from, less_from}
 use Rattle.index_lookups.proofs.RunsFound.{run_between, run_map, begins_is}
@@ -31,25 +31,25 @@ then_greater Less p q f e = cc
 then_greater Equal p q f e = f e
 then_greater Greater p q f e = refl
 
-pub fronts_below : (n : ℕ) (x y : List ℕ) → path_cmp (take n x) (take n y) ≡ Less → path_cmp x y ≡ Less
-fronts_below zero x y e = cc
-fronts_below (suc n) [] [] e = e
-fronts_below (suc n) [] (b ∷ y) e = refl
-fronts_below (suc n) (a ∷ x) [] e = e
-fronts_below (suc n) (a ∷ x) (b ∷ y) e = then_less (nat_cmp a b) _ _ (fronts_below n x y) e
+pub prefixes_below : (n : ℕ) (x y : List ℕ) → path_cmp (take n x) (take n y) ≡ Less → path_cmp x y ≡ Less
+prefixes_below zero x y e = cc
+prefixes_below (suc n) [] [] e = e
+prefixes_below (suc n) [] (b ∷ y) e = refl
+prefixes_below (suc n) (a ∷ x) [] e = e
+prefixes_below (suc n) (a ∷ x) (b ∷ y) e = then_less (nat_cmp a b) _ _ (prefixes_below n x y) e
 
-pub fronts_above : (n : ℕ) (x y : List ℕ) → path_cmp (take n x) (take n y) ≡ Greater → path_cmp x y ≡ Greater
-fronts_above zero x y e = cc
-fronts_above (suc n) [] [] e = e
-fronts_above (suc n) [] (b ∷ y) e = cc
-fronts_above (suc n) (a ∷ x) [] e = refl
-fronts_above (suc n) (a ∷ x) (b ∷ y) e = then_greater (nat_cmp a b) _ _ (fronts_above n x y) e
+pub prefixes_above : (n : ℕ) (x y : List ℕ) → path_cmp (take n x) (take n y) ≡ Greater → path_cmp x y ≡ Greater
+prefixes_above zero x y e = cc
+prefixes_above (suc n) [] [] e = e
+prefixes_above (suc n) [] (b ∷ y) e = cc
+prefixes_above (suc n) (a ∷ x) [] e = refl
+prefixes_above (suc n) (a ∷ x) (b ∷ y) e = then_greater (nat_cmp a b) _ _ (prefixes_above n x y) e
 
 -- a path begins with what stands in front of its slash, and the slash
-pub own_front : (path : List ℕ) (slash : ℕ) → slash < length path → get_or path slash 0 ≡ 47 → take (length (take slash path ++ 47 ∷ [])) path ≡ take slash path ++ 47 ∷ []
-own_front [] slash within e = absurd (omega arith)
-own_front (x ∷ path) zero within e = ap (λ (b : ℕ). b ∷ []) e
-own_front (x ∷ path) (suc slash) within e = ap (λ (bs : List ℕ). x ∷ bs) (own_front path slash (omega arith) e)
+pub own_prefix : (path : List ℕ) (slash : ℕ) → slash < length path → get_or path slash 0 ≡ 47 → take (length (take slash path ++ 47 ∷ [])) path ≡ take slash path ++ 47 ∷ []
+own_prefix [] slash within e = absurd (omega arith)
+own_prefix (x ∷ path) zero within e = ap (λ (b : ℕ). b ∷ []) e
+own_prefix (x ∷ path) (suc slash) within e = ap (λ (bs : List ℕ). x ∷ bs) (own_prefix path slash (omega arith) e)
 
 asked_less : (path : List ℕ) (stage : Option Stage) (r : Record) → path_cmp r.path path ≡ Less → asked_cmp path stage r ≡ Less
 asked_less path None r e = e
@@ -64,25 +64,25 @@ answers_within : (f : Record → Ordering) (o : Ordering) (rs : List Record) (fr
 answers_within f o [] from to fits h k d low high = absurd (omega arith)
 answers_within f o (r ∷ rs) from to fits h k d low high = at_map f (r ∷ rs) k r d (omega arith) ∙ h k r low high
 
-module _ (rs : List Record) (s : NamedSpan) (span : IsSpan rs s) where
+module _ (rs : List Record) (s : SpanValue) (span : IsSpan rs s) where
   abbrev prefix : List ℕ
   prefix = s.name ++ 47 ∷ []
 
   abbrev answer : Record → Ordering
-  answer r = front_cmp (s.name ++ 47 ∷ []) r.path
+  answer r = prefix_cmp (s.name ++ 47 ∷ []) r.path
 
-  front_below : (k : ℕ) (z : Record) → k < s.start → path_cmp (take (length prefix) (get_or rs k z).path) prefix ≡ Less
-  front_below k z u = ap (λ (o : Ordering). o) (sym (get_or-map answer rs k z)) ∙ less_from _ (span.starts.before k (answer z) (omega arith) u)
+  prefix_below : (k : ℕ) (z : Record) → k < s.start → path_cmp (take (length prefix) (get_or rs k z).path) prefix ≡ Less
+  prefix_below k z u = ap (λ (o : Ordering). o) (sym (get_or-map answer rs k z)) ∙ less_from _ (span.starts.before k (answer z) (omega arith) u)
 
-  front_above : (k : ℕ) (z : Record) → s.end ≤ k → k < length rs → path_cmp (take (length prefix) (get_or rs k z).path) prefix ≡ Greater
-  front_above k z l u = sym (get_or-map answer rs k z) ∙ greater_from _ (span.ends.behind k (answer z) l (omega (arith, length-map rs answer)))
+  prefix_above : (k : ℕ) (z : Record) → s.end ≤ k → k < length rs → path_cmp (take (length prefix) (get_or rs k z).path) prefix ≡ Greater
+  prefix_above k z l u = sym (get_or-map answer rs k z) ∙ greater_from _ (span.ends.behind k (answer z) l (omega (arith, length-map rs answer)))
 
   -- what stands in front of the directory's records is below each path in it, what stands behind them above
   pub window_of : (path : List ℕ) → take (length (s.name ++ 47 ∷ [])) path ≡ s.name ++ 47 ∷ [] → (stage : Option Stage) → IsBracket (map (asked_cmp path stage) rs) s.start s.end
   window_of path own stage = record {
-    below = answers_within (asked_cmp path stage) Less rs 0 s.start (omega (arith, span.some, span.in_range)) (λ k z l u. asked_less path stage (get_or rs k z) (fronts_below (length prefix) (get_or rs k z).path path (ap (path_cmp (take (length prefix) (get_or rs k z).path)) own ∙ front_below k z u)));
+    below = answers_within (asked_cmp path stage) Less rs 0 s.start (omega (arith, span.some, span.in_range)) (λ k z l u. asked_less path stage (get_or rs k z) (prefixes_below (length prefix) (get_or rs k z).path path (ap (path_cmp (take (length prefix) (get_or rs k z).path)) own ∙ prefix_below k z u)));
     above = let n : length (map (asked_cmp path stage) rs) ≡ length rs = length-map rs (asked_cmp path stage) in
-        λ k d l u. answers_within (asked_cmp path stage) Greater rs s.end (length rs) (omega arith) (λ i z l' u'. asked_greater path stage (get_or rs i z) (fronts_above (length prefix) (get_or rs i z).path path (ap (path_cmp (take (length prefix) (get_or rs i z).path)) own ∙ front_above i z l' u'))) k d l (omega (arith, n));
+        λ k d l u. answers_within (asked_cmp path stage) Greater rs s.end (length rs) (omega arith) (λ i z l' u'. asked_greater path stage (get_or rs i z) (prefixes_above (length prefix) (get_or rs i z).path path (ap (path_cmp (take (length prefix) (get_or rs i z).path)) own ∙ prefix_above i z l' u'))) k d l (omega (arith, n));
   }
 
   pub run_of_span : IsRun (is_below s.name) rs s.start s.end

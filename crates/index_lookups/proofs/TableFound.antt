@@ -14,10 +14,10 @@ use Rattle.index_entries.specs.Order.{path_cmp}
 use Rattle.index_lookups.proofs.Digits.{digits-half, digits_small}
 use Rattle.index_entries.specs.Record.{Record}
 use Rattle.index_lookups.proofs.Halving.{position_is, position_none, split_by}
-use Rattle.index_entries.proofs.Order.{paths_total, same_path}
+use Rattle.index_entries.proofs.Orders.{paths_total, same_path}
 use Rattle.index_lookups.specs.Folded.{folded}
-use Rattle.index_lookups.specs.Search.{IsRising, IsPartedAt, IsGapAt}
-use Rattle.index_lookups.specs.Names.{Key, key_of, key_cmp, IsTableOf}
+use Rattle.index_lookups.specs.SearchSteps.{IsRising, IsPartedAt, IsGapAt}
+use Rattle.index_lookups.specs.NameSteps.{NamedValue, named_value, named_cmp, IsTableOf}
 use Rattle.index_lookups.specs.declared.names.Named.{Named}
 use Rattle.index_lookups.proofs.RunsFound.{rising_of}
 use Rattle.index_lookups.proofs.Parting.{equal_from as tied_from, rises, gap_parted}
@@ -33,40 +33,40 @@ then_first Less p h e = cc
 then_first Equal p h e = cc
 then_first Greater p h e = h refl
 
-module _ (ignore_case : Bool) (test : List ℕ → Record → Bool) (rs : List Record) (ks : List Key) (table : IsTableOf ignore_case test rs ks) (name : List ℕ) where
-  abbrev cmp : Key → Ordering
+module _ (ignore_case : Bool) (test : List ℕ → Record → Bool) (rs : List Record) (ks : List NamedValue) (table : IsTableOf ignore_case test rs ks) (name : List ℕ) where
+  abbrev cmp : NamedValue → Ordering
   cmp k = path_cmp (folded ignore_case k.name) (folded ignore_case name)
 
   pub rising_table : IsRising (map (λ k. path_cmp (folded ignore_case k.name) (folded ignore_case name)) ks)
-  rising_table = rising_by paths_total (λ (k : Key). folded ignore_case k.name) (folded ignore_case name) ks (λ i j d before within. then_first _ _ (table.ordered i j d before within))
+  rising_table = rising_by paths_total (λ (k : NamedValue). folded ignore_case k.name) (folded ignore_case name) ks (λ i j d before within. then_first _ _ (table.ordered i j d before within))
 
   module _ (low : ℕ) (p : IsPartedAt false (map (λ k. path_cmp (folded ignore_case k.name) (folded ignore_case name)) ks) low) where
-    at : (j : ℕ) (k : Key) → get_or ks j k ≡ k → get_or (map cmp ks) j (cmp k) ≡ cmp k
+    at : (j : ℕ) (k : NamedValue) → get_or ks j k ≡ k → get_or (map cmp ks) j (cmp k) ≡ cmp k
     at j k e = get_or-map cmp ks j k ∙ ap cmp e
 
     -- what is equal stands at low or behind
-    equal_behind : (j : ℕ) (k : Key) → get_or ks j k ≡ k → cmp k ≡ Equal → low ≤ j
+    equal_behind : (j : ℕ) (k : NamedValue) → get_or ks j k ≡ k → cmp k ≡ Equal → low ≤ j
     equal_behind j k e same = by (cases_lt j low)
       where
         by : (j < low) ⊎ (low ≤ j) → low ≤ j
         by (inl front) = let told : is_lt (get_or (map cmp ks) j (cmp k)) ≡ true = p.before j (cmp k) (omega arith) front in let here : is_lt (get_or (map cmp ks) j (cmp k)) ≡ false = ap is_lt (at j k e ∙ same) in cc
         by (inr back) = back
 
-    equal_from : (k : Key) → folded ignore_case k.name ≡ folded ignore_case name → cmp k ≡ Equal
+    equal_from : (k : NamedValue) → folded ignore_case k.name ≡ folded ignore_case name → cmp k ≡ Equal
     equal_from k e = (same_path (folded ignore_case k.name) (folded ignore_case name)).1 e
 
-    module _ (x : Key) (inside : low < length ks) (here : get_or ks low x ≡ x) (same : cmp x ≡ Equal) where
+    module _ (x : NamedValue) (inside : low < length ks) (here : get_or ks low x ≡ x) (same : cmp x ≡ Equal) where
       passes : (q : Record) → test name (get_or rs x.place q) ≡ true
       passes q =
-          let P : Key → Type 0 = λ k. test k.name (get_or rs k.place q) ≡ true in
+          let P : NamedValue → Type 0 = λ k. test k.name (get_or rs k.place q) ≡ true in
           let told : test x.name (get_or rs x.place q) ≡ true = subst P here (table.sound low x q inside) in
           sym (table.alike x.name name (get_or rs x.place q) ((same_path (folded ignore_case x.name) (folded ignore_case name)).0 same)) ∙ told
 
       in_list : x.place < length rs
-      in_list = let P : Key → Type 0 = λ k. k.place < length rs in subst P here (table.within low x inside)
+      in_list = let P : NamedValue → Type 0 = λ k. k.place < length rs in subst P here (table.within low x inside)
 
       -- none with a lesser place is equal
-      no_lesser : (k : Key) (j : ℕ) → j < length ks → get_or ks j k ≡ k → cmp k ≡ Equal → k.place < x.place → ⊥
+      no_lesser : (k : NamedValue) (j : ℕ) → j < length ks → get_or ks j k ≡ k → cmp k ≡ Equal → k.place < x.place → ⊥
       no_lesser k j within e eq lesser = by (cases_lt low j)
         where
           tie : path_cmp (folded ignore_case x.name) (folded ignore_case k.name) ≡ Equal
@@ -78,7 +78,7 @@ module _ (ignore_case : Bool) (test : List ℕ → Record → Bool) (rs : List R
           above : nat_cmp x.place k.place ≡ Greater
           above = grind (arith, nat_tests, lesser)
 
-          falls_down : key_cmp ignore_case x k ≡ Greater
+          falls_down : named_cmp ignore_case x k ≡ Greater
           falls_down = rw tie above
 
           at_low : get_or ks low k ≡ x
@@ -86,14 +86,14 @@ module _ (ignore_case : Bool) (test : List ℕ → Record → Bool) (rs : List R
 
           by : (low < j) ⊎ (j ≤ low) → ⊥
           by (inl front) =
-              let P : Key → Type 0 = λ y. key_cmp ignore_case y (get_or ks j k) ≢ Greater in
-              let Q : Key → Type 0 = λ y. key_cmp ignore_case x y ≢ Greater in
+              let P : NamedValue → Type 0 = λ y. named_cmp ignore_case y (get_or ks j k) ≢ Greater in
+              let Q : NamedValue → Type 0 = λ y. named_cmp ignore_case x y ≢ Greater in
               subst Q e (subst P at_low (table.ordered low j k front within)) falls_down
           by (inr back) =
               let low_le : low ≤ j = equal_behind j k e eq in
               let level : j ≡ low = omega arith in
               let one : x ≡ k = sym at_low ∙ ap (λ (i : ℕ). get_or ks i k) (sym level) ∙ e in
-              let places : x.place ≡ k.place = ap (λ (y : Key). y.place) one in
+              let places : x.place ≡ k.place = ap (λ (y : NamedValue). y.place) one in
               omega arith
 
       pub found_some : Some x.place ≡ position (test name) rs
@@ -101,7 +101,7 @@ module _ (ignore_case : Bool) (test : List ℕ → Record → Bool) (rs : List R
           (λ i q low' lesser. false_from_ne_true (test name (get_or rs i q)) (λ t. let c = table.complete name i q (omega (arith, in_list)) t in no_lesser c.0 c.1.0 c.1.1 c.1.2 (equal_from c.0 c.2) (omega (arith, c.3))))
           passes)
 
-    pub found_none : ((x : Key) → low < length ks → get_or ks low x ≡ x → is_eq (cmp x) ≡ false) → None ≡ position (test name) rs
+    pub found_none : ((x : NamedValue) → low < length ks → get_or ks low x ≡ x → is_eq (cmp x) ≡ false) → None ≡ position (test name) rs
     found_none other = sym (position_none (test name) rs (λ i q within. false_from_ne_true (test name (get_or rs i q)) (λ t. let c = table.complete name i q within t in no_equal c.0 c.1.0 c.1.1 c.1.2 (equal_from c.0 c.2))))
       where
         is_above : (o : Ordering) → is_lt o ≡ false → is_eq o ≡ false → is_le o ≡ false
@@ -109,7 +109,7 @@ module _ (ignore_case : Bool) (test : List ℕ → Record → Bool) (rs : List R
         is_above Equal e f = cc
         is_above Greater e f = refl
 
-        no_equal : (k : Key) (j : ℕ) → j < length ks → get_or ks j k ≡ k → cmp k ≡ Equal → ⊥
+        no_equal : (k : NamedValue) (j : ℕ) → j < length ks → get_or ks j k ≡ k → cmp k ≡ Equal → ⊥
         no_equal k j within e eq = by (cases_lt low j)
           where
             back_at : low ≤ j
@@ -139,49 +139,49 @@ module _ (ignore_case : Bool) (test : List ℕ → Record → Bool) (rs : List R
 
 -- ---- the same of names in a slice
 
-pub name_at : (f : List ℕ → Ordering) (names : List Named) (place : ℕ) (z : Named) (o : Ordering) → place < length (map (λ k. f k.name) (map key_of names)) → o ≡ f (get_or names place z).name.now → HoldsAt (λ q. q ≡ o) (map (λ k. f k.name) (map key_of names)) place
+pub name_at : (f : List ℕ → Ordering) (names : List Named) (place : ℕ) (z : Named) (o : Ordering) → place < length (map (λ k. f k.name) (map named_value names)) → o ≡ f (get_or names place z).name.now → HoldsAt (λ q. q ≡ o) (map (λ k. f k.name) (map named_value names)) place
 name_at f names place z o inside told d =
-    let test : Key → Ordering = λ k. f k.name in
-    let n : length (map test (map key_of names)) ≡ length (map key_of names) = length-map (map key_of names) test in
-    at_map test (map key_of names) place (key_of (get_or names place z)) d (omega arith) ∙ ap test (get_or-map-shift names place z) ∙ sym told
+    let test : NamedValue → Ordering = λ k. f k.name in
+    let n : length (map test (map named_value names)) ≡ length (map named_value names) = length-map (map named_value names) test in
+    at_map test (map named_value names) place (named_value (get_or names place z)) d (omega arith) ∙ ap test (get_or-map-shift names place z) ∙ sym told
   where
-    get_or-map-shift : (names : List Named) (place : ℕ) (z : Named) → get_or (map key_of names) place (key_of (get_or names place z)) ≡ key_of (get_or names place z)
+    get_or-map-shift : (names : List Named) (place : ℕ) (z : Named) → get_or (map named_value names) place (named_value (get_or names place z)) ≡ named_value (get_or names place z)
     get_or-map-shift [] place z = refl
     get_or-map-shift (x ∷ names) zero z = refl
     get_or-map-shift (x ∷ names) (suc place) z = get_or-map-shift names place z
 
-module _ (ignore_case : Bool) (test : List ℕ → Record → Bool) (rs : List Record) (names : List Named) (table : IsTableOf ignore_case test rs (map key_of names)) (name : List ℕ) (low : ℕ) (p : IsPartedAt false (map (λ k. path_cmp (folded ignore_case k.name) (folded ignore_case name)) (map key_of names)) low) where
-  abbrev cmp_to : Key → Ordering
+module _ (ignore_case : Bool) (test : List ℕ → Record → Bool) (rs : List Record) (names : List Named) (table : IsTableOf ignore_case test rs (map named_value names)) (name : List ℕ) (low : ℕ) (p : IsPartedAt false (map (λ k. path_cmp (folded ignore_case k.name) (folded ignore_case name)) (map named_value names)) low) where
+  abbrev cmp_to : NamedValue → Ordering
   cmp_to k = path_cmp (folded ignore_case k.name) (folded ignore_case name)
 
-  len : length (map key_of names) ≡ length names
-  len = length-map names key_of
+  len : length (map named_value names) ≡ length names
+  len = length-map names named_value
 
-  module _ (o : Ordering) (read : HoldsAt (λ q. q ≡ o) (map (λ k. path_cmp (folded ignore_case k.name) (folded ignore_case name)) (map key_of names)) low) where
-    answer_is : (x : Key) → get_or (map key_of names) low x ≡ x → cmp_to x ≡ o
-    answer_is x here = sym (ap cmp_to here) ∙ sym (get_or-map cmp_to (map key_of names) low x) ∙ read (cmp_to x)
+  module _ (o : Ordering) (read : HoldsAt (λ q. q ≡ o) (map (λ k. path_cmp (folded ignore_case k.name) (folded ignore_case name)) (map named_value names)) low) where
+    answer_is : (x : NamedValue) → get_or (map named_value names) low x ≡ x → cmp_to x ≡ o
+    answer_is x here = sym (ap cmp_to here) ∙ sym (get_or-map cmp_to (map named_value names) low x) ∙ read (cmp_to x)
 
-    pub find_some : (z : Named) → low < length (map (λ k. path_cmp (folded ignore_case k.name) (folded ignore_case name)) (map key_of names)) → is_eq o ≡ true → Some (get_or names low z).place ≡ position (test name) rs
+    pub find_some : (z : Named) → low < length (map (λ k. path_cmp (folded ignore_case k.name) (folded ignore_case name)) (map named_value names)) → is_eq o ≡ true → Some (get_or names low z).place ≡ position (test name) rs
     find_some z told eq =
-        let inside : low < length names = omega (arith, told, length-map (map key_of names) cmp_to, len) in
-        let x : Key = key_of (get_or names low z) in
-        let here : get_or (map key_of names) low (key_of (get_or names low z)) ≡ key_of (get_or names low z) = at_map key_of names low z (key_of (get_or names low z)) inside in
-        found_some ignore_case test rs (map key_of names) table name low p (key_of (get_or names low z)) (omega (arith, len)) here (answer_is (key_of (get_or names low z)) here ∙ tied_from o eq)
+        let inside : low < length names = omega (arith, told, length-map (map named_value names) cmp_to, len) in
+        let x : NamedValue = named_value (get_or names low z) in
+        let here : get_or (map named_value names) low (named_value (get_or names low z)) ≡ named_value (get_or names low z) = at_map named_value names low z (named_value (get_or names low z)) inside in
+        found_some ignore_case test rs (map named_value names) table name low p (named_value (get_or names low z)) (omega (arith, len)) here (answer_is (named_value (get_or names low z)) here ∙ tied_from o eq)
 
-pub keys_length : (f : Key → Ordering) (names : List Named) → length names ≡ length (map f (map key_of names))
-keys_length f names = sym (length-map (map key_of names) f ∙ length-map names key_of)
+pub keys_length : (f : NamedValue → Ordering) (names : List Named) → length names ≡ length (map f (map named_value names))
+keys_length f names = sym (length-map (map named_value names) f ∙ length-map names named_value)
 
-module _ (ignore_case : Bool) (test : List ℕ → Record → Bool) (rs : List Record) (names : List Named) (table : IsTableOf ignore_case test rs (map key_of names)) (name : List ℕ) where
-  abbrev answer : Key → Ordering
+module _ (ignore_case : Bool) (test : List ℕ → Record → Bool) (rs : List Record) (names : List Named) (table : IsTableOf ignore_case test rs (map named_value names)) (name : List ℕ) where
+  abbrev answer : NamedValue → Ordering
   answer k = path_cmp (folded ignore_case k.name) (folded ignore_case name)
 
-  gap_none : (low : ℕ) → low ≤ length names → IsGapAt (λ o. o) (map (λ k. path_cmp (folded ignore_case k.name) (folded ignore_case name)) (map key_of names)) low → None ≡ position (test name) rs
-  gap_none low fits gap = found_none ignore_case test rs (map key_of names) table name low (gap_parted (map answer (map key_of names)) low (omega (arith, keys_length answer names)) gap)
-      (λ x inside here. let above : get_or (map answer (map key_of names)) low (answer x) ≡ Greater = gap.above low (answer x) (omega arith) (omega (arith, length-map (map key_of names) answer)) in
-      ap is_eq (sym (ap answer here) ∙ sym (get_or-map answer (map key_of names) low x) ∙ above))
+  gap_none : (low : ℕ) → low ≤ length names → IsGapAt (λ o. o) (map (λ k. path_cmp (folded ignore_case k.name) (folded ignore_case name)) (map named_value names)) low → None ≡ position (test name) rs
+  gap_none low fits gap = found_none ignore_case test rs (map named_value names) table name low (gap_parted (map answer (map named_value names)) low (omega (arith, keys_length answer names)) gap)
+      (λ x inside here. let above : get_or (map answer (map named_value names)) low (answer x) ≡ Greater = gap.above low (answer x) (omega arith) (omega (arith, length-map (map named_value names) answer)) in
+      ap is_eq (sym (ap answer here) ∙ sym (get_or-map answer (map named_value names) low x) ∙ above))
 
-  pub find_gap : (r : Result ℕ ℕ) → IfErr r (λ i. i ≤ length names) → IfErr r (IsGapAt (λ o. o) (map (λ k. path_cmp (folded ignore_case k.name) (folded ignore_case name)) (map key_of names))) → (low : ℕ) → r ≡ Err low → None ≡ position (test name) rs
-  find_gap r fits gap low e = gap_none low (err_is r low (λ i. i ≤ length names) e fits) (err_is r low (IsGapAt (λ o. o) (map (λ k. path_cmp (folded ignore_case k.name) (folded ignore_case name)) (map key_of names))) e gap)
+  pub find_gap : (r : Result ℕ ℕ) → IfErr r (λ i. i ≤ length names) → IfErr r (IsGapAt (λ o. o) (map (λ k. path_cmp (folded ignore_case k.name) (folded ignore_case name)) (map named_value names))) → (low : ℕ) → r ≡ Err low → None ≡ position (test name) rs
+  find_gap r fits gap low e = gap_none low (err_is r low (λ i. i ≤ length names) e fits) (err_is r low (IsGapAt (λ o. o) (map (λ k. path_cmp (folded ignore_case k.name) (folded ignore_case name)) (map named_value names))) e gap)
 
 pub count_small : (m n count : ℕ) → m ≡ n → 0 < n → count ≤ digits m → count ≤ n / 2 + 1
 count_small m n count e some h = let same : digits m ≡ digits n = ap digits e in omega (arith, same, h, digits-half n some, digits_small (n / 2))

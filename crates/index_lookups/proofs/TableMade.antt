@@ -16,7 +16,7 @@ use Rattle.std.proofs.lemmas.List.Sorted.{Contains-permutation, IsPermutation-sy
 use Rattle.index_entries.specs.Record.{Record}
 use Rattle.index_lookups.specs.Closest.{is_directory, is_below}
 use Rattle.index_lookups.specs.Folded.{folded, is_same, stands_in_folded}
-use Rattle.index_lookups.specs.Names.{Key, key_at, key_cmp, keys_from, path_names, directory_names, fronts_upto, AreKeysOf, IsTableOf}
+use Rattle.index_lookups.specs.NameSteps.{NamedValue, named_at, named_cmp, named_from, path_names, directory_names, parents_upto, AreNamedIn, IsTableOf}
 
 -- ---- elements of what is put together
 
@@ -50,15 +50,15 @@ contains_none z c = absurd (omega (arith, c.1))
 
 -- ---- names with their places
 
-key_sound : (names : Record → List (List ℕ)) (i : ℕ) (rs : List Record) (k : Key) → Contains (keys_from names i rs) k → (i ≤ k.place) × (k.place < i + length rs) × ((q : Record) → Contains (names (get_or rs (k.place - i) q)) k.name)
-key_sound names i [] k c = absurd (contains_none k c)
-key_sound names i (r ∷ rs) k c = by (key_sound names (i + 1) rs k) (Contains-append_cases (map (key_at i) (names r)) (keys_from names (i + 1) rs) k c)
+named_sound : (names : Record → List (List ℕ)) (i : ℕ) (rs : List Record) (k : NamedValue) → Contains (named_from names i rs) k → (i ≤ k.place) × (k.place < i + length rs) × ((q : Record) → Contains (names (get_or rs (k.place - i) q)) k.name)
+named_sound names i [] k c = absurd (contains_none k c)
+named_sound names i (r ∷ rs) k c = by (named_sound names (i + 1) rs k) (Contains-append_cases (map (named_at i) (names r)) (named_from names (i + 1) rs) k c)
   where
-    by : (Contains (keys_from names (i + 1) rs) k → (i + 1 ≤ k.place) × (k.place < i + 1 + length rs) × ((q : Record) → Contains (names (get_or rs (k.place - (i + 1)) q)) k.name)) → Contains (map (key_at i) (names r)) k ⊎ Contains (keys_from names (i + 1) rs) k → (i ≤ k.place) × (k.place < i + length (r ∷ rs)) × ((q : Record) → Contains (names (get_or (r ∷ rs) (k.place - i) q)) k.name)
+    by : (Contains (named_from names (i + 1) rs) k → (i + 1 ≤ k.place) × (k.place < i + 1 + length rs) × ((q : Record) → Contains (names (get_or rs (k.place - (i + 1)) q)) k.name)) → Contains (map (named_at i) (names r)) k ⊎ Contains (named_from names (i + 1) rs) k → (i ≤ k.place) × (k.place < i + length (r ∷ rs)) × ((q : Record) → Contains (names (get_or (r ∷ rs) (k.place - i) q)) k.name)
     by later (inl d) =
-        let m = contains_map (key_at i) (names r) k d in
-        let at : i ≡ k.place = ap (λ (x : Key). x.place) m.2 in
-        let name : m.0 ≡ k.name = ap (λ (x : Key). x.name) m.2 in
+        let m = contains_map (named_at i) (names r) k d in
+        let at : i ≡ k.place = ap (λ (x : NamedValue). x.place) m.2 in
+        let name : m.0 ≡ k.name = ap (λ (x : NamedValue). x.name) m.2 in
         let first : k.place - i ≡ 0 = omega (arith, at) in
         (omega (arith, at), omega (arith, at), λ q. rw first (subst (λ (n : List ℕ). Contains (names r) n) name m.1))
     by later (inr d) =
@@ -66,26 +66,26 @@ key_sound names i (r ∷ rs) k c = by (key_sound names (i + 1) rs k) (Contains-a
         let next : k.place - i ≡ suc (k.place - (i + 1)) = omega (arith, h.0) in
         (omega (arith, h.0), omega (arith, h.1), λ q. rw next (h.2 q))
 
-key_complete : (names : Record → List (List ℕ)) (b : ℕ) (rs : List Record) (i : ℕ) (q : Record) (n : List ℕ) → i < length rs → Contains (names (get_or rs i q)) n → Contains (keys_from names b rs) (key_at (b + i) n)
-key_complete names b [] i q n within c = absurd (omega arith)
-key_complete names b (r ∷ rs) zero q n within c =
+named_complete : (names : Record → List (List ℕ)) (b : ℕ) (rs : List Record) (i : ℕ) (q : Record) (n : List ℕ) → i < length rs → Contains (names (get_or rs i q)) n → Contains (named_from names b rs) (named_at (b + i) n)
+named_complete names b [] i q n within c = absurd (omega arith)
+named_complete names b (r ∷ rs) zero q n within c =
     let e : b + 0 ≡ b = omega arith in
-    rw e (Contains-append_left (map (key_at b) (names r)) (keys_from names (b + 1) rs) (key_at b n) (contains_map_in (key_at b) (names r) n c))
-key_complete names b (r ∷ rs) (suc i) q n within c =
+    rw e (Contains-append_left (map (named_at b) (names r)) (named_from names (b + 1) rs) (named_at b n) (contains_map_in (named_at b) (names r) n c))
+named_complete names b (r ∷ rs) (suc i) q n within c =
     let e : b + suc i ≡ b + 1 + i = omega arith in
-    rw e (Contains-append_right (map (key_at b) (names r)) (keys_from names (b + 1) rs) (key_at (b + 1 + i) n) (key_complete names (b + 1) rs i q n (omega arith) c))
+    rw e (Contains-append_right (map (named_at b) (names r)) (named_from names (b + 1) rs) (named_at (b + 1 + i) n) (named_complete names (b + 1) rs i q n (omega arith) c))
 
-pub keys_are : (names : Record → List (List ℕ)) (rs : List Record) → AreKeysOf names rs (keys_from names 0 rs)
+pub keys_are : (names : Record → List (List ℕ)) (rs : List Record) → AreNamedIn names rs (named_from names 0 rs)
 keys_are names rs = record {
-  sound = λ k c. told k (key_sound names 0 rs k c);
-  complete = λ i q n within c. (key_at (0 + i) n, key_complete names 0 rs i q n within c, refl, omega arith);
+  sound = λ k c. told k (named_sound names 0 rs k c);
+  complete = λ i q n within c. (named_at (0 + i) n, named_complete names 0 rs i q n within c, refl, omega arith);
 }
   where
-    told : (k : Key) → (0 ≤ k.place) × (k.place < 0 + length rs) × ((q : Record) → Contains (names (get_or rs (k.place - 0) q)) k.name) → (k.place < length rs) × ((q : Record) → Contains (names (get_or rs k.place q)) k.name)
+    told : (k : NamedValue) → (0 ≤ k.place) × (k.place < 0 + length rs) × ((q : Record) → Contains (names (get_or rs (k.place - 0) q)) k.name) → (k.place < length rs) × ((q : Record) → Contains (names (get_or rs k.place q)) k.name)
     told k h = let e : k.place - 0 ≡ k.place = omega arith in (omega (arith, h.1), λ q. rw e at (h.2 q))
 
-pub table_made : (ignore_case : Bool) (names : Record → List (List ℕ)) (test : List ℕ → Record → Bool) (rs : List Record) (made ks : List Key) → AreKeysOf names rs made → IsPermutation made ks
-    → AllPairs (λ a b. key_cmp ignore_case a b ≢ Greater) ks
+pub table_made : (ignore_case : Bool) (names : Record → List (List ℕ)) (test : List ℕ → Record → Bool) (rs : List Record) (made ks : List NamedValue) → AreNamedIn names rs made → IsPermutation made ks
+    → AllPairs (λ a b. named_cmp ignore_case a b ≢ Greater) ks
     → ((n : List ℕ) (r : Record) → Contains (names r) n → test n r ≡ true)
     → ((name : List ℕ) (r : Record) → test name r ≡ true → (n : List ℕ) × Contains (names r) n × (folded ignore_case n ≡ folded ignore_case name))
     → ((a b : List ℕ) (r : Record) → folded ignore_case a ≡ folded ignore_case b → test a r ≡ test b r)
@@ -101,7 +101,7 @@ table_made ignore_case names test rs made ks is moved ordered passes has alike =
   ordered = ordered;
 }
   where
-    told : (j : ℕ) (d : Key) → j < length ks → ((get_or ks j d).place < length rs) × ((q : Record) → Contains (names (get_or rs (get_or ks j d).place q)) (get_or ks j d).name)
+    told : (j : ℕ) (d : NamedValue) → j < length ks → ((get_or ks j d).place < length rs) × ((q : Record) → Contains (names (get_or rs (get_or ks j d).place q)) (get_or ks j d).name)
     told j d l = is.sound (get_or ks j d) (Contains-permutation ks made (get_or ks j d) (IsPermutation-sym made ks moved) (Contains-get_or ks j d l))
 
 -- ---- paths
@@ -157,28 +157,28 @@ begins_to [] m c within e = absurd (omega arith)
 begins_to (x ∷ xs) zero c within e = let t : nat_eq c x ≡ true = grind (arith, nat_tests, e) in rw t refl
 begins_to (x ∷ xs) (suc m) c within e = let t : nat_eq x x ≡ true = grind (arith, nat_tests) in rw t (begins_to xs m c (omega arith) e)
 
-pub front_sound : (n : ℕ) (path f : List ℕ) → Contains (fronts_upto n path) f → (m : ℕ) × (m < n) × (get_or path m 0 ≡ 47) × (f ≡ take m path)
-front_sound zero path f c = absurd (contains_none f c)
-front_sound (suc n) path f c = by (front_sound n path f) (Contains-append_cases (fronts_upto n path) (cond (get_or path n 0 == 47) (take n path ∷ []) []) f c)
+pub parent_sound : (n : ℕ) (path f : List ℕ) → Contains (parents_upto n path) f → (m : ℕ) × (m < n) × (get_or path m 0 ≡ 47) × (f ≡ take m path)
+parent_sound zero path f c = absurd (contains_none f c)
+parent_sound (suc n) path f c = by (parent_sound n path f) (Contains-append_cases (parents_upto n path) (cond (get_or path n 0 == 47) (take n path ∷ []) []) f c)
   where
     here : (b : Bool) → (get_or path n 0 == 47) ≡ b → Contains (cond b (take n path ∷ []) []) f → (m : ℕ) × (m < suc n) × (get_or path m 0 ≡ 47) × (f ≡ take m path)
     here true e d = (n, omega arith, grind (arith, nat_tests, e), sym (contains_one (take n path) f d))
     here false e d = absurd (contains_none f d)
 
-    by : (Contains (fronts_upto n path) f → (m : ℕ) × (m < n) × (get_or path m 0 ≡ 47) × (f ≡ take m path)) → Contains (fronts_upto n path) f ⊎ Contains (cond (get_or path n 0 == 47) (take n path ∷ []) []) f → (m : ℕ) × (m < suc n) × (get_or path m 0 ≡ 47) × (f ≡ take m path)
+    by : (Contains (parents_upto n path) f → (m : ℕ) × (m < n) × (get_or path m 0 ≡ 47) × (f ≡ take m path)) → Contains (parents_upto n path) f ⊎ Contains (cond (get_or path n 0 == 47) (take n path ∷ []) []) f → (m : ℕ) × (m < suc n) × (get_or path m 0 ≡ 47) × (f ≡ take m path)
     by earlier (inl d) = let h = earlier d in (h.0, omega (arith, h.1), h.2, h.3)
     by earlier (inr d) = here (get_or path n 0 == 47) refl d
 
-pub front_complete : (n : ℕ) (path : List ℕ) (m : ℕ) → m < n → get_or path m 0 ≡ 47 → Contains (fronts_upto n path) (take m path)
-front_complete zero path m l e = absurd (omega arith)
-front_complete (suc n) path m l e = by (λ a. front_complete n path m a e) (cases_lt m n)
+pub parent_complete : (n : ℕ) (path : List ℕ) (m : ℕ) → m < n → get_or path m 0 ≡ 47 → Contains (parents_upto n path) (take m path)
+parent_complete zero path m l e = absurd (omega arith)
+parent_complete (suc n) path m l e = by (λ a. parent_complete n path m a e) (cases_lt m n)
   where
-    by : (m < n → Contains (fronts_upto n path) (take m path)) → (m < n) ⊎ (n ≤ m) → Contains (fronts_upto (suc n) path) (take m path)
-    by earlier (inl a) = Contains-append_left (fronts_upto n path) (cond (get_or path n 0 == 47) (take n path ∷ []) []) (take m path) (earlier a)
+    by : (m < n → Contains (parents_upto n path) (take m path)) → (m < n) ⊎ (n ≤ m) → Contains (parents_upto (suc n) path) (take m path)
+    by earlier (inl a) = Contains-append_left (parents_upto n path) (cond (get_or path n 0 == 47) (take n path ∷ []) []) (take m path) (earlier a)
     by earlier (inr b) =
         let same : m ≡ n = omega arith in
         let t : (get_or path n 0 == 47) ≡ true = grind (arith, nat_tests, e, same) in
-        rw (same, t) (Contains-append_right (fronts_upto n path) (take n path ∷ []) (take n path) (0, omega arith, refl))
+        rw (same, t) (Contains-append_right (parents_upto n path) (take n path ∷ []) (take n path) (0, omega arith, refl))
 
 pub or_cases : (a b : Bool) → (a || b) ≡ true → (a ≡ true) ⊎ (b ≡ true)
 or_cases true b e = inl refl
@@ -199,15 +199,15 @@ and_to : (a b : Bool) → a ≡ true → b ≡ true → (a && b) ≡ true
 and_to a b e f = rw (e, f) refl
 
 pub directories_pass : (ignore_case : Bool) (n : List ℕ) (r : Record) → Contains (directory_names true r) n → stands_in_folded ignore_case n r ≡ true
-directories_pass ignore_case n r c = by (Contains-append_cases (fronts_upto (length r.path) r.path) (cond (is_directory r) (r.path ∷ []) []) n c)
+directories_pass ignore_case n r c = by (Contains-append_cases (parents_upto (length r.path) r.path) (cond (is_directory r) (r.path ∷ []) []) n c)
   where
     itself : (b : Bool) → is_directory r ≡ b → Contains (cond b (r.path ∷ []) []) n → stands_in_folded ignore_case n r ≡ true
     itself true e d = or_left _ _ (and_to _ _ e (same_to (folded ignore_case r.path) (folded ignore_case n) (ap (folded ignore_case) (contains_one r.path n d))))
     itself false e d = absurd (contains_none n d)
 
-    by : Contains (fronts_upto (length r.path) r.path) n ⊎ Contains (cond (is_directory r) (r.path ∷ []) []) n → stands_in_folded ignore_case n r ≡ true
+    by : Contains (parents_upto (length r.path) r.path) n ⊎ Contains (cond (is_directory r) (r.path ∷ []) []) n → stands_in_folded ignore_case n r ≡ true
     by (inl d) =
-        let h = front_sound (length r.path) r.path n d in
+        let h = parent_sound (length r.path) r.path n d in
         let name : folded ignore_case n ≡ take h.0 (folded ignore_case r.path) = ap (folded ignore_case) h.3 ∙ folded_take ignore_case h.0 r.path in
         let t = begins_to (folded ignore_case r.path) h.0 47 (omega (arith, h.1, folded_length ignore_case r.path)) (slash_to ignore_case r.path h.0 h.2) in
         or_right _ _ (ap (λ (x : List ℕ). starts_with nat_eq (folded ignore_case r.path) (x ++ 47 ∷ [])) name ∙ t)
@@ -220,40 +220,40 @@ directories_have ignore_case name r t = by (or_cases _ _ t)
     by (inl e) =
         let both = and_both (is_directory r) (is_same ignore_case r.path name) e in
         let there : Contains (cond (is_directory r) (r.path ∷ []) []) r.path = rw both.0 (0, omega arith, refl) in
-        (r.path, Contains-append_right (fronts_upto (length r.path) r.path) (cond (is_directory r) (r.path ∷ []) []) r.path there, same_from (folded ignore_case r.path) (folded ignore_case name) both.1)
+        (r.path, Contains-append_right (parents_upto (length r.path) r.path) (cond (is_directory r) (r.path ∷ []) []) r.path there, same_from (folded ignore_case r.path) (folded ignore_case name) both.1)
     by (inr e) =
         let m : ℕ = length (folded ignore_case name) in
         let h = begins_at (folded ignore_case name) (folded ignore_case r.path) 47 e in
-        let there = front_complete (length r.path) r.path (length (folded ignore_case name)) (omega (arith, h.0, folded_length ignore_case r.path)) (slash_from ignore_case r.path (length (folded ignore_case name)) h.1) in
-        (take (length (folded ignore_case name)) r.path, Contains-append_left (fronts_upto (length r.path) r.path) (cond (is_directory r) (r.path ∷ []) []) (take (length (folded ignore_case name)) r.path) there, folded_take ignore_case (length (folded ignore_case name)) r.path ∙ h.2)
+        let there = parent_complete (length r.path) r.path (length (folded ignore_case name)) (omega (arith, h.0, folded_length ignore_case r.path)) (slash_from ignore_case r.path (length (folded ignore_case name)) h.1) in
+        (take (length (folded ignore_case name)) r.path, Contains-append_left (parents_upto (length r.path) r.path) (cond (is_directory r) (r.path ∷ []) []) (take (length (folded ignore_case name)) r.path) there, folded_take ignore_case (length (folded ignore_case name)) r.path ∙ h.2)
 
 pub directories_alike : (ignore_case : Bool) (a b : List ℕ) (r : Record) → folded ignore_case a ≡ folded ignore_case b → stands_in_folded ignore_case a r ≡ stands_in_folded ignore_case b r
 directories_alike ignore_case a b r e = ap (λ (x : List ℕ). (is_directory r && bytes_eq (folded ignore_case r.path) x) || starts_with nat_eq (folded ignore_case r.path) (x ++ 47 ∷ [])) e
 
-pub path_keys_length : (i : ℕ) (rs : List Record) → length (keys_from path_names i rs) ≡ length rs
+pub path_keys_length : (i : ℕ) (rs : List Record) → length (named_from path_names i rs) ≡ length rs
 path_keys_length i [] = refl
 path_keys_length i (r ∷ rs) = ap suc (path_keys_length (i + 1) rs)
 
 -- ---- directories that records stand below
 
-below_alone : (r : Record) (n : List ℕ) → Contains (directory_names false r) n → Contains (fronts_upto (length r.path) r.path) n
-below_alone r n c = by (Contains-append_cases (fronts_upto (length r.path) r.path) [] n c)
+below_alone : (r : Record) (n : List ℕ) → Contains (directory_names false r) n → Contains (parents_upto (length r.path) r.path) n
+below_alone r n c = by (Contains-append_cases (parents_upto (length r.path) r.path) [] n c)
   where
-    by : Contains (fronts_upto (length r.path) r.path) n ⊎ Contains [] n → Contains (fronts_upto (length r.path) r.path) n
+    by : Contains (parents_upto (length r.path) r.path) n ⊎ Contains [] n → Contains (parents_upto (length r.path) r.path) n
     by (inl d) = d
     by (inr d) = absurd (contains_none n d)
 
-pub fronts_pass : (n : List ℕ) (r : Record) → Contains (directory_names false r) n → is_below n r ≡ true
-fronts_pass n r c =
-    let h = front_sound (length r.path) r.path n (below_alone r n c) in
+pub parents_pass : (n : List ℕ) (r : Record) → Contains (directory_names false r) n → is_below n r ≡ true
+parents_pass n r c =
+    let h = parent_sound (length r.path) r.path n (below_alone r n c) in
     let t = begins_to r.path h.0 47 h.1 h.2 in
     ap (λ (x : List ℕ). starts_with nat_eq r.path (x ++ 47 ∷ [])) h.3 ∙ t
 
-pub fronts_have : (name : List ℕ) (r : Record) → is_below name r ≡ true → (n : List ℕ) × Contains (directory_names false r) n × (n ≡ name)
-fronts_have name r t =
+pub parents_have : (name : List ℕ) (r : Record) → is_below name r ≡ true → (n : List ℕ) × Contains (directory_names false r) n × (n ≡ name)
+parents_have name r t =
     let b = begins_at name r.path 47 t in
-    let there = front_complete (length r.path) r.path (length name) b.0 b.1 in
-    (take (length name) r.path, Contains-append_left (fronts_upto (length r.path) r.path) [] (take (length name) r.path) there, b.2)
+    let there = parent_complete (length r.path) r.path (length name) b.0 b.1 in
+    (take (length name) r.path, Contains-append_left (parents_upto (length r.path) r.path) [] (take (length name) r.path) there, b.2)
 
-pub fronts_alike : (a b : List ℕ) (r : Record) → a ≡ b → is_below a r ≡ is_below b r
-fronts_alike a b r e = ap (λ (x : List ℕ). is_below x r) e
+pub parents_alike : (a b : List ℕ) (r : Record) → a ≡ b → is_below a r ≡ is_below b r
+parents_alike a b r e = ap (λ (x : List ℕ). is_below x r) e

@@ -10,16 +10,17 @@ use Rattle.std.specs.declared.cmp.Ordering.{Ordering}
 use Rattle.std.specs.declared.cmp.Ordering.TheVariants.{Less, Equal, Greater}
 use Rattle.std.proofs.lemmas.Bool.{cases_lt, false_from_ne_true}
 use Rattle.std.proofs.lemmas.Bool.Decides.{nat_tests}
-use Rattle.std.proofs.lemmas.List.{get_or-map, get_or_default, length-map}
-use Rattle.index_parts.specs.Flags.{stage_number}
+use Rattle.std.proofs.lemmas.List.{get_or_default, length-map}
+use Rattle.index_metadata.specs.Flags.{stage_number}
 use Rattle.index_entries.specs.declared.Entry.{Entry}
 use Rattle.index_lookups.specs.Lookup.{HasKey, has_key, place_of}
 use Rattle.index_entries.specs.Order.{IsOrderedByPath, IsStrictlyOrdered, path_cmp, record_cmp, record_stage}
-use Rattle.index_entries.specs.Record.{Record, record_in, records_in}
-use Rattle.index_entries.proofs.Order.{same_path}
+use Rattle.index_entries.specs.Record.{Record}
+use Rattle.index_entries.specs.Slice.{IsRecordOf}
+use Rattle.index_entries.proofs.Orders.{same_path}
 use Rattle.index_lookups.specs.Range.{HasStageOf, is_at, place_of_path}
-use Rattle.index_lookups.specs.Search.{IsGapAt, IsPartedAt, asked_cmp}
-use Rattle.index_lookups.specs.Wanted.{is_wanted, is_wanted_at}
+use Rattle.index_lookups.specs.SearchSteps.{IsGapAt, IsPartedAt, asked_cmp}
+use Rattle.index_lookups.specs.RangeSteps.{is_wanted, is_wanted_at}
 use Rattle.index_lookups.specs.declared.range.Wanted.{Wanted}
 use Rattle.index_lookups.specs.declared.range.Wanted.TheVariants.{OurSide}
 use Rattle.index_lookups.proofs.Halving.{position_is, position_none}
@@ -43,21 +44,15 @@ is_other Less e = refl
 is_other Equal e = cc
 is_other Greater e = refl
 
-module _ (path storage : List ℕ) (es : List Entry) (place : ℕ) (z : Entry) (p : List ℕ) (o : Ordering) (within : place < length es) (name : p ≡ (record_in storage (get_or es place z)).path) (told : o ≡ path_cmp p path) where
-  here : (d : Record) → get_or (records_in storage es) place d ≡ record_in storage (get_or es place z)
-  here d = get_or-map (record_in storage) es place z d within
+module _ (path : List ℕ) (rs : List Record) (place : ℕ) (p : List ℕ) (o : Ordering) (name : HoldsAt (λ r. r.path ≡ p) rs place) (told : o ≡ path_cmp p path) where
+  at_path : (d : Record) → is_at path (get_or rs place d) ≡ is_eq o
+  at_path d = sym (at_is path (get_or rs place d)) ∙ ap (λ (q : List ℕ). is_eq (path_cmp q path)) (name d) ∙ ap is_eq (sym told)
 
-  at_path : is_at path (record_in storage (get_or es place z)) ≡ is_eq o
-  at_path = sym (at_is path (record_in storage (get_or es place z))) ∙ ap (λ (q : List ℕ). is_eq (path_cmp q path)) (sym name) ∙ ap is_eq (sym told)
+  pub other_at : is_ne o ≡ true → HoldsAt (λ r. is_at path r ≡ false) rs place
+  other_at e d = at_path d ∙ is_other o e
 
-  pub other_at : is_ne o ≡ true → HoldsAt (λ r. is_at path r ≡ false) (records_in storage es) place
-  other_at e d = ap (is_at path) (here d) ∙ at_path ∙ is_other o e
-
-  pub wanted_at : (wanted : Wanted) (b : Bool) → is_ne o ≡ false → b ≡ is_wanted wanted (get_or es place z).mode.0 (stage_number (get_or es place z).flags.0) → HoldsAt (λ r. is_wanted_at path wanted r ≡ b) (records_in storage es) place
-  wanted_at wanted b e asked d =
-      ap (is_wanted_at path wanted) (here d)
-      ∙ ap (λ (t : Bool). t && is_wanted wanted (get_or es place z).mode.0 (stage_number (get_or es place z).flags.0)) (at_path ∙ is_equal o e)
-      ∙ sym asked
+  pub wanted_at : (wanted : Wanted) (b : Bool) (entry : Entry) → HoldsAt (IsRecordOf entry) rs place → is_ne o ≡ false → b ≡ is_wanted wanted entry.mode.0 (stage_number entry.flags.0) → HoldsAt (λ r. is_wanted_at path wanted r ≡ b) rs place
+  wanted_at wanted b entry is e asked d = rw (at_path d ∙ is_equal o e, (is d).mode, (is d).flags) (sym asked)
 
 -- ---- the first that is wanted
 

@@ -1,4 +1,4 @@
--- The number of binary digits of a number.
+-- The number of binary digits of a number, by which a search's comparisons are bounded (the library's own).
 use Rattle.std.specs.Prelude.{ℕ, zero, suc, ◌/◌}
 
 -- the digits of m: one, and those of its half; n bounds the halvings

@@ -3,9 +3,9 @@ pub mod Digits
 pub mod FilterMap
 pub mod Folded
 pub mod Lookup
-pub mod Names
+pub mod NameSteps
 pub mod Range
-pub mod Search
-pub mod Spans
+pub mod RangeSteps
+pub mod SearchSteps
+pub mod SpanSteps
 pub mod Tables
-pub mod Wanted

@@ -1,5 +1,5 @@
--- What a path, or a path and a stage, finds among records. Each definition speaks of any list; where the list is
--- in order, a search gives what it says.
+-- What a path, or a path and a stage, finds among records (the library's own). Each definition speaks of any list;
+-- where the list is in order, a search gives what it says.
 use Rattle.std.specs.Prelude.{◌≡◌, ◌≢◌, ℕ, ◌<◌, ◌==◌, Bool, ◌&&◌, List, All, length, Option, position, count_by}
 use Rattle.std.specs.List.{HoldsAt}
 use Rattle.std.specs.Ordering.{is_lt}

@@ -1,5 +1,5 @@
--- Which places of a list of records have a path, or begin with a prefix. Each definition speaks of any list; over
--- records ordered by path such places stand together.
+-- Which places of a list of records have a path, or begin with a prefix (the library's own). Each definition speaks of
+-- any list; over records ordered by path such places stand together.
 use Rattle.std.specs.Prelude.{◌≡◌, ℕ, ◌<◌, ◌≤◌, ◌⊎◌, Bool, true, false, List, [], ◌∷◌, length, All, Option, MatchOption, nat_eq, slice_range}
 use Rattle.std.specs.List.{AllWithin, starts_with}
 use Rattle.std.specs.Option.{option_or}
@@ -25,8 +25,8 @@ pub record IsRun {X : Type 0} (test : X → Bool) (xs : List X) (start end : ℕ
   pub behind : AllWithin (λ x. test x ≡ false) xs end (length xs)
 
 -- places of the list: the range ends inside it, and not before it starts
-abbrev pub IsWithin : {X : Type 0} → List X → Range ℕ → Type 0
-IsWithin xs p = (p.start ≤ p.end) × (p.end ≤ length xs)
+abbrev pub LiesWithin : {X : Type 0} → List X → Range ℕ → Type 0
+LiesWithin xs p = (p.start ≤ p.end) × (p.end ≤ length xs)
 
 -- the same, and at least one place
 abbrev pub IsPart : {X : Type 0} → List X → Range ℕ → Type 0

@@ -3,12 +3,13 @@
 ghost use Rattle.std.specs.Prelude.{◌≡◌, ◌≤◌, ◌+◌, ℕ, List, All, length, IfOk, is_some, option_and_then, slice_get, false, true};
 ghost use Rattle.std.specs.Option.{option_copied};
 ghost use Rattle.index_lookups.specs.Digits.{digits};
-ghost use Rattle.index_entries.specs.Record.{IsPlaced, Record, records_in};
+ghost use Rattle.index_entries.specs.Record.{Record, IsPlaced, records_in};
 ghost use Rattle.index_lookups.specs.Folded.{IsNamed, folded_closest, folded_place};
-ghost use Rattle.index_lookups.specs.Names.{AreNames};
+ghost use Rattle.index_lookups.specs.NameSteps.{AreNames};
 
 use crate::names::{Named, directory_table, find, path_table};
 use index_entries::Entry;
+use index_entries::slice::EntrySlice;
 use std::alloc::{AllocError, Global};
 use std::marker::Model;
 
@@ -16,8 +17,7 @@ use std::marker::Model;
 /// entries that it was made from.
 #[derive(Drop)]
 pub struct AccelerateLookup<'a> {
-    entries: &'a [Entry],
-    backing: &'a [u8],
+    entries: EntrySlice<'a>,
     paths: Vec<Named<'a>>,
     folded_paths: Vec<Named<'a>>,
     directories: Vec<Named<'a>>,
@@ -27,9 +27,9 @@ pub struct AccelerateLookup<'a> {
 impl<'a> Model for AccelerateLookup<'a> {
     ghost Value = { List Record };
 
-    ghost view = { λ t. records_in t.backing.now t.entries.now };
+    ghost view = { λ t. t.entries };
 
-    ghost invariant = { λ t. AreNames (records_in t.backing.now t.entries.now)
+    ghost invariant = { λ t. AreNames t.entries
         t.paths.items t.folded_paths.items t.directories.items t.folded_directories.items };
 }
 
@@ -44,13 +44,13 @@ impl<'a> AccelerateLookup<'a> {
         requires { All (IsPlaced (length backing.now)) entries.now }
         ensures { IfOk result (λ lookup. lookup ≡ records_in backing.now entries.now) }
     {
-        let paths = path_table(alloc, entries, backing, false)?;
-        let folded_paths = path_table(alloc, entries, backing, true)?;
-        let directories = directory_table(alloc, entries, backing, false)?;
-        let folded_directories = directory_table(alloc, entries, backing, true)?;
+        let entries = EntrySlice::new(entries, backing);
+        let paths = path_table(alloc, &entries, false)?;
+        let folded_paths = path_table(alloc, &entries, true)?;
+        let directories = directory_table(alloc, &entries, false)?;
+        let folded_directories = directory_table(alloc, &entries, true)?;
         Ok(AccelerateLookup {
             entries,
-            backing,
             paths,
             folded_paths,
             directories,
@@ -60,7 +60,8 @@ impl<'a> AccelerateLookup<'a> {
 
     /// How many directories there are: those that entries stand for or below, each name once, folded where asked.
     pub fn directories(&self, ignore_case: bool) -> usize
-        ensures { (names : List (List ℕ)) × IsNamed ignore_case self.now names × (result ≡ length names) }
+        ensures { (names : List (List ℕ)) × IsNamed ignore_case self.now names
+            × (result ≡ length names) }
     {
         if ignore_case {
             self.folded_directories.len()
@@ -69,7 +70,7 @@ impl<'a> AccelerateLookup<'a> {
         }
     }
 
-    /// The place of the first entry at the path, in the order of the entries, or None; and how many paths were
+    /// The index of the first entry at the path, in the order of the entries, or None; and how many paths were
     /// compared: of n entries at most one more than n has binary digits.
     pub fn search_path_icase(&self, path: &[u8], ignore_case: bool) -> (Option<usize>, usize)
         ensures answer { result.0 ≡ folded_place ignore_case path.now self.now }
@@ -82,8 +83,8 @@ impl<'a> AccelerateLookup<'a> {
         }
     }
 
-    /// The place of the first entry that is the directory or stands below it, in the order of the entries, or None;
-    /// and how many names were compared: of m directories at most one more than m has binary digits.
+    /// The index of the first entry that is the directory or stands below it, in the order of the entries, or None; and
+    /// how many names were compared: of m directories at most one more than m has binary digits.
     pub fn search_directory_icase(
         &self,
         directory: &[u8],
@@ -106,33 +107,4 @@ impl<'a> AccelerateLookup<'a> {
     {
         self.search_directory_icase(path, ignore_case).0.is_some()
     }
-}
-
-/// The first entry at the path, in their order, or None.
-pub fn entry_by_path_icase<'a>(
-    entries: &'a [Entry],
-    path: &[u8],
-    ignore_case: bool,
-    lookup: &AccelerateLookup<'_>,
-) -> Option<&'a Entry>
-    requires { length lookup.now ≡ length entries.now }
-    ensures { option_copied result ≡ option_and_then (slice_get entries.now) (folded_place ignore_case path.now lookup.now) }
-{
-    let place = lookup.search_path_icase(path, ignore_case).0?;
-    Some(&entries[place])
-}
-
-/// The first entry that is the directory or stands below it, in their order, or None.
-pub fn entry_closest_to_directory_or_directory_icase<'a>(
-    entries: &'a [Entry],
-    directory: &[u8],
-    ignore_case: bool,
-    lookup: &AccelerateLookup<'_>,
-) -> Option<&'a Entry>
-    requires { length lookup.now ≡ length entries.now }
-    ensures { option_copied result
-        ≡ option_and_then (slice_get entries.now) (folded_closest ignore_case directory.now lookup.now) }
-{
-    let place = lookup.search_directory_icase(directory, ignore_case).0?;
-    Some(&entries[place])
 }

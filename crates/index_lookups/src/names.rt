@@ -5,15 +5,16 @@ ghost use Rattle.std.specs.List.Sorted.{IsPermutation};
 ghost use Rattle.std.specs.declared.cmp.Ordering.TheVariants.{Greater, Less};
 ghost use Rattle.index_lookups.specs.Digits.{digits};
 ghost use Rattle.index_entries.specs.Order.{path_cmp};
-ghost use Rattle.index_entries.specs.Record.{IsPlaced, Record, records_in};
+ghost use Rattle.index_entries.specs.Record.{Record};
 ghost use Rattle.index_lookups.specs.Closest.{is_below};
 ghost use Rattle.index_lookups.specs.Folded.{folded};
-ghost use Rattle.index_lookups.specs.Names.{AreKeysOf, IsDirectoryTable, IsFirstOfEach, IsPathTable, IsSharedFront, IsTableOf, directory_names, fronts_between, key_at, key_cmp, key_of, keys_from, path_names};
+ghost use Rattle.index_lookups.specs.NameSteps.{AreNamedIn, IsDirectoryTable, IsFirstOfEach, IsPathTable, IsSharedPrefix, IsTableOf, directory_names, parents_between, named_at, name_answers, named_cmp, named_value, named_from, path_names};
 
 use crate::range::{Wanted, is_wanted};
-use crate::search::{Row, search_within};
+use crate::search::{Ordered, search_within};
 use index_entries::Entry;
 use index_entries::paths::shared_len;
+use index_entries::slice::EntrySlice;
 use std::alloc::{AllocError, Global};
 use std::cmp::Ordering;
 
@@ -59,7 +60,7 @@ pub(crate) struct Named<'a> {
 
 /// Where a name stands to another, and at the same name by their places.
 fn compare_named(a: &Named, b: &Named, ignore_case: bool) -> Ordering
-    ensures { result ≡ key_cmp ignore_case (key_of a.now) (key_of b.now) }
+    ensures { result ≡ named_cmp ignore_case (named_value a.now) (named_value b.now) }
 {
     compare_names(a.name, b.name, ignore_case).then(a.place.cmp(&b.place))
 }
@@ -67,8 +68,10 @@ fn compare_named(a: &Named, b: &Named, ignore_case: bool) -> Ordering
 /// Puts names in their order.
 fn sort_names(names: &mut Vec<Named<'_>>, ignore_case: bool)
     ensures len { length names.new.items ≡ length names.old.items }
-    ensures permutation { IsPermutation (map key_of names.old.items) (map key_of names.new.items) }
-    ensures ordered { AllPairs (λ a b. key_cmp ignore_case a b ≢ Greater) (map key_of names.new.items) }
+    ensures permutation { IsPermutation (map named_value names.old.items)
+        (map named_value names.new.items) }
+    ensures ordered { AllPairs (λ a b. named_cmp ignore_case a b ≢ Greater)
+        (map named_value names.new.items) }
 {
     names.sort_unstable_by(|a, b| compare_named(a, b, ignore_case));
 }
@@ -79,8 +82,10 @@ fn first_of_each<'a>(
     names: &[Named<'a>],
     ignore_case: bool,
 ) -> Result<Vec<Named<'a>>, AllocError>
-    requires { AllPairs (λ a b. key_cmp ignore_case a b ≢ Greater) (map key_of names.now) }
-    ensures { IfOk result (λ kept. IsFirstOfEach ignore_case (map key_of names.now) (map key_of kept.items)) }
+    requires { AllPairs (λ a b. named_cmp ignore_case a b ≢ Greater) (map named_value names.now) }
+    ensures { IfOk result
+        (λ kept. IsFirstOfEach ignore_case (map named_value names.now)
+        (map named_value kept.items)) }
 {
     let mut kept = Vec::new(alloc);
     for i in 0..names.len() {
@@ -91,16 +96,16 @@ fn first_of_each<'a>(
     Ok(kept)
 }
 
-/// Puts each front before a slash, of those that are so long or longer, behind the names.
-fn push_fronts<'a>(
+/// Puts each directory that the path is below, of those that have so many bytes or more, after the names.
+fn push_parents<'a>(
     names: &mut Vec<Named<'a>>,
     path: &'a [u8],
     from: usize,
     place: usize,
 ) -> Result<(), AllocError>
     requires { from ≤ length path.now }
-    ensures { OnOk result (map key_of names.new.items ≡ map key_of names.old.items
-        ++ map (key_at place) (fronts_between from (length path.now) path.now)) }
+    ensures { OnOk result (map named_value names.new.items ≡ map named_value names.old.items
+        ++ map (named_at place) (parents_between from (length path.now) path.now)) }
 {
     for i in from..path.len() {
         if path[i] == b'/' {
@@ -114,34 +119,25 @@ fn push_fronts<'a>(
 }
 
 /// How many bytes a path begins with as the path before it does; none of the first.
-fn shared_with_last(entries: &[Entry], backing: &[u8], place: usize) -> usize
-    requires placed { All (IsPlaced (length backing.now)) entries.now }
-    requires inside { place < length entries.now }
-    ensures shared { IsSharedFront (records_in backing.now entries.now) place result }
-    ensures within { (q : Record) → result ≤ length (slice_index_or (records_in backing.now entries.now) place q).path }
+fn shared_with_last(entries: &EntrySlice<'_>, place: usize) -> usize
+    requires { place < length entries.now }
+    ensures shared { IsSharedPrefix entries.now place result }
+    ensures within { (q : Record) → result ≤ length (slice_index_or entries.now place q).path }
 {
     if place == 0 {
         return 0;
     }
-    shared_len(
-        entries[place - 1].path_in(backing),
-        entries[place].path_in(backing),
-    )
+    shared_len(entries.path(place - 1), entries.path(place))
 }
 
 /// The paths of the entries.
-fn paths_of<'a>(
-    alloc: Global,
-    entries: &'a [Entry],
-    backing: &'a [u8],
-) -> Result<Vec<Named<'a>>, AllocError>
-    requires { All (IsPlaced (length backing.now)) entries.now }
-    ensures { IfOk result (λ names. map key_of names.items
-        ≡ keys_from path_names 0 (records_in backing.now entries.now)) }
+fn paths_of<'a>(alloc: Global, entries: &EntrySlice<'a>) -> Result<Vec<Named<'a>>, AllocError>
+    ensures { IfOk result (λ names. map named_value names.items
+        ≡ named_from path_names 0 entries.now) }
 {
     let mut names = Vec::new(alloc);
     for place in 0..entries.len() {
-        let name = entries[place].path_in(backing);
+        let name = entries.path(place);
         names.push(Named { name, place })?;
     }
     Ok(names)
@@ -151,20 +147,18 @@ fn paths_of<'a>(
 /// common with the one before it has been named there.
 fn directories_of<'a>(
     alloc: Global,
-    entries: &'a [Entry],
-    backing: &'a [u8],
+    entries: &EntrySlice<'a>,
     own: bool,
 ) -> Result<Vec<Named<'a>>, AllocError>
-    requires { All (IsPlaced (length backing.now)) entries.now }
-    ensures { IfOk result (λ names. AreKeysOf (directory_names own)
-        (records_in backing.now entries.now) (map key_of names.items)) }
+    ensures { IfOk result (λ names. AreNamedIn (directory_names own)
+        entries.now (map named_value names.items)) }
 {
     let mut names = Vec::new(alloc);
     for place in 0..entries.len() {
-        let name = entries[place].path_in(backing);
-        let shared = shared_with_last(entries, backing, place);
-        push_fronts(&mut names, name, shared, place)?;
-        let stands = own && is_wanted(&entries[place], Wanted::Directory);
+        let name = entries.path(place);
+        let shared = shared_with_last(entries, place);
+        push_parents(&mut names, name, shared, place)?;
+        let stands = own && is_wanted(entries.entry(place), Wanted::Directory);
         if stands {
             names.push(Named { name, place })?;
         }
@@ -174,16 +168,14 @@ fn directories_of<'a>(
 
 /// Names of a table, to a name that is looked for.
 #[derive(Clone, Copy)]
-struct Names<'a> {
+struct NamedSearch<'a> {
     names: &'a [Named<'a>],
     name: &'a [u8],
     ignore_case: bool,
 }
 
-impl Row for Names<'_> {
-    ghost answers = { λ s. map (λ k. path_cmp (folded s.ignore_case k.name) (folded s.ignore_case s.name.now)) (map key_of s.names.now) };
-
-    ghost can_ask = { λ _. ⊤ };
+impl Ordered for NamedSearch<'_> {
+    ghost answers = { λ s. name_answers s.ignore_case s.names.now s.name.now };
 
     fn len(&self) -> usize {
         self.names.len()
@@ -197,15 +189,16 @@ impl Row for Names<'_> {
 /// The least place that the table has for the name; and how many names were compared.
 pub(crate) fn find(names: &[Named<'_>], name: &[u8], ignore_case: bool) -> (Option<usize>, usize)
     ensures answer { (test : List ℕ → Record → Bool) (rs : List Record)
-        → IsTableOf ignore_case test rs (map key_of names.now) → result.0 ≡ position (test name.now) rs }
+        → IsTableOf ignore_case test rs (map named_value names.now)
+        → result.0 ≡ position (test name.now) rs }
     ensures count { result.1 ≤ digits (length names.now) + 1 }
 {
-    let row = Names {
+    let places = NamedSearch {
         names,
         name,
         ignore_case,
     };
-    let (found, count) = search_within(&row, 0, names.len());
+    let (found, count) = search_within(&places, 0, names.len());
     match found {
         Ok(at) => (Some(names[at].place), count),
         Err(_) => (None, count),
@@ -215,14 +208,12 @@ pub(crate) fn find(names: &[Named<'_>], name: &[u8], ignore_case: bool) -> (Opti
 /// The table of the entries' paths.
 pub(crate) fn path_table<'a>(
     alloc: Global,
-    entries: &'a [Entry],
-    backing: &'a [u8],
+    entries: &EntrySlice<'a>,
     ignore_case: bool,
 ) -> Result<Vec<Named<'a>>, AllocError>
-    requires { All (IsPlaced (length backing.now)) entries.now }
-    ensures { IfOk result (λ names. IsPathTable ignore_case (records_in backing.now entries.now) names.items) }
+    ensures { IfOk result (λ names. IsPathTable ignore_case entries.now names.items) }
 {
-    let mut names = paths_of(alloc, entries, backing)?;
+    let mut names = paths_of(alloc, entries)?;
     sort_names(&mut names, ignore_case);
     Ok(names)
 }
@@ -230,31 +221,27 @@ pub(crate) fn path_table<'a>(
 /// The table of the directories that the entries stand for, or below.
 pub(crate) fn directory_table<'a>(
     alloc: Global,
-    entries: &'a [Entry],
-    backing: &'a [u8],
+    entries: &EntrySlice<'a>,
     ignore_case: bool,
 ) -> Result<Vec<Named<'a>>, AllocError>
-    requires { All (IsPlaced (length backing.now)) entries.now }
-    ensures { IfOk result (λ names. IsDirectoryTable ignore_case (records_in backing.now entries.now) names.items) }
+    ensures { IfOk result (λ names. IsDirectoryTable ignore_case entries.now names.items) }
 {
-    let mut names = directories_of(alloc, entries, backing, true)?;
+    let mut names = directories_of(alloc, entries, true)?;
     sort_names(&mut names, ignore_case);
     first_of_each(alloc, &names, ignore_case)
 }
 
 /// The table of the directories that entries stand below.
-pub(crate) fn front_table<'a>(
+pub(crate) fn directory_starts<'a>(
     alloc: Global,
-    entries: &'a [Entry],
-    backing: &'a [u8],
+    entries: &EntrySlice<'a>,
 ) -> Result<Vec<Named<'a>>, AllocError>
-    requires { All (IsPlaced (length backing.now)) entries.now }
     ensures table { IfOk result (λ names. IsTableOf false is_below
-        (records_in backing.now entries.now) (map key_of names.items)) }
+        entries.now (map named_value names.items)) }
     ensures once { IfOk result (λ names. AllPairs (λ a b. path_cmp a.name b.name ≡ Less)
-        (map key_of names.items)) }
+        (map named_value names.items)) }
 {
-    let mut names = directories_of(alloc, entries, backing, false)?;
+    let mut names = directories_of(alloc, entries, false)?;
     sort_names(&mut names, false);
     first_of_each(alloc, &names, false)
 }

@@ -3,7 +3,7 @@
 ghost use Rattle.std.specs.Prelude.{◌≡◌, All, length};
 ghost use Rattle.std.specs.Iterator.{at_most};
 ghost use Rattle.index_entries.specs.Record.{IsPlaced};
-ghost use Rattle.index_lookups.specs.FilterMap.{GivesNext, closure_of, entries_left, storage_left};
+ghost use Rattle.index_lookups.specs.FilterMap.{ArePlaced, StepsTo, closure_of, entries_left, storage_left};
 
 use index_entries::Entry;
 
@@ -37,9 +37,9 @@ pub fn entries_with_paths_by_filter_map<'a, T, F: FnMut(&'a [u8], &'a Entry) -> 
 impl<'a, T, F: FnMut(&'a [u8], &'a Entry) -> Option<T>> Iterator for FilterMapPaths<'a, F> {
     type Item = (&'a [u8], T);
 
-    ghost can_next = { λ s. All (IsPlaced (length (storage_left s))) (entries_left s) × F.IsAlwaysCallable (closure_of s) };
+    ghost can_next = { λ s. ArePlaced s × F.IsAlwaysCallable (closure_of s) };
 
-    ghost next_gives = { λ s r t. GivesNext (λ f p b o g. F.step f p b o g) (storage_left s) (entries_left s) (closure_of s) r (entries_left t) (closure_of t) × (storage_left t ≡ storage_left s) };
+    ghost next_gives = { λ s r t. StepsTo (λ f p b o g. F.step f p b o g) s r t };
 
     ghost remaining = { λ s. at_most (length (entries_left s)) };
 

@@ -1,27 +1,24 @@
-//! The one halving of what stands in order, which counts its comparisons, and the searches by path.
+//! The one binary search of what stands in order, which counts its comparisons, and the searches by path.
 
-ghost use Rattle.std.specs.Prelude.{◌≡◌, ◌<◌, ◌≤◌, ◌+◌, ◌-◌, ◌++◌, List, All, length, map, take, drop, IfOk, IfErr, false};
+ghost use Rattle.std.specs.Prelude.{◌≡◌, ◌<◌, ◌≤◌, ◌+◌, ◌-◌, ◌++◌, List, length, map, take, drop, IfOk, IfErr, false};
 ghost use Rattle.std.specs.List.{HoldsAt};
 ghost use Rattle.std.specs.Option.{ok_or};
 ghost use Rattle.std.specs.declared.cmp.Ordering.{Ordering};
-ghost use Rattle.index_parts.specs.Flags.{stage_code};
+ghost use Rattle.index_metadata.specs.Flags.{stage_code};
 ghost use Rattle.index_lookups.specs.Digits.{digits};
 ghost use Rattle.index_lookups.specs.Lookup.{IsKeyAt, IsPathAt, IsPathGap, insertion_of, place_of};
 ghost use Rattle.index_entries.specs.Order.{IsOrderedByPath, IsStrictlyOrdered};
-ghost use Rattle.index_entries.specs.Record.{IsPlaced, record_in, records_in};
-ghost use Rattle.index_lookups.specs.Search.{IsBracket, IsEqualAt, IsGapAt, IsPartedAt, IsRising, IsSplitBy, asked_cmp, front_cmp, is_before};
+ghost use Rattle.index_lookups.specs.SearchSteps.{IsBracket, IsEqualAt, IsGapAt, IsPartedAt, IsRising, IsSplitBy, asked_cmp, prefix_answers, prefix_cmp, is_before};
 
 use index_entries::Entry;
-use index_parts::entry::{Stage, StageRaw};
+use index_entries::slice::EntrySlice;
+use index_metadata::entry::{Stage, StageRaw};
 use std::cmp::Ordering;
 
-/// Places that can be asked where they stand to what is looked for.
-pub(crate) trait Row {
+/// Places that a search can ask: each says where it stands to what is looked for.
+pub(crate) trait Ordered {
     // The answers, place by place.
     ghost answers: { Self → List Ordering };
-
-    // Whether a place may be asked at all.
-    ghost can_ask: { Self → Type 0 };
 
     /// How many places there are.
     fn len(&self) -> usize
@@ -29,8 +26,7 @@ pub(crate) trait Row {
 
     /// Where the place stands to what is looked for. It compares once.
     fn compare(&self, place: usize) -> Ordering
-        requires can { can_ask self.now }
-        requires inside { place < length (answers self.now) }
+        requires { place < length (answers self.now) }
         ensures { HoldsAt (λ o. o ≡ result) (answers self.now) place };
 }
 
@@ -43,14 +39,18 @@ fn passes(order: Ordering, after: bool) -> bool
 
 /// The first place from `start` up to `end` that isn't before what is looked for or, with `after`, the first behind
 /// it, where the other places are known to stand before and behind; and how many places were asked.
-pub(crate) fn part_within<R: Row>(row: &R, after: bool, start: usize, end: usize) -> (usize, usize)
-    requires can { R.can_ask row.now }
+pub(crate) fn part_within<R: Ordered>(
+    places: &R,
+    after: bool,
+    start: usize,
+    end: usize,
+) -> (usize, usize)
     requires in_order { start ≤ end }
-    requires inside { end ≤ length (R.answers row.now) }
+    requires inside { end ≤ length (R.answers places.now) }
     ensures from { start ≤ result.0 }
     ensures upto { result.0 ≤ end }
-    ensures parts { IsRising (R.answers row.now) → IsBracket (R.answers row.now) start end
-        → IsPartedAt after (R.answers row.now) result.0 }
+    ensures parts { IsRising (R.answers places.now) → IsBracket (R.answers places.now) start end
+        → IsPartedAt after (R.answers places.now) result.0 }
     ensures count { result.1 ≤ digits (end - start) }
     ensures at_least_one { start < end → 1 ≤ result.1 }
 {
@@ -60,7 +60,7 @@ pub(crate) fn part_within<R: Row>(row: &R, after: bool, start: usize, end: usize
     while low < high {
         let middle = low + (high - low) / 2;
         count += 1;
-        if passes(row.compare(middle), after) {
+        if passes(places.compare(middle), after) {
             low = middle + 1;
         } else {
             high = middle;
@@ -70,39 +70,38 @@ pub(crate) fn part_within<R: Row>(row: &R, after: bool, start: usize, end: usize
 }
 
 /// The same among all places.
-pub(crate) fn part<R: Row>(row: &R, after: bool) -> (usize, usize)
-    requires { R.can_ask row.now }
-    ensures in_range { result.0 ≤ length (R.answers row.now) }
-    ensures parts { IsRising (R.answers row.now) → IsPartedAt after (R.answers row.now) result.0 }
-    ensures count { result.1 ≤ digits (length (R.answers row.now)) }
+pub(crate) fn part<R: Ordered>(places: &R, after: bool) -> (usize, usize)
+    ensures in_range { result.0 ≤ length (R.answers places.now) }
+    ensures parts { IsRising (R.answers places.now)
+        → IsPartedAt after (R.answers places.now) result.0 }
+    ensures count { result.1 ≤ digits (length (R.answers places.now)) }
 {
-    part_within(row, after, 0, row.len())
+    part_within(places, after, 0, places.len())
 }
 
 /// The first place from `start` up to `end` that is what is looked for or, as an error, the first behind it, where
 /// the other places are known to stand before and behind; and how many places were asked.
-pub(crate) fn search_within<R: Row>(
-    row: &R,
+pub(crate) fn search_within<R: Ordered>(
+    places: &R,
     start: usize,
     end: usize,
 ) -> (Result<usize, usize>, usize)
-    requires can { R.can_ask row.now }
     requires in_order { start ≤ end }
-    requires inside { end ≤ length (R.answers row.now) }
-    ensures found { IfOk result.0 (IsEqualAt (λ o. o) (R.answers row.now)) }
-    ensures first { IsRising (R.answers row.now) → IsBracket (R.answers row.now) start end
-        → IfOk result.0 (IsPartedAt false (R.answers row.now)) }
+    requires inside { end ≤ length (R.answers places.now) }
+    ensures found { IfOk result.0 (IsEqualAt (λ o. o) (R.answers places.now)) }
+    ensures first { IsRising (R.answers places.now) → IsBracket (R.answers places.now) start end
+        → IfOk result.0 (IsPartedAt false (R.answers places.now)) }
     ensures in_range { IfErr result.0 (λ i. i ≤ end) }
-    ensures absent { IsRising (R.answers row.now) → IsBracket (R.answers row.now) start end
-        → IfErr result.0 (IsGapAt (λ o. o) (R.answers row.now)) }
+    ensures absent { IsRising (R.answers places.now) → IsBracket (R.answers places.now) start end
+        → IfErr result.0 (IsGapAt (λ o. o) (R.answers places.now)) }
     ensures count { result.1 ≤ digits (end - start) + 1 }
     ensures at_least_one { start < end → 1 ≤ result.1 }
 {
-    let (low, count) = part_within(row, false, start, end);
+    let (low, count) = part_within(places, false, start, end);
     if low == end {
         return (Err(low), count);
     }
-    if row.compare(low).is_eq() {
+    if places.compare(low).is_eq() {
         return (Ok(low), count + 1);
     }
     (Err(low), count + 1)
@@ -111,50 +110,46 @@ pub(crate) fn search_within<R: Row>(
 /// Entries by path and, where one is asked, by stage, to what is looked for.
 #[derive(Clone, Copy)]
 pub(crate) struct Asked<'a> {
-    pub(crate) entries: &'a [Entry],
-    pub(crate) backing: &'a [u8],
+    pub(crate) entries: &'a EntrySlice<'a>,
     pub(crate) path: &'a [u8],
     pub(crate) stage: Option<Stage>,
 }
 
-/// Where an entry stands to a path, and to a stage where one is asked. It compares one path.
-fn compare(entry: &Entry, backing: &[u8], path: &[u8], stage: Option<Stage>) -> Ordering
-    requires { IsPlaced (length backing.now) entry.now }
-    ensures { result ≡ asked_cmp path.now stage (record_in backing.now entry.now) }
+/// Where the entry at a place stands to a path, and to a stage where one is asked. It compares one path.
+fn compare(entries: &EntrySlice<'_>, place: usize, path: &[u8], stage: Option<Stage>) -> Ordering
+    requires { place < length entries.now }
+    ensures { HoldsAt (λ r. asked_cmp path.now stage r ≡ result) entries.now place }
 {
-    let by_path = Entry::cmp_filepaths(entry.path_in(backing), path);
+    let by_path = Entry::cmp_filepaths(entries.path(place), path);
     match stage {
         None => by_path,
-        Some(stage) => by_path.then(entry.stage_raw().cmp(&(stage as StageRaw))),
+        Some(stage) => by_path.then(entries.entry(place).stage_raw().cmp(&(stage as StageRaw))),
     }
 }
 
-impl Row for Asked<'_> {
-    ghost answers = { λ s. map (asked_cmp s.path.now s.stage) (records_in s.backing.now s.entries.now) };
-
-    ghost can_ask = { λ s. All (IsPlaced (length s.backing.now)) s.entries.now };
+impl Ordered for Asked<'_> {
+    ghost answers = { λ s. map (asked_cmp s.path.now s.stage) s.entries.now };
 
     fn len(&self) -> usize {
         self.entries.len()
     }
 
     fn compare(&self, place: usize) -> Ordering {
-        compare(&self.entries[place], self.backing, self.path, self.stage)
+        compare(self.entries, place, self.path, self.stage)
     }
 }
 
-/// Entries by the fronts of their paths, to a prefix that is given in two pieces.
+/// Entries by what their paths begin with, to a prefix that is given in two pieces.
 #[derive(Clone, Copy)]
-pub(crate) struct Fronts<'a> {
-    pub(crate) entries: &'a [Entry],
-    pub(crate) backing: &'a [u8],
+pub(crate) struct Prefix<'a> {
+    pub(crate) entries: &'a EntrySlice<'a>,
     pub(crate) prefix: &'a [u8],
     pub(crate) tail: &'a [u8],
 }
 
-/// The front of the bytes, as long as asked or whole; and the bytes behind it.
+/// The first bytes, as many as asked or all; and the bytes after them.
 fn cut(bytes: &[u8], len: usize) -> (&[u8], &[u8])
-    ensures front { result.0.now ≡ take len bytes.now }
+    ensures first { result.0.now ≡ take len bytes.now }
     ensures rest { result.1.now ≡ drop len bytes.now }
 {
     if bytes.len() < len {
@@ -164,98 +159,86 @@ fn cut(bytes: &[u8], len: usize) -> (&[u8], &[u8])
     }
 }
 
-/// Where the front of a path stands to a prefix, which is given in two pieces.
-fn compare_front(path: &[u8], prefix: &[u8], tail: &[u8]) -> Ordering
-    ensures { result ≡ front_cmp (prefix.now ++ tail.now) path.now }
+/// Where the first bytes of a path stand to a prefix, which is given in two pieces.
+fn compare_prefix(path: &[u8], prefix: &[u8], tail: &[u8]) -> Ordering
+    ensures { result ≡ prefix_cmp (prefix.now ++ tail.now) path.now }
 {
-    let (front, rest) = cut(path, prefix.len());
-    let by_front = Entry::cmp_filepaths(front, prefix);
-    by_front.then(Entry::cmp_filepaths(cut(rest, tail.len()).0, tail))
+    let (first, rest) = cut(path, prefix.len());
+    let by_prefix = Entry::cmp_filepaths(first, prefix);
+    by_prefix.then(Entry::cmp_filepaths(cut(rest, tail.len()).0, tail))
 }
 
-impl Row for Fronts<'_> {
-    ghost answers = { λ s. map (λ r. front_cmp (s.prefix.now ++ s.tail.now) r.path) (records_in s.backing.now s.entries.now) };
-
-    ghost can_ask = { λ s. All (IsPlaced (length s.backing.now)) s.entries.now };
+impl Ordered for Prefix<'_> {
+    ghost answers = { λ s. prefix_answers (s.prefix.now ++ s.tail.now) s.entries.now };
 
     fn len(&self) -> usize {
         self.entries.len()
     }
 
     fn compare(&self, place: usize) -> Ordering {
-        compare_front(
-            self.entries[place].path_in(self.backing),
-            self.prefix,
-            self.tail,
-        )
+        compare_prefix(self.entries.path(place), self.prefix, self.tail)
     }
 }
 
 /// The first place of an entry at the path, and at the stage where one is asked, or where it would be put in; and
 /// how many paths were compared.
 pub(crate) fn search(
-    entries: &[Entry],
-    backing: &[u8],
+    entries: &EntrySlice<'_>,
     path: &[u8],
     stage: Option<Stage>,
 ) -> (Result<usize, usize>, usize)
-    requires { All (IsPlaced (length backing.now)) entries.now }
-    ensures found { IfOk result.0 (IsEqualAt (asked_cmp path.now stage) (records_in backing.now entries.now)) }
-    ensures first { IsSplitBy (asked_cmp path.now stage) (records_in backing.now entries.now)
-        → IfOk result.0 (IsPartedAt false (map (asked_cmp path.now stage) (records_in backing.now entries.now))) }
-    ensures in_range { IfErr result.0 (λ i. i ≤ length (records_in backing.now entries.now)) }
-    ensures absent { IsSplitBy (asked_cmp path.now stage) (records_in backing.now entries.now)
-        → IfErr result.0 (IsGapAt (asked_cmp path.now stage) (records_in backing.now entries.now)) }
-    ensures count { result.1 ≤ digits (length (records_in backing.now entries.now)) + 1 }
-    ensures at_least_one { 0 < length (records_in backing.now entries.now) → 1 ≤ result.1 }
+    ensures found { IfOk result.0 (IsEqualAt (asked_cmp path.now stage) entries.now) }
+    ensures first { IsSplitBy (asked_cmp path.now stage) entries.now
+        → IfOk result.0 (IsPartedAt false (map (asked_cmp path.now stage) entries.now)) }
+    ensures in_range { IfErr result.0 (λ i. i ≤ length entries.now) }
+    ensures absent { IsSplitBy (asked_cmp path.now stage) entries.now
+        → IfErr result.0 (IsGapAt (asked_cmp path.now stage) entries.now) }
+    ensures count { result.1 ≤ digits (length entries.now) + 1 }
+    ensures at_least_one { 0 < length entries.now → 1 ≤ result.1 }
 {
-    let row = Asked {
+    let places = Asked {
         entries,
-        backing,
         path,
         stage,
     };
-    search_within(&row, 0, entries.len())
+    search_within(&places, 0, entries.len())
 }
 
-/// A place of an entry at the path, whatever its stage, or, as an error, the place where the path would be put in:
-/// the number of paths below it. Beside it how many times the path was compared with that of an entry: over
-/// n entries, in any order, at most one more than n has binary digits, and at least once where there are entries.
+/// An index of an entry at the path, whatever its stage, or, as an error, the index where the path would be put in: the
+/// number of paths below it. Beside it how many times the path was compared with that of an entry: over n entries, in
+/// any order, at most one more than n has binary digits, and at least once where there are entries.
 ///
-/// It is promised over entries whose paths never fall. Over other entries a place still has that path, and an error
-/// is at most the number of entries and says no more.
-pub fn search_path(entries: &[Entry], backing: &[u8], path: &[u8]) -> (Result<usize, usize>, usize)
-    requires { All (IsPlaced (length backing.now)) entries.now }
-    ensures found { IfOk result.0 (IsPathAt path.now (records_in backing.now entries.now)) }
-    ensures in_range { IfErr result.0 (λ i. i ≤ length (records_in backing.now entries.now)) }
-    ensures absent { IsOrderedByPath (records_in backing.now entries.now)
-        → IfErr result.0 (IsPathGap path.now (records_in backing.now entries.now)) }
-    ensures count { result.1 ≤ digits (length (records_in backing.now entries.now)) + 1 }
-    ensures at_least_one { 0 < length (records_in backing.now entries.now) → 1 ≤ result.1 }
+/// It is promised over entries whose paths never fall. Over other entries an index still has that path, and an error is
+/// at most the number of entries and says no more.
+pub fn search_path(entries: &EntrySlice<'_>, path: &[u8]) -> (Result<usize, usize>, usize)
+    ensures found { IfOk result.0 (IsPathAt path.now entries.now) }
+    ensures in_range { IfErr result.0 (λ i. i ≤ length entries.now) }
+    ensures absent { IsOrderedByPath entries.now
+        → IfErr result.0 (IsPathGap path.now entries.now) }
+    ensures count { result.1 ≤ digits (length entries.now) + 1 }
+    ensures at_least_one { 0 < length entries.now → 1 ≤ result.1 }
 {
-    search(entries, backing, path, None)
+    search(entries, path, None)
 }
 
-/// The place of the entry at the path and the stage or, as an error, the place where it would be put in: the number
-/// of entries that are below it by path, then stage. Beside it how many times the path was compared with that of an
-/// entry, as [`search_path`] bounds it.
+/// The index of the entry at the path and the stage or, as an error, the index where it would be put in: the number of
+/// entries that are below it by path, then stage. Beside it how many times the path was compared with that of an entry,
+/// as [`search_path`] bounds it.
 ///
-/// It is promised over entries that strictly increase by path, then stage. Over other entries a place still has that
+/// It is promised over entries that strictly increase by path, then stage. Over other entries an index still has that
 /// path and stage, and an error is at most the number of entries and says no more.
 pub fn search_path_and_stage(
-    entries: &[Entry],
-    backing: &[u8],
+    entries: &EntrySlice<'_>,
     path: &[u8],
     stage: Stage,
 ) -> (Result<usize, usize>, usize)
-    requires { All (IsPlaced (length backing.now)) entries.now }
-    ensures found { IfOk result.0 (IsKeyAt path.now (stage_code stage) (records_in backing.now entries.now)) }
-    ensures in_range { IfErr result.0 (λ i. i ≤ length (records_in backing.now entries.now)) }
-    ensures answer { IsStrictlyOrdered (records_in backing.now entries.now)
-        → result.0 ≡ ok_or (place_of path.now (stage_code stage) (records_in backing.now entries.now))
-        (insertion_of path.now (stage_code stage) (records_in backing.now entries.now)) }
-    ensures count { result.1 ≤ digits (length (records_in backing.now entries.now)) + 1 }
-    ensures at_least_one { 0 < length (records_in backing.now entries.now) → 1 ≤ result.1 }
+    ensures found { IfOk result.0 (IsKeyAt path.now (stage_code stage) entries.now) }
+    ensures in_range { IfErr result.0 (λ i. i ≤ length entries.now) }
+    ensures answer { IsStrictlyOrdered entries.now
+        → result.0 ≡ ok_or (place_of path.now (stage_code stage) entries.now)
+        (insertion_of path.now (stage_code stage) entries.now) }
+    ensures count { result.1 ≤ digits (length entries.now) + 1 }
+    ensures at_least_one { 0 < length entries.now → 1 ≤ result.1 }
 {
-    search(entries, backing, path, Some(stage))
+    search(entries, path, Some(stage))
 }

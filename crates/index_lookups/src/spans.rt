@@ -1,20 +1,21 @@
 //! Directories in their order, each with the places of the entries below it.
 
-ghost use Rattle.std.specs.Prelude.{◌≡◌, ◌+◌, ◌-◌, ◌<◌, ◌≤◌, ⊤, All, List, length, map, IfOk, IfErr, false, true};
+ghost use Rattle.std.specs.Prelude.{◌≡◌, ◌++◌, ◌∷◌, [], ◌+◌, ◌-◌, ◌<◌, ◌≤◌, ⊤, All, List, length, map, IfOk, IfErr, false, true};
 ghost use Rattle.std.specs.List.{HoldsAt, list_any};
 ghost use Rattle.index_lookups.specs.Digits.{digits};
 ghost use Rattle.index_entries.specs.Order.{IsOrderedByPath, path_cmp};
-ghost use Rattle.index_entries.specs.Record.{IsPlaced, Record, records_in};
+ghost use Rattle.index_entries.specs.Record.{Record};
 ghost use Rattle.index_lookups.specs.Closest.{is_below};
 ghost use Rattle.index_lookups.specs.Range.{IsRange};
-ghost use Rattle.index_lookups.specs.Search.{IsEqualAt, IsGapAt, IsSplitBy, asked_cmp};
-ghost use Rattle.index_lookups.specs.Spans.{AreSpans, IsSpan, IsWindow, names_of, span_of};
+ghost use Rattle.index_lookups.specs.SearchSteps.{IsEqualAt, IsGapAt, IsPartedAt, IsSplitBy, asked_cmp, prefix_answers};
+ghost use Rattle.index_lookups.specs.SpanSteps.{AreSpans, IsSpan, IsWindow, names_of, span_value};
 ghost use Rattle.index_lookups.specs.Tables.{IsDirs, last_slash, search_bound};
 
-use crate::names::front_table;
-use crate::search::{Asked, Fronts, Row, part, search_within};
+use crate::names::directory_starts;
+use crate::search::{Asked, Ordered, Prefix, part_within, search_within};
 use index_entries::Entry;
-use index_parts::entry::Stage;
+use index_entries::slice::EntrySlice;
+use index_metadata::entry::Stage;
 use std::alloc::{AllocError, Global};
 use std::cmp::Ordering;
 use std::ops::Range;
@@ -41,55 +42,51 @@ pub(crate) fn last_slash(path: &[u8]) -> Option<usize>
     None
 }
 
-/// Which entries stand below the directory.
-fn span_of<'a>(entries: &[Entry], backing: &[u8], name: &'a [u8]) -> Span<'a>
-    requires { All (IsPlaced (length backing.now)) entries.now }
+/// Which entries stand below the directory, where the first of them is known.
+fn span_of<'a>(entries: &EntrySlice<'_>, name: &'a [u8], start: usize) -> Span<'a>
+    requires { start ≤ length entries.now }
     ensures name { result.name.now ≡ name.now }
-    ensures span { IsOrderedByPath (records_in backing.now entries.now)
-        → list_any (is_below name.now) (records_in backing.now entries.now) ≡ true
-        → IsSpan (records_in backing.now entries.now) (span_of result) }
+    ensures span { IsOrderedByPath entries.now
+        → IsPartedAt false (prefix_answers (name.now ++ 47 ∷ []) entries.now) start
+        → list_any (is_below name.now) entries.now ≡ true
+        → IsSpan entries.now (span_value result) }
 {
     let tail = b"/";
-    let row = Fronts {
+    let places = Prefix {
         entries,
-        backing,
         prefix: name,
         tail,
     };
-    let start = part(&row, false).0;
-    let end = part(&row, true).0;
+    let end = part_within(&places, true, start, places.len()).0;
     Span { name, start, end }
 }
 
 /// The directories that the entries stand below.
 pub(crate) fn spans_of<'a>(
     alloc: Global,
-    entries: &'a [Entry],
-    backing: &'a [u8],
+    entries: &EntrySlice<'a>,
 ) -> Result<Vec<Span<'a>>, AllocError>
-    requires placed { All (IsPlaced (length backing.now)) entries.now }
-    requires ordered { IsOrderedByPath (records_in backing.now entries.now) }
-    ensures { IfOk result (λ spans. AreSpans backing.now entries.now spans.items) }
+    requires { IsOrderedByPath entries.now }
+    ensures { IfOk result (λ spans. AreSpans entries.now spans.items) }
 {
-    let names = front_table(alloc, entries, backing)?;
+    let names = directory_starts(alloc, entries)?;
     let mut spans = Vec::new(alloc);
     for i in 0..names.len() {
-        spans.push(span_of(entries, backing, names[i].name))?;
+        let first = names[i];
+        spans.push(span_of(entries, first.name, first.place))?;
     }
     Ok(spans)
 }
 
 /// Directories by their names, to a name that is looked for.
 #[derive(Clone, Copy)]
-pub(crate) struct Spans<'a> {
+pub(crate) struct SpanSearch<'a> {
     pub(crate) spans: &'a [Span<'a>],
     pub(crate) name: &'a [u8],
 }
 
-impl Row for Spans<'_> {
-    ghost answers = { λ s. map (λ x. path_cmp x.name s.name.now) (map span_of s.spans.now) };
-
-    ghost can_ask = { λ _. ⊤ };
+impl Ordered for SpanSearch<'_> {
+    ghost answers = { λ s. map (λ x. path_cmp x.name s.name.now) (map span_value s.spans.now) };
 
     fn len(&self) -> usize {
         self.spans.len()
@@ -103,27 +100,26 @@ impl Row for Spans<'_> {
 /// Where the directory stands among the directories, or would be put in; and how many names were compared.
 fn find(spans: &[Span<'_>], directory: &[u8]) -> (Result<usize, usize>, usize)
     ensures found { IfOk result.0 (λ i. (i < length spans.now)
-        × HoldsAt (λ x. x.name ≡ directory.now) (map span_of spans.now) i) }
+        × HoldsAt (λ x. x.name ≡ directory.now) (map span_value spans.now) i) }
     ensures absent { (rs : List Record) → IsDirs rs (names_of spans.now)
         → IfErr result.0 (λ _. list_any (is_below directory.now) rs ≡ false) }
     ensures count { result.1 ≤ digits (length (names_of spans.now)) + 1 }
 {
-    let row = Spans {
+    let places = SpanSearch {
         spans,
         name: directory,
     };
-    search_within(&row, 0, spans.len())
+    search_within(&places, 0, spans.len())
 }
 
 /// The places of the entries below the directory, or None where there are none.
 pub(crate) fn range_among(
-    entries: &[Entry],
-    backing: &[u8],
+    entries: &EntrySlice<'_>,
     spans: &[Span<'_>],
     directory: &[u8],
 ) -> Option<Range<usize>>
-    requires { AreSpans backing.now entries.now spans.now }
-    ensures { IsRange (is_below directory.now) (records_in backing.now entries.now) result }
+    requires { AreSpans entries.now spans.now }
+    ensures { IsRange (is_below directory.now) entries.now result }
 {
     match find(spans, directory).0 {
         Ok(place) => {
@@ -136,17 +132,12 @@ pub(crate) fn range_among(
 
 /// Where the path is to be looked for: what stands in front is below it, and what stands behind above it; and how
 /// many names were compared.
-fn window(
-    entries: &[Entry],
-    backing: &[u8],
-    spans: &[Span<'_>],
-    path: &[u8],
-) -> (Range<usize>, usize)
-    requires { AreSpans backing.now entries.now spans.now }
-    ensures window { IsWindow path.now (records_in backing.now entries.now) result.0 }
+fn window(entries: &EntrySlice<'_>, spans: &[Span<'_>], path: &[u8]) -> (Range<usize>, usize)
+    requires { AreSpans entries.now spans.now }
+    ensures window { IsWindow path.now entries.now result.0 }
     ensures few { result.1 ≤ digits (length (names_of spans.now)) + 1 }
     ensures count { result.1 + digits (result.0.end - result.0.start) + 1
-        ≤ search_bound (last_slash path.now) path.now (records_in backing.now entries.now) (length (names_of spans.now)) }
+        ≤ search_bound (last_slash path.now) path.now entries.now (length (names_of spans.now)) }
 {
     let whole = 0..entries.len();
     let Some(slash) = last_slash(path) else {
@@ -165,27 +156,25 @@ fn window(
 /// The place of an entry at the path, and at the stage where one is asked, or where it would be put in; and how many
 /// names and paths were compared.
 pub(crate) fn search_among(
-    entries: &[Entry],
-    backing: &[u8],
+    entries: &EntrySlice<'_>,
     spans: &[Span<'_>],
     path: &[u8],
     stage: Option<Stage>,
 ) -> (Result<usize, usize>, usize)
-    requires { AreSpans backing.now entries.now spans.now }
-    ensures found { IfOk result.0 (IsEqualAt (asked_cmp path.now stage) (records_in backing.now entries.now)) }
-    ensures in_range { IfErr result.0 (λ i. i ≤ length (records_in backing.now entries.now)) }
-    ensures absent { IsSplitBy (asked_cmp path.now stage) (records_in backing.now entries.now)
-        → IfErr result.0 (IsGapAt (asked_cmp path.now stage) (records_in backing.now entries.now)) }
+    requires { AreSpans entries.now spans.now }
+    ensures found { IfOk result.0 (IsEqualAt (asked_cmp path.now stage) entries.now) }
+    ensures in_range { IfErr result.0 (λ i. i ≤ length entries.now) }
+    ensures absent { IsSplitBy (asked_cmp path.now stage) entries.now
+        → IfErr result.0 (IsGapAt (asked_cmp path.now stage) entries.now) }
     ensures count { result.1 ≤ search_bound (last_slash path.now) path.now
-        (records_in backing.now entries.now) (length (names_of spans.now)) }
+        entries.now (length (names_of spans.now)) }
 {
-    let (window, count) = window(entries, backing, spans, path);
-    let row = Asked {
+    let (window, count) = window(entries, spans, path);
+    let places = Asked {
         entries,
-        backing,
         path,
         stage,
     };
-    let (result, more) = search_within(&row, window.start, window.end);
+    let (result, more) = search_within(&places, window.start, window.end);
     (result, count + more)
 }

@@ -1,35 +1,30 @@
 //! Entries in the order of their paths, searched by way of their directories.
 
-ghost use Rattle.std.specs.Prelude.{◌≡◌, ◌↔◌, ◌≤◌, ℕ, ⊤, All, List, length, IfOk, IfErr, IsTrue};
+ghost use Rattle.std.specs.Prelude.{◌≡◌, ◌↔◌, ◌≤◌, ℕ, ⊤, List, All, length, IfOk, IfErr, IsTrue};
 ghost use Rattle.std.specs.Option.{ok_or};
-ghost use Rattle.index_parts.specs.Flags.{stage_code};
+ghost use Rattle.index_metadata.specs.Flags.{stage_code};
 ghost use Rattle.index_lookups.specs.Lookup.{IsKeyAt, IsPathAt, IsPathGap, insertion_of, place_of};
 ghost use Rattle.index_entries.specs.Order.{IsOrderedByPath, IsStrictlyOrdered};
-ghost use Rattle.index_entries.specs.Record.{IsPlaced, Record, records_in};
+ghost use Rattle.index_entries.specs.Record.{Record, IsPlaced, records_in};
 ghost use Rattle.index_lookups.specs.Closest.{is_below};
 ghost use Rattle.index_lookups.specs.Range.{IsRange};
-ghost use Rattle.index_lookups.specs.Spans.{AreSpans};
+ghost use Rattle.index_lookups.specs.SpanSteps.{AreSpans};
 ghost use Rattle.index_lookups.specs.Tables.{IsBounded, IsDirs, present_count};
 
 use crate::spans::{Span, range_among, search_among, spans_of};
 use index_entries::Entry;
-use index_parts::entry::Stage;
+use index_entries::slice::EntrySlice;
+use index_metadata::entry::Stage;
 use std::alloc::{AllocError, Global};
 use std::marker::Model;
 use std::ops::Range;
 
 /// Whether the paths of the entries never fall.
-pub fn is_ordered_by_path(entries: &[Entry], backing: &[u8]) -> bool
-    requires { All (IsPlaced (length backing.now)) entries.now }
-    ensures { IsTrue result ↔ IsOrderedByPath (records_in backing.now entries.now) }
+pub fn is_ordered_by_path(entries: &EntrySlice<'_>) -> bool
+    ensures { IsTrue result ↔ IsOrderedByPath entries.now }
 {
     for i in 0..entries.len() {
-        if i > 0
-            && Entry::cmp_filepaths(
-                entries[i - 1].path_in(backing),
-                entries[i].path_in(backing),
-            ).is_gt()
-        {
+        if i > 0 && Entry::cmp_filepaths(entries.path(i - 1), entries.path(i)).is_gt() {
             return false;
         }
     }
@@ -44,21 +39,22 @@ pub trait PathSearch {
     // Whether it may be searched at all.
     ghost can_search: { Self → Type 0 };
 
-    /// A place of an entry at the path or, as an error, the place where the path would be put in: the number of
-    /// paths below it. Beside it how many paths were compared, which each implementation bounds.
+    /// An index of an entry at the path or, as an error, the index where the path would be put in: the number of paths
+    /// below it. Beside it how many paths were compared, which each implementation bounds.
     ///
-    /// It is promised over entries whose paths never fall. Over other entries a place still has that path, and an
+    /// It is promised over entries whose paths never fall. Over other entries an index still has that path, and an
     /// error is at most the number of entries and says no more.
     fn search_path(&self, path: &[u8]) -> (Result<usize, usize>, usize)
         requires { can_search self.now }
         ensures found { IfOk result.0 (IsPathAt path.now (list self.now)) }
         ensures in_range { IfErr result.0 (λ i. i ≤ length (list self.now)) }
-        ensures absent { IsOrderedByPath (list self.now) → IfErr result.0 (IsPathGap path.now (list self.now)) };
+        ensures absent { IsOrderedByPath (list self.now)
+            → IfErr result.0 (IsPathGap path.now (list self.now)) };
 
-    /// The place of the entry at the path and the stage or, as an error, the place where it would be put in: the
-    /// number of entries that are below it by path, then stage. Beside it how many paths were compared.
+    /// The index of the entry at the path and the stage or, as an error, the index where it would be put in: the number
+    /// of entries that are below it by path, then stage. Beside it how many paths were compared.
     ///
-    /// It is promised over entries that strictly increase by path, then stage. Over other entries a place still has
+    /// It is promised over entries that strictly increase by path, then stage. Over other entries an index still has
     /// that path and stage, and an error is at most the number of entries and says no more.
     fn search_path_and_stage(&self, path: &[u8], stage: Stage) -> (Result<usize, usize>, usize)
         requires { can_search self.now }
@@ -90,17 +86,16 @@ pub fn count_present<S: PathSearch>(searcher: &S, paths: &[&[u8]]) -> usize
 /// entries that it was made from.
 #[derive(Drop)]
 pub struct DirectoryTable<'a> {
-    entries: &'a [Entry],
-    backing: &'a [u8],
+    entries: EntrySlice<'a>,
     spans: Vec<Span<'a>>,
 }
 
 impl<'a> Model for DirectoryTable<'a> {
     ghost Value = { List Record };
 
-    ghost view = { λ t. records_in t.backing.now t.entries.now };
+    ghost view = { λ t. t.entries };
 
-    ghost invariant = { λ t. AreSpans t.backing.now t.entries.now t.spans.items };
+    ghost invariant = { λ t. AreSpans t.entries t.spans.items };
 }
 
 impl<'a> DirectoryTable<'a> {
@@ -115,12 +110,9 @@ impl<'a> DirectoryTable<'a> {
         requires ordered { IsOrderedByPath (records_in backing.now entries.now) }
         ensures { IfOk result (λ table. table ≡ records_in backing.now entries.now) }
     {
-        let spans = spans_of(alloc, entries, backing)?;
-        Ok(DirectoryTable {
-            entries,
-            backing,
-            spans,
-        })
+        let entries = EntrySlice::new(entries, backing);
+        let spans = spans_of(alloc, &entries)?;
+        Ok(DirectoryTable { entries, spans })
     }
 
     /// How many directories there are: what comes before each slash of a path, each name once.
@@ -130,15 +122,15 @@ impl<'a> DirectoryTable<'a> {
         self.spans.len()
     }
 
-    /// The places of the entries below the directory, counted from 0, or None where there are none.
+    /// The indices of the entries below the directory, counted from 0, or None where there are none.
     pub fn range(&self, directory: &[u8]) -> Option<Range<usize>>
         ensures { IsRange (is_below directory.now) self.now result }
     {
-        range_among(self.entries, self.backing, &self.spans, directory)
+        range_among(&self.entries, &self.spans, directory)
     }
 
-    /// A place of an entry at the path or, as an error, the place where the path would be put in: the number of
-    /// paths below it. Beside it how many names of directories and paths of entries were compared.
+    /// An index of an entry at the path or, as an error, the index where the path would be put in: the number of paths
+    /// below it. Beside it how many names of directories and paths of entries were compared.
     ///
     /// With D directories and n entries, of which r are below the directory of the path: at most digits of D and of r
     /// and 2, or, where none is below it, digits of D and of n and 2; and digits of n and 1 for a path without slash.
@@ -148,14 +140,14 @@ impl<'a> DirectoryTable<'a> {
         ensures absent { IfErr result.0 (IsPathGap path.now self.now) }
         ensures count { IsBounded self.now path.now result.1 }
     {
-        search_among(self.entries, self.backing, &self.spans, path, None)
+        search_among(&self.entries, &self.spans, path, None)
     }
 
-    /// The place of the entry at the path and the stage or, as an error, the place where it would be put in: the
-    /// number of entries that are below it by path, then stage. Beside it how many names and paths were compared, as
+    /// The index of the entry at the path and the stage or, as an error, the index where it would be put in: the number
+    /// of entries that are below it by path, then stage. Beside it how many names and paths were compared, as
     /// [`search_path`](DirectoryTable::search_path) bounds it.
     ///
-    /// It is promised over entries that strictly increase by path, then stage. Over other entries a place still has
+    /// It is promised over entries that strictly increase by path, then stage. Over other entries an index still has
     /// that path and stage, and an error is at most the number of entries and says no more.
     pub fn search_path_and_stage(&self, path: &[u8], stage: Stage) -> (Result<usize, usize>, usize)
         ensures found { IfOk result.0 (IsKeyAt path.now (stage_code stage) self.now) }
@@ -165,7 +157,7 @@ impl<'a> DirectoryTable<'a> {
             (insertion_of path.now (stage_code stage) self.now) }
         ensures count { IsBounded self.now path.now result.1 }
     {
-        search_among(self.entries, self.backing, &self.spans, path, Some(stage))
+        search_among(&self.entries, &self.spans, path, Some(stage))
     }
 }
 

@@ -1,8 +1,8 @@
 -- Bytes begin with a bitmap, or lack one part of it: which, their length and the declared number of words tell.
 use Rattle.std.proofs.Common.{◌≡◌, ℕ, ◌+◌, ◌*◌, ◌<◌, ◌≤◌, ◌⊎◌, inl, inr, List, ◌++◌, length, take, drop, refl, sym, ap, ◌∙◌, arith}
 use Rattle.std.proofs.lemmas.List.{take_at, drop_at, take-append-drop, length-append, length-take, length-drop}
-use Rattle.index_parts.specs.Front.{be}
-use Rattle.index_parts.specs.Bitmap.{HasBitmap, Lacks, Says}
+use Rattle.index_parts.specs.Numbers.{be}
+use Rattle.index_parts.specs.Bitmap.{HasBitmap, Lacks, SaysBitmapFault}
 use Rattle.index_parts.specs.declared.ewah.decode.Error.{Error}
 use Rattle.index_parts.specs.declared.ewah.decode.Error.TheVariants as errors
 use Rattle.index_parts.proofs.Bitmaps.{some_words}
@@ -29,7 +29,7 @@ declared_size_is bytes bits len rest parts bits_size len_size =
 length_is : (bytes bits len rest : List ℕ) → bytes ≡ bits ++ (len ++ rest) → length bits ≡ 4 → length len ≡ 4 → length bytes ≡ 8 + length rest
 length_is bytes bits len rest parts bits_size len_size = omega (arith, ap length parts, length-append bits (len ++ rest), length-append len rest, bits_size, len_size)
 
-says_length : (error : Error) (bytes : List ℕ) → Says error bytes → IsLengthFor error (length bytes) (declared_size bytes)
+says_length : (error : Error) (bytes : List ℕ) → SaysBitmapFault error bytes → IsLengthFor error (length bytes) (declared_size bytes)
 says_length errors.NumBits bytes h = h
 says_length errors.Length bytes h = h
 says_length errors.Words bytes h =
@@ -88,7 +88,7 @@ module _ (bytes : List ℕ) (front : 8 ≤ length bytes) where
     rest_len : length (drop (declared_size bytes) (drop 4 (drop 4 bytes))) + (8 + declared_size bytes) ≡ length bytes
     rest_len = omega (arith, behind_len, length-drop (declared_size bytes) (drop 4 (drop 4 bytes)))
 
-length_says : (error : Error) (bytes : List ℕ) → IsLengthFor error (length bytes) (declared_size bytes) → Says error bytes
+length_says : (error : Error) (bytes : List ℕ) → IsLengthFor error (length bytes) (declared_size bytes) → SaysBitmapFault error bytes
 length_says errors.NumBits bytes h = h
 length_says errors.Length bytes h = h
 length_says errors.Words bytes h = record {
@@ -139,14 +139,14 @@ length_says errors.Memory bytes h =
 
 -- ---- there is a bitmap or a fault, and not both, and no second fault
 
-lacks_says : (error : Error) (bytes : List ℕ) → Lacks error bytes → Says error bytes
+lacks_says : (error : Error) (bytes : List ℕ) → Lacks error bytes → SaysBitmapFault error bytes
 lacks_says errors.NumBits bytes h = h
 lacks_says errors.Length bytes h = h
 lacks_says errors.Words bytes h = h
 lacks_says errors.LastRun bytes h = h
 lacks_says errors.Memory bytes h = absurd h
 
-says_either : (error : Error) (bytes : List ℕ) → Says error bytes → HasBitmap bytes ⊎ ((fault : Error) × Lacks fault bytes)
+says_either : (error : Error) (bytes : List ℕ) → SaysBitmapFault error bytes → HasBitmap bytes ⊎ ((fault : Error) × Lacks fault bytes)
 says_either errors.NumBits bytes h = inr (errors.NumBits, h)
 says_either errors.Length bytes h = inr (errors.Length, h)
 says_either errors.Words bytes h = inr (errors.Words, h)
@@ -156,7 +156,7 @@ says_either errors.Memory bytes h = inl h
 pub bitmap_or_fault : (bytes : List ℕ) → HasBitmap bytes ⊎ ((fault : Error) × Lacks fault bytes)
 bitmap_or_fault bytes = let some = some_length (length bytes) (declared_size bytes) in says_either some.0 bytes (length_says some.0 bytes some.1)
 
-says_one : (error other : Error) (bytes : List ℕ) → Says error bytes → Says other bytes → error ≡ other
+says_one : (error other : Error) (bytes : List ℕ) → SaysBitmapFault error bytes → SaysBitmapFault other bytes → error ≡ other
 says_one error other bytes h k = one_length error other (length bytes) (declared_size bytes) (says_length error bytes h) (says_length other bytes k)
 
 pub one_fault : (bytes : List ℕ) (fault other : Error) → Lacks fault bytes → Lacks other bytes → fault ≡ other

@@ -4,7 +4,7 @@ use Rattle.std.specs.List.{concat}
 use Rattle.std.proofs.lemmas.List.{take_at, drop_at, take-append-drop, length-append, length-take, length-drop, map-append, nil_from_length}
 use Rattle.std.proofs.lemmas.List.Elements.{All-nil, All-cons, All-head, All-tail, All-append}
 use Rattle.std.proofs.lemmas.List.Folds.{concat-append}
-use Rattle.index_parts.specs.Front.{be, StartsWithNumber}
+use Rattle.index_parts.specs.Numbers.{be, StartsWithNumber}
 use Rattle.index_parts.specs.Bitmap.{Bitmap, AreWords, IsBitmap}
 
 -- ---- words read one after another

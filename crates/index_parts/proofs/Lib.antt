@@ -10,6 +10,4 @@ pub mod Spellings
 pub mod Splits
 pub mod Steps
 pub mod Taking
-pub mod TreeLists
-pub mod TreeObjects
 pub mod Unpackings

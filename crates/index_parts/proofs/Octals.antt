@@ -5,7 +5,7 @@ use Rattle.std.proofs.lemmas.Bool.{ltb-true, lt-ltb, leb-true, le-leb, and_parts
 use Rattle.std.proofs.lemmas.List.Elements.{All-nil, All-cons, All-head, All-tail}
 use native.Mathlib.Numerals.{unary_clauses}
 use Rattle.index_parts.specs.Octal.{IsOctalDigit, octal_value, IsOctal}
-use Rattle.index_parts.specs.Reading.{is_octal_digit, octal_from, octal_of}
+use Rattle.index_parts.specs.ReadingSteps.{is_octal_digit, octal_from, octal_of}
 
 -- ---- digits
 

@@ -5,8 +5,8 @@ use Rattle.std.proofs.lemmas.Option.{same_Some}
 use native.Mathlib.Numerals.{unary_clauses}
 use Rattle.std.specs.Prelude.{IfSome, IfNone}
 use Rattle.std.specs.Option.{option_map}
-use Rattle.index_parts.specs.Offset.{AreMarked, digits_value, powers_sum, IsOffset, StartsWithOffset}
-use Rattle.index_parts.specs.Reading.{offset_from, offset_at}
+use Rattle.index_parts.specs.Offset.{AreContinued, digits_value, powers_sum, IsOffset, StartsWithOffset}
+use Rattle.index_parts.specs.ReadingSteps.{offset_from, offset_at}
 
 -- a number that has grown too large is none
 pub offset_over : (high : ℕ) (bytes : List ℕ) → 2 ^ 64 ≤ high * 128 → offset_from high bytes ≡ None
@@ -35,16 +35,16 @@ last_total high b = omega arith
 pub record Spells (high : ℕ) (bytes rest : List ℕ) (n : ℕ) : Type 0 where
   pub text : List ℕ
   pub parts : bytes ≡ text ++ rest
-  pub marked : AreMarked text
+  pub continued : AreContinued text
   pub value : n ≡ total high text
   pub fits : n < 2 ^ 64
 
--- a marked byte before others that are marked
-marked_more : (b : ℕ) (text : List ℕ) → 128 ≤ b → AreMarked text → AreMarked (b ∷ text)
-marked_more b [] le m = absurd m
-marked_more b (c ∷ text) le m = (le, m)
+-- a byte with the continuation bit before others
+continued_more : (b : ℕ) (text : List ℕ) → 128 ≤ b → AreContinued text → AreContinued (b ∷ text)
+continued_more b [] le m = absurd m
+continued_more b (c ∷ text) le m = (le, m)
 
-total_more : (high b : ℕ) (text : List ℕ) → AreMarked text → total high (b ∷ text) ≡ total (high * 128 + b % 128 + 1) text
+total_more : (high b : ℕ) (text : List ℕ) → AreContinued text → total high (b ∷ text) ≡ total (high * 128 + b % 128 + 1) text
 total_more high b [] m = absurd m
 total_more high b (c ∷ text) m = total_next high b c text
 
@@ -55,11 +55,11 @@ guard_by false o x e = absurd cc
 spells_by : (t : Bool) (high b : ℕ) (bytes : List ℕ) (x : ℕ × List ℕ) → ((h : ℕ) → offset_from h bytes ≡ Some x → Spells h bytes x.1 x.0) → ltb b 128 ≡ t → high * 128 + b % 128 < 2 ^ 64
     → cond t (Some (high * 128 + b % 128, bytes)) (cond (ltb (high * 128 + b % 128 + 1) (2 ^ 64)) (offset_from (high * 128 + b % 128 + 1) bytes) None) ≡ Some x → Spells high (b ∷ bytes) x.1 x.0
 spells_by true high b bytes x others e lt h =
-    subst (λ (y : ℕ × List ℕ). Spells high (b ∷ bytes) y.1 y.0) (same_Some _ _ h) (record { text = b ∷ []; parts = refl; marked = ltb-true _ _ e; value = sym (last_total high b); fits = lt })
+    subst (λ (y : ℕ × List ℕ). Spells high (b ∷ bytes) y.1 y.0) (same_Some _ _ h) (record { text = b ∷ []; parts = refl; continued = ltb-true _ _ e; value = sym (last_total high b); fits = lt })
 spells_by false high b bytes x others e lt h =
     let g = guard_by (ltb (high * 128 + b % 128 + 1) (2 ^ 64)) _ x h in
     let more = others (high * 128 + b % 128 + 1) g.1 in
-    record { text = b ∷ more.text; parts = ap (λ (l : List ℕ). b ∷ l) more.parts; marked = marked_more b more.text (ltb-false _ _ e) more.marked; value = more.value ∙ sym (total_more high b more.text more.marked); fits = more.fits }
+    record { text = b ∷ more.text; parts = ap (λ (l : List ℕ). b ∷ l) more.parts; continued = continued_more b more.text (ltb-false _ _ e) more.continued; value = more.value ∙ sym (total_more high b more.text more.continued); fits = more.fits }
 
 spells_from : (high : ℕ) (bytes : List ℕ) (x : ℕ × List ℕ) → offset_from high bytes ≡ Some x → Spells high bytes x.1 x.0
 spells_from high [] x e = absurd cc
@@ -68,12 +68,12 @@ spells_from high (b ∷ bytes) x e =
     spells_by (ltb b 128) high b bytes x (λ h k. spells_from h bytes x k) refl (ltb-true _ _ g.0) g.1
 
 -- the part read so far is not above the whole
-above : (high : ℕ) (text : List ℕ) → AreMarked text → high ≤ total high text
+above : (high : ℕ) (text : List ℕ) → AreContinued text → high ≤ total high text
 above high [] m = absurd m
 above high (b ∷ []) m = omega (arith, last_total high b)
 above high (b ∷ c ∷ text) m = omega (arith, total_next high b c text, above (high * 128 + b % 128 + 1) (c ∷ text) m.1)
 
-pub read_again : (high : ℕ) (text rest : List ℕ) (n : ℕ) → AreMarked text → n ≡ total high text → n < 2 ^ 64 → offset_from high (text ++ rest) ≡ Some (n, rest)
+pub read_again : (high : ℕ) (text rest : List ℕ) (n : ℕ) → AreContinued text → n ≡ total high text → n < 2 ^ 64 → offset_from high (text ++ rest) ≡ Some (n, rest)
 read_again high [] rest n m e lt = absurd m
 read_again high (b ∷ []) rest n m e lt =
     let is : n ≡ high * 128 + b % 128 = e ∙ last_total high b in
@@ -91,10 +91,10 @@ read_again high (b ∷ c ∷ text) rest n m e lt =
 pub offset_takes : (bytes : List ℕ) (x : ℕ × List ℕ) → offset_at bytes ≡ Some x → StartsWithOffset bytes x.0 x.1
 offset_takes bytes x e =
     let s = spells_from 0 bytes x e in
-    record { spelling = s.text; parts = s.parts; is_offset = record { marked = s.marked; value = omega (arith, s.value); fits = s.fits } }
+    record { spelling = s.text; parts = s.parts; is_offset = record { continued = s.continued; value = omega (arith, s.value); fits = s.fits } }
 
 offset_spelled : (text rest : List ℕ) (n : ℕ) → IsOffset text n → offset_at (text ++ rest) ≡ Some (n, rest)
-offset_spelled text rest n h = read_again 0 text rest n h.marked (omega (arith, h.value)) h.fits
+offset_spelled text rest n h = read_again 0 text rest n h.continued (omega (arith, h.value)) h.fits
 
 pub offset_again : (bytes : List ℕ) (n : ℕ) (rest : List ℕ) → StartsWithOffset bytes n rest → offset_at bytes ≡ Some (n, rest)
 offset_again bytes n rest h = ap offset_at h.parts ∙ offset_spelled h.spelling rest n h.is_offset

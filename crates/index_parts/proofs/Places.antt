@@ -6,7 +6,7 @@ use Rattle.std.proofs.lemmas.Bool.Decides.{nat_tests}
 use Rattle.index_parts.specs.Ascending.{Ascends}
 use Rattle.index_parts.specs.Bits.{Bit, clear, set, broken, bit_of, low_bits, word_bits, repetitions, places, ListPlaces}
 use Rattle.index_parts.specs.declared.ewah.iter.Malformed.{Malformed}
-use Rattle.index_parts.specs.Unpacking.{unpacked, place_of, IsPlaceAfter}
+use Rattle.index_parts.specs.UnpackingSteps.{unpacked, next_place, IsPlaceAfter}
 use Rattle.index_parts.proofs.Unpackings.{behind_run, one_unpacking, stand_for_unpacked, unpacked-nil, unpacked-cons}
 
 -- ---- they ascend
@@ -48,9 +48,9 @@ places_past p q (set ∷ bits) h k =
     rw (a, b) refl
 places_past p q (broken ∷ bits) h k = refl
 
-pub places_after : (p : Option ℕ) (n : ℕ) (q : Option ℕ) (bits : List Bit) → IsPlaceAfter p n q → places (place_of q) bits ≡ places (place_of p + n) bits
+pub places_after : (p : Option ℕ) (n : ℕ) (q : Option ℕ) (bits : List Bit) → IsPlaceAfter p n q → places (next_place q) bits ≡ places (next_place p + n) bits
 places_after p n (Some q) bits h = rw h.0 refl
-places_after p n None bits h = places_past (2 ^ 64) (place_of p + n) bits (omega arith) h
+places_after p n None bits h = places_past (2 ^ 64) (next_place p + n) bits (omega arith) h
 
 places_clear : (n p : ℕ) (bits : List Bit) → places p (replicate n clear ++ bits) ≡ places (p + n) bits
 places_clear zero p bits = let e : p + 0 ≡ p = omega arith in rw e refl
@@ -92,12 +92,12 @@ pub run_set : (p run : ℕ) (words : List ℕ) → run % 2 ≡ 1 → places p (r
 run_set p run words h = rw (unpacked-cons run words, bit_set (run % 2) h) refl
 
 -- a run of clear bits is passed
-pub run_clear : (p q : Option ℕ) (run : ℕ) (words : List ℕ) → (run % 2 ≡ 1 → ⊥) → IsPlaceAfter p (64 * repetitions run) q → places (place_of q) (behind_run run words) ≡ places (place_of p) (unpacked (run ∷ words))
-run_clear p q run words h a = rw (unpacked-cons run words, bit_clear (run % 2) h) (places_after p (64 * repetitions run) q (behind_run run words) a ∙ sym (places_clear (64 * repetitions run) (place_of p) (behind_run run words)))
+pub run_clear : (p q : Option ℕ) (run : ℕ) (words : List ℕ) → (run % 2 ≡ 1 → ⊥) → IsPlaceAfter p (64 * repetitions run) q → places (next_place q) (behind_run run words) ≡ places (next_place p) (unpacked (run ∷ words))
+run_clear p q run words h a = rw (unpacked-cons run words, bit_clear (run % 2) h) (places_after p (64 * repetitions run) q (behind_run run words) a ∙ sym (places_clear (64 * repetitions run) (next_place p) (behind_run run words)))
 
 module _ (ones bits literals : ℕ) (no_run : ones ≡ 0) where
   -- a clear bit of a literal word is passed
-  pub step_clear : (w : ℕ) (p q : Option ℕ) (tail : List Bit) → 0 < bits → (w % 2 ≡ 1 → ⊥) → IsPlaceAfter p 1 q → places (place_of q) (replicate ones set ++ (low_bits (bits - 1) (w / 2) ++ tail)) ≡ places (place_of p) (replicate ones set ++ (low_bits bits w ++ tail))
+  pub step_clear : (w : ℕ) (p q : Option ℕ) (tail : List Bit) → 0 < bits → (w % 2 ≡ 1 → ⊥) → IsPlaceAfter p 1 q → places (next_place q) (replicate ones set ++ (low_bits (bits - 1) (w / 2) ++ tail)) ≡ places (next_place p) (replicate ones set ++ (low_bits bits w ++ tail))
   step_clear w p q tail pos h a = rw (no_run, word_step bits w pos, bit_clear (w % 2) h) (places_after p 1 q (low_bits (bits - 1) (w / 2) ++ tail) a)
 
   module _ (no_bits : bits ≡ 0) (is_broken : Bool) (whole : is_broken ≡ false) (w p : ℕ) where

@@ -3,9 +3,9 @@ use Rattle.std.proofs.Common.{◌≡◌, ℕ, List, ◌++◌, length, Option, So
 use Rattle.std.proofs.lemmas.Option.{same_Some}
 use Rattle.index_parts.specs.declared.hash.Kind.{Kind}
 use Rattle.index_parts.specs.declared.hash.ObjectId.{ObjectId}
-use Rattle.index_parts.specs.Front.{be, StartsWithNumber}
+use Rattle.index_parts.specs.Numbers.{be, StartsWithNumber}
 use Rattle.index_parts.specs.Id.{id_len, make_id}
-use Rattle.index_parts.specs.Reading.{◌>>=◌, piece_at, number_at, object_id_at}
+use Rattle.index_parts.specs.ReadingSteps.{◌>>=◌, piece_at, number_at, object_id_at}
 use Rattle.index_parts.proofs.Splits.{piece_takes, piece_again}
 use Rattle.index_parts.proofs.Steps.{bind_some}
 

@@ -4,7 +4,7 @@ use Rattle.std.specs.List.{AllByRecursion}
 use Rattle.std.proofs.lemmas.Bool.{ltb-true, ltb-false, lt-ltb, le-ltb}
 use Rattle.std.proofs.lemmas.List.{drop-set}
 use native.Mathlib.Numerals.{unary_clauses}
-use Rattle.index_parts.specs.Offset.{AreMarked, digits_value, powers_sum, IsOffset, marked_bytes, offset_bytes}
+use Rattle.index_parts.specs.Offset.{AreContinued, digits_value, powers_sum, IsOffset, continued_bytes, offset_bytes}
 
 -- ---- what bytes stand for with one more behind them
 
@@ -36,38 +36,38 @@ value_push : (l : List ℕ) (b : ℕ) → 1 ≤ length l → value (l ++ b ∷ [
 value_push [] b some = absurd (omega arith)
 value_push (c ∷ l) b some = omega (arith, digits_push (c ∷ l) b, sum_push c l b)
 
-marks_last : (l : List ℕ) (b : ℕ) → AllByRecursion (λ c. 128 ≤ c) l → b < 128 → AreMarked (l ++ b ∷ [])
-marks_last [] b h k = k
-marks_last (c ∷ []) b h k = (h.0, k)
-marks_last (c ∷ d ∷ l) b h k = (h.0, marks_last (d ∷ l) b h.1 k)
+continued_last : (l : List ℕ) (b : ℕ) → AllByRecursion (λ c. 128 ≤ c) l → b < 128 → AreContinued (l ++ b ∷ [])
+continued_last [] b h k = k
+continued_last (c ∷ []) b h k = (h.0, k)
+continued_last (c ∷ d ∷ l) b h k = (h.0, continued_last (d ∷ l) b h.1 k)
 
-marks_push : (l : List ℕ) (b : ℕ) → AllByRecursion (λ c. 128 ≤ c) l → 128 ≤ b → AllByRecursion (λ c. 128 ≤ c) (l ++ b ∷ [])
-marks_push [] b h k = (k, tt)
-marks_push (c ∷ l) b h k = (h.0, marks_push l b h.1 k)
+continued_push : (l : List ℕ) (b : ℕ) → AllByRecursion (λ c. 128 ≤ c) l → 128 ≤ b → AllByRecursion (λ c. 128 ≤ c) (l ++ b ∷ [])
+continued_push [] b h k = (k, tt)
+continued_push (c ∷ l) b h k = (h.0, continued_push l b h.1 k)
 
 -- ---- a number's spelling
 
--- the bytes before the last one have the mark, and with a last byte of these digits all stand for the number
+-- the bytes before the last one have the continuation bit, and with a last byte of these digits all stand for the number
 record Leads (n : ℕ) (front : List ℕ) : Type 0 where
-  marked : AllByRecursion (λ c. 128 ≤ c) front
+  continued : AllByRecursion (λ c. 128 ≤ c) front
   sums : (b : ℕ) → b % 128 ≡ n % 128 → value (front ++ b ∷ []) ≡ n
 
-leads_by : (most n : ℕ) (t : Bool) → ltb n 128 ≡ t → (128 ≤ n → Leads (n / 128 - 1) (marked_bytes most (n / 128 - 1))) → Leads n (cond t [] (marked_bytes most (n / 128 - 1) ++ (128 + (n / 128 - 1) % 128) ∷ []))
-leads_by most n true e more = record { marked = tt; sums = λ b low. omega (arith, ltb-true n 128 e, low) }
+leads_by : (most n : ℕ) (t : Bool) → ltb n 128 ≡ t → (128 ≤ n → Leads (n / 128 - 1) (continued_bytes most (n / 128 - 1))) → Leads n (cond t [] (continued_bytes most (n / 128 - 1) ++ (128 + (n / 128 - 1) % 128) ∷ []))
+leads_by most n true e more = record { continued = tt; sums = λ b low. omega (arith, ltb-true n 128 e, low) }
 leads_by most n false e more =
     let le : 128 ≤ n = ltb-false n 128 e in
     let h = more le in
-    let front : List ℕ = marked_bytes most (n / 128 - 1) in
+    let front : List ℕ = continued_bytes most (n / 128 - 1) in
     let c : ℕ = 128 + (n / 128 - 1) % 128 in
     let high : value (front ++ c ∷ []) ≡ n / 128 - 1 = h.sums c (omega arith) in
     record {
-      marked = marks_push front c h.marked (omega arith);
+      continued = continued_push front c h.continued (omega arith);
       sums = λ b low. omega (arith, value_push (front ++ c ∷ []) b (omega (arith, len_push front c)), high, low, le);
     }
 
-leads : (most n : ℕ) → n < 128 ^ suc most → Leads n (marked_bytes most n)
-unfolding marked_bytes
-leads zero n lt = record { marked = tt; sums = λ b low. omega (arith, low, power 0, lt) }
+leads : (most n : ℕ) → n < 128 ^ suc most → Leads n (continued_bytes most n)
+unfolding continued_bytes
+leads zero n lt = record { continued = tt; sums = λ b low. omega (arith, low, power 0, lt) }
 leads (suc most) n lt = leads_by most n (ltb n 128) refl (λ le. leads most (n / 128 - 1) (omega (arith, power (suc most), lt, le)))
 
 -- the bytes of a number spell it
@@ -75,22 +75,22 @@ pub offset_is : (n : ℕ) → n < 2 ^ 64 → IsOffset (offset_bytes n) n
 unfolding offset_bytes
 offset_is n lt =
     let h = leads 9 n (omega arith) in
-    record { marked = marks_last (marked_bytes 9 n) (n % 128) h.marked (omega arith); value = sym (h.sums (n % 128) (omega arith)); fits = lt }
+    record { continued = continued_last (continued_bytes 9 n) (n % 128) h.continued (omega arith); value = sym (h.sums (n % 128) (omega arith)); fits = lt }
 
 pub offset_some : (n : ℕ) → 1 ≤ length (offset_bytes n)
 unfolding offset_bytes
-offset_some n = omega (arith, len_push (marked_bytes 9 n) (n % 128))
+offset_some n = omega (arith, len_push (continued_bytes 9 n) (n % 128))
 
 -- ---- byte by byte, from the last
 
-pub spelled_last : (n : ℕ) → marked_bytes 9 n ++ n % 128 ∷ [] ≡ offset_bytes n
+pub spelled_last : (n : ℕ) → continued_bytes 9 n ++ n % 128 ∷ [] ≡ offset_bytes n
 unfolding offset_bytes
 spelled_last n = refl
 
 -- one byte more
-pub spelled_next : (n start high : ℕ) (bytes : List ℕ) → 128 ≤ high → high < 128 ^ (start + 1) → start < length bytes → marked_bytes start high ++ drop start bytes ≡ offset_bytes n
-    → marked_bytes (start - 1) (high / 128 - 1) ++ drop (start - 1) (set bytes (start - 1) (128 + (high / 128 - 1) % 128)) ≡ offset_bytes n
-unfolding marked_bytes
+pub spelled_next : (n start high : ℕ) (bytes : List ℕ) → 128 ≤ high → high < 128 ^ (start + 1) → start < length bytes → continued_bytes start high ++ drop start bytes ≡ offset_bytes n
+    → continued_bytes (start - 1) (high / 128 - 1) ++ drop (start - 1) (set bytes (start - 1) (128 + (high / 128 - 1) % 128)) ≡ offset_bytes n
+unfolding continued_bytes
 spelled_next n zero high bytes le lt h e = absurd (omega (arith, power 0))
 spelled_next n (suc k) high bytes le lt h e =
     let c : ℕ = 128 + (high / 128 - 1) % 128 in
@@ -98,8 +98,8 @@ spelled_next n (suc k) high bytes le lt h e =
     let fewer : suc k - 1 ≡ k = omega arith in
     let more : k + 1 ≡ suc k = omega arith in
     let set_there : drop k (set bytes k c) ≡ c ∷ drop (suc k) bytes = drop-set bytes k c (omega arith) ∙ ap (λ (i : ℕ). c ∷ drop i bytes) more in
-    let parts : marked_bytes k (high / 128 - 1) ++ c ∷ drop (suc k) bytes ≡ marked_bytes (suc k) high ++ drop (suc k) bytes = rw large (sym (append_assoc (marked_bytes k (high / 128 - 1)) (c ∷ []) (drop (suc k) bytes))) in
-    rw fewer (ap (λ (l : List ℕ). marked_bytes k (high / 128 - 1) ++ l) set_there ∙ parts ∙ e)
+    let parts : continued_bytes k (high / 128 - 1) ++ c ∷ drop (suc k) bytes ≡ continued_bytes (suc k) high ++ drop (suc k) bytes = rw large (sym (append_assoc (continued_bytes k (high / 128 - 1)) (c ∷ []) (drop (suc k) bytes))) in
+    rw fewer (ap (λ (l : List ℕ). continued_bytes k (high / 128 - 1) ++ l) set_there ∙ parts ∙ e)
 
 -- there is room for it
 pub room_next : (start high : ℕ) → high < 128 ^ (start + 1) → 128 ≤ high → (1 ≤ start) × (high / 128 - 1 < 128 ^ (start - 1 + 1))
@@ -110,7 +110,7 @@ room_next (suc k) high lt le =
     (omega arith, rw e (omega (arith, power (suc k), ap (λ (i : ℕ). 128 ^ i) f)))
 
 -- before no byte there is none
-pub spelled_all : (n start high : ℕ) (bytes : List ℕ) → high < 128 → marked_bytes start high ++ drop start bytes ≡ offset_bytes n → drop start bytes ≡ offset_bytes n
-unfolding marked_bytes
+pub spelled_all : (n start high : ℕ) (bytes : List ℕ) → high < 128 → continued_bytes start high ++ drop start bytes ≡ offset_bytes n → drop start bytes ≡ offset_bytes n
+unfolding continued_bytes
 spelled_all n zero high bytes lt e = e
 spelled_all n (suc k) high bytes lt e = let small : ltb high 128 ≡ true = lt-ltb high 128 lt in rw small at e

@@ -6,8 +6,8 @@ use Rattle.std.specs.Option.{option_map}
 use Rattle.std.proofs.lemmas.Bool.{ltb-true, ltb-false, lt-ltb, le-ltb, eqb-true, eqb-false, eq-eqb}
 use Rattle.std.proofs.lemmas.List.{take_at, drop_at, take-append-drop, length-append, length-take}
 use Rattle.std.proofs.lemmas.List.Elements.{All-nil, All-cons, All-head, All-tail}
-use Rattle.index_parts.specs.Front.{IsUpTo}
-use Rattle.index_parts.specs.Reading.{piece_at, split_at_byte}
+use Rattle.index_parts.specs.Numbers.{IsUpTo}
+use Rattle.index_parts.specs.ReadingSteps.{piece_at, split_at_byte}
 use Rattle.index_parts.proofs.Steps.{guard_some}
 
 -- ---- a piece of a given size

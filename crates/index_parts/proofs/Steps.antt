@@ -1,6 +1,6 @@
 -- What a chain of steps that may find nothing found.
 use Rattle.std.proofs.Common.{◌≡◌, Bool, true, false, cond, Option, Some, None, refl}
-use Rattle.index_parts.specs.Reading.{◌>>=◌}
+use Rattle.index_parts.specs.ReadingSteps.{◌>>=◌}
 
 -- the value of a step that found something
 pub bind_some : {A B : Type 0} (o : Option A) (f : A → Option B) (y : B) → (o >>= f) ≡ Some y → (x : A) × (o ≡ Some x) × (f x ≡ Some y)

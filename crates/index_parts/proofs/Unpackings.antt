@@ -5,7 +5,7 @@ use Rattle.std.proofs.lemmas.Bool.Decides.{nat_tests}
 use Rattle.std.proofs.lemmas.List.{take_at, drop_at, take-append-drop, length-append, length-take}
 use Rattle.std.proofs.lemmas.List.Elements.{All-nil, All-cons, All-head, All-tail}
 use Rattle.index_parts.specs.Bits.{Bit, broken, word_bits, run_bits, literal_count, Chunk, chunk_words, chunk_bits, IsWhole, IsEnd, StandFor}
-use Rattle.index_parts.specs.Unpacking.{unpacked_within, unpacked}
+use Rattle.index_parts.specs.UnpackingSteps.{unpacked_within, unpacked}
 
 within_same : (f g : ℕ) (words : List ℕ) → length words ≤ f → length words ≤ g → unpacked_within f words ≡ unpacked_within g words
 within_same zero zero words h k = refl

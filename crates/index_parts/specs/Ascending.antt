@@ -1,8 +1,8 @@
--- Places in order, as a bitmap lists them (git's bitmap-format document, "Serialization format for an EWAH bitmap": bits at
--- lower order first).
+-- Positions in order, as a bitmap lists them (git's bitmap-format document, "Serialization format for an EWAH bitmap":
+-- bits at lower order first).
 use Rattle.std.specs.Prelude.{◌≡◌, ℕ, ◌+◌, ◌≤◌, List, [], ◌∷◌, Result, Ok, Err}
 
--- places ascend from this one on, and a fault is the last item
+-- positions ascend from this one on, and a fault is the last item
 abbrev pub Ascends : {E : Type 0} → ℕ → List (Result ℕ E) → Type 0
 Ascends {E} place [] = Unit {0}
 Ascends {E} place (Ok next ∷ items) = (place ≤ next) × Ascends (next + 1) items

@@ -1,7 +1,7 @@
 -- A compressed bitmap at the front of bytes (git's bitmap-format document, "Serialization format for an EWAH bitmap").
 use Rattle.std.specs.Prelude.{◌≡◌, ℕ, ◌*◌, ◌<◌, ◌≤◌, List, ◌++◌, All, length, map}
 use Rattle.std.specs.List.{concat}
-use Rattle.index_parts.specs.Front.{be}
+use Rattle.index_parts.specs.Numbers.{be}
 use Rattle.index_parts.specs.declared.ewah.Vec.{Vec}
 use Rattle.index_parts.specs.declared.ewah.decode.Error.{Error}
 use Rattle.index_parts.specs.declared.ewah.decode.Error.TheVariants as errors
@@ -14,7 +14,7 @@ pub record Bitmap : Type 0 where
 abbrev pub bitmap : Vec → Bitmap
 bitmap v = record { num_bits = v.num_bits; words = v.words.items }
 
--- bytes are words, one behind another, of eight bytes each
+-- bytes are words, one after another, of eight bytes each
 pub record AreWords (bytes words : List ℕ) : Type 0 where
   pub spellings : List (List ℕ)
   pub parts : bytes ≡ concat spellings
@@ -51,7 +51,7 @@ pub record LacksWords (bytes : List ℕ) : Type 0 where
   pub len_size : length len ≡ 4
   pub few : length rest < 8 * be len
 
--- the words are there too, and fewer than four bytes behind them
+-- the words are there too, and fewer than four bytes after them
 pub record LacksLast (bytes : List ℕ) : Type 0 where
   pub bits : List ℕ
   pub len : List ℕ
@@ -72,6 +72,6 @@ Lacks errors.LastRun bytes = LacksLast bytes
 Lacks errors.Memory bytes = ⊥
 
 -- what an error says of bytes: want of memory comes in place of no fault
-abbrev pub Says : Error → List ℕ → Type 0
-Says errors.Memory bytes = HasBitmap bytes
-Says error bytes = Lacks error bytes
+abbrev pub SaysBitmapFault : Error → List ℕ → Type 0
+SaysBitmapFault errors.Memory bytes = HasBitmap bytes
+SaysBitmapFault error bytes = Lacks error bytes

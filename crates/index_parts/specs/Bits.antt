@@ -4,7 +4,7 @@ use Rattle.std.specs.Prelude.{◌≡◌, ℕ, zero, suc, ◌+◌, ◌*◌, ◌/�
 use Rattle.std.specs.List.{flat_map}
 use Rattle.index_parts.specs.declared.ewah.iter.Malformed.{Malformed}
 
--- a bit, or the place at which the words break off
+-- a bit, or the point at which the words break off
 pub data Bit : Type 0 where
   clear : Bit
   set : Bit
@@ -50,7 +50,7 @@ chunk_bits chunk = run_bits chunk.run ++ flat_map word_bits chunk.literals
 abbrev pub IsWhole : Chunk → Type 0
 IsWhole chunk = length chunk.literals ≡ literal_count chunk.run
 
--- behind the whole chunks: no word and no bit, or a chunk that lacks literal words, of which the run alone has bits
+-- after the whole chunks: no word and no bit, or a chunk that lacks literal words, of which the run alone has bits
 abbrev pub IsEnd : List ℕ → List Bit → Type 0
 IsEnd [] bits = bits ≡ []
 IsEnd (run ∷ literals) bits = (length literals < literal_count run) × (bits ≡ run_bits run ++ broken ∷ [])
@@ -65,15 +65,15 @@ pub record StandFor (words : List ℕ) (bits : List Bit) : Type 0 where
   pub is_end : IsEnd last last_bits
   pub joined : bits ≡ flat_map chunk_bits chunks ++ last_bits
 
--- the places of the bits that are set, of which the first bit has this place, up to the first fault: a break, or a place
--- of more than 64 bits
+-- the positions of the bits that are set, of which the first bit has this one, up to the first fault: a break, or a
+-- position of more than 64 bits
 abbrev pub places : ℕ → List Bit → List (Result ℕ Malformed)
 places place [] = []
 places place (clear ∷ bits) = places (place + 1) bits
 places place (set ∷ bits) = if nat_lt place (2 ^ 64) then Ok place ∷ places (place + 1) bits else Err (record {}) ∷ []
 places place (broken ∷ bits) = Err (record {}) ∷ []
 
--- items are the places of the bits that words stand for
+-- items are the positions of the bits that words stand for
 pub record ListPlaces (items : List (Result ℕ Malformed)) (words : List ℕ) : Type 0 where
   pub bits : List Bit
   pub stand_for : StandFor words bits

@@ -1,4 +1,5 @@
--- Numbers in octal digits (ASCII), as tree objects and resolve-undo have modes.
+-- Numbers in octal digits (ASCII), as modes are spelled in tree objects ("Pro Git", "Git Objects") and in resolve-undo
+-- (gitformat-index, "Resolve undo").
 use Rattle.std.specs.Prelude.{◌≡◌, ◌≢◌, ℕ, ◌+◌, ◌-◌, ◌*◌, ◌^◌, ◌<◌, ◌≤◌, List, [], ◌∷◌, All, length}
 
 -- `0` to `7`

@@ -1,12 +1,12 @@
--- An offset number (gitformat-index, version 4: "encoded in the same encoding as the offset for OFS_DELTA pack entries"):
--- a digit of seven bits a byte, and a mark in each byte but the last.
+-- An offset number, a varint (gitformat-index, version 4: "encoded in the same encoding as the offset for OFS_DELTA
+-- pack entries"): a digit of seven bits a byte, and a continuation bit in each byte but the last.
 use Rattle.std.specs.Prelude.{◌≡◌, ℕ, zero, suc, ◌+◌, ◌-◌, ◌*◌, ◌/◌, ◌%◌, ◌^◌, ◌<◌, ◌≤◌, nat_lt, List, [], ◌∷◌, ◌++◌, length, if◌then◌else◌}
 
--- the mark is bit 7: each byte but the last has it, the last hasn't, and there is a last
-abbrev pub AreMarked : List ℕ → Type 0
-AreMarked [] = ⊥
-AreMarked (b ∷ []) = b < 128
-AreMarked (b ∷ c ∷ bytes) = (128 ≤ b) × AreMarked (c ∷ bytes)
+-- the continuation bit is bit 7: each byte but the last has it, the last hasn't, and there is a last
+abbrev pub AreContinued : List ℕ → Type 0
+AreContinued [] = ⊥
+AreContinued (b ∷ []) = b < 128
+AreContinued (b ∷ c ∷ bytes) = (128 ≤ b) × AreContinued (c ∷ bytes)
 
 -- the number whose digits in base 128 are the low seven bits of the bytes
 abbrev pub digits_value : List ℕ → ℕ
@@ -21,7 +21,7 @@ powers_sum (b ∷ c ∷ bytes) = 128 ^ length (c ∷ bytes) + powers_sum (c ∷ 
 
 -- bytes spell the number n, which has at most 64 bits
 pub record IsOffset (bytes : List ℕ) (n : ℕ) : Type 0 where
-  pub marked : AreMarked bytes
+  pub continued : AreContinued bytes
   pub value : n ≡ digits_value bytes + powers_sum bytes
   pub fits : n < 2 ^ 64
 
@@ -31,12 +31,12 @@ pub record StartsWithOffset (bytes : List ℕ) (n : ℕ) (rest : List ℕ) : Typ
   pub parts : bytes ≡ spelling ++ rest
   pub is_offset : IsOffset spelling n
 
--- the bytes before the last one of a number's spelling, of which there are no more than this: the spelling of the higher part
--- less one, with a mark in each byte
-unfoldable pub marked_bytes : ℕ → ℕ → List ℕ
-marked_bytes zero n = []
-marked_bytes (suc most) n = if nat_lt n 128 then [] else marked_bytes most (n / 128 - 1) ++ (128 + (n / 128 - 1) % 128) ∷ []
+-- the bytes before the last one of a number's spelling, of which there are no more than this: the spelling of the
+-- higher part less one, with the continuation bit in each byte
+unfoldable pub continued_bytes : ℕ → ℕ → List ℕ
+continued_bytes zero n = []
+continued_bytes (suc most) n = if nat_lt n 128 then [] else continued_bytes most (n / 128 - 1) ++ (128 + (n / 128 - 1) % 128) ∷ []
 
 -- the one spelling of a number that has at most 64 bits, which are at most ten bytes
 unfoldable pub offset_bytes : ℕ → List ℕ
-offset_bytes n = marked_bytes 9 n ++ n % 128 ∷ []
+offset_bytes n = continued_bytes 9 n ++ n % 128 ∷ []

@@ -1,11 +1,11 @@
--- What a writer took of what it was given (`std::io::Write`: a call that fails may have taken a front), and what a hasher
--- over it took in.
+-- What a writer took of what it was given (`std::io::Write`: a call that fails may have taken a prefix), and what a
+-- hasher over it took in.
 use Rattle.std.specs.Prelude.{◌≡◌, ℕ, List, ◌∷◌, ◌++◌, MatchResult, Option, Result}
 use Rattle.std.specs.List.{concat}
 use Rattle.std.specs.Io.KnownBytes.{Appends}
 use Rattle.index_parts.specs.declared.hash.Kind.{Kind}
 
--- where the bytes taken are known, they grew by a front of these
+-- where the bytes taken are known, they grew by a prefix of these
 pub record AppendsFront (old new : Option (List ℕ)) (bytes : List ℕ) : Type 0 where
   pub front : List ℕ
   pub rest : List ℕ
@@ -25,11 +25,12 @@ pub record Took {S : Type 0} (taken : S → Option (List ℕ)) (hashed : S → �
   pub grew : Appends (taken old) (taken new) bytes
   pub into_hash : Hashes hashed old new bytes
 
--- an Ok took these bytes whole, and an Err a front of them
+-- an Ok took these bytes whole, and an Err a prefix of them
 abbrev pub Puts : {S T E : Type 0} → (S → Option (List ℕ)) → (S → ℕ → Kind → List ℕ → Type 0) → S → S → Result T E → List ℕ → Type 0
 Puts taken hashed old new r bytes = MatchResult r (λ _. Took taken hashed old new bytes) (λ _. AppendsFront (taken old) (taken new) bytes)
 
--- Of pieces the first ones were taken whole, and of the next one a front. The hasher took in those that were taken whole.
+-- Of pieces the first ones were taken whole, and of the next one a prefix. The hasher took in those that were taken
+-- whole.
 pub record Breaks {S : Type 0} (taken : S → Option (List ℕ)) (hashed : S → ℕ → Kind → List ℕ → Type 0) (old new : S) (pieces : List (List ℕ)) : Type 0 where
   pub whole : List (List ℕ)
   pub front : List ℕ

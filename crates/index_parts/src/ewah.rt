@@ -4,7 +4,7 @@ ghost use Rattle.std.specs.Prelude.{◌≡◌};
 ghost use Rattle.index_parts.specs.Ascending.{Ascends};
 ghost use Rattle.index_parts.specs.Bitmap.{bitmap};
 ghost use Rattle.index_parts.specs.Bits.{ListPlaces};
-ghost use Rattle.index_parts.specs.Unpacking.{items_left};
+ghost use Rattle.index_parts.specs.UnpackingSteps.{items_left};
 
 use std::alloc::AllocError;
 use std::vec::Vec as Words;
@@ -41,11 +41,11 @@ impl Vec {
         self.num_bits
     }
 
-    /// The places of the bits that are set, counted from 0 and ascending; they aren't cut at the number of bits.
+    /// The positions of the bits that are set, counted from 0 and ascending; they aren't cut at the number of bits.
     ///
-    /// Nothing is unpacked before it is asked for. Where a run word lacks some of its literal words, the places of its
-    /// run come, and then [`Malformed`] for all of the literal words. It also comes for a set bit whose place has more
-    /// than 64 bits. It is the last item.
+    /// Nothing is unpacked before it is asked for. Where a run word lacks some of its literal words, the positions of
+    /// its run come, and then [`Malformed`] for all of the literal words. It also comes for a set bit whose position
+    /// has more than 64 bits. It is the last item.
     pub fn positions(&self) -> Positions<'_>
         ensures places { ListPlaces (items_left result) (bitmap self.now).words }
         ensures ascending { Ascends 0 (items_left result) }

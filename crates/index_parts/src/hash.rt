@@ -6,7 +6,7 @@ ghost use Rattle.hex.specs.Hex.{encode_lower};
 ghost use Rattle.index_parts.specs.Digest.{digest, hasher_kind, Holds};
 ghost use Rattle.index_parts.specs.Id.{make_id};
 
-use crate::read;
+use crate::bytes;
 use sha1::Sha1;
 use sha2::{Digest, Sha256};
 use std::fmt;
@@ -57,7 +57,6 @@ impl Kind {
 }
 
 impl ObjectId {
-    ghost use Rattle.std.specs.Prelude.{IsOk, IfErr, ◌↔◌};
     ghost use Rattle.index_parts.specs.Id.{id_bytes, id_kind, id_of, id_len, is_null};
 
     /// The id with these bytes; None where there are neither 20 nor 32.
@@ -115,22 +114,7 @@ impl ObjectId {
     pub fn is_null(&self) -> bool
         ensures { result ≡ is_null (id_bytes self.now) }
     {
-        read::is_null(self.as_bytes())
-    }
-
-    /// Compares this digest with the one that was expected. An error names both.
-    pub fn verify(&self, expected: &ObjectId) -> Result<(), verify::Error>
-        ensures ok { IsOk result ↔ (self.now ≡ expected.now) }
-        ensures actual { IfErr result (λ error. error.actual ≡ self.now) }
-        ensures expected { IfErr result (λ error. error.expected ≡ expected.now) }
-    {
-        if self != expected {
-            return Err(verify::Error {
-                actual: *self,
-                expected: *expected,
-            });
-        }
-        Ok(())
+        bytes::is_null(self.as_bytes())
     }
 }
 
@@ -155,7 +139,7 @@ impl Hasher {
         }
     }
 
-    /// Takes these bytes in, behind those before.
+    /// Takes these bytes in, after those before.
     pub fn update(&mut self, piece: &[u8])
         ensures kind { hasher_kind self.new ≡ hasher_kind self.old }
         ensures more { (m : List ℕ) → Holds self.old m → Holds self.new (m ++ piece.now) }
@@ -168,7 +152,8 @@ impl Hasher {
 
     /// The digest of all bytes that were taken in.
     pub fn finalize(self) -> ObjectId
-        ensures { (m : List ℕ) → Holds self m → result ≡ make_id (hasher_kind self) (digest (hasher_kind self) m) }
+        ensures { (m : List ℕ) → Holds self m
+            → result ≡ make_id (hasher_kind self) (digest (hasher_kind self) m) }
     {
         match self {
             Hasher::Sha1(hasher) => ObjectId::Sha1(hasher.finalize()),

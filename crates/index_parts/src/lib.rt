@@ -1,11 +1,9 @@
-//! The parts of a git index file: object ids, numbers, and what an entry has beside its path.
+//! What a git index file is encoded with: numbers, object ids and digests, and bitmaps.
 #![tactic(auto)]
 
-pub mod entry;
+mod bytes;
 pub mod ewah;
-pub mod fs;
 pub mod hash;
-pub mod object;
 pub mod read;
 pub mod spell;
 pub mod util;

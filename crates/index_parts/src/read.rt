@@ -1,22 +1,19 @@
 //! Readers of what stands at the front of bytes, each with one exact contract.
 //!
-//! A reader gives its value and the bytes behind it, or None where there is none, and takes no memory. All numbers are
+//! A reader gives its value and the bytes after it, or None where there is none, and takes no memory. All numbers are
 //! big-endian (gitformat-index).
 
 ghost use Rattle.std.specs.Prelude.{◌≡◌, ◌==◌, ◌+◌, ◌*◌, ◌≤◌, ◌↔◌, IsTrue, IfSome, length, position};
 ghost use Rattle.std.specs.Option.{option_map};
-ghost use Rattle.index_parts.specs.Front.{be, number};
-ghost use Rattle.index_parts.specs.Id.{is_null};
+ghost use Rattle.index_parts.specs.Numbers.{number};
 ghost use Rattle.index_parts.specs.Limit.{IsWithin, is_within};
-ghost use Rattle.index_parts.specs.Reading.{piece_at, split_at_byte, offset_at, number_at, object_id_at, is_octal_digit, octal_of};
-ghost use Rattle.index_parts.specs.Stat.{stat_of};
+ghost use Rattle.index_parts.specs.ReadingSteps.{piece_at, split_at_byte, offset_at, number_at, object_id_at, is_octal_digit, octal_of};
 
-use crate::entry::Stat;
-use crate::entry::stat::Time;
+pub use crate::bytes::is_null;
+use crate::bytes::{from_be_u32, from_be_u64};
 use crate::hash::{Kind, ObjectId};
-use crate::util::from_be_u32;
 
-/// The first `size` bytes, and the bytes behind them; None where there are fewer.
+/// The first `size` bytes, and the bytes after them; None where there are fewer.
 pub fn piece(bytes: &[u8], size: usize) -> Option<(&[u8], &[u8])>
     ensures exact { option_map (λ x. (x.0.now, x.1.now)) result ≡ piece_at size bytes.now }
     ensures len { IfSome result (λ x. length x.0.now ≡ size) }
@@ -27,14 +24,14 @@ pub fn piece(bytes: &[u8], size: usize) -> Option<(&[u8], &[u8])>
     Some(bytes.split_at(size))
 }
 
-/// The place of the first byte of this value.
+/// The index of the first byte of this value.
 fn position_of(bytes: &[u8], byte: u8) -> Option<usize>
     ensures { result ≡ position (λ x. x == byte) bytes.now }
 {
     bytes.iter().position(|x| *x == byte)
 }
 
-/// The bytes before and behind the first byte of this value.
+/// The bytes before and after the first byte of this value.
 ///
 /// None where no byte has the value, and where there are fewer than two bytes, even if the one byte has it.
 pub fn up_to(bytes: &[u8], byte: u8) -> Option<(&[u8], &[u8])>
@@ -47,10 +44,11 @@ pub fn up_to(bytes: &[u8], byte: u8) -> Option<(&[u8], &[u8])>
     Some((&bytes[..place], &bytes[place + 1..]))
 }
 
-/// The offset number at the front, and the bytes behind it (gitformat-index, entries of version 4).
+/// The offset number (varint) at the front, and the bytes after it (gitformat-index, entries of version 4).
 ///
-/// Each byte gives seven bits, the highest first, and one is added before each further byte. None where the
-/// last byte is missing, and where the number has more than 64 bits.
+/// Each byte gives seven bits, the highest first, and one is added before each further byte. Bit 7, the continuation
+/// bit, is set in each byte but the last. None where the last byte is missing, and where the number has more than 64
+/// bits.
 pub fn offset(bytes: &[u8]) -> Option<(u64, &[u8])>
     ensures { option_map (λ x. (x.0, x.1.now)) result ≡ offset_at bytes.now }
 {
@@ -65,7 +63,7 @@ pub fn offset(bytes: &[u8]) -> Option<(u64, &[u8])>
     None
 }
 
-/// The number of the first four bytes, and the bytes behind them; None where there are fewer.
+/// The number of the first four bytes, and the bytes after them; None where there are fewer.
 pub fn u32(bytes: &[u8]) -> Option<(u32, &[u8])>
     ensures { option_map (λ x. (x.0, x.1.now)) result ≡ number_at 4 bytes.now }
 {
@@ -79,7 +77,8 @@ fn is_octal_digit(b: u8) -> bool
     b >= b'0' && b <= b'7'
 }
 
-/// The number of one octal digit or more; None where another byte stands among them, and where it has more than 32 bits.
+/// The number of one octal digit or more; None where another byte stands among them, and where it has more than 32
+/// bits.
 pub fn octal(text: &[u8]) -> Option<u32>
     ensures { result ≡ octal_of text.now }
 {
@@ -96,17 +95,7 @@ pub fn octal(text: &[u8]) -> Option<u32>
     Some(value)
 }
 
-/// The number that eight bytes spell.
-fn from_be_u64(bytes: &[u8]) -> u64
-    requires { length bytes.now ≡ 8 }
-    ensures { result ≡ be bytes.now }
-{
-    u64::from_be_bytes([
-        bytes[0], bytes[1], bytes[2], bytes[3], bytes[4], bytes[5], bytes[6], bytes[7],
-    ])
-}
-
-/// The number of the first eight bytes, and the bytes behind them; None where there are fewer.
+/// The number of the first eight bytes, and the bytes after them; None where there are fewer.
 pub fn u64(bytes: &[u8]) -> Option<(u64, &[u8])>
     ensures { option_map (λ x. (x.0, x.1.now)) result ≡ number_at 8 bytes.now }
 {
@@ -114,7 +103,7 @@ pub fn u64(bytes: &[u8]) -> Option<(u64, &[u8])>
     Some((from_be_u64(front), rest))
 }
 
-/// The id of this kind, 20 or 32 bytes, and the bytes behind it; None where there are fewer.
+/// The id of this kind, 20 or 32 bytes, and the bytes after it; None where there are fewer.
 pub fn id(bytes: &[u8], kind: Kind) -> Option<(ObjectId, &[u8])>
     ensures { option_map (λ x. (x.0, x.1.now)) result ≡ object_id_at kind bytes.now }
 {
@@ -122,43 +111,12 @@ pub fn id(bytes: &[u8], kind: Kind) -> Option<(ObjectId, &[u8])>
     Some((ObjectId::of_kind(kind, front), rest))
 }
 
-/// The number at this place, counted from 0, among numbers of four bytes.
+/// The number at this index, counted from 0, among numbers of four bytes.
 pub fn number(numbers: &[u8], place: usize) -> u32
     requires { 4 * place + 4 ≤ length numbers.now }
     ensures { result ≡ number numbers.now place }
 {
     from_be_u32(&numbers[4 * place..4 * place + 4])
-}
-
-/// The stat of nine numbers of four bytes: the six of the times, the device and the inode, and the three of the owner,
-/// its group and the size. An entry has its mode between them (gitformat-index, "Index entry").
-pub fn stat(first: &[u8], last: &[u8]) -> Stat
-    requires first { length first.now ≡ 24 }
-    requires last { length last.now ≡ 12 }
-    ensures { result ≡ stat_of first.now last.now }
-{
-    Stat {
-        ctime: Time {
-            secs: number(first, 0),
-            nsecs: number(first, 1),
-        },
-        mtime: Time {
-            secs: number(first, 2),
-            nsecs: number(first, 3),
-        },
-        dev: number(first, 4),
-        ino: number(first, 5),
-        uid: number(last, 0),
-        gid: number(last, 1),
-        size: number(last, 2),
-    }
-}
-
-/// Whether all bytes are zero.
-pub fn is_null(bytes: &[u8]) -> bool
-    ensures { result ≡ is_null bytes.now }
-{
-    bytes.iter().all(|byte| *byte == 0)
 }
 
 /// Whether so many bytes are no more than the limit, where there is one.

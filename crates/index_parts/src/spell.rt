@@ -1,15 +1,15 @@
-//! How numbers are spelled in a file's bytes.
+//! How numbers are encoded in a file's bytes.
 
 ghost use Rattle.std.specs.Prelude.{◌≡◌, ◌≤◌, drop};
 ghost use Rattle.index_parts.specs.Offset.{IsOffset, offset_bytes};
 
-/// The most bytes that an offset number of 64 bits has.
+/// The most bytes that an offset number (varint) of 64 bits has.
 pub const MAX_OFFSET_LEN: usize = 10;
 
-/// The offset number that spells `n` (gitformat-index, entries of version 4), at the end of the array, and the place of its
-/// first byte.
+/// The offset number (varint) that encodes `n` (gitformat-index, entries of version 4), at the end of the array, and
+/// the index of its first byte.
 ///
-/// The number has one spelling, of 1 to 10 bytes, which [`crate::read::offset`] reads.
+/// The number has one encoding, of 1 to 10 bytes, which [`crate::read::offset`] reads.
 pub fn offset(n: u64) -> ([u8; MAX_OFFSET_LEN], usize)
     ensures bytes { drop result.1 result.0 ≡ offset_bytes n }
     ensures place { result.1 ≤ 9 }

@@ -4,30 +4,15 @@
 
 ghost use Rattle.std.specs.Prelude.{◌≡◌, ◌<◌, ℕ, List, length, IfSome, IfNone, false, is_err};
 ghost use Rattle.index_parts.specs.Offset.{IsOffset, StartsWithOffset, offset_bytes};
-ghost use Rattle.index_parts.specs.Front.{be, StartsWithNumber, IsUpTo};
+ghost use Rattle.index_parts.specs.Numbers.{StartsWithNumber, IsUpTo};
 ghost use Rattle.index_parts.specs.Taking.{Puts};
 
+pub use crate::bytes::{from_be_u16, from_be_u32};
 use crate::hash::io::Out;
 use crate::{read, spell};
 use std::io;
 
-/// The number that two bytes spell.
-pub fn from_be_u16(bytes: &[u8]) -> u16
-    requires { length bytes.now ≡ 2 }
-    ensures { result ≡ be bytes.now }
-{
-    u16::from_be_bytes([bytes[0], bytes[1]])
-}
-
-/// The number that four bytes spell.
-pub fn from_be_u32(bytes: &[u8]) -> u32
-    requires { length bytes.now ≡ 4 }
-    ensures { result ≡ be bytes.now }
-{
-    u32::from_be_bytes([bytes[0], bytes[1], bytes[2], bytes[3]])
-}
-
-/// The number of the first four bytes, and the bytes behind them; None where there are fewer.
+/// The number of the first four bytes, and the bytes after them; None where there are fewer.
 pub fn read_u32(data: &[u8]) -> Option<(u32, &[u8])>
     ensures found { IfSome result (λ x. StartsWithNumber 4 «data».now x.0 x.1.now) }
     ensures none { IfNone result (length «data».now < 4) }
@@ -35,7 +20,7 @@ pub fn read_u32(data: &[u8]) -> Option<(u32, &[u8])>
     read::u32(data)
 }
 
-/// The number of the first eight bytes, and the bytes behind them; None where there are fewer.
+/// The number of the first eight bytes, and the bytes after them; None where there are fewer.
 pub fn read_u64(data: &[u8]) -> Option<(u64, &[u8])>
     ensures found { IfSome result (λ x. StartsWithNumber 8 «data».now x.0 x.1.now) }
     ensures none { IfNone result (length «data».now < 8) }
@@ -43,7 +28,7 @@ pub fn read_u64(data: &[u8]) -> Option<(u64, &[u8])>
     read::u64(data)
 }
 
-/// The bytes before the first byte of this value, and the bytes behind it.
+/// The bytes before the first byte of this value, and the bytes after it.
 ///
 /// None where no byte has the value, and where there are fewer than two bytes, even if the one byte has it.
 pub fn split_at_byte_exclusive(data: &[u8], byte: u8) -> Option<(&[u8], &[u8])>
@@ -53,21 +38,23 @@ pub fn split_at_byte_exclusive(data: &[u8], byte: u8) -> Option<(&[u8], &[u8])>
     read::up_to(data, byte)
 }
 
-/// The offset number at the front, and the bytes behind it (gitformat-index, entries of version 4).
+/// The offset number (varint) at the front, and the bytes after it (gitformat-index, entries of version 4).
 ///
-/// Each byte gives seven bits, the highest first, and one is added before each further byte. None where the
-/// last byte is missing, and where the number has more than 64 bits.
+/// Each byte gives seven bits, the highest first, and one is added before each further byte. Bit 7, the continuation
+/// bit, is set in each byte but the last. None where the last byte is missing, and where the number has more than 64
+/// bits.
 pub fn var_int(data: &[u8]) -> Option<(u64, &[u8])>
     ensures found { IfSome result (λ x. StartsWithOffset «data».now x.0 x.1.now) }
-    ensures none { IfNone result ((n : ℕ) (rest : List ℕ) → StartsWithOffset «data».now n rest → ⊥) }
+    ensures none { IfNone result ((n : ℕ) (rest : List ℕ) → StartsWithOffset «data».now n rest
+        → ⊥) }
 {
     read::offset(data)
 }
 
-/// Writes the offset number that [`var_int`] reads as `n`, of 1 to 10 bytes, by one call of [`Out::put`] (gitformat-index,
-/// entries of version 4).
+/// Writes the offset number (varint) that [`var_int`] reads as `n`, of 1 to 10 bytes, by one call of [`Out::put`]
+/// (gitformat-index, entries of version 4).
 ///
-/// An error comes only where the writer failed, which then took a front of the bytes. No memory is taken.
+/// An error comes only where the writer failed, which then took a prefix of the bytes. No memory is taken.
 pub fn write_var_int<W: Out>(out: &mut W, n: u64) -> io::Result<()>
     requires { W.failed out.old ≡ false }
     ensures bytes { Puts W.taken W.hashed out.old out.new result (offset_bytes n) }

@@ -8,7 +8,7 @@ use Rattle.index_entries.specs.Record.{IsPlaced, records_in}
 use Rattle.index_state.specs.State.{PathsInStorage, contents, entries_of, storage_of}
 
 pub entries_of-with_entries : (s : State) (es : List Entry) → length es ≡ length (entries_of s) → entries_of (with_entries s es) ≡ es
-entries_of-with_entries s es h = with_items_is s.entries es (h ∙ sym s.entries.ok.0)
+entries_of-with_entries s es h = with_items_is s.parts.entries es (h ∙ sym s.parts.entries.ok.0)
 
 pub contents-with_entries : (s : State) (es : List Entry) → length es ≡ length (entries_of s) → contents (with_entries s es) ≡ record (contents s) { records = records_in (storage_of s) es }
 contents-with_entries s es h = ap (λ (items : List Entry). record (contents s) { records = records_in (storage_of s) items }) (entries_of-with_entries s es h)

@@ -4,18 +4,19 @@ use Rattle.std.specs.Prelude.{◌≢◌, IfSome}
 use Rattle.std.proofs.lemmas.List.Elements.{All-head, All-tail, All-cons, All-map}
 use Rattle.index_parts.specs.Id.{id_kind}
 use Rattle.index_parts.specs.declared.hash.Kind.{Kind}
-use Rattle.index_extensions.specs.StoredTree.{IsStorableTree}
+use Rattle.index_cached_tree.specs.StoredTree.{IsStorableTree}
 use Rattle.index_entries.specs.declared.Entry.{Entry}
-use Rattle.index_entries.specs.declared.merge.Error.{Error as MergeError}
-use Rattle.index_entries.specs.declared.merge.Error.TheVariants as merges
-use Rattle.index_entries.specs.Merge.{replaced, IsMerge, IsMergeFault}
-use Rattle.index_entries.specs.Merging.{SaysMerge}
+use Rattle.index_split.specs.declared.merge.Error.{Error as MergeError}
+use Rattle.index_split.specs.declared.merge.Error.TheVariants as merges
+use Rattle.index_split.specs.Merge.{replaced, IsMerge, IsMergeFault}
+use Rattle.index_split.specs.MergeSteps.{SaysMerge, merge_error}
 use Rattle.index_entries.specs.Record.{Record, IsSized, IdsAreOf, record_in, records_in}
-use Rattle.index_entries.proofs.Merged.{all_merged}
-use Rattle.index_state.specs.Link.{BitmapPair, LinkFault, Corrupt, LinkValue, link_fault}
-use Rattle.index_state.specs.Merge.{IsMerged, IsDissolveFault, broken, merge_error, SaysDissolve}
-use Rattle.index_state.specs.State.{Contents}
-use Rattle.index_state.specs.Storable.{IsStorable}
+use Rattle.index_split.proofs.Merged.{all_merged}
+use Rattle.index_split.specs.Link.{BitmapPair, LinkFault, Corrupt, LinkValue, link_fault}
+use Rattle.index_state.specs.Dissolve.{IsMerged, IsDissolveFault, broken, SaysDissolve}
+use Rattle.index_format.proofs.Ids.{entries_have, records_of}
+use Rattle.index_format.specs.Contents.{Contents}
+use Rattle.index_format.specs.Storable.{IsStorable}
 
 abbrev HasLegalPath : Record → Type 0
 HasLegalPath r = 4095 ≤ length r.path → All (λ b. b ≢ 0) r.path
@@ -50,15 +51,6 @@ module _ (b : BitmapPair) (shared old new : Contents) (m : IsMerged b shared old
         fits = merged_have IsSized sized_replaced mine.fits theirs.fits;
         tree = subst (λ (v : Contents). IfSome v.extensions.tree (IsStorableTree v.kind)) (sym m.others) mine.tree;
       }
-
-records_of : (kind : Kind) (storage : List ℕ) (es : List Entry) → IdsAreOf kind es → All (λ r. id_kind r.id ≡ kind) (records_in storage es)
-records_of kind storage es h = All-map (λ (r : Record). id_kind r.id ≡ kind) (record_in storage) es h
-
-entries_have : (kind : Kind) (storage : List ℕ) (es : List Entry) → All (λ r. id_kind r.id ≡ kind) (records_in storage es) → IdsAreOf kind es
-entries_have kind storage [] h = λ k d l. absurd (omega arith)
-entries_have kind storage (e ∷ es) h =
-    let P : Record → Type 0 = λ r. id_kind r.id ≡ kind in
-    All-cons (λ (x : Entry). id_kind x.id ≡ kind) e es (All-head P (record_in storage e) (records_in storage es) h) (entries_have kind storage es (All-tail P (record_in storage e) (records_in storage es) h))
 
 -- entries that were merged have ids of the kind that all had
 pub merged_ids : (kind : Kind) (delete_words replace_words storage split_storage new_storage : List ℕ) (shared split new : List Entry)

@@ -7,13 +7,13 @@ use Rattle.std.specs.List.Sorted.{IsPermutation}
 use Rattle.std.proofs.lemmas.List.Sorted.{All-permutation, IsPermutation-map, IsPermutation-remove}
 use Rattle.index_parts.specs.Id.{id_kind}
 use Rattle.index_parts.specs.declared.hash.Kind.{Kind}
-use Rattle.index_parts.specs.declared.entry.stat.FileTime.{FileTime}
+use Rattle.index_metadata.specs.declared.entry.stat.FileTime.{FileTime}
 use Rattle.index_entries.specs.declared.Entry.{Entry}
 use Rattle.index_entries.specs.Record.{Record, IsSized, record_in, records_in}
 use Rattle.index_trees.proofs.Fits.{FitsFile}
 use Rattle.index_state.specs.Edits.{empty_contents, with_record, with_records}
-use Rattle.index_state.specs.State.{Contents}
-use Rattle.index_state.specs.Storable.{IsStorable}
+use Rattle.index_format.specs.Contents.{Contents}
+use Rattle.index_format.specs.Storable.{IsStorable}
 
 abbrev HasLegalPath : Record → Type 0
 HasLegalPath r = 4095 ≤ length r.path → All (λ b. b ≢ 0) r.path

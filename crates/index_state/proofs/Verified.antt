@@ -8,7 +8,7 @@ use Rattle.index_entries.specs.Sorted.{IsFall, IsFirstFall}
 use Rattle.index_entries.proofs.Sorting.{record_at}
 use Rattle.index_state.specs.declared.verify.entries.Error.{Error}
 use Rattle.index_state.specs.declared.verify.entries.Error.TheVariants.{OutOfOrder, Memory}
-use Rattle.index_state.specs.Verified.{NamesBoth, SaysFall}
+use Rattle.index_state.specs.SoundState.{NamesBoth, SaysFall}
 
 pub not_ordered : (rs : List Record) (place : ℕ) → IsFall rs place → IsStrictlyOrdered rs → ⊥
 not_ordered [] place f o = absurd (omega (arith, f.in_range))

@@ -1,23 +1,22 @@
--- An empty index, and what edits of one leave.
+-- An empty index, and what edits of one leave (the library's own).
 use Rattle.std.specs.Prelude.{◌≡◌, ℕ, List, [], ◌∷◌, ◌++◌, length, Option, Some, None, OnSome}
 use Rattle.std.specs.Borrow.{Lends, LendsIf, LendsSo, MutBor, Fml, Array}
-use Rattle.std.specs.Vec.{with_item, with_items}
 use Rattle.index_parts.specs.declared.hash.Kind.{Kind}
-use Rattle.index_parts.specs.declared.entry.stat.FileTime.{FileTime}
+use Rattle.index_metadata.specs.declared.entry.stat.FileTime.{FileTime}
 use Rattle.index_entries.specs.declared.Version.{Version}
 use Rattle.index_entries.specs.declared.Version.TheVariants.{V2}
 use Rattle.index_entries.specs.declared.Entry.{Entry}
 use Rattle.index_state.specs.declared.State.{State}
-use Rattle.index_extensions.specs.declared.extension.tree.Tree.{Tree}
-use Rattle.index_extensions.specs.contracts.extension.tree.Tree as tree
+use Rattle.index_cached_tree.specs.declared.Tree.{Tree}
+use Rattle.index_cached_tree.specs.contracts.Tree as tree
 use Rattle.index_entries.specs.contracts.Entry as entry
 use Rattle.index_state.specs.contracts.State as state
-use Rattle.index_state.specs.declared.extension.decode.Outcome.{Outcome as Kept}
-use Rattle.index_state.specs.contracts.extension.decode.Outcome as kept
 use Rattle.index_entries.specs.Record.{Record, IsPlaced, record_in}
 use Rattle.index_lookups.specs.Lookup.{IsKeyAt}
-use Rattle.index_state.specs.Outcome.{no_extension}
-use Rattle.index_state.specs.State.{Contents, contents, entries_of, records, storage_of}
+use Rattle.index_format.specs.Lending.{parts_with_entries, parts_with_entry_at, parts_with_tree}
+use Rattle.index_format.specs.Outcome.{no_extension}
+use Rattle.index_format.specs.Contents.{Contents}
+use Rattle.index_state.specs.State.{contents, entries_of, records, storage_of}
 
 -- an index of version 2 with no entry and no extension
 abbrev pub empty_contents : Kind → FileTime → Contents
@@ -70,7 +69,7 @@ pub record IsUnchanged (old new : State) : Type 0 where
 
 -- the state with these entries, as many as it has; all else stays
 abbrev pub with_entries : State → List Entry → State
-with_entries s entries = record s { entries = with_items s.entries entries }
+with_entries s entries = record s { parts = parts_with_entries s.parts entries }
 
 -- the state ends with the last entries behind the loan
 abbrev pub LendsEntries : MutBor State → MutBor (List Entry) → Fml
@@ -78,17 +77,17 @@ LendsEntries s r = Lends state.the_row (Array entry.the_row 0) s r (with_entries
 
 -- the state with another entry at a place; all else stays
 abbrev pub with_entry_at : State → ℕ → Entry → State
-with_entry_at s i e = record s { entries = with_item s.entries i e }
+with_entry_at s i e = record s { parts = parts_with_entry_at s.parts i e }
 
 -- the state ends with the last entry behind the loan where one with the path and the stage stands; without a loan it ends as it was
 abbrev pub LendsEntryAt : List ℕ → ℕ → MutBor State → Option (MutBor Entry) → Fml
 LendsEntryAt path stage s r =
     LendsSo state.the_row entry.the_row s r (λ last e. OnSome r ((i : ℕ) × IsKeyAt path stage (records s.now) i × (last ≡ with_entry_at s.now i e))) (λ last. IsUnchanged s.now last)
 
--- the same of what is kept of the extensions
-abbrev pub LendsOwnTree : MutBor Kept → Option (MutBor Tree) → Fml
-LendsOwnTree o r = LendsIf kept.the_row tree.the_row o r (λ t. record o.now { tree = Some t }) o.now
+-- the state with this cached tree; all else stays
+abbrev pub with_tree : State → Tree → State
+with_tree s t = record s { parts = parts_with_tree s.parts t }
 
 -- the state ends with the last cached tree behind the loan, if one is lent; all else stays
 abbrev pub LendsTree : MutBor State → Option (MutBor Tree) → Fml
-LendsTree s r = LendsIf state.the_row tree.the_row s r (λ t. record s.now { extensions = record s.now.extensions { tree = Some t } }) s.now
+LendsTree s r = LendsIf state.the_row tree.the_row s r (with_tree s.now) s.now

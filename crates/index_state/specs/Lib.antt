@@ -1,14 +1,4 @@
-pub mod Answer
+pub mod Dissolve
 pub mod Edits
-pub mod Faults
-pub mod Gathered
-pub mod Image
-pub mod Layout
-pub mod Link
-pub mod Merge
-pub mod Outcome
+pub mod SoundState
 pub mod State
-pub mod Storable
-pub mod Stored
-pub mod Verified
-pub mod Writing

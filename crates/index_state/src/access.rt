@@ -10,7 +10,7 @@ mod storage;
 ghost use Rattle.std.specs.Borrow.{sem};
 ghost use Rattle.std.specs.Option.{ok_or, option_copied};
 ghost use Rattle.std.specs.Prelude.{◌≡◌, ◌≢◌, ℕ, ◌+◌, ◌^◌, ◌<◌, ◌≤◌, All, Contains, List, length, option_and_then, slice_get, IfOk, IfErr, IfSome, OnOk, OnErr};
-ghost use Rattle.index_parts.specs.Flags.{stage_code};
+ghost use Rattle.index_metadata.specs.Flags.{stage_code};
 ghost use Rattle.index_parts.specs.Id.{id_kind};
 ghost use Rattle.index_lookups.specs.Digits.{digits};
 ghost use Rattle.index_state.specs.Edits.{AddsEntry, IsUnchanged, LendsEntries, with_record};
@@ -18,15 +18,16 @@ ghost use Rattle.index_lookups.specs.Lookup.{HasKey, IsKeyAt, IsPathAt, IsPathGa
 ghost use Rattle.index_entries.specs.Order.{IsOrderedByPath, IsStrictlyOrdered};
 ghost use Rattle.index_entries.specs.Record.{IdsAreOf, IsSized, record_in};
 ghost use Rattle.index_state.specs.State.{PathsInStorage, contents, entries_of, records, storage_of};
-ghost use Rattle.index_state.specs.Storable.{IsStorable};
+ghost use Rattle.index_format.specs.Storable.{IsStorable};
 ghost use Rattle.index_parts.specs.declared.hash.Kind.{Kind};
 
 use crate::State;
 use bitflags::Flags as _;
-use index_entries::{Entry, make_entry};
+use index_entries::Entry;
+use index_entries::list::append;
 use index_lookups::search;
-use index_parts::entry::stat::Time;
-use index_parts::entry::{Flags, Mode, Stage, Stat};
+use index_metadata::entry::stat::Time;
+use index_metadata::entry::{Flags, Mode, Stage, Stat};
 use index_parts::hash::ObjectId;
 use std::alloc::AllocError;
 
@@ -56,7 +57,7 @@ impl State {
             (place_of path.now (stage_code stage) (records self.now)) }
     {
         let idx = self.entry_index_by_path_and_stage(path, stage)?;
-        Some(&self.entries[idx])
+        Some(&self.parts.entries[idx])
     }
 
     /// A place of an entry at the path, whatever its stage, or, as an error, the place where the path would be
@@ -86,7 +87,7 @@ impl State {
         ensures count { result.1 ≤ digits (length (records self.now)) + 1 }
         ensures at_least_one { 0 < length (records self.now) → 1 ≤ result.1 }
     {
-        search::search_path(self.entries(), self.path_backing(), path)
+        search::search_path(&self.slice(), path)
     }
 
     /// The place of the entry at the path and the stage or, as an error, the place where it would be put in: the
@@ -105,7 +106,7 @@ impl State {
         ensures count { result.1 ≤ digits (length (records self.now)) + 1 }
         ensures at_least_one { 0 < length (records self.now) → 1 ≤ result.1 }
     {
-        search::search_path_and_stage(self.entries(), self.path_backing(), path, stage)
+        search::search_path_and_stage(&self.slice(), path, stage)
     }
 }
 
@@ -117,9 +118,12 @@ fn is_small(time: &Time)
     let _nsecs = time.nsecs;
 }
 
-/// The numbers of an entry have at most 32 bits, and its id has as many bytes as its kind: they are read for this to be known.
+/// The numbers of an entry have at most 32 bits, and its id has as many bytes as its kind: they are read for this to be
+/// known.
 fn have_room(stat: &Stat, id: &ObjectId, mode: Mode)
-    ensures { (path : List ℕ) (flags : ℕ) → IsSized (record { path = path; stat = stat.now; id = id.now; flags = flags; mode = mode.0 }) }
+    ensures { (path : List ℕ) (flags : ℕ)
+        → IsSized (record
+        { path = path; stat = stat.now; id = id.now; flags = flags; mode = mode.0 }) }
 {
     is_small(&stat.ctime);
     is_small(&stat.mtime);
@@ -142,14 +146,14 @@ impl State {
         ensures* writes_back { sem 𝓛 (LendsEntries self.entry result) }
         ensures value { result.now ≡ entries_of self.old }
     {
-        self.entries.as_mut_slice()
+        self.parts.entries_mut()
     }
 
     /// Puts an entry at the end, and its path behind the others in the storage. All else stays.
     ///
-    /// It's dangerous because nothing is looked at: the entry stands at the end wherever it belongs, also
-    /// beside another with its path and stage, and searches by path promise less until the entries are in order
-    /// again. Room for path and entry is asked for first, so after an error the state is as it was. A state that can be written
+    /// It's dangerous because nothing is looked at: the entry stands at the end wherever it belongs, also beside
+    /// another with its path and stage, and searches by path promise less until the entries are in order again. Room
+    /// for path and entry is asked for first, so after an error the state is as it was. A state that can be written
     /// still can be where the id is of its kind, and the path has fewer than 4095 bytes or no NUL.
     pub fn dangerously_push_entry(
         &mut self,
@@ -161,24 +165,29 @@ impl State {
     ) -> Result<(), AllocError>
         ensures added { OnOk result (AddsEntry self.old self.new
             (record { path = path.now; stat = stat; id = id; flags = flags.0; mode = mode.0 })) }
-        ensures pushed { OnOk result (PathsInStorage self.old → contents self.new ≡ with_record (contents self.old)
+        ensures pushed { OnOk result (PathsInStorage self.old
+            → contents self.new ≡ with_record (contents self.old)
             (record { path = path.now; stat = stat; id = id; flags = flags.0; mode = mode.0 })) }
-        ensures stored { OnOk result (PathsInStorage self.old → PathsInStorage self.new) }
-        ensures ids { (kind : Kind) → OnOk result (IdsAreOf kind (entries_of self.old) → id_kind id ≡ kind
+        ensures placed { OnOk result (PathsInStorage self.old → PathsInStorage self.new) }
+        ensures ids { (kind : Kind)
+            → OnOk result (IdsAreOf kind (entries_of self.old) → id_kind id ≡ kind
             → IdsAreOf kind (entries_of self.new)) }
         ensures storable { OnOk result (PathsInStorage self.old → IsStorable (contents self.old)
-            → id_kind id ≡ (contents self.old).kind → (4095 ≤ length path.now → All (λ b. b ≢ 0) path.now)
+            → id_kind id ≡ (contents self.old).kind
+            → (4095 ≤ length path.now → All (λ b. b ≢ 0) path.now)
             → IsStorable (contents self.new)) }
         ensures err { OnErr result (IsUnchanged self.old self.new) }
     {
         have_room(&stat, &id, mode);
-        self.path_backing.reserve(path.len())?;
-        self.entries.reserve(1)?;
-        let start = self.path_backing.len();
-        self.path_backing.extend_from_slice(path)?;
-        let end = self.path_backing.len();
-        self.entries
-            .push_reserved(make_entry(stat, id, flags, mode, start..end));
+        append(
+            &mut self.parts.entries,
+            &mut self.parts.path_backing,
+            stat,
+            id,
+            flags,
+            mode,
+            path,
+        )?;
         Ok(())
     }
 }

@@ -6,15 +6,16 @@ ghost use Rattle.index_entries.specs.Order.{IsStrictlyOrdered};
 ghost use Rattle.index_entries.specs.TreeOrder.{AreGitOrdered};
 ghost use Rattle.index_trees.specs.Leaves.{AreLeaves, SaysLeaves};
 ghost use Rattle.index_state.specs.Edits.{empty_contents, with_records};
-ghost use Rattle.index_state.specs.Storable.{IsStorable};
+ghost use Rattle.index_format.specs.Storable.{IsStorable};
 ghost use Rattle.index_state.specs.State.{PathsInStorage, contents, records, storage_of};
 
 use crate::State;
-use crate::extension::decode::Outcome;
 use index_entries::Version;
-use index_parts::entry::FileTime;
+use index_format::Parts;
+use index_format::extension::Outcome;
+use index_metadata::entry::FileTime;
+use index_metadata::object::Find;
 use index_parts::hash::{Kind, ObjectId};
-use index_parts::object::Find;
 use index_trees::ComponentCheck;
 use index_trees::from_tree::{Error, leaves_of};
 use std::alloc::Global;
@@ -26,27 +27,32 @@ impl State {
     pub fn new(alloc: Global, object_hash: Kind, now: FileTime) -> State
         ensures empty { contents result ≡ empty_contents object_hash now }
         ensures storage { storage_of result ≡ [] }
-        ensures stored { PathsInStorage result }
+        ensures placed { PathsInStorage result }
         ensures storable { IsStorable (contents result) }
     {
         State {
-            object_hash,
-            timestamp: now,
-            version: Version::V2,
-            entries: Vec::new(alloc),
-            path_backing: Vec::new(alloc),
-            extensions: Outcome::none(),
+            parts: Parts {
+                object_hash,
+                timestamp: now,
+                version: Version::V2,
+                entries: Vec::new(alloc),
+                path_backing: Vec::new(alloc),
+                extensions: Outcome::none(),
+            },
         }
     }
-    /// An index of the leaves of a tree, and of the trees below it, in the order in which they stand there ("Pro Git", "Git
-    /// Objects"): of version 2, with no extension, for ids of the tree's kind. Its timestamp is `now`.
+
+    /// An index of the leaves of a tree, and of the trees below it, in the order in which they stand there ("Pro Git",
+    /// "Git Objects"): of version 2, with no extension, for ids of the tree's kind. Its timestamp is `now`.
     ///
-    /// A leaf is what isn't a tree. Its path is made of the names that lead to it, joined by `/`; its mode is that of its
-    /// kind, and its stat numbers and flags are 0. Each reading of an object counts against `max_objects`, before `objects`
-    /// is asked, and a tree is read whole before its names are looked at. Each name goes through `check` before what it
-    /// stands for is listed or read, a link's also as such. The first fault is the error, and leaves nothing.
+    /// A leaf is what isn't a tree. Its path is made of the names that lead to it, joined by `/`; its mode is that of
+    /// its kind, and its stat numbers and flags are 0. Each reading of an object counts against `max_objects`, before
+    /// `objects` is asked, and a tree is read whole before its names are looked at. Each name goes through `check`
+    /// before what it stands for is listed or read, a link's also as such. The first fault is the error, and leaves
+    /// nothing.
     ///
-    /// Where each tree that is read has its entries in git's order, and no name has a slash, the entries strictly increase.
+    /// Where each tree that is read has its entries in git's order, and no name has a slash, the entries strictly
+    /// increase.
     pub fn from_tree<F: Find, C: ComponentCheck>(
         alloc: Global,
         tree: &ObjectId,
@@ -55,21 +61,26 @@ impl State {
         max_objects: usize,
         now: FileTime,
     ) -> Result<State, Error>
-        ensures leaves { IfOk result (λ s. AreLeaves (F.found objects.now) (C.refusal check.now) tree.now max_objects
+        ensures leaves { IfOk result
+            (λ s. AreLeaves (F.found objects.now) (C.refusal check.now) tree.now max_objects
             (Ok (records s))) }
-        ensures others { IfOk result (λ s. contents s ≡ with_records (empty_contents (id_kind tree.now) now) (records s)) }
+        ensures others { IfOk result
+            (λ s. contents s ≡ with_records (empty_contents (id_kind tree.now) now) (records s)) }
         ensures storage { IfOk result (λ s. storage_of s ≡ flat_map (λ r. r.path) (records s)) }
-        ensures stored { IfOk result PathsInStorage }
+        ensures placed { IfOk result PathsInStorage }
         ensures storable { IfOk result (λ s. IsStorable (contents s)) }
-        ensures ordered { IfOk result (λ s. AreGitOrdered (F.found objects.now) (id_kind tree.now) tree.now
+        ensures ordered { IfOk result
+            (λ s. AreGitOrdered (F.found objects.now) (id_kind tree.now) tree.now
             → IsStrictlyOrdered (records s)) }
-        ensures fault { IfErr result (λ e. SaysLeaves e (λ f. AreLeaves (F.found objects.now) (C.refusal check.now) tree.now
+        ensures fault { IfErr result
+            (λ e. SaysLeaves e (λ f. AreLeaves (F.found objects.now) (C.refusal check.now) tree.now
             max_objects (Err f))) }
     {
         let leaves = leaves_of(alloc, tree, objects, check, max_objects)?;
+        let (entries, path_backing) = leaves.into_parts();
         let mut state = State::new(alloc, tree.kind(), now);
-        state.entries = leaves.entries;
-        state.path_backing = leaves.storage;
+        state.parts.entries = entries;
+        state.parts.path_backing = path_backing;
         Ok(state)
     }
 }

@@ -3,33 +3,29 @@
 
 ghost use Rattle.std.specs.Prelude.{◌≡◌, ◌↔◌, ◌<◌, length, slice_get, IsTrue};
 
-use crate::extension::decode::Outcome;
 use index_entries::paths::paths_without_nul;
-use index_entries::{Entry, PathBacking, PathStorage, PathStorageRef, Version, are_placed};
-use index_parts::entry::FileTime;
+use index_entries::slice::EntrySlice;
+use index_entries::{Entry, PathBacking, PathStorageRef, Version, are_placed};
+use index_format::Parts;
+use index_metadata::entry::FileTime;
 use index_parts::hash::Kind;
 use std::alloc::AllocError;
 
 mod access;
-pub mod decode;
-pub mod extension;
+mod decode;
+mod dissolve;
 mod init;
 pub mod verify;
-pub mod write;
+mod write;
 
 /// A git index in memory: entries in the order of the file, and what the extensions say.
 #[derive(Drop)]
 pub struct State {
-    object_hash: Kind,
-    timestamp: FileTime,
-    version: Version,
-    entries: Vec<Entry>,
-    path_backing: PathStorage,
-    extensions: Outcome,
+    parts: Parts,
 }
 
-/// The clone has equal entries in the same order, the same storage of paths, and all else the same. It takes as much memory
-/// as its source, and an error is want of it.
+/// The clone has equal entries in the same order, the same storage of paths, and all else the same. It takes as much
+/// memory as its source, and an error is want of it.
 impl Clone for State {
     ghost use Rattle.index_state.specs.Edits.{IsUnchanged};
 
@@ -37,46 +33,48 @@ impl Clone for State {
 
     fn clone(&self) -> Result<State, AllocError> {
         Ok(State {
-            object_hash: self.object_hash,
-            timestamp: self.timestamp,
-            version: self.version,
-            entries: self.entries.clone()?,
-            path_backing: self.path_backing.clone()?,
-            extensions: self.extensions.clone()?,
+            parts: Parts {
+                object_hash: self.parts.object_hash,
+                timestamp: self.parts.timestamp,
+                version: self.parts.version,
+                entries: self.parts.entries.clone()?,
+                path_backing: self.parts.path_backing.clone()?,
+                extensions: self.parts.extensions.clone()?,
+            },
         })
     }
 }
 
 impl State {
     ghost use Rattle.index_entries.specs.EntryImage.{LackNul};
-    ghost use Rattle.index_state.specs.State.{PathsInStorage, contents, entries_of, storage_of};
+    ghost use Rattle.index_state.specs.State.{PathsInStorage, contents, entries_of, records, storage_of};
 
     /// The version of the file that was read.
     pub fn version(&self) -> Version
         ensures { result ≡ (contents self.now).version }
     {
-        self.version
+        self.parts.version
     }
 
     /// When the file that was read had last been written, as the caller said.
     pub fn timestamp(&self) -> FileTime
         ensures { result ≡ (contents self.now).time }
     {
-        self.timestamp
+        self.parts.timestamp
     }
 
     /// Which kind of id the entries have.
     pub fn object_hash(&self) -> Kind
         ensures { result ≡ (contents self.now).kind }
     {
-        self.object_hash
+        self.parts.object_hash
     }
 
     /// The entries, in the order of the file.
     pub fn entries(&self) -> &[Entry]
         ensures { result.now ≡ entries_of self.now }
     {
-        self.entries.as_slice()
+        self.parts.entries.as_slice()
     }
 
     /// The entry at a place, counted from 0.
@@ -84,14 +82,22 @@ impl State {
         requires { idx < length (entries_of self.now) }
         ensures { slice_get (entries_of self.now) idx ≡ Some result.now }
     {
-        &self.entries[idx]
+        &self.parts.entries[idx]
     }
 
     /// The storage in which the entries' paths lie, as [`Entry::path_in`] asks for it.
     pub fn path_backing(&self) -> PathStorageRef<'_>
         ensures { result.now ≡ storage_of self.now }
     {
-        self.path_backing.as_slice()
+        self.parts.path_backing.as_slice()
+    }
+
+    /// The entries with their paths, lent as one list.
+    pub(crate) fn slice(&self) -> EntrySlice<'_>
+        requires { PathsInStorage self.now }
+        ensures { result ≡ records self.now }
+    {
+        EntrySlice::new(&self.parts.entries, &self.parts.path_backing)
     }
 
     /// Whether an entry stood for a whole directory, or the file was marked so (gitformat-index, "Sparse Directory
@@ -99,7 +105,7 @@ impl State {
     pub fn is_sparse(&self) -> bool
         ensures { result ≡ (contents self.now).extensions.sparse }
     {
-        self.extensions.is_sparse
+        self.parts.extensions.is_sparse
     }
 
     /// Whether each entry's path lies inside the storage; true where there are no entries.
@@ -108,16 +114,16 @@ impl State {
     pub fn paths_in_storage(&self) -> bool
         ensures { IsTrue result ↔ PathsInStorage self.now }
     {
-        are_placed(&self.entries, self.path_backing.len())
+        are_placed(&self.parts.entries, self.parts.path_backing.len())
     }
 
-    /// Whether no path of the entries that aren't marked `REMOVE` has a NUL; true where there are none. Version 4 is written
-    /// only where it holds. No memory is taken.
+    /// Whether no path of the entries that aren't marked `REMOVE` has a NUL; true where there are none. Version 4 is
+    /// written only where it holds. No memory is taken.
     pub fn paths_without_nul(&self) -> bool
         requires { PathsInStorage self.now }
         ensures { IsTrue result ↔ LackNul (contents self.now).records }
     {
-        paths_without_nul(&self.entries, &self.path_backing)
+        paths_without_nul(&self.parts.entries, &self.parts.path_backing)
     }
 }
 

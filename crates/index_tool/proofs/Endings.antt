@@ -6,7 +6,7 @@ use Rattle.gix_index.specs.Kind.{Kind}
 use Rattle.gix_index.specs.Record.{record_in}
 use Rattle.gix_index.specs.State.{contents, entries_of, storage_of}
 use Rattle.gix_index.specs.StateType.{State as StateType}
-use Rattle.gix_index.specs.StateVerified.{AreSound}
+use Rattle.gix_index.specs.SoundState.{AreSound}
 use Rattle.index_tool.specs.declared.failure.Failure.{Failure}
 use Rattle.index_tool.specs.declared.failure.Failure.TheVariants as failures
 use Rattle.index_tool.specs.Checking.{FailsToCheck}

@@ -1,11 +1,11 @@
--- What the program checks of an index, and what it prints then.
+-- What the program checks of an index, and what it prints then (the program's own).
 use Rattle.std.specs.Prelude.{◌≡◌, ℕ, List, length, Option, codes}
 use Rattle.std.specs.Io.KnownBytes.{Appends, Keeps}
 use Rattle.gix_index.specs.Taking.{AppendsFront}
 use Rattle.gix_index.specs.Kind.{Kind}
 use Rattle.gix_index.specs.Order.{IsStrictlyOrdered}
 use Rattle.gix_index.specs.State.{Contents}
-use Rattle.gix_index.specs.StateVerified.{AreSound}
+use Rattle.gix_index.specs.SoundState.{AreSound}
 use Rattle.index_tool.specs.declared.failure.Failure.{Failure}
 use Rattle.index_tool.specs.declared.failure.Failure.TheVariants as failures
 use Rattle.index_tool.specs.Listing.{IsInFile, FailsToRead}

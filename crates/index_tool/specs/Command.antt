@@ -1,4 +1,4 @@
--- The words of each command, and what a command leaves on the output.
+-- The words of each command, and what a command leaves on the output (the program's own).
 use Rattle.std.specs.Prelude.{◌≡◌, ℕ, nat_eq, Bool, List, [], ◌∷◌, codes, Option, Some, None, if◌then◌else◌}
 use Rattle.std.specs.Cmp.Lexicographic.{pointwise}
 use Rattle.std.specs.Io.KnownBytes.{Keeps}
@@ -10,7 +10,7 @@ use Rattle.gix_index.specs.VersionChoice.TheVariants.{Smallest, V4}
 use Rattle.index_tool.specs.declared.command.Command.{Command}
 use Rattle.index_tool.specs.declared.command.Command.TheVariants as commands
 use Rattle.index_tool.specs.Checking.{Checks, ChecksFront}
-use Rattle.index_tool.specs.Listing.{Lists, ListsFront}
+use Rattle.index_tool.specs.Listing.{ListsIndex, ListsFront}
 
 -- a command as a value, with the kind of the ids and the file: `list`, `check`, and `rewrite` and `rewrite4` with the file that is
 -- written and its version
@@ -59,7 +59,7 @@ command_named [] = None
 -- what a command that succeeded did to known bytes of the output: they grew by the listing of an index, or by the line of one
 -- that passed all checks, or stayed
 abbrev pub Succeeds : CommandValue → Option (List ℕ) → Option (List ℕ) → Type 0
-Succeeds (Listing kind file) old new = Lists kind old new
+Succeeds (Listing kind file) old new = ListsIndex kind old new
 Succeeds (Checking kind file) old new = Checks kind old new
 Succeeds (Rewriting version kind file to) old new = Keeps old new
 

@@ -1,4 +1,4 @@
--- What the program reads in a file, and which lines it prints of it.
+-- What the program reads in a file, and which lines it prints of it (the program's own).
 use Rattle.std.specs.Prelude.{◌≡◌, ℕ, pos, false, List, Option, None}
 use Rattle.std.specs.Io.KnownBytes.{Appends, Keeps}
 use Rattle.gix_index.specs.Stat.{seconds_of, nanoseconds_of}
@@ -29,7 +29,7 @@ pub record IsInFile (kind : Kind) (value : Contents) : Type 0 where
   pub is : IsOnDisk false kind time default_options value checksum
 
 -- known bytes grew by the lines of the index in a file
-pub record Lists (kind : Kind) (old new : Option (List ℕ)) : Type 0 where
+pub record ListsIndex (kind : Kind) (old new : Option (List ℕ)) : Type 0 where
   pub value : Contents
   pub read : IsInFile kind value
   pub grew : Appends old new (listing value.records)

@@ -135,8 +135,10 @@ fn run_command<'a, R: Files, W: io::Write>(
     command: Command<'a>,
     out: &mut W,
 ) -> Result<(), Failure<'a>>
-    ensures done { OnOk result (Succeeds (command_value command.entry) (W.contents out.old) (W.contents out.new)) }
-    ensures refused { OnErr result (GivesUp (command_value command.entry) (W.contents out.old) (W.contents out.new)) }
+    ensures done { OnOk result
+        (Succeeds (command_value command.entry) (W.contents out.old) (W.contents out.new)) }
+    ensures refused { OnErr result
+        (GivesUp (command_value command.entry) (W.contents out.old) (W.contents out.new)) }
 {
     match command {
         Command::List { kind, path } => list(rt, alloc, kind, path, out),
@@ -152,14 +154,15 @@ fn run_command<'a, R: Files, W: io::Write>(
 
 /// Runs the command that these words are, and gives the status that the program ends with.
 ///
-/// KIND is `sha1` or `sha256`, and FILE is an index, which is read with the shared index that it links to.
-/// `list KIND FILE` writes a line to `out` for each entry. `check KIND FILE` writes `ok` and a newline where the entries
-/// are in order and the file has its digest still. `rewrite KIND FILE OUT` writes the index to the path OUT, by way of
-/// the lock file OUT.lock, and nothing to `out`. `rewrite4 KIND FILE OUT` does so in version 4.
+/// KIND is `sha1` or `sha256`, and FILE is an index, which is read with the shared index that it links to. `list KIND
+/// FILE` writes a line to `out` for each entry. `check KIND FILE` writes `ok` and a newline where the entries are in
+/// order and the file has its digest still. `rewrite KIND FILE OUT` writes the index to the path OUT, by way of the
+/// lock file OUT.lock, and nothing to `out`. `rewrite4 KIND FILE OUT` does so in version 4.
 ///
 /// [`DONE`]: the command did all that. [`REFUSED`]: a file can't be read or written, or is no such index, or `out`
-/// failed; nothing goes to `out` before FILE was read whole and all checks have passed. [`WRONG_WORDS`]: the words are no command; no
-/// file is opened. A status other than [`DONE`] comes with one line on `faults`, which names the file that it concerns.
+/// failed; nothing goes to `out` before FILE was read whole and all checks have passed. [`WRONG_WORDS`]: the words are
+/// no command; no file is opened. A status other than [`DONE`] comes with one line on `faults`, which names the file
+/// that it concerns.
 pub fn run<R: Files + Alloc, O: io::Write, E: io::Write>(
     rt: &R,
     alloc: Global,
@@ -168,8 +171,10 @@ pub fn run<R: Files + Alloc, O: io::Write, E: io::Write>(
     faults: &mut E,
 ) -> u8
     ensures status { result ≤ WRONG_WORDS }
-    ensures wrong_words { (result ≡ WRONG_WORDS) ↔ (command_named (map string_bytes words.now) ≡ None) }
-    ensures nothing_opened { result ≡ WRONG_WORDS → Keeps (O.contents out.old) (O.contents out.new) }
+    ensures wrong_words { (result ≡ WRONG_WORDS)
+        ↔ (command_named (map string_bytes words.now) ≡ None) }
+    ensures nothing_opened { result ≡ WRONG_WORDS
+        → Keeps (O.contents out.old) (O.contents out.new) }
     // The file's bytes can't be named: what goes to `out` is the result for some bytes.
     ensures done { result ≡ DONE → IsSomeAnd (command_named (map string_bytes words.now))
         (λ command. Succeeds command (O.contents out.old) (O.contents out.new)) }

@@ -98,7 +98,8 @@ fn append_parts(
     path: &[u8],
 ) -> Result<(), AllocError>
     requires { stage < 4 }
-    ensures { OnOk result (lines.new.items ≡ lines.old.items ++ line_of_parts mode (id_bytes id.now) stage path.now) }
+    ensures { OnOk result
+        (lines.new.items ≡ lines.old.items ++ line_of_parts mode (id_bytes id.now) stage path.now) }
 {
     lines.extend_from_slice(&octal_six(mode))?;
     lines.extend_from_slice(b" ")?;
@@ -111,7 +112,8 @@ fn append_parts(
 /// Appends an entry's line.
 fn append_line(lines: &mut Vec<u8>, state: &State, entry: &Entry) -> Result<(), AllocError>
     requires { IsPlaced (length (storage_of state.now)) entry.now }
-    ensures { OnOk result (lines.new.items ≡ lines.old.items ++ line_of (record_in (storage_of state.now) entry.now)) }
+    ensures { OnOk result
+        (lines.new.items ≡ lines.old.items ++ line_of (record_in (storage_of state.now) entry.now)) }
 {
     let path = entry.path(state);
     append_parts(lines, entry.mode.bits(), &entry.id, entry.stage_raw(), path)
@@ -119,8 +121,11 @@ fn append_line(lines: &mut Vec<u8>, state: &State, entry: &Entry) -> Result<(), 
 
 /// Lets the lines out where they fill a block.
 fn put_block<W: io::Write>(lines: &mut Vec<u8>, out: &mut W) -> io::Result<()>
-    ensures ok { OnOk result ((done : List ℕ) × Appends (W.contents out.old) (W.contents out.new) done × (done ++ lines.new.items ≡ lines.old.items)) }
-    ensures err { OnErr result (AppendsFront (W.contents out.old) (W.contents out.new) lines.old.items) }
+    ensures ok { OnOk result
+        ((done : List ℕ) × Appends (W.contents out.old) (W.contents out.new) done
+        × (done ++ lines.new.items ≡ lines.old.items)) }
+    ensures err { OnErr result
+        (AppendsFront (W.contents out.old) (W.contents out.new) lines.old.items) }
 {
     if lines.len() >= BLOCK_LEN {
         put_all(out, lines.as_slice())?;
@@ -136,8 +141,11 @@ fn put_block<W: io::Write>(lines: &mut Vec<u8>, out: &mut W) -> io::Result<()>
 /// that buffer; what was written by then is a front of the listing.
 pub fn write_listing<W: io::Write>(alloc: Global, state: &State, out: &mut W) -> io::Result<()>
     requires { PathsInStorage state.now }
-    ensures ok { OnOk result (Appends (W.contents out.old) (W.contents out.new) (listing (contents state.now).records)) }
-    ensures err { OnErr result (AppendsFront (W.contents out.old) (W.contents out.new) (listing (contents state.now).records)) }
+    ensures ok { OnOk result
+        (Appends (W.contents out.old) (W.contents out.new) (listing (contents state.now).records)) }
+    ensures err { OnErr result
+        (AppendsFront (W.contents out.old) (W.contents out.new)
+        (listing (contents state.now).records)) }
 {
     let mut lines = Vec::with_capacity(alloc, BLOCK_LEN + SPARE_LEN)?;
     for entry in state.entries() {

@@ -22,7 +22,8 @@ const SHARED: &str = "sharedindex.1111111111111111111111111111111111111111";
 
 const LISTED: &[u8] = b"100644 1111111111111111111111111111111111111111 0\ta\n";
 
-/// A writer that takes so many bytes, and then fails. A signal interrupts its first call, and each other one after that.
+/// A writer that takes so many bytes, and then fails. A signal interrupts its first call, and each other one after
+/// that.
 #[derive(Drop)]
 struct Short {
     room: usize,

@@ -4,13 +4,13 @@ use Rattle.std.specs.Prelude.{◌≢◌}
 use Rattle.std.proofs.lemmas.List.Elements.{All-nil, All-cons, All-append, All-head, All-tail}
 use Rattle.index_parts.proofs.Ids.{id_bytes-make_id, id_kind-make_id}
 use Rattle.index_parts.specs.Id.{id_bytes, id_kind, id_len}
-use Rattle.index_parts.specs.Mode.{mode_of_kind}
-use Rattle.index_parts.specs.Object.{Found}
-use Rattle.index_parts.specs.TreeObject.{TreeEntry, IsTreeEntry, AreTreeEntries, kind_of_mode}
+use Rattle.index_metadata.specs.Mode.{mode_of_kind}
+use Rattle.index_metadata.specs.Object.{Found}
+use Rattle.index_metadata.specs.TreeObject.{TreeEntry, IsTreeEntry, AreTreeEntries, kind_of_mode}
 use Rattle.index_parts.specs.declared.hash.Kind.{Kind}
 use Rattle.index_parts.specs.declared.hash.ObjectId.{ObjectId}
-use Rattle.index_parts.specs.declared.object.tree.EntryKind.{EntryKind}
-use Rattle.index_parts.specs.declared.object.tree.EntryKind.TheVariants as kinds
+use Rattle.index_metadata.specs.declared.object.tree.EntryKind.{EntryKind}
+use Rattle.index_metadata.specs.declared.object.tree.EntryKind.TheVariants as kinds
 use Rattle.index_entries.specs.Record.{Record, IsSized}
 use Rattle.index_trees.specs.Leaves.{AreLeaves, LeavesAnswer, Part, Yields, with_leaves, leaf_of, some_entries, whole_tree, limit, unread, opened, ended, refused, leaf, below, stopped}
 
@@ -49,10 +49,10 @@ mode_fits kinds.BlobExecutable = omega arith
 mode_fits kinds.Link = omega arith
 mode_fits kinds.Commit = omega arith
 
-leaf_fits : (kind : Kind) (front : List ℕ) (e : TreeEntry) → HasNoNul front → IsClean kind e → FitsFile kind (leaf_of front e)
-leaf_fits kind front e h c = record {
+leaf_fits : (kind : Kind) (prefix : List ℕ) (e : TreeEntry) → HasNoNul prefix → IsClean kind e → FitsFile kind (leaf_of prefix e)
+leaf_fits kind prefix e h c = record {
   id = c.id;
-  path = All-append (λ b. b ≢ 0) front e.name h c.name;
+  path = All-append (λ b. b ≢ 0) prefix e.name h c.name;
   sized = record {
     ctime_secs = omega arith;
     ctime_nsecs = omega arith;
@@ -71,8 +71,8 @@ leaf_fits kind front e h c = record {
 -- ---- leaves
 
 IsCleanPart : Kind → Part → Type 0
-IsCleanPart kind (whole_tree front id) = HasNoNul front
-IsCleanPart kind (some_entries front es) = HasNoNul front × All (IsClean kind) es
+IsCleanPart kind (whole_tree prefix id) = HasNoNul prefix
+IsCleanPart kind (some_entries prefix es) = HasNoNul prefix × All (IsClean kind) es
 
 AllFit : Kind → LeavesAnswer → Type 0
 AllFit kind (Ok x) = All (FitsFile kind) x.0
@@ -83,25 +83,25 @@ unfolding AllFit
 both_fit kind rs (Ok x) h k = All-append (FitsFile kind) rs x.0 h k
 both_fit kind rs (Err f) h k = tt
 
-below_clean : (kind : Kind) (front : List ℕ) (e : TreeEntry) → HasNoNul front → IsClean kind e → HasNoNul (front ++ e.name ++ 47 ∷ [])
-below_clean kind front e h c =
-    All-append (λ b. b ≢ 0) (front ++ e.name) (47 ∷ []) (All-append (λ b. b ≢ 0) front e.name h c.name) (All-cons (λ b. b ≢ 0) 47 [] (λ is. absurd (omega (arith, is))) (All-nil (λ b. b ≢ 0)))
+below_clean : (kind : Kind) (prefix : List ℕ) (e : TreeEntry) → HasNoNul prefix → IsClean kind e → HasNoNul (prefix ++ e.name ++ 47 ∷ [])
+below_clean kind prefix e h c =
+    All-append (λ b. b ≢ 0) (prefix ++ e.name) (47 ∷ []) (All-append (λ b. b ≢ 0) prefix e.name h c.name) (All-cons (λ b. b ≢ 0) 47 [] (λ is. absurd (omega (arith, is))) (All-nil (λ b. b ≢ 0)))
 
 module _ (find : ObjectId → Found) (check : List ℕ → Bool → Option ℕ) (kind : Kind) where
   part_fits : (n : ℕ) (part : Part) (r : LeavesAnswer) → Yields find check kind n part r → IsCleanPart kind part → AllFit kind r
   unfolding AllFit IsCleanPart
-  part_fits n part r (limit front id) h = tt
-  part_fits n part r (unread m front id f u) h = tt
-  part_fits n part r (opened m front id bytes es more found is y) h = part_fits m (some_entries front es) more y (h, are_clean kind bytes es [] is)
-  part_fits n part r (ended m front) h = All-nil (FitsFile kind)
-  part_fits n part r (refused m front e es number refuses) h = tt
-  part_fits n part r (leaf m front e es more passes other y) h =
-      both_fit kind (leaf_of front e ∷ []) more (All-cons (FitsFile kind) (leaf_of front e) [] (leaf_fits kind front e h.0 (All-head (IsClean kind) e es h.1)) (All-nil (FitsFile kind)))
-      (part_fits m (some_entries front es) more y (h.0, All-tail (IsClean kind) e es h.1))
-  part_fits n part r (below m left front e es rs more passes is y z) h =
-      both_fit kind rs more (part_fits m (whole_tree (front ++ e.name ++ 47 ∷ []) e.id) (Ok (rs, left)) y (below_clean kind front e h.0 (All-head (IsClean kind) e es h.1)))
-      (part_fits left (some_entries front es) more z (h.0, All-tail (IsClean kind) e es h.1))
-  part_fits n part r (stopped m front e es f passes is y) h = tt
+  part_fits n part r (limit prefix id) h = tt
+  part_fits n part r (unread m prefix id f u) h = tt
+  part_fits n part r (opened m prefix id bytes es more found is y) h = part_fits m (some_entries prefix es) more y (h, are_clean kind bytes es [] is)
+  part_fits n part r (ended m prefix) h = All-nil (FitsFile kind)
+  part_fits n part r (refused m prefix e es number refuses) h = tt
+  part_fits n part r (leaf m prefix e es more passes other y) h =
+      both_fit kind (leaf_of prefix e ∷ []) more (All-cons (FitsFile kind) (leaf_of prefix e) [] (leaf_fits kind prefix e h.0 (All-head (IsClean kind) e es h.1)) (All-nil (FitsFile kind)))
+      (part_fits m (some_entries prefix es) more y (h.0, All-tail (IsClean kind) e es h.1))
+  part_fits n part r (below m left prefix e es rs more passes is y z) h =
+      both_fit kind rs more (part_fits m (whole_tree (prefix ++ e.name ++ 47 ∷ []) e.id) (Ok (rs, left)) y (below_clean kind prefix e h.0 (All-head (IsClean kind) e es h.1)))
+      (part_fits left (some_entries prefix es) more z (h.0, All-tail (IsClean kind) e es h.1))
+  part_fits n part r (stopped m prefix e es f passes is y) h = tt
 
 pub leaves_fit : (find : ObjectId → Found) (check : List ℕ → Bool → Option ℕ) (root : ObjectId) (most : ℕ) (rs : List Record) → AreLeaves find check root most (Ok rs) → All (FitsFile (id_kind root)) rs
 unfolding AllFit IsCleanPart

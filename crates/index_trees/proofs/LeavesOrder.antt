@@ -5,11 +5,11 @@ use Rattle.std.specs.declared.cmp.Ordering.TheVariants.{Less}
 use Rattle.std.proofs.lemmas.List.{append-nil, append_assoc}
 use Rattle.std.proofs.lemmas.List.Elements.{All-nil, All-cons, All-append, All-tail}
 use Rattle.index_parts.specs.Id.{id_kind}
-use Rattle.index_parts.specs.Object.{Found}
-use Rattle.index_parts.specs.TreeObject.{TreeEntry, is_tree_mode, kind_of_mode, type_bits}
+use Rattle.index_metadata.specs.Object.{Found}
+use Rattle.index_metadata.specs.TreeObject.{TreeEntry, is_tree_mode, kind_of_mode, type_bits}
 use Rattle.index_parts.specs.declared.hash.Kind.{Kind}
 use Rattle.index_parts.specs.declared.hash.ObjectId.{ObjectId}
-use Rattle.index_parts.specs.declared.object.tree.EntryKind.TheVariants as kinds
+use Rattle.index_metadata.specs.declared.object.tree.EntryKind.TheVariants as kinds
 use Rattle.index_entries.specs.Order.{path_cmp, IsStrictlyOrdered}
 use Rattle.index_entries.specs.Record.{Record}
 use Rattle.index_entries.specs.TreeOrder.{sorted_name, IsGitOrdered, IsReached, AreGitOrdered, itself, listed}
@@ -38,19 +38,19 @@ leaf_mode mode other = by (is_tree_mode mode) refl
 
 -- ---- where a record's path stands
 
--- it begins with the front
+-- it begins with the prefix
 abbrev Under : List ℕ → Record → Type 0
-Under front r = (x : List ℕ) × (r.path ≡ front ++ x)
+Under prefix r = (x : List ℕ) × (r.path ≡ prefix ++ x)
 
--- it begins with the front and what an entry is sorted by
+-- it begins with the prefix and what an entry is sorted by
 abbrev StandsAt : List ℕ → TreeEntry → Record → Type 0
-StandsAt front e r = (x : List ℕ) × (r.path ≡ front ++ (sorted_name e ++ x)) × MayFollow e x
+StandsAt prefix e r = (x : List ℕ) × (r.path ≡ prefix ++ (sorted_name e ++ x)) × MayFollow e x
 
 abbrev StandsAmong : List ℕ → List TreeEntry → Record → Type 0
-StandsAmong front es r = (e : TreeEntry) × Contains es e × StandsAt front e r
+StandsAmong prefix es r = (e : TreeEntry) × Contains es e × StandsAt prefix e r
 
-under_among : (front : List ℕ) (es : List TreeEntry) (r : Record) → StandsAmong front es r → Under front r
-under_among front es r h = (sorted_name h.0 ++ h.2.0, h.2.1)
+under_among : (prefix : List ℕ) (es : List TreeEntry) (r : Record) → StandsAmong prefix es r → Under prefix r
+under_among prefix es r h = (sorted_name h.0 ++ h.2.0, h.2.1)
 
 contains_later : (d e : TreeEntry) (es : List TreeEntry) → Contains es e → Contains (d ∷ es) e
 contains_later d e es h = (suc h.0, omega (arith, h.1), h.2)
@@ -58,15 +58,15 @@ contains_later d e es h = (suc h.0, omega (arith, h.1), h.2)
 contains_first : (e : TreeEntry) (es : List TreeEntry) → Contains (e ∷ es) e
 contains_first e es = (0, omega arith, refl)
 
-leaf_stands : (front : List ℕ) (e : TreeEntry) → is_tree_mode e.mode ≡ false → StandsAt front e (leaf_of front e)
-leaf_stands front e is =
+leaf_stands : (prefix : List ℕ) (e : TreeEntry) → is_tree_mode e.mode ≡ false → StandsAt prefix e (leaf_of prefix e)
+leaf_stands prefix e is =
     let bare : sorted_name e ≡ e.name = rw is (append-nil e.name) in
-    ([], ap (λ (l : List ℕ). front ++ l) (sym (append-nil (sorted_name e) ∙ bare)), λ _. refl)
+    ([], ap (λ (l : List ℕ). prefix ++ l) (sym (append-nil (sorted_name e) ∙ bare)), λ _. refl)
 
-below_stands : (front : List ℕ) (e : TreeEntry) (r : Record) → is_tree_mode e.mode ≡ true → Under (front ++ e.name ++ 47 ∷ []) r → StandsAt front e r
-below_stands front e r is h =
+below_stands : (prefix : List ℕ) (e : TreeEntry) (r : Record) → is_tree_mode e.mode ≡ true → Under (prefix ++ e.name ++ 47 ∷ []) r → StandsAt prefix e r
+below_stands prefix e r is h =
     let slashed : sorted_name e ≡ e.name ++ 47 ∷ [] = rw is refl in
-    let path : r.path ≡ front ++ (sorted_name e ++ h.0) = h.1 ∙ ap (λ (l : List ℕ). l ++ h.0) (append_assoc front e.name (47 ∷ [])) ∙ append_assoc front (e.name ++ 47 ∷ []) h.0 ∙ ap (λ (l : List ℕ). front ++ (l ++ h.0)) (sym slashed) in
+    let path : r.path ≡ prefix ++ (sorted_name e ++ h.0) = h.1 ∙ ap (λ (l : List ℕ). l ++ h.0) (append_assoc prefix e.name (47 ∷ [])) ∙ append_assoc prefix (e.name ++ 47 ∷ []) h.0 ∙ ap (λ (l : List ℕ). prefix ++ (l ++ h.0)) (sym slashed) in
     (h.0, path, λ leaf. absurd cc)
 
 -- ---- paths of an entry, and of those behind it
@@ -74,14 +74,14 @@ below_stands front e r is h =
 ordered_tail : (e : TreeEntry) (es : List TreeEntry) → IsGitOrdered (e ∷ es) → IsGitOrdered es
 ordered_tail e es h = record { components = All-tail (λ d. All (λ b. b ≢ 47) d.name) e es h.components; less = λ i j d lt within. h.less (suc i) (suc j) d (omega arith) (omega arith) }
 
-stand_before : (front : List ℕ) (e : TreeEntry) (es : List TreeEntry) (r q : Record) → IsGitOrdered (e ∷ es) → StandsAt front e r → StandsAmong front es q → path_cmp r.path q.path ≡ Less
-stand_before front e es r q ordered at among =
+stand_before : (prefix : List ℕ) (e : TreeEntry) (es : List TreeEntry) (r q : Record) → IsGitOrdered (e ∷ es) → StandsAt prefix e r → StandsAmong prefix es q → path_cmp r.path q.path ≡ Less
+stand_before prefix e es r q ordered at among =
     let d = among.0 in
     let k = among.1.0 in
     let there : slice_index_or es k d ≡ d = among.1.2 in
     let less : path_cmp (sorted_name e) (sorted_name d) ≡ Less = subst (λ (t : TreeEntry). path_cmp (sorted_name e) (sorted_name t) ≡ Less) there (ordered.less 0 (suc k) d (omega arith) (omega (arith, among.1.1))) in
     let apart : All (λ b. b ≢ 47) d.name = subst (λ (t : TreeEntry). All (λ b. b ≢ 47) t.name) there (ordered.components (suc k) d (omega (arith, among.1.1))) in
-    rw (at.1, among.2.1) (paths_less e d apart less front at.0 among.2.0 at.2)
+    rw (at.1, among.2.1) (paths_less e d apart less prefix at.0 among.2.0 at.2)
 
 -- ---- listings
 
@@ -100,12 +100,12 @@ none_ordered = record { less = λ i j d lt within. absurd (omega arith) }
 one_ordered : (r : Record) → IsStrictlyOrdered (r ∷ [])
 one_ordered r = record { less = λ i j d lt within. absurd (omega arith) }
 
-goes_behind : (front : List ℕ) (e : TreeEntry) (es : List TreeEntry) (rs : List Record) (l : LeavesAnswer) → IsGitOrdered (e ∷ es) → IsStrictlyOrdered rs → All (StandsAt front e) rs
-    → Goes (StandsAmong front es) l → Goes (StandsAmong front (e ∷ es)) (with_leaves rs l)
-goes_behind front e es rs (Err f) ordered rise at h = tt
-goes_behind front e es rs (Ok x) ordered rise at h = (
-  ordered_behind rs x.0 rise h.0 (λ k d within j c inside. stand_before front e es (get_or rs k d) (get_or x.0 j c) ordered (at k d within) (h.1 j c inside)),
-  All-append (StandsAmong front (e ∷ es)) rs x.0
+goes_behind : (prefix : List ℕ) (e : TreeEntry) (es : List TreeEntry) (rs : List Record) (l : LeavesAnswer) → IsGitOrdered (e ∷ es) → IsStrictlyOrdered rs → All (StandsAt prefix e) rs
+    → Goes (StandsAmong prefix es) l → Goes (StandsAmong prefix (e ∷ es)) (with_leaves rs l)
+goes_behind prefix e es rs (Err f) ordered rise at h = tt
+goes_behind prefix e es rs (Ok x) ordered rise at h = (
+  ordered_behind rs x.0 rise h.0 (λ k d within j c inside. stand_before prefix e es (get_or rs k d) (get_or x.0 j c) ordered (at k d within) (h.1 j c inside)),
+  All-append (StandsAmong prefix (e ∷ es)) rs x.0
       (λ k d within. (e, contains_first e es, at k d within))
       (λ k d within. let there = h.1 k d within in (there.0, contains_later e there.0 es there.1, there.2)),
 )
@@ -119,34 +119,34 @@ module _ (find : ObjectId → Found) (check : List ℕ → Bool → Option ℕ) 
 
   -- what is asked of a part: a tree is reached; entries are in git's order, and the directories among them reached
   abbrev Asks : Part → Type 0
-  Asks (whole_tree front id) = IsReached find kind root id
-  Asks (some_entries front es) = IsGitOrdered es × AreReached es
+  Asks (whole_tree prefix id) = IsReached find kind root id
+  Asks (some_entries prefix es) = IsGitOrdered es × AreReached es
 
   abbrev Rises : Part → LeavesAnswer → Type 0
-  Rises (whole_tree front id) l = Goes (Under front) l
-  Rises (some_entries front es) l = Goes (StandsAmong front es) l
+  Rises (whole_tree prefix id) l = Goes (Under prefix) l
+  Rises (some_entries prefix es) l = Goes (StandsAmong prefix es) l
 
   reached_tail : (e : TreeEntry) (es : List TreeEntry) → AreReached (e ∷ es) → AreReached es
   reached_tail e es h d there is = h d (contains_later e d es there) is
 
   rise : (n : ℕ) (p : Part) (l : LeavesAnswer) → Yields find check kind n p l → Asks p → Rises p l
-  rise n p l (limit front id) asked = tt
-  rise n p l (unread m front id f un) asked = tt
-  rise n p l (opened m front id bytes es r found whole y) asked =
-      let inner = rise m (some_entries front es) r y (sorted id bytes es asked found whole, λ e there mode. listed id bytes es e asked found whole there mode) in
-      goes_weaker (StandsAmong front es) (Under front) r (under_among front es) inner
-  rise n p l (ended m front) asked = (none_ordered, All-nil (StandsAmong front []))
-  rise n p l (refused m front e es number why) asked = tt
-  rise n p l (leaf m front e es r passed other y) asked =
-      let inner = rise m (some_entries front es) r y (ordered_tail e es asked.0, reached_tail e es asked.1) in
-      let at = All-cons (StandsAt front e) (leaf_of front e) [] (leaf_stands front e (leaf_mode e.mode other)) (All-nil (StandsAt front e)) in
-      goes_behind front e es (leaf_of front e ∷ []) r asked.0 (one_ordered (leaf_of front e)) at inner
-  rise n p l (below m left front e es rs r passed is y z) asked =
+  rise n p l (limit prefix id) asked = tt
+  rise n p l (unread m prefix id f un) asked = tt
+  rise n p l (opened m prefix id bytes es r found whole y) asked =
+      let inner = rise m (some_entries prefix es) r y (sorted id bytes es asked found whole, λ e there mode. listed id bytes es e asked found whole there mode) in
+      goes_weaker (StandsAmong prefix es) (Under prefix) r (under_among prefix es) inner
+  rise n p l (ended m prefix) asked = (none_ordered, All-nil (StandsAmong prefix []))
+  rise n p l (refused m prefix e es number why) asked = tt
+  rise n p l (leaf m prefix e es r passed other y) asked =
+      let inner = rise m (some_entries prefix es) r y (ordered_tail e es asked.0, reached_tail e es asked.1) in
+      let at = All-cons (StandsAt prefix e) (leaf_of prefix e) [] (leaf_stands prefix e (leaf_mode e.mode other)) (All-nil (StandsAt prefix e)) in
+      goes_behind prefix e es (leaf_of prefix e ∷ []) r asked.0 (one_ordered (leaf_of prefix e)) at inner
+  rise n p l (below m left prefix e es rs r passed is y z) asked =
       let mode = tree_mode e.mode is in
-      let first = rise m (whole_tree (front ++ e.name ++ 47 ∷ []) e.id) (Ok (rs, left)) y (asked.1 e (contains_first e es) mode) in
-      let inner = rise left (some_entries front es) r z (ordered_tail e es asked.0, reached_tail e es asked.1) in
-      goes_behind front e es rs r asked.0 first.0 (λ k d within. below_stands front e (get_or rs k d) mode (first.1 k d within)) inner
-  rise n p l (stopped m front e es f passed is y) asked = tt
+      let first = rise m (whole_tree (prefix ++ e.name ++ 47 ∷ []) e.id) (Ok (rs, left)) y (asked.1 e (contains_first e es) mode) in
+      let inner = rise left (some_entries prefix es) r z (ordered_tail e es asked.0, reached_tail e es asked.1) in
+      goes_behind prefix e es rs r asked.0 first.0 (λ k d within. below_stands prefix e (get_or rs k d) mode (first.1 k d within)) inner
+  rise n p l (stopped m prefix e es f passed is y) asked = tt
 
 pub leaves_ordered : (find : ObjectId → Found) (check : List ℕ → Bool → Option ℕ) (root : ObjectId) (most : ℕ) (rs : List Record) → AreGitOrdered find (id_kind root) root → AreLeaves find check root most (Ok rs) → IsStrictlyOrdered rs
 leaves_ordered find check root most rs sorted h = (rise find check (id_kind root) root sorted most (whole_tree [] root) (Ok (rs, h.0)) h.1 itself).0

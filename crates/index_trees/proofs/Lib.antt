@@ -6,4 +6,5 @@ pub mod Objects
 pub mod OneListing
 pub mod Stats
 pub mod Trees
+mod WalkLoops
 pub mod Walks

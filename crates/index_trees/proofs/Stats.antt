@@ -1,6 +1,6 @@
 -- Stat numbers that are all 0.
 use Rattle.std.proofs.Common.{◌≡◌, ℕ, refl}
-use Rattle.index_parts.specs.declared.entry.stat.Stat.{Stat}
+use Rattle.index_metadata.specs.declared.entry.stat.Stat.{Stat}
 use Rattle.index_trees.specs.Leaves.{zero_stat}
 
 of_zeros : (a b c d e f g h i : ℕ) → a ≡ 0 → b ≡ 0 → c ≡ 0 → d ≡ 0 → e ≡ 0 → f ≡ 0 → g ≡ 0 → h ≡ 0 → i ≡ 0

@@ -2,21 +2,21 @@
 use Rattle.std.specs.Prelude.{◌≡◌, ◌≢◌, ℕ, suc, List, [], ◌∷◌, ◌++◌, Bool, true, false, Option, Some, None, Result, Ok, Err}
 use Rattle.bstr.specs.Owned.{bstring_bytes}
 use Rattle.index_parts.specs.Id.{id_kind}
-use Rattle.index_parts.specs.Mode.{mode_of_kind}
-use Rattle.index_parts.specs.Object.{Found, absent, object, fault}
-use Rattle.index_parts.specs.TreeObject.{TreeEntry, IsTreeObject, IsMalformedTree, kind_of_mode}
-use Rattle.index_parts.specs.declared.entry.stat.Stat.{Stat}
+use Rattle.index_metadata.specs.Mode.{mode_of_kind}
+use Rattle.index_metadata.specs.Object.{Found, absent, object, fault}
+use Rattle.index_metadata.specs.TreeObject.{TreeEntry, IsTreeObject, IsMalformedTree, kind_of_mode}
+use Rattle.index_metadata.specs.declared.entry.stat.Stat.{Stat}
 use Rattle.index_parts.specs.declared.hash.Kind.{Kind}
 use Rattle.index_parts.specs.declared.hash.ObjectId.{ObjectId}
-use Rattle.index_parts.specs.declared.object.Kind.{Kind as ObjectKind}
-use Rattle.index_parts.specs.declared.object.Kind.TheVariants as objects
-use Rattle.index_parts.specs.declared.object.tree.EntryKind.{EntryKind}
-use Rattle.index_parts.specs.declared.object.tree.EntryKind.TheVariants as kinds
+use Rattle.index_metadata.specs.declared.object.Kind.{Kind as ObjectKind}
+use Rattle.index_metadata.specs.declared.object.Kind.TheVariants as objects
+use Rattle.index_metadata.specs.declared.object.tree.EntryKind.{EntryKind}
+use Rattle.index_metadata.specs.declared.object.tree.EntryKind.TheVariants as kinds
 use Rattle.index_entries.specs.Record.{Record}
-use Rattle.index_trees.specs.declared.from_tree.Error.{Error}
-use Rattle.index_trees.specs.declared.from_tree.Error.TheVariants as errors
-use Rattle.index_trees.specs.declared.from_tree.Traversal.{Traversal}
-use Rattle.index_trees.specs.declared.from_tree.Traversal.TheVariants as traversals
+use Rattle.index_trees.specs.declared.error.Error.{Error}
+use Rattle.index_trees.specs.declared.error.Error.TheVariants as errors
+use Rattle.index_trees.specs.declared.error.Traversal.{Traversal}
+use Rattle.index_trees.specs.declared.error.Traversal.TheVariants as traversals
 
 -- why a tree has no list of leaves, with what a fault names
 pub data LeavesFault : Type 0 where
@@ -34,7 +34,7 @@ zero_stat = record { mtime = record { secs = 0; nsecs = 0 }; ctime = record { se
 
 -- what a name stands for that isn't a tree: its path, with what comes before the name, its id, and the mode of its kind; all else is 0
 abbrev pub leaf_of : List ℕ → TreeEntry → Record
-leaf_of front e = record { path = front ++ e.name; stat = zero_stat; id = e.id; flags = 0; mode = mode_of_kind (kind_of_mode e.mode) }
+leaf_of prefix e = record { path = prefix ++ e.name; stat = zero_stat; id = e.id; flags = 0; mode = mode_of_kind (kind_of_mode e.mode) }
 
 -- ---- what a check says of names
 
@@ -61,10 +61,10 @@ abbrev pub with_leaves : List Record → LeavesAnswer → LeavesAnswer
 with_leaves rs (Ok x) = Ok (rs ++ x.0, x.1)
 with_leaves rs (Err f) = Err f
 
--- what is listed: the tree with an id, or some entries of one. The front of all its paths is empty, or it ends with a slash.
+-- what is listed: the tree with an id, or some entries of one. The prefix of all its paths is empty, or it ends with a slash.
 pub data Part : Type 0 where
-  whole_tree : (front : List ℕ) (id : ObjectId) → Part
-  some_entries : (front : List ℕ) (es : List TreeEntry) → Part
+  whole_tree : (prefix : List ℕ) (id : ObjectId) → Part
+  some_entries : (prefix : List ℕ) (es : List TreeEntry) → Part
 
 -- why no tree is read for an id
 pub data IsUnread (find : ObjectId → Found) (kind : Kind) (id : ObjectId) : LeavesFault → Type 0 where
@@ -77,20 +77,20 @@ pub data IsUnread (find : ObjectId → Found) (kind : Kind) (id : ObjectId) : Le
 -- whole before its entries are listed. Of each entry the name is checked first; then a leaf is listed, and a tree read. All
 -- that is below a name comes before the next name.
 pub data Yields (find : ObjectId → Found) (check : List ℕ → Bool → Option ℕ) (kind : Kind) : ℕ → Part → LeavesAnswer → Type 0 where
-  limit : (front : List ℕ) (id : ObjectId) → Yields find check kind 0 (whole_tree front id) (Err TooManyObjects)
-  unread : (n : ℕ) (front : List ℕ) (id : ObjectId) (f : LeavesFault) → IsUnread find kind id f → Yields find check kind (suc n) (whole_tree front id) (Err f)
-  opened : (n : ℕ) (front : List ℕ) (id : ObjectId) (bytes : List ℕ) (es : List TreeEntry) (r : LeavesAnswer) → find id ≡ object objects.Tree bytes → IsTreeObject kind bytes es
-      → Yields find check kind n (some_entries front es) r → Yields find check kind (suc n) (whole_tree front id) r
-  ended : (n : ℕ) (front : List ℕ) → Yields find check kind n (some_entries front []) (Ok ([], n))
-  refused : (n : ℕ) (front : List ℕ) (e : TreeEntry) (es : List TreeEntry) (number : ℕ) → refusal_of check e ≡ Some number
-      → Yields find check kind n (some_entries front (e ∷ es)) (Err (InvalidComponent (front ++ e.name) number))
-  leaf : (n : ℕ) (front : List ℕ) (e : TreeEntry) (es : List TreeEntry) (r : LeavesAnswer) → refusal_of check e ≡ None → kind_of_mode e.mode ≢ kinds.Tree
-      → Yields find check kind n (some_entries front es) r → Yields find check kind n (some_entries front (e ∷ es)) (with_leaves (leaf_of front e ∷ []) r)
-  below : (n left : ℕ) (front : List ℕ) (e : TreeEntry) (es : List TreeEntry) (rs : List Record) (r : LeavesAnswer) → refusal_of check e ≡ None → kind_of_mode e.mode ≡ kinds.Tree
-      → Yields find check kind n (whole_tree (front ++ e.name ++ 47 ∷ []) e.id) (Ok (rs, left)) → Yields find check kind left (some_entries front es) r
-      → Yields find check kind n (some_entries front (e ∷ es)) (with_leaves rs r)
-  stopped : (n : ℕ) (front : List ℕ) (e : TreeEntry) (es : List TreeEntry) (f : LeavesFault) → refusal_of check e ≡ None → kind_of_mode e.mode ≡ kinds.Tree
-      → Yields find check kind n (whole_tree (front ++ e.name ++ 47 ∷ []) e.id) (Err f) → Yields find check kind n (some_entries front (e ∷ es)) (Err f)
+  limit : (prefix : List ℕ) (id : ObjectId) → Yields find check kind 0 (whole_tree prefix id) (Err TooManyObjects)
+  unread : (n : ℕ) (prefix : List ℕ) (id : ObjectId) (f : LeavesFault) → IsUnread find kind id f → Yields find check kind (suc n) (whole_tree prefix id) (Err f)
+  opened : (n : ℕ) (prefix : List ℕ) (id : ObjectId) (bytes : List ℕ) (es : List TreeEntry) (r : LeavesAnswer) → find id ≡ object objects.Tree bytes → IsTreeObject kind bytes es
+      → Yields find check kind n (some_entries prefix es) r → Yields find check kind (suc n) (whole_tree prefix id) r
+  ended : (n : ℕ) (prefix : List ℕ) → Yields find check kind n (some_entries prefix []) (Ok ([], n))
+  refused : (n : ℕ) (prefix : List ℕ) (e : TreeEntry) (es : List TreeEntry) (number : ℕ) → refusal_of check e ≡ Some number
+      → Yields find check kind n (some_entries prefix (e ∷ es)) (Err (InvalidComponent (prefix ++ e.name) number))
+  leaf : (n : ℕ) (prefix : List ℕ) (e : TreeEntry) (es : List TreeEntry) (r : LeavesAnswer) → refusal_of check e ≡ None → kind_of_mode e.mode ≢ kinds.Tree
+      → Yields find check kind n (some_entries prefix es) r → Yields find check kind n (some_entries prefix (e ∷ es)) (with_leaves (leaf_of prefix e ∷ []) r)
+  below : (n left : ℕ) (prefix : List ℕ) (e : TreeEntry) (es : List TreeEntry) (rs : List Record) (r : LeavesAnswer) → refusal_of check e ≡ None → kind_of_mode e.mode ≡ kinds.Tree
+      → Yields find check kind n (whole_tree (prefix ++ e.name ++ 47 ∷ []) e.id) (Ok (rs, left)) → Yields find check kind left (some_entries prefix es) r
+      → Yields find check kind n (some_entries prefix (e ∷ es)) (with_leaves rs r)
+  stopped : (n : ℕ) (prefix : List ℕ) (e : TreeEntry) (es : List TreeEntry) (f : LeavesFault) → refusal_of check e ≡ None → kind_of_mode e.mode ≡ kinds.Tree
+      → Yields find check kind n (whole_tree (prefix ++ e.name ++ 47 ∷ []) e.id) (Err f) → Yields find check kind n (some_entries prefix (e ∷ es)) (Err f)
 
 -- the leaves of a tree, or the first fault, where so many objects may be read
 abbrev pub AreLeaves : (ObjectId → Found) → (List ℕ → Bool → Option ℕ) → ObjectId → ℕ → Result (List Record) LeavesFault → Type 0

@@ -3,7 +3,7 @@
 ghost use Rattle.std.specs.Prelude.{◌≡◌, ℕ, List, Bool, false, Option, Some, None, IfOk, IfErr};
 ghost use Rattle.index_trees.specs.Leaves.{refusal_as};
 
-use index_parts::object::tree::EntryKind;
+use index_metadata::object::tree::EntryKind;
 
 /// Which names may be components of a path. The answer is fixed by the check's value and the arguments.
 pub trait ComponentCheck {

@@ -2,6 +2,7 @@
 #![tactic(auto)]
 
 mod check;
+mod error;
 pub mod from_tree;
 mod read;
 mod walk;

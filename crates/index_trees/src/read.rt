@@ -1,16 +1,17 @@
 //! Trees, read whole from a store.
 
 ghost use Rattle.std.specs.Prelude.{◌≡◌, false, IsTrue, IfOk, IfErr};
-ghost use Rattle.index_parts.specs.Object.{object};
-ghost use Rattle.index_parts.specs.TreeObject.{IsMalformedTree};
-ghost use Rattle.index_parts.specs.declared.object.Kind.TheVariants.{Tree};
+ghost use Rattle.index_metadata.specs.Object.{object};
+ghost use Rattle.index_metadata.specs.TreeObject.{IsMalformedTree};
+ghost use Rattle.index_metadata.specs.declared.object.Kind.TheVariants.{Tree};
 ghost use Rattle.index_trees.specs.Leaves.{IsUnread, SaysLeaves};
-ghost use Rattle.index_trees.specs.Walking.{IsSomeTree};
+ghost use Rattle.index_trees.specs.LeafSteps.{IsSomeTree};
 
-use crate::from_tree::{Error, Traversal};
+use crate::error::{Error, Traversal};
+use index_metadata::object;
+use index_metadata::object::tree::Entries;
+use index_metadata::object::{Find, find};
 use index_parts::hash::{Kind, ObjectId};
-use index_parts::object::tree::Entries;
-use index_parts::object::{self, Find, find};
 use std::alloc::Global;
 
 /// Whether bytes are entries of a tree, and nothing else.

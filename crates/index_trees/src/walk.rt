@@ -2,17 +2,17 @@
 
 ghost use Rattle.std.specs.Prelude.{◌≡◌, ◌≤◌, ◌++◌, [], ◌∷◌, None, IfOk, IfErr, OnOk, length, take};
 ghost use Rattle.index_trees.specs.Leaves.{SaysLeaves, refusal_as};
-ghost use Rattle.index_trees.specs.declared.from_tree.Error.TheVariants.{Memory};
-ghost use Rattle.index_trees.specs.Walking.{Begins, HasFault, IsPacked, IsRefused, IsSound, IsSomeTree, ListsOn, ListsFault, GoesTo, last_leaf, listed_records, unlisted};
+ghost use Rattle.index_trees.specs.declared.error.Error.TheVariants.{Memory};
+ghost use Rattle.index_trees.specs.LeafSteps.{Begins, WalkHasFault, IsPacked, IsRefused, IsSound, IsSomeTree, ListsOn, ListsFault, EndsOrReaches, last_leaf, listed_records, unlisted};
 
 use crate::ComponentCheck;
 use crate::check::refusal_of;
-use crate::from_tree::{Error, Leaves};
+use crate::error::Error;
 use bstr::BString;
-use index_entries::{Entry, PathStorage, make_entry};
-use index_parts::entry::{Flags, Mode, Stage, Stat};
+use index_entries::list::EntryList;
+use index_metadata::entry::{Flags, Mode, Stage, Stat};
+use index_metadata::object::tree::{Entries, EntryKind};
 use index_parts::hash::{Kind, ObjectId};
-use index_parts::object::tree::{Entries, EntryKind};
 use std::alloc::{AllocError, Global};
 
 /// A tree of which entries are still to be listed.
@@ -23,7 +23,7 @@ struct Level {
     /// How many of them are listed.
     at: usize,
     /// How many bytes of the path come before its names.
-    front: usize,
+    prefix_len: usize,
 }
 
 impl Level {
@@ -37,12 +37,11 @@ impl Level {
     }
 }
 
-/// The leaves so far, and the path of the last name. A slash stands behind it where the name is that of a tree, which is read
-/// next.
+/// The leaves so far, and the path of the last name. A slash stands behind it where the name is that of a tree, which
+/// is read next.
 #[derive(Drop)]
 struct Listed {
-    entries: Vec<Entry>,
-    storage: PathStorage,
+    leaves: EntryList,
     path: Vec<u8>,
 }
 
@@ -54,14 +53,14 @@ struct Next {
 }
 
 impl Listed {
-    /// Puts a name behind the front of the path.
-    fn set_name(&mut self, front: usize, name: &[u8]) -> Result<(), AllocError>
-        requires { front ≤ length self.old.path.items }
-        ensures path { OnOk result (self.new.path.items ≡ take front self.old.path.items ++ name.now) }
-        ensures entries { self.new.entries ≡ self.old.entries }
-        ensures storage { self.new.storage ≡ self.old.storage }
+    /// Puts a name after the prefix of the path, which has so many bytes.
+    fn set_name(&mut self, prefix_len: usize, name: &[u8]) -> Result<(), AllocError>
+        requires { prefix_len ≤ length self.old.path.items }
+        ensures path { OnOk result
+            (self.new.path.items ≡ take prefix_len self.old.path.items ++ name.now) }
+        ensures leaves { self.new.leaves ≡ self.old.leaves }
     {
-        self.path.truncate(front);
+        self.path.truncate(prefix_len);
         self.path.extend_from_slice(name)
     }
 
@@ -74,11 +73,14 @@ impl Listed {
         ensures path { self.new.path ≡ self.old.path }
         ensures fault { IfErr result (λ e. e ≡ Memory) }
     {
-        let start = self.storage.len();
-        self.storage.extend_from_slice(self.path.as_slice())?;
-        let end = self.storage.len();
         let flags = Flags::from_stage(Stage::Unconflicted);
-        self.entries.push(make_entry(Stat::default(), id, flags, Mode::from(kind), start..end))?;
+        self.leaves.push(
+            Stat::default(),
+            id,
+            flags,
+            Mode::from(kind),
+            self.path.as_slice(),
+        )?;
         Ok(())
     }
 }
@@ -92,7 +94,8 @@ fn check_name<C: ComponentCheck>(
     kind: EntryKind,
 ) -> Result<(), Error>
     ensures passes { IfOk result (λ _. refusal_as (C.refusal check.now) name.now kind ≡ None) }
-    ensures fault { IfErr result (λ e. SaysLeaves e (IsRefused (C.refusal check.now) path.now name.now kind)) }
+    ensures fault { IfErr result
+        (λ e. SaysLeaves e (IsRefused (C.refusal check.now) path.now name.now kind)) }
 {
     if let Some(source) = refusal_of(check, name, kind) {
         let path = BString::from_slice(alloc, path)?;
@@ -101,32 +104,34 @@ fn check_name<C: ComponentCheck>(
     Ok(())
 }
 
-/// ListsOn leaves from the entries that bytes hold, up to a tree, and gives that; None where all are leaves.
+/// Lists leaves from the entries that bytes hold, up to a tree, and gives that; None where all are leaves.
 fn list_entries<C: ComponentCheck>(
     listed: &mut Listed,
     alloc: Global,
-    front: usize,
+    prefix_len: usize,
     bytes: &[u8],
     kind: Kind,
     check: &C,
 ) -> Result<Option<Next>, Error>
     requires packed { IsPacked listed.old }
-    requires front { front ≤ length listed.old.path.items }
+    requires prefix { prefix_len ≤ length listed.old.path.items }
     requires whole { IsSomeTree kind bytes.now }
     ensures lists { IfOk result (ListsOn (C.refusal check.now) kind listed.old listed.new
-        (take front listed.old.path.items) bytes.now) }
+        (take prefix_len listed.old.path.items) bytes.now) }
     ensures packed { OnOk result (IsPacked listed.new) }
-    ensures front { OnOk result (take front listed.new.path.items ≡ take front listed.old.path.items) }
-    ensures long { OnOk result (front ≤ length listed.new.path.items) }
-    ensures fault { IfErr result (λ e. SaysLeaves e (ListsFault (C.refusal check.now) kind listed.old
-        (take front listed.old.path.items) bytes.now)) }
+    ensures prefix { OnOk result
+        (take prefix_len listed.new.path.items ≡ take prefix_len listed.old.path.items) }
+    ensures long { OnOk result (prefix_len ≤ length listed.new.path.items) }
+    ensures fault { IfErr result
+        (λ e. SaysLeaves e (ListsFault (C.refusal check.now) kind listed.old
+        (take prefix_len listed.old.path.items) bytes.now)) }
 {
     let mut entries = Entries::new(bytes, kind);
     while let Some(entry) = entries.next() {
         let Ok(entry) = entry else {
             return Ok(None);
         };
-        listed.set_name(front, entry.filename)?;
+        listed.set_name(prefix_len, entry.filename)?;
         let entry_kind = entry.mode.kind();
         check_name(
             alloc,
@@ -165,8 +170,7 @@ impl Walk {
     {
         Walk {
             listed: Listed {
-                entries: Vec::new(alloc),
-                storage: Vec::new(alloc),
+                leaves: EntryList::new(alloc),
                 path: Vec::new(alloc),
             },
             levels: Vec::new(alloc),
@@ -181,13 +185,13 @@ impl Walk {
         let tree = Level {
             bytes,
             at: 0,
-            front: self.listed.path.len(),
+            prefix_len: self.listed.path.len(),
         };
         self.levels.push(tree)?;
         Ok(())
     }
 
-    /// ListsOn leaves of the trees that were begun, up to the next tree, and gives its id; None where all is listed.
+    /// Lists leaves of the trees that were begun, up to the next tree, and gives its id; None where all is listed.
     pub(crate) fn next_tree<C: ComponentCheck>(
         &mut self,
         alloc: Global,
@@ -195,16 +199,17 @@ impl Walk {
         check: &C,
     ) -> Result<Option<ObjectId>, Error>
         requires { IsSound kind self.old }
-        ensures steps { IfOk result (GoesTo (C.refusal check.now) kind self.old self.new) }
+        ensures steps { IfOk result (EndsOrReaches (C.refusal check.now) kind self.old self.new) }
         ensures packed { OnOk result (IsPacked self.new.listed) }
-        ensures fault { IfErr result (λ e. SaysLeaves e (HasFault (C.refusal check.now) kind self.old)) }
+        ensures fault { IfErr result
+            (λ e. SaysLeaves e (WalkHasFault (C.refusal check.now) kind self.old)) }
     {
         while let Some(mut level) = self.levels.pop() {
             let bytes = level.unlisted();
             if let Some(next) = list_entries(
                 &mut self.listed,
                 alloc,
-                level.front,
+                level.prefix_len,
                 bytes,
                 kind,
                 check,
@@ -218,13 +223,9 @@ impl Walk {
     }
 
     /// The leaves.
-    pub(crate) fn into_leaves(self) -> Leaves
-        ensures entries { result.entries.items ≡ self.listed.entries.items }
-        ensures storage { result.storage.items ≡ self.listed.storage.items }
+    pub(crate) fn into_leaves(self) -> EntryList
+        ensures { result ≡ self.listed.leaves }
     {
-        Leaves {
-            entries: self.listed.entries,
-            storage: self.listed.storage,
-        }
+        self.listed.leaves
     }
 }

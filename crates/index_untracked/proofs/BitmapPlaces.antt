@@ -1,7 +1,7 @@
 -- The places of a bitmap over directories, and that bytes are three such bitmaps in one way.
 use Rattle.std.proofs.Common.{◌≡◌, ℕ, ◌<◌, ◌≤◌, List, [], ◌∷◌, ◌++◌, map, All, Result, Ok, Err, refl, sym, ap, subst, ◌∙◌}
 use Rattle.std.proofs.lemmas.List.Elements.{All-head, All-tail}
-use Rattle.index_parts.specs.Bitmap.{Bitmap, IsBitmap, Says}
+use Rattle.index_parts.specs.Bitmap.{Bitmap, IsBitmap, SaysBitmapFault}
 use Rattle.index_parts.specs.Bits.{ListPlaces}
 use Rattle.index_parts.specs.declared.ewah.decode.Error.{Error}
 use Rattle.index_parts.specs.declared.ewah.decode.Error.TheVariants as errors
@@ -9,7 +9,7 @@ use Rattle.index_parts.specs.declared.ewah.iter.Malformed.{Malformed}
 use Rattle.index_parts.proofs.BitmapFaults.{no_fault}
 use Rattle.index_parts.proofs.Bitmaps.{one_bitmap}
 use Rattle.index_parts.proofs.Places.{one_listing}
-use Rattle.index_untracked.specs.Marks.{Marks, ListsBelow, AreMarks}
+use Rattle.index_untracked.specs.CacheBitmaps.{DirectoryBitmaps, ListsBelow, AreMarks}
 
 abbrev pub oks : List ℕ → List (Result ℕ Malformed)
 oks places = map Ok places
@@ -38,7 +38,7 @@ same_oks (x ∷ xs) (y ∷ ys) e =
     rw (head, same_oks xs ys tail) refl
 
 -- an error that isn't want of memory says that there is no bitmap
-pub none_by : (e : Error) (bytes : List ℕ) → Says e bytes → (e ≡ errors.Memory → ⊥) → (b : Bitmap) (rest : List ℕ) → IsBitmap bytes b rest → ⊥
+pub none_by : (e : Error) (bytes : List ℕ) → SaysBitmapFault e bytes → (e ≡ errors.Memory → ⊥) → (b : Bitmap) (rest : List ℕ) → IsBitmap bytes b rest → ⊥
 none_by errors.NumBits bytes h other b rest p = no_fault bytes errors.NumBits (record { value = b; rest = rest; is_bitmap = p }) h
 none_by errors.Length bytes h other b rest p = no_fault bytes errors.Length (record { value = b; rest = rest; is_bitmap = p }) h
 none_by errors.Words bytes h other b rest p = no_fault bytes errors.Words (record { value = b; rest = rest; is_bitmap = p }) h
@@ -51,7 +51,7 @@ one_list count bytes a b x y p q =
     let listed : ListPlaces (oks b) p.bitmap.words = subst (λ (m : Bitmap). ListPlaces (oks b) m.words) (sym same.0) q.listed in
     (same_oks a b (one_listing p.bitmap.words (oks a) (oks b) p.listed listed), same.1)
 
-pub one_marks : (count : ℕ) (bytes : List ℕ) (m n : Marks) (x y : List ℕ) → AreMarks count bytes m x → AreMarks count bytes n y → (m ≡ n) × (x ≡ y)
+pub one_marks : (count : ℕ) (bytes : List ℕ) (m n : DirectoryBitmaps) (x y : List ℕ) → AreMarks count bytes m x → AreMarks count bytes n y → (m ≡ n) × (x ≡ y)
 one_marks count bytes m n x y p q =
     let valid = one_list count bytes m.valid n.valid p.behind_valid q.behind_valid p.is_valid q.is_valid in
     let second : ListsBelow count p.behind_valid n.check_only q.behind_check_only = subst (λ (l : List ℕ). ListsBelow count l n.check_only q.behind_check_only) (sym valid.1) q.is_check_only in
@@ -61,9 +61,9 @@ one_marks count bytes m n x y p q =
     let valid_is : m.valid ≡ n.valid = valid.0 in
     let check_is : m.check_only ≡ n.check_only = check.0 in
     let hash_is : m.hash_valid ≡ n.hash_valid = hash.0 in
-    let with_valid : List ℕ → Marks = λ l. record { valid = l; check_only = m.check_only; hash_valid = m.hash_valid } in
-    let with_check : List ℕ → Marks = λ l. record { valid = n.valid; check_only = l; hash_valid = m.hash_valid } in
-    let with_hash : List ℕ → Marks = λ l. record { valid = n.valid; check_only = n.check_only; hash_valid = l } in
+    let with_valid : List ℕ → DirectoryBitmaps = λ l. record { valid = l; check_only = m.check_only; hash_valid = m.hash_valid } in
+    let with_check : List ℕ → DirectoryBitmaps = λ l. record { valid = n.valid; check_only = l; hash_valid = m.hash_valid } in
+    let with_hash : List ℕ → DirectoryBitmaps = λ l. record { valid = n.valid; check_only = n.check_only; hash_valid = l } in
     (ap with_valid valid_is ∙ ap with_check check_is ∙ ap with_hash hash_is, hash.1)
 
 -- what a list says of the bitmap that was read

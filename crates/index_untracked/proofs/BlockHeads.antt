@@ -6,11 +6,11 @@ use Rattle.std.proofs.lemmas.Option.{same_Some}
 use Rattle.index_parts.proofs.Offsets.{offset_takes, offset_again}
 use Rattle.index_parts.proofs.Splits.{split_takes, split_again}
 use Rattle.index_parts.proofs.Steps.{bind_some, test_some}
-use Rattle.index_parts.specs.Front.{IsUpTo}
-use Rattle.index_parts.specs.Reading.{◌>>=◌, split_at_byte, offset_at}
-use Rattle.index_untracked.specs.Blocks.{BlockHead, IsBlockHead, HasBlockHead, AreNames}
+use Rattle.index_parts.specs.Numbers.{IsUpTo}
+use Rattle.index_parts.specs.ReadingSteps.{◌>>=◌, split_at_byte, offset_at}
+use Rattle.index_untracked.specs.Blocks.{BlockHead, IsBlockHead, HasBlockHead, SpellNames}
 use Rattle.index_parts.specs.Limit.{IsWithin, is_within}
-use Rattle.index_untracked.specs.UntrackedReading.{is_allowed, block_head_at, names_at, Start, start_at}
+use Rattle.index_untracked.specs.CacheSteps.{is_allowed, block_head_at, names_at, Start, start_at}
 use Rattle.index_extensions.proofs.Limits.{within_from, within_true}
 
 -- ---- the head
@@ -69,18 +69,18 @@ block_head_again limit bytes h rest p =
 
 -- ---- names
 
-names_by : (n : ℕ) (bytes : List ℕ) (x : List (List ℕ) × List ℕ) → names_at n bytes ≡ Some x → (length x.0 ≡ n) × AreNames bytes x.0 x.1
+names_by : (n : ℕ) (bytes : List ℕ) (x : List (List ℕ) × List ℕ) → names_at n bytes ≡ Some x → (length x.0 ≡ n) × SpellNames bytes x.0 x.1
 names_by zero bytes x e =
     let is : ◌≡◌ {A = List (List ℕ) × List ℕ} ([], bytes) x = same_Some _ _ e in
-    subst (λ (y : List (List ℕ) × List ℕ). (length y.0 ≡ 0) × AreNames bytes y.0 y.1) is (refl, refl)
+    subst (λ (y : List (List ℕ) × List ℕ). (length y.0 ≡ 0) × SpellNames bytes y.0 y.1) is (refl, refl)
 names_by (suc n) bytes x e =
     let a = bind_some (split_at_byte 0 bytes) (λ name. names_at n name.1 >>= λ names. Some (name.0 ∷ names.0, names.1)) x e in
     let b = bind_some (names_at n a.0.1) (λ names. Some (a.0.0 ∷ names.0, names.1)) x a.2 in
     let others = names_by n a.0.1 b.0 b.1 in
     let is : ◌≡◌ {A = List (List ℕ) × List ℕ} (a.0.0 ∷ b.0.0, b.0.1) x = same_Some _ _ b.2 in
-    subst (λ (y : List (List ℕ) × List ℕ). (length y.0 ≡ suc n) × AreNames bytes y.0 y.1) is (omega (arith, others.0), (a.0.1, split_takes 0 bytes a.0 a.1, others.1))
+    subst (λ (y : List (List ℕ) × List ℕ). (length y.0 ≡ suc n) × SpellNames bytes y.0 y.1) is (omega (arith, others.0), (a.0.1, split_takes 0 bytes a.0 a.1, others.1))
 
-names_again : (names : List (List ℕ)) (bytes rest : List ℕ) → AreNames bytes names rest → names_at (length names) bytes ≡ Some (names, rest)
+names_again : (names : List (List ℕ)) (bytes rest : List ℕ) → SpellNames bytes names rest → names_at (length names) bytes ≡ Some (names, rest)
 names_again [] bytes rest p = ap (λ (l : List ℕ). Some ([], l)) p
 names_again (name ∷ names) bytes rest p =
     let one = split_again 0 bytes name p.0 p.1 in
@@ -109,7 +109,7 @@ ahead_next before n i rest name after lt e =
 pub record IsStart (limit : Option ℕ) (bytes : List ℕ) (s : Start) (rest : List ℕ) : Type 0 where
   pub names : List ℕ
   pub is_head : IsBlockHead limit bytes (record { untracked = length s.untracked; subs = s.subs; name = s.name }) names
-  pub are_names : AreNames names s.untracked rest
+  pub are_names : SpellNames names s.untracked rest
 
 pub start_takes : (limit : Option ℕ) (bytes : List ℕ) (x : Start × List ℕ) → start_at limit bytes ≡ Some x → IsStart limit bytes x.0 x.1
 unfolding start_at

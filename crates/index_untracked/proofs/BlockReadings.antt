@@ -1,7 +1,7 @@
 -- Bytes begin with one block of so many levels, with all that is in it, or with none.
 use Rattle.std.proofs.Common.{◌≡◌, ℕ, zero, suc, ◌≤◌, inl, inr, List, length, Option, Some, None, refl, sym, ap, subst, arith}
 use Rattle.index_untracked.specs.Blocks.{Block, Blocks, block, none, more, how_many_blocks, IsBlockHead, IsBlock, AreBlocks, block_depth, blocks_depth}
-use Rattle.index_untracked.specs.UntrackedReading.{Start, start_at}
+use Rattle.index_untracked.specs.CacheSteps.{Start, start_at}
 use Rattle.index_untracked.proofs.BlockHeads.{IsStart, start_takes, one_start}
 use Rattle.index_untracked.proofs.Nests.{one_block, no_block}
 use Rattle.index_extensions.proofs.Readings.{Decided}

@@ -5,13 +5,13 @@ use Rattle.std.specs.List.{AllByRecursion, enumerate_from}
 use Rattle.std.specs.Option.{option_map}
 use Rattle.index_parts.proofs.Ids.{id_kind-make_id}
 use Rattle.index_parts.specs.Id.{id_kind, is_null, make_id}
-use Rattle.index_parts.specs.declared.entry.stat.Stat.{Stat}
+use Rattle.index_metadata.specs.declared.entry.stat.Stat.{Stat}
 use Rattle.index_parts.specs.declared.hash.Kind.{Kind}
 use Rattle.index_untracked.specs.Blocks.{DirectoryValue, listed}
-use Rattle.index_untracked.specs.Marks.{Marks, with_marks, value_at}
+use Rattle.index_untracked.specs.CacheBitmaps.{DirectoryBitmaps, with_marks, value_at}
 use Rattle.index_untracked.specs.CachedStat.{cached_stat}
 use Rattle.index_untracked.specs.Untracked.{oid_stat, Cache, AreDirectories, IsCache, CacheIdsAreOf}
-use Rattle.index_untracked.specs.declared.untracked_cache.OidStat.{OidStat}
+use Rattle.index_untracked.specs.declared.OidStat.{OidStat}
 
 pair_by : (kind : Kind) (s : Stat) (id : List ℕ) (t : Bool) → IfSome (cond {A = Option OidStat} t None (Some (record { stat = s; id = make_id kind id }))) (λ x. id_kind x.id ≡ kind)
 pair_by kind s id true = tt
@@ -27,7 +27,7 @@ made_kind : (kind : Kind) (found : Option (List ℕ)) → IfSome (option_map (ma
 made_kind kind None = tt
 made_kind kind (Some id) = id_kind-make_id kind id
 
-marked_kinds : (kind : Kind) (m : Marks) (stats ids : List (List ℕ)) (n : ℕ) (ds : List DirectoryValue) → AllByRecursion (IdIsOf kind) (map (λ x. with_marks kind m stats ids x.0 x.1) (enumerate_from n ds))
+marked_kinds : (kind : Kind) (m : DirectoryBitmaps) (stats ids : List (List ℕ)) (n : ℕ) (ds : List DirectoryValue) → AllByRecursion (IdIsOf kind) (map (λ x. with_marks kind m stats ids x.0 x.1) (enumerate_from n ds))
 marked_kinds kind m stats ids n [] = tt
 marked_kinds kind m stats ids n (d ∷ ds) = (made_kind kind (value_at m.hash_valid ids n), marked_kinds kind m stats ids (n + 1) ds)
 

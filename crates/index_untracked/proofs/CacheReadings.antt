@@ -2,10 +2,10 @@
 use Rattle.std.proofs.Common.{◌≡◌, ℕ, zero, suc, ◌≤◌, Bool, true, false, ◌⊎◌, inl, inr, List, [], ◌∷◌, Option, Some, None, refl}
 use Rattle.index_parts.specs.declared.hash.Kind.{Kind}
 use Rattle.index_untracked.specs.Blocks.{Block, IsBlock, block_depth, block_size, listed}
-use Rattle.index_extensions.specs.Contents.{IsRead}
-use Rattle.index_untracked.specs.Marks.{IsTail}
+use Rattle.index_extensions.specs.ExtensionValue.{IsRead}
+use Rattle.index_untracked.specs.CacheBitmaps.{IsTail}
 use Rattle.index_untracked.specs.Untracked.{Preamble, Cache, IsNest, AreDirectories, IsCache}
-use Rattle.index_untracked.specs.UntrackedReading.{ends_with_nul, preamble_at, directory_count_at}
+use Rattle.index_untracked.specs.CacheSteps.{ends_with_nul, preamble_at, directory_count_at}
 use Rattle.index_untracked.proofs.BlockReadings.{decided_by, IsShallow, block_reading}
 use Rattle.index_untracked.proofs.Caches.{nul_again, root_of, preamble_read, agrees, no_count, cache_from, one_cache}
 use Rattle.index_extensions.proofs.Readings.{Decided, read_of, one_read}

@@ -8,16 +8,16 @@ use Rattle.std.proofs.Math.Seq.{get_or-append_seam}
 use Rattle.index_parts.proofs.Offsets.{offset_takes, offset_again}
 use Rattle.index_parts.proofs.Splits.{piece_takes, piece_again, split_takes, split_again}
 use Rattle.index_parts.proofs.Steps.{bind_some, test_some}
-use Rattle.index_parts.specs.Front.{be}
+use Rattle.index_parts.specs.Numbers.{be}
 use Rattle.index_parts.specs.Id.{id_len}
-use Rattle.index_parts.specs.Offset.{AreMarked, IsOffset, StartsWithOffset}
-use Rattle.index_parts.specs.Reading.{piece_at, split_at_byte, offset_at}
+use Rattle.index_parts.specs.Offset.{AreContinued, IsOffset, StartsWithOffset}
+use Rattle.index_parts.specs.ReadingSteps.{piece_at, split_at_byte, offset_at}
 use Rattle.index_parts.specs.declared.hash.Kind.{Kind}
 use Rattle.index_untracked.specs.Blocks.{Block, block, HasBlockHead, IsBlock, block_size, how_many_blocks, DirectoryValue, listed}
 use Rattle.index_parts.specs.Limit.{IsWithin, is_within}
-use Rattle.index_untracked.specs.Marks.{IsTail}
+use Rattle.index_untracked.specs.CacheBitmaps.{IsTail}
 use Rattle.index_untracked.specs.Untracked.{oid_stat, Preamble, Cache, IsPreamble, IsNest, AreDirectories, IsCache, HasFirstHead, HasStart}
-use Rattle.index_untracked.specs.UntrackedReading.{ends_with_nul, preamble_at, directory_count_at}
+use Rattle.index_untracked.specs.CacheSteps.{ends_with_nul, preamble_at, directory_count_at}
 use Rattle.index_extensions.proofs.Limits.{within_from, within_true}
 use Rattle.index_untracked.proofs.Nests.{one_block}
 use Rattle.index_untracked.proofs.Tails.{one_tail}
@@ -164,13 +164,13 @@ one_list kind limit (suc n) bytes a b p q = one_nest kind limit (suc n) bytes a 
 
 -- ---- the cache
 
-some_digit : (bytes : List ℕ) → AreMarked bytes → 1 ≤ length bytes
+some_digit : (bytes : List ℕ) → AreContinued bytes → 1 ≤ length bytes
 some_digit [] m = absurd m
 some_digit (b ∷ bytes) m = omega arith
 
 module _ (kind : Kind) (limit : Option ℕ) (bytes : List ℕ) (c : Cache) (p : IsCache kind limit bytes c) where
   pub preamble_read : preamble_at kind bytes ≡ Some (c.preamble, p.rest)
-  preamble_read = preamble_again kind bytes c.preamble p.rest p.is_preamble (omega (arith, ap length p.parts, length-append p.number p.body, some_digit p.number p.is_number.marked))
+  preamble_read = preamble_again kind bytes c.preamble p.rest p.is_preamble (omega (arith, ap length p.parts, length-append p.number p.body, some_digit p.number p.is_number.continued))
 
   pub directory_count_read : directory_count_at limit p.rest ≡ Some (p.count, p.body)
   directory_count_read = directory_count_again limit p.rest p.count p.body (record { starts = record { spelling = p.number; parts = p.parts; is_offset = p.is_number }; room = p.room; within = p.within })

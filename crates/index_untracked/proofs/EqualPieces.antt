@@ -8,8 +8,8 @@ use Rattle.std.proofs.lemmas.List.Elements.{All-nil, All-cons, All-head, All-tai
 use Rattle.std.proofs.lemmas.List.Folds.{concat-append}
 use Rattle.std.proofs.lemmas.Option.{same_Some}
 use Rattle.index_parts.proofs.Splits.{piece_again}
-use Rattle.index_parts.specs.Reading.{piece_at}
-use Rattle.index_untracked.specs.Marks.{ArePieces}
+use Rattle.index_parts.specs.ReadingSteps.{piece_at}
+use Rattle.index_untracked.specs.CacheBitmaps.{ArePieces}
 
 pub no_pieces : (size : ℕ) (bytes : List ℕ) → ArePieces size 0 bytes [] bytes
 no_pieces size bytes = record { parts = refl; sizes = All-nil (λ piece. length piece ≡ size); number = refl }

@@ -6,18 +6,18 @@ use Rattle.std.proofs.lemmas.Bool.{eq-eqb, ne_eqb}
 use Rattle.std.proofs.lemmas.List.{take_more, length-take}
 use Rattle.std.proofs.lemmas.List.Folds.{list_any-append}
 use Rattle.index_untracked.specs.Blocks.{DirectoryValue, directory_value}
-use Rattle.index_extensions.specs.Contents.{or_else}
-use Rattle.index_untracked.specs.Marking.{change, checked, last_at, by_some, by_true, each}
-use Rattle.index_untracked.specs.declared.untracked_cache.Directory.{Directory}
+use Rattle.index_extensions.specs.ExtensionValue.{or_else}
+use Rattle.index_untracked.specs.BitmapSteps.{changed_directory, checked, last_at, by_some, by_true, each}
+use Rattle.index_untracked.specs.declared.Directory.{Directory}
 
 -- the directory that is written is the value changed
-pub change_set : (f : DirectoryValue → DirectoryValue) (xs : List Directory) (place : ℕ) (x y : Directory) → place < length xs → x ≡ get_or xs place x → directory_value y ≡ f (directory_value x) → map directory_value (slice_set xs place y) ≡ change f place (map directory_value xs)
+pub change_set : (f : DirectoryValue → DirectoryValue) (xs : List Directory) (place : ℕ) (x y : Directory) → place < length xs → x ≡ get_or xs place x → directory_value y ≡ f (directory_value x) → map directory_value (slice_set xs place y) ≡ changed_directory f place (map directory_value xs)
 change_set f [] place x y lt e h = absurd (omega arith)
 change_set f (a ∷ xs) zero x y lt e h = ap (λ (d : DirectoryValue). d ∷ map directory_value xs) (h ∙ ap (λ (z : Directory). f (directory_value z)) e)
 change_set f (a ∷ xs) (suc place) x y lt e h = ap (λ (ds : List DirectoryValue). directory_value a ∷ ds) (change_set f xs place x y (omega arith) e h)
 
 -- the directory behind a front of so many
-pub change_at : (f : DirectoryValue → DirectoryValue) (place : ℕ) (xs : List DirectoryValue) (d : DirectoryValue) (ys : List DirectoryValue) → place ≡ length xs → change f place (xs ++ d ∷ ys) ≡ xs ++ f d ∷ ys
+pub change_at : (f : DirectoryValue → DirectoryValue) (place : ℕ) (xs : List DirectoryValue) (d : DirectoryValue) (ys : List DirectoryValue) → place ≡ length xs → changed_directory f place (xs ++ d ∷ ys) ≡ xs ++ f d ∷ ys
 change_at f place [] d ys e = rw e refl
 change_at f zero (x ∷ xs) d ys e = absurd (omega arith)
 change_at f (suc place) (x ∷ xs) d ys e = ap (λ (ds : List DirectoryValue). x ∷ ds) (change_at f place xs d ys (omega arith))
@@ -35,7 +35,7 @@ same_from : (f g : ℕ → DirectoryValue → DirectoryValue) (n : ℕ) (ds : Li
 same_from f g n [] h = refl
 same_from f g n (d ∷ ds) h = rw (h n d (omega arith), same_from f g (n + 1) ds (λ i x le. h i x (omega arith))) refl
 
-change_from : (f g : ℕ → DirectoryValue → DirectoryValue) (h : DirectoryValue → DirectoryValue) (place n k : ℕ) (ds : List DirectoryValue) → place ≡ n + k → ((i : ℕ) (d : DirectoryValue) → g i d ≡ by_true h (eqb place i) (f i d)) → change h k (each_from n f ds) ≡ each_from n g ds
+change_from : (f g : ℕ → DirectoryValue → DirectoryValue) (h : DirectoryValue → DirectoryValue) (place n k : ℕ) (ds : List DirectoryValue) → place ≡ n + k → ((i : ℕ) (d : DirectoryValue) → g i d ≡ by_true h (eqb place i) (f i d)) → changed_directory h k (each_from n f ds) ≡ each_from n g ds
 change_from f g h place n k [] e same = refl
 change_from f g h place n zero (d ∷ ds) e same =
     let here : eqb place n ≡ true = eq-eqb place n (omega arith) in
@@ -67,7 +67,7 @@ by_last f over false o x d = refl
 
 -- one more directory changed by its value
 pub each_value : {A : Type 0} (f : A → DirectoryValue → DirectoryValue) → ((x y : A) (d : DirectoryValue) → f x (f y d) ≡ f x d) → (places : List ℕ) (values : List A) (place : ℕ) (x : A) (ds : List DirectoryValue) → length places ≡ length values
-    → change (f x) place (each (λ i. by_some f (last_at places values i)) ds) ≡ each (λ i. by_some f (last_at (places ++ place ∷ []) (values ++ x ∷ []) i)) ds
+    → changed_directory (f x) place (each (λ i. by_some f (last_at places values i)) ds) ≡ each (λ i. by_some f (last_at (places ++ place ∷ []) (values ++ x ∷ []) i)) ds
 each_value {A} f over places values place x ds e =
     change_from (λ i. by_some f (last_at places values i)) (λ i. by_some f (last_at (places ++ place ∷ []) (values ++ x ∷ []) i)) (f x) place 0 place ds (omega arith)
     (λ i d. ap (λ (o : Option A). by_some f o d) (value_push places values place x i e) ∙ by_last f over (eqb place i) (last_at places values i) x d)
@@ -78,7 +78,7 @@ mark_twice f over true false d = refl
 mark_twice f over false true d = refl
 mark_twice f over false false d = refl
 
-pub each_checked : (places : List ℕ) (place : ℕ) (ds : List DirectoryValue) → change checked place (each (λ i. by_true checked (list_any (λ p. eqb p i) places)) ds) ≡ each (λ i. by_true checked (list_any (λ p. eqb p i) (places ++ place ∷ []))) ds
+pub each_checked : (places : List ℕ) (place : ℕ) (ds : List DirectoryValue) → changed_directory checked place (each (λ i. by_true checked (list_any (λ p. eqb p i) places)) ds) ≡ each (λ i. by_true checked (list_any (λ p. eqb p i) (places ++ place ∷ []))) ds
 each_checked places place ds =
     change_from (λ i. by_true checked (list_any (λ p. eqb p i) places)) (λ i. by_true checked (list_any (λ p. eqb p i) (places ++ place ∷ []))) checked place 0 place ds (omega arith)
     (λ i d. ap (λ (b : Bool). by_true checked b d) (list_any-append (λ p. eqb p i) places (place ∷ [])) ∙ mark_twice checked (λ e. refl) (list_any (λ p. eqb p i) places) (eqb place i) d)
@@ -86,14 +86,14 @@ each_checked places place ds =
 -- ---- a step of a loop over places
 
 pub value_step : {A : Type 0} (f : A → DirectoryValue → DirectoryValue) → ((x y : A) (d : DirectoryValue) → f x (f y d) ≡ f x d) → (places : List ℕ) (i : ℕ) (values : List A) (x : A) (ds now next : List DirectoryValue) → i < length places → length values ≡ i
-    → now ≡ each (λ j. by_some f (last_at (take i places) values j)) ds → next ≡ change (f x) (get_or places i 0) now → next ≡ each (λ j. by_some f (last_at (take (i + 1) places) (values ++ x ∷ []) j)) ds
+    → now ≡ each (λ j. by_some f (last_at (take i places) values j)) ds → next ≡ changed_directory (f x) (get_or places i 0) now → next ≡ each (λ j. by_some f (last_at (take (i + 1) places) (values ++ x ∷ []) j)) ds
 value_step {A} f over places i values x ds now next lt len same step =
     let taken : length (take i places) ≡ length values = omega (arith, length-take i places) in
-    step ∙ ap (change (f x) (get_or places i 0)) same ∙ each_value f over (take i places) values (get_or places i 0) x ds taken
+    step ∙ ap (changed_directory (f x) (get_or places i 0)) same ∙ each_value f over (take i places) values (get_or places i 0) x ds taken
     ∙ ap (λ (ps : List ℕ). each (λ j. by_some f (last_at ps (values ++ x ∷ []) j)) ds) (sym (take_more places i 0 lt))
 
-pub check_step : (places : List ℕ) (i : ℕ) (ds now next : List DirectoryValue) → i < length places → now ≡ each (λ j. by_true checked (list_any (λ p. eqb p j) (take i places))) ds → next ≡ change checked (get_or places i 0) now
+pub check_step : (places : List ℕ) (i : ℕ) (ds now next : List DirectoryValue) → i < length places → now ≡ each (λ j. by_true checked (list_any (λ p. eqb p j) (take i places))) ds → next ≡ changed_directory checked (get_or places i 0) now
     → next ≡ each (λ j. by_true checked (list_any (λ p. eqb p j) (take (i + 1) places))) ds
 check_step places i ds now next lt same step =
-    step ∙ ap (change checked (get_or places i 0)) same ∙ each_checked (take i places) (get_or places i 0) ds
+    step ∙ ap (changed_directory checked (get_or places i 0)) same ∙ each_checked (take i places) (get_or places i 0) ds
     ∙ ap (λ (ps : List ℕ). each (λ j. by_true checked (list_any (λ p. eqb p j) ps)) ds) (sym (take_more places i 0 lt))

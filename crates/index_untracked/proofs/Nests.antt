@@ -3,9 +3,9 @@ use Rattle.std.proofs.Common.{◌≡◌, ℕ, ◌+◌, ◌-◌, ◌<◌, ◌≤�
 use Rattle.std.specs.List.{AllByRecursion}
 use Rattle.std.proofs.lemmas.List.{append-nil, length-map}
 use Rattle.index_untracked.specs.Blocks.{Block, Blocks, block, none, more, how_many_blocks, IsBlockHead, IsBlock, AreBlocks, block_depth, blocks_depth, block_size, blocks_size, DirectoryValue, directory_value, bare_directory, places_from, listed, all_listed}
-use Rattle.index_untracked.specs.Marking.{change, with_subs, IsBare}
-use Rattle.index_untracked.specs.UntrackedReading.{Start, start_at}
-use Rattle.index_untracked.specs.declared.untracked_cache.Directory.{Directory}
+use Rattle.index_untracked.specs.BitmapSteps.{changed_directory, with_subs, IsBare}
+use Rattle.index_untracked.specs.CacheSteps.{Start, start_at}
+use Rattle.index_untracked.specs.declared.Directory.{Directory}
 use Rattle.index_untracked.proofs.BlockHeads.{IsStart, start_takes, start_again, one_start}
 use Rattle.index_untracked.proofs.Marking.{change_at}
 
@@ -135,13 +135,13 @@ directories_push after xs ys place n us b e k f =
     ∙ ap (λ (m : ℕ). map directory_value ys ++ (all_listed (place + 1) (blocks_from us) ++ listed m b)) k ∙ ap (λ (l : List DirectoryValue). map directory_value ys ++ l) (sym (listed_push (place + 1) us b))
 
 -- the directories of a block, once the places of those in it are set
-pub directories_done : (new : List DirectoryValue) (xs pushed old : List Directory) (place : ℕ) (name : List ℕ) (untracked : List (List ℕ)) (subs : List ℕ) (bs : Blocks) → new ≡ change (with_subs subs) place (map directory_value xs) → map directory_value xs ≡ map directory_value pushed ++ all_listed (place + 1) bs
+pub directories_done : (new : List DirectoryValue) (xs pushed old : List Directory) (place : ℕ) (name : List ℕ) (untracked : List (List ℕ)) (subs : List ℕ) (bs : Blocks) → new ≡ changed_directory (with_subs subs) place (map directory_value xs) → map directory_value xs ≡ map directory_value pushed ++ all_listed (place + 1) bs
     → map directory_value pushed ≡ map directory_value old ++ bare_directory name untracked [] ∷ [] → subs ≡ places_from (place + 1) bs → place ≡ length old → new ≡ map directory_value old ++ listed (length old) (block name untracked bs)
 directories_done new xs pushed old place name untracked subs bs e f g h k =
     let at : place ≡ length (map directory_value old) = k ∙ sym (length-map old directory_value) in
     let behind : List DirectoryValue = all_listed (place + 1) bs in
     let split : map directory_value xs ≡ map directory_value old ++ bare_directory name untracked [] ∷ behind = f ∙ ap (λ (l : List DirectoryValue). l ++ behind) g ∙ append_assoc (map directory_value old) (bare_directory name untracked [] ∷ []) behind in
-    e ∙ ap (change (with_subs subs) place) split ∙ change_at (with_subs subs) place (map directory_value old) (bare_directory name untracked []) behind at
+    e ∙ ap (changed_directory (with_subs subs) place) split ∙ change_at (with_subs subs) place (map directory_value old) (bare_directory name untracked []) behind at
     ∙ ap (λ (s : List ℕ). map directory_value old ++ bare_directory name untracked s ∷ behind) h ∙ ap (λ (n : ℕ). map directory_value old ++ listed n (block name untracked bs)) k
 
 -- ---- nothing else is known of them

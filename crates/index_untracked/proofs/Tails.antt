@@ -3,14 +3,14 @@ use Rattle.std.proofs.Common.{◌≡◌, ℕ, ◌+◌, ◌*◌, ◌<◌, Bool, t
 use Rattle.std.specs.List.{AllByRecursion, enumerate_from, list_any}
 use Rattle.std.specs.Option.{option_map}
 use Rattle.index_parts.specs.Id.{id_len, make_id}
-use Rattle.index_parts.specs.declared.entry.stat.Stat.{Stat}
+use Rattle.index_metadata.specs.declared.entry.stat.Stat.{Stat}
 use Rattle.index_parts.specs.declared.hash.Kind.{Kind}
 use Rattle.index_parts.specs.declared.hash.ObjectId.{ObjectId}
 use Rattle.index_untracked.specs.Blocks.{DirectoryValue}
-use Rattle.index_untracked.specs.Marking.{with_stat, with_exclude, checked, last_at, by_some, by_true, each, IsBare}
-use Rattle.index_untracked.specs.Marks.{Marks, ListsBelow, AreMarks, ArePieces, value_at, with_marks, IsTail}
+use Rattle.index_untracked.specs.BitmapSteps.{with_stat, with_exclude, checked, last_at, by_some, by_true, each, IsBare}
+use Rattle.index_untracked.specs.CacheBitmaps.{DirectoryBitmaps, ListsBelow, AreMarks, ArePieces, value_at, with_marks, IsTail}
 use Rattle.index_untracked.specs.CachedStat.{cached_stat}
-use Rattle.index_extensions.specs.Contents.{or_else}
+use Rattle.index_extensions.specs.ExtensionValue.{or_else}
 use Rattle.index_parts.proofs.Places.{listed_ascend}
 use Rattle.index_parts.specs.Ascending.{Ascends}
 use Rattle.std.proofs.lemmas.Bool.{eqb-true, ne_eqb}
@@ -64,7 +64,7 @@ last_is_first from (p ∷ places) (x ∷ values) place up =
 pub list_ascends : (count : ℕ) (bytes ps rest : List ℕ) → ListsBelow count bytes ps rest → Ascends 0 (oks ps)
 list_ascends count bytes ps rest h = listed_ascend _ _ h.listed
 
-module _ (kind : Kind) (m : Marks) (stats ids : List (List ℕ)) (valid_ascend : Ascends 0 (oks m.valid)) (hash_ascend : Ascends 0 (oks m.hash_valid)) where
+module _ (kind : Kind) (m : DirectoryBitmaps) (stats ids : List (List ℕ)) (valid_ascend : Ascends 0 (oks m.valid)) (hash_ascend : Ascends 0 (oks m.hash_valid)) where
   abbrev pub checks : ℕ → DirectoryValue → DirectoryValue
   checks i d = by_true checked (list_any (λ p. eqb p i) m.check_only) d
 
@@ -98,7 +98,7 @@ one_byte (x ∷ []) e = (x, refl)
 one_byte (x ∷ y ∷ l) e = absurd (omega arith)
 
 module _ (kind : Kind) (bare : List DirectoryValue) (bytes : List ℕ) where
-  pub tail_from : (m : Marks) (behind : List ℕ) (stats : List (List ℕ)) (after : List ℕ) (ids : List (List ℕ)) (rest : List ℕ) (directories : List DirectoryValue) → AreMarks (length bare) bytes m behind → ArePieces 36 (length m.valid) behind stats after → ArePieces (id_len kind) (length m.hash_valid) after ids rest
+  pub tail_from : (m : DirectoryBitmaps) (behind : List ℕ) (stats : List (List ℕ)) (after : List ℕ) (ids : List (List ℕ)) (rest : List ℕ) (directories : List DirectoryValue) → AreMarks (length bare) bytes m behind → ArePieces 36 (length m.valid) behind stats after → ArePieces (id_len kind) (length m.hash_valid) after ids rest
       → length rest ≡ 1 → directories ≡ map (λ x. with_marks kind m stats ids x.0 x.1) (enumerate_from 0 bare) → IsTail kind bare bytes directories
   tail_from m behind stats after ids rest directories marks s i one are =
       let last = one_byte rest one in
@@ -116,7 +116,7 @@ module _ (kind : Kind) (bare : List DirectoryValue) (bytes : List ℕ) where
       }
 
   -- behind the bitmaps that were read stand stats, ids and a byte
-  pub record HasPieces (m : Marks) (behind : List ℕ) : Type 0 where
+  pub record HasPieces (m : DirectoryBitmaps) (behind : List ℕ) : Type 0 where
     pub stats : List (List ℕ)
     pub after : List ℕ
     pub ids : List (List ℕ)
@@ -124,7 +124,7 @@ module _ (kind : Kind) (bare : List DirectoryValue) (bytes : List ℕ) where
     pub are_stats : ArePieces 36 (length m.valid) behind stats after
     pub are_ids : ArePieces (id_len kind) (length m.hash_valid) after ids (last ∷ [])
 
-  pub pieces_of : (m : Marks) (behind : List ℕ) (directories : List DirectoryValue) → AreMarks (length bare) bytes m behind → IsTail kind bare bytes directories → HasPieces m behind
+  pub pieces_of : (m : DirectoryBitmaps) (behind : List ℕ) (directories : List DirectoryValue) → AreMarks (length bare) bytes m behind → IsTail kind bare bytes directories → HasPieces m behind
   pieces_of m behind directories marks t =
       let same = one_marks (length bare) bytes t.marks m t.behind_marks behind t.are_marks marks in
       record {
@@ -132,21 +132,21 @@ module _ (kind : Kind) (bare : List DirectoryValue) (bytes : List ℕ) where
         after = t.behind_stats;
         ids = t.ids;
         last = t.last;
-        are_stats = subst (λ (l : List ℕ). ArePieces 36 (length m.valid) l t.stats t.behind_stats) same.1 (subst (λ (x : Marks). ArePieces 36 (length x.valid) t.behind_marks t.stats t.behind_stats) same.0 t.are_stats);
-        are_ids = subst (λ (x : Marks). ArePieces (id_len kind) (length x.hash_valid) t.behind_stats t.ids (t.last ∷ [])) same.0 t.are_ids;
+        are_stats = subst (λ (l : List ℕ). ArePieces 36 (length m.valid) l t.stats t.behind_stats) same.1 (subst (λ (x : DirectoryBitmaps). ArePieces 36 (length x.valid) t.behind_marks t.stats t.behind_stats) same.0 t.are_stats);
+        are_ids = subst (λ (x : DirectoryBitmaps). ArePieces (id_len kind) (length x.hash_valid) t.behind_stats t.ids (t.last ∷ [])) same.0 t.are_ids;
       }
 
-  pub few_stats : (m : Marks) (behind : List ℕ) → HasPieces m behind → length behind < 36 * length m.valid → ⊥
+  pub few_stats : (m : DirectoryBitmaps) (behind : List ℕ) → HasPieces m behind → length behind < 36 * length m.valid → ⊥
   few_stats m behind h few = omega (arith, pieces_len 36 (length m.valid) behind h.stats h.after h.are_stats, few)
 
-  after_is : (m : Marks) (behind : List ℕ) (stats : List (List ℕ)) (after : List ℕ) (h : HasPieces m behind) → ArePieces 36 (length m.valid) behind stats after → after ≡ h.after
+  after_is : (m : DirectoryBitmaps) (behind : List ℕ) (stats : List (List ℕ)) (after : List ℕ) (h : HasPieces m behind) → ArePieces 36 (length m.valid) behind stats after → after ≡ h.after
   after_is m behind stats after h s = (one_row_of_pieces 36 (length m.valid) behind stats h.stats after h.after s h.are_stats).1
 
-  pub few_ids : (m : Marks) (behind : List ℕ) (stats : List (List ℕ)) (after : List ℕ) → HasPieces m behind → ArePieces 36 (length m.valid) behind stats after → length after < id_len kind * length m.hash_valid → ⊥
+  pub few_ids : (m : DirectoryBitmaps) (behind : List ℕ) (stats : List (List ℕ)) (after : List ℕ) → HasPieces m behind → ArePieces 36 (length m.valid) behind stats after → length after < id_len kind * length m.hash_valid → ⊥
   few_ids m behind stats after h s few =
       omega (arith, pieces_len (id_len kind) (length m.hash_valid) h.after h.ids (h.last ∷ []) h.are_ids, few, ap length (after_is m behind stats after h s))
 
-  pub one_left : (m : Marks) (behind : List ℕ) (stats : List (List ℕ)) (after : List ℕ) (ids : List (List ℕ)) (rest : List ℕ) → HasPieces m behind → ArePieces 36 (length m.valid) behind stats after → ArePieces (id_len kind) (length m.hash_valid) after ids rest → length rest ≡ 1
+  pub one_left : (m : DirectoryBitmaps) (behind : List ℕ) (stats : List (List ℕ)) (after : List ℕ) (ids : List (List ℕ)) (rest : List ℕ) → HasPieces m behind → ArePieces 36 (length m.valid) behind stats after → ArePieces (id_len kind) (length m.hash_valid) after ids rest → length rest ≡ 1
   one_left m behind stats after ids rest h s i =
       let here : ArePieces (id_len kind) (length m.hash_valid) after h.ids (h.last ∷ []) = subst (λ (l : List ℕ). ArePieces (id_len kind) (length m.hash_valid) l h.ids (h.last ∷ [])) (sym (after_is m behind stats after h s)) h.are_ids in
       omega (arith, ap length (one_row_of_pieces (id_len kind) (length m.hash_valid) after ids h.ids rest (h.last ∷ []) i here).1)
@@ -156,10 +156,10 @@ module _ (kind : Kind) (bare : List DirectoryValue) (bytes : List ℕ) where
   one_tail a b p q =
       let same = one_marks (length bare) bytes p.marks q.marks p.behind_marks q.behind_marks p.are_marks q.are_marks in
       let valid = length p.marks.valid in
-      let behind : ArePieces 36 valid q.behind_marks q.stats q.behind_stats = subst (λ (m : Marks). ArePieces 36 (length m.valid) q.behind_marks q.stats q.behind_stats) (sym same.0) q.are_stats in
+      let behind : ArePieces 36 valid q.behind_marks q.stats q.behind_stats = subst (λ (m : DirectoryBitmaps). ArePieces 36 (length m.valid) q.behind_marks q.stats q.behind_stats) (sym same.0) q.are_stats in
       let stats = one_row_of_pieces 36 valid p.behind_marks p.stats q.stats p.behind_stats q.behind_stats p.are_stats (subst (λ (l : List ℕ). ArePieces 36 valid l q.stats q.behind_stats) (sym same.1) behind) in
-      let after : ArePieces (id_len kind) (length p.marks.hash_valid) q.behind_stats q.ids (q.last ∷ []) = subst (λ (m : Marks). ArePieces (id_len kind) (length m.hash_valid) q.behind_stats q.ids (q.last ∷ [])) (sym same.0) q.are_ids in
+      let after : ArePieces (id_len kind) (length p.marks.hash_valid) q.behind_stats q.ids (q.last ∷ []) = subst (λ (m : DirectoryBitmaps). ArePieces (id_len kind) (length m.hash_valid) q.behind_stats q.ids (q.last ∷ [])) (sym same.0) q.are_ids in
       let here : ArePieces (id_len kind) (length p.marks.hash_valid) p.behind_stats q.ids (q.last ∷ []) = subst (λ (l : List ℕ). ArePieces (id_len kind) (length p.marks.hash_valid) l q.ids (q.last ∷ [])) (sym stats.1) after in
       let ids = one_row_of_pieces (id_len kind) (length p.marks.hash_valid) p.behind_stats p.ids q.ids (p.last ∷ []) (q.last ∷ []) p.are_ids here in
-      let by : Marks → List (List ℕ) → List (List ℕ) → List DirectoryValue = λ m s i. map (λ x. with_marks kind m s i x.0 x.1) (enumerate_from 0 bare) in
-      p.directories_are ∙ ap (λ (m : Marks). by m p.stats p.ids) same.0 ∙ ap (λ (s : List (List ℕ)). by q.marks s p.ids) stats.0 ∙ ap (by q.marks q.stats) ids.0 ∙ sym q.directories_are
+      let by : DirectoryBitmaps → List (List ℕ) → List (List ℕ) → List DirectoryValue = λ m s i. map (λ x. with_marks kind m s i x.0 x.1) (enumerate_from 0 bare) in
+      p.directories_are ∙ ap (λ (m : DirectoryBitmaps). by m p.stats p.ids) same.0 ∙ ap (λ (s : List (List ℕ)). by q.marks s p.ids) stats.0 ∙ ap (by q.marks q.stats) ids.0 ∙ sym q.directories_are

@@ -2,12 +2,12 @@
 -- bytes spell them, and the list of directories that they are.
 use Rattle.std.specs.Prelude.{◌≡◌, ℕ, ◌+◌, ◌*◌, ◌/◌, ◌≤◌, max, Bool, false, List, [], ◌∷◌, ◌++◌, length, map, Option, None}
 use Rattle.bstr.specs.Owned.{bstring_bytes}
-use Rattle.index_parts.specs.Front.{IsUpTo}
+use Rattle.index_parts.specs.Numbers.{IsUpTo}
 use Rattle.index_parts.specs.Offset.{IsOffset}
-use Rattle.index_parts.specs.declared.entry.stat.Stat.{Stat}
+use Rattle.index_metadata.specs.declared.entry.stat.Stat.{Stat}
 use Rattle.index_parts.specs.declared.hash.ObjectId.{ObjectId}
 use Rattle.index_parts.specs.Limit.{IsWithin}
-use Rattle.index_untracked.specs.declared.untracked_cache.Directory.{Directory}
+use Rattle.index_untracked.specs.declared.Directory.{Directory}
 
 mutual
   -- a directory: its name, the names of what is untracked in it, and the directories in it
@@ -48,15 +48,15 @@ pub record HasBlockHead (limit : Option ℕ) (bytes : List ℕ) : Type 0 where
   pub is_head : IsBlockHead limit bytes head rest
 
 -- bytes are these names, each up to a NUL, one after another, and the rest
-abbrev pub AreNames : List ℕ → List (List ℕ) → List ℕ → Type 0
-AreNames bytes [] rest = bytes ≡ rest
-AreNames bytes (name ∷ names) rest = (after : List ℕ) × IsUpTo 0 bytes name after × AreNames after names rest
+abbrev pub SpellNames : List ℕ → List (List ℕ) → List ℕ → Type 0
+SpellNames bytes [] rest = bytes ≡ rest
+SpellNames bytes (name ∷ names) rest = (after : List ℕ) × IsUpTo 0 bytes name after × SpellNames after names rest
 
 abbrev mutual
   -- bytes are a block, with its names and all blocks in it behind its head, and the rest
   pub IsBlock : Option ℕ → List ℕ → Block → List ℕ → Type 0
   IsBlock limit bytes (block name untracked subs) rest =
-      (names : List ℕ) × (nested : List ℕ) × IsBlockHead limit bytes (record { untracked = length untracked; subs = how_many_blocks subs; name = name }) names × AreNames names untracked nested × AreBlocks limit nested subs rest
+      (names : List ℕ) × (nested : List ℕ) × IsBlockHead limit bytes (record { untracked = length untracked; subs = how_many_blocks subs; name = name }) names × SpellNames names untracked nested × AreBlocks limit nested subs rest
 
   -- bytes are these blocks, one after another, and the rest
   pub AreBlocks : Option ℕ → List ℕ → Blocks → List ℕ → Type 0

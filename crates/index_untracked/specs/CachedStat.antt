@@ -2,8 +2,8 @@
 -- change to the file's size, and an entry has its mode among them. git writes and reads 36 bytes, without the mode; so do these
 -- definitions.
 use Rattle.std.specs.Prelude.{ℕ, List, take, drop}
-use Rattle.index_parts.specs.Stat.{stat_of}
-use Rattle.index_parts.specs.declared.entry.stat.Stat.{Stat}
+use Rattle.index_metadata.specs.Stat.{stat_of}
+use Rattle.index_metadata.specs.declared.entry.stat.Stat.{Stat}
 
 -- the numbers of an entry before the mode, 24 bytes, and those behind it
 abbrev pub cached_stat : List ℕ → Stat

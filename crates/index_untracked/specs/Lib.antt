@@ -1,6 +1,6 @@
+pub mod BitmapSteps
 pub mod Blocks
+pub mod CacheBitmaps
+pub mod CacheSteps
 pub mod CachedStat
-pub mod Marking
-pub mod Marks
 pub mod Untracked
-pub mod UntrackedReading

@@ -2,16 +2,16 @@
 use Rattle.std.specs.Prelude.{◌≡◌, ◌≢◌, ℕ, zero, suc, ◌*◌, ◌≤◌, List, [], ◌∷◌, ◌++◌, All, IfSome, length, map, Option, Some, None, if◌then◌else◌}
 use Rattle.std.specs.List.{AllByRecursion}
 use Rattle.bstr.specs.Owned.{bstring_bytes}
-use Rattle.index_parts.specs.Front.{be}
+use Rattle.index_parts.specs.Numbers.{be}
 use Rattle.index_parts.specs.Id.{id_len, id_kind, is_null, make_id}
 use Rattle.index_parts.specs.Offset.{IsOffset}
 use Rattle.index_parts.specs.declared.hash.Kind.{Kind}
 use Rattle.index_untracked.specs.Blocks.{Block, HasBlockHead, IsBlock, block_depth, block_size, DirectoryValue, directory_value, listed}
 use Rattle.index_parts.specs.Limit.{IsWithin}
-use Rattle.index_untracked.specs.Marks.{IsTail}
+use Rattle.index_untracked.specs.CacheBitmaps.{IsTail}
 use Rattle.index_untracked.specs.CachedStat.{cached_stat}
-use Rattle.index_untracked.specs.declared.untracked_cache.OidStat.{OidStat}
-use Rattle.index_untracked.specs.declared.untracked_cache.UntrackedCache.{UntrackedCache}
+use Rattle.index_untracked.specs.declared.OidStat.{OidStat}
+use Rattle.index_untracked.specs.declared.UntrackedCache.{UntrackedCache}
 
 -- a stat with an id, or None where all bytes of the id are zero
 abbrev pub oid_stat : Kind → List ℕ → List ℕ → Option OidStat

@@ -1,23 +1,23 @@
 //! Reading an index from the disk, with the shared index that it links to.
 
-ghost use Rattle.std.specs.Prelude.{◌≡◌, ◌⊎◌, List, ℕ, Option, IfOk, IfSome, None, Ok};
+ghost use Rattle.std.specs.Prelude.{◌≡◌, ◌⊎◌, true, List, ℕ, Option, IfOk, IfSome, None, Ok};
 ghost use Rattle.std.specs.Path.{path_buf_bytes};
 ghost use Rattle.index_entries.specs.Record.{IdsAreOf};
 ghost use Rattle.index_parts.specs.declared.hash.ObjectId.{ObjectId};
-ghost use Rattle.index_state.specs.Edits.{empty_contents};
 ghost use Rattle.index_state.specs.State.{PathsInStorage, contents, entries_of};
-ghost use Rattle.index_state.specs.Storable.{IsStorable};
+ghost use Rattle.index_format.specs.Storable.{IsStorable};
 ghost use Rattle.gix_index.specs.Checked.{IsFileAnswer, digest_id};
-ghost use Rattle.gix_index.specs.File.{checksum_of, path_of, state_of};
+ghost use Rattle.gix_index.specs.File.{IsEmptyFile, checksum_of, path_of, state_of};
 ghost use Rattle.gix_index.specs.Linked.{IsOnDisk, expecting};
 
 use super::File;
 use super::disk::{PathError, bytes_at};
-use super::init::{Error, How, decoded};
-use index_parts::entry::FileTime;
+use super::init::{Error, ReadOptions, decoded};
+use index_format::decode;
+use index_metadata::entry::FileTime;
 use index_parts::hash::{Kind, ObjectId};
-use index_state::extension::link;
-use index_state::{State, decode};
+use index_split::link;
+use index_state::State;
 use std::alloc::{AllocError, Global};
 use std::io;
 use std::io::ErrorKind;
@@ -52,13 +52,14 @@ fn shared_at<R: Files>(
     alloc: Global,
     path: Path<'_>,
     id: ObjectId,
-    how: How,
+    reading: ReadOptions,
 ) -> Result<State, Error>
     ensures read { IfOk result (λ state. (bytes : List ℕ) × (checksum : Option ObjectId)
-        × IsFileAnswer how.skip_hash how.object_hash how.timestamp (expecting how.options id) bytes
+        × IsFileAnswer reading.skip_hash reading.object_hash reading.timestamp
+        (expecting reading.options id) bytes
         (Ok (contents state, checksum))) }
-    ensures stored { IfOk result PathsInStorage }
-    ensures ids { IfOk result (λ state. IdsAreOf how.object_hash (entries_of state)) }
+    ensures placed { IfOk result PathsInStorage }
+    ensures ids { IfOk result (λ state. IdsAreOf reading.object_hash (entries_of state)) }
     ensures storable { IfOk result (λ state. IsStorable (contents state)) }
 {
     let Ok(shared) = shared_path(alloc, path, &id) else {
@@ -68,31 +69,44 @@ fn shared_at<R: Files>(
         rt,
         alloc,
         shared.as_path(),
-        how.object_hash,
-        how.skip_hash,
+        reading.object_hash,
+        reading.skip_hash,
     ) {
         Ok(read) => read,
         Err(e) => return Err(read_fault(shared, e)),
     };
-    let mut options = how.options;
+    let mut options = reading.options;
     options.expected_checksum = Some(id);
-    match decoded(alloc, &bytes, digest, shared, How { options, ..how }) {
+    match decoded(
+        alloc,
+        &bytes,
+        digest,
+        shared,
+        ReadOptions { options, ..reading },
+    ) {
         Ok(file) => Ok(file.into_parts().0),
         Err(e) => Err(e),
     }
 }
 
 /// Takes the file's link out, and merges what it links to.
-fn follow<R: Files>(rt: &R, alloc: Global, mut file: File, how: How) -> Result<File, Error>
-    requires read { (bytes : List ℕ) × IsFileAnswer how.skip_hash how.object_hash how.timestamp how.options bytes
+fn follow<R: Files>(
+    rt: &R,
+    alloc: Global,
+    mut file: File,
+    reading: ReadOptions,
+) -> Result<File, Error>
+    requires read { (bytes : List ℕ)
+        × IsFileAnswer reading.skip_hash reading.object_hash reading.timestamp reading.options bytes
         (Ok (contents (state_of file), checksum_of file)) }
     requires placed { PathsInStorage (state_of file) }
-    requires ids { IdsAreOf how.object_hash (entries_of (state_of file)) }
+    requires ids { IdsAreOf reading.object_hash (entries_of (state_of file)) }
     requires storable { IsStorable (contents (state_of file)) }
-    ensures read { IfOk result (λ read. IsOnDisk how.skip_hash how.object_hash how.timestamp how.options
+    ensures read { IfOk result
+        (λ read. IsOnDisk reading.skip_hash reading.object_hash reading.timestamp reading.options
         (contents (state_of read)) (checksum_of read)) }
-    ensures stored { IfOk result (λ read. PathsInStorage (state_of read)) }
-    ensures ids { IfOk result (λ read. IdsAreOf how.object_hash (entries_of (state_of read))) }
+    ensures placed { IfOk result (λ read. PathsInStorage (state_of read)) }
+    ensures ids { IfOk result (λ read. IdsAreOf reading.object_hash (entries_of (state_of read))) }
     ensures storable { IfOk result (λ read. IsStorable (contents (state_of read))) }
     ensures path { IfOk result (λ read. path_of read ≡ path_of file) }
     ensures unlinked { IfOk result (λ read. (contents (state_of read)).extensions.link ≡ None) }
@@ -104,7 +118,7 @@ fn follow<R: Files>(rt: &R, alloc: Global, mut file: File, how: How) -> Result<F
     if id.is_null() {
         return Ok(file);
     }
-    let shared = match shared_at(rt, alloc, file.path.as_path(), id, how) {
+    let shared = match shared_at(rt, alloc, file.path.as_path(), id, reading) {
         Ok(shared) => shared,
         Err(e) => return Err(e),
     };
@@ -121,35 +135,69 @@ fn followed<R: Files>(
     bytes: Vec<u8>,
     digest: Option<ObjectId>,
     path: PathBuf,
-    how: How,
+    reading: ReadOptions,
 ) -> Result<File, Error>
-    requires digest { IfSome digest (λ id. id ≡ digest_id how.object_hash bytes.items) }
-    ensures read { IfOk result (λ file. IsOnDisk how.skip_hash how.object_hash how.timestamp how.options
+    requires digest { IfSome digest (λ id. id ≡ digest_id reading.object_hash bytes.items) }
+    ensures read { IfOk result
+        (λ file. IsOnDisk reading.skip_hash reading.object_hash reading.timestamp reading.options
         (contents (state_of file)) (checksum_of file)) }
-    ensures stored { IfOk result (λ file. PathsInStorage (state_of file)) }
-    ensures ids { IfOk result (λ file. IdsAreOf how.object_hash (entries_of (state_of file))) }
+    ensures placed { IfOk result (λ file. PathsInStorage (state_of file)) }
+    ensures ids { IfOk result (λ file. IdsAreOf reading.object_hash (entries_of (state_of file))) }
     ensures storable { IfOk result (λ file. IsStorable (contents (state_of file))) }
     ensures path { IfOk result (λ file. path_of file ≡ path_buf_bytes path) }
     ensures unlinked { IfOk result (λ file. (contents (state_of file)).extensions.link ≡ None) }
 {
-    let file = match decoded(alloc, &bytes, digest, path, how) {
+    let file = match decoded(alloc, &bytes, digest, path, reading) {
         Ok(file) => file,
         Err(e) => return Err(e),
     };
     drop(bytes);
-    follow(rt, alloc, file, how)
+    follow(rt, alloc, file, reading)
+}
+
+/// The index in the file at a path, with its link followed. Where there is no file, and `or_default`, it is an empty
+/// one.
+fn read_at<R: Files>(
+    rt: &R,
+    alloc: Global,
+    path: PathBuf,
+    reading: ReadOptions,
+    or_default: bool,
+) -> Result<File, Error>
+    ensures read { IfOk result
+        (λ file. IsOnDisk reading.skip_hash reading.object_hash reading.timestamp
+        reading.options (contents (state_of file)) (checksum_of file)
+        ⊎ ((or_default ≡ true) × IsEmptyFile reading.object_hash reading.timestamp file)) }
+    ensures path { IfOk result (λ file. path_of file ≡ path_buf_bytes path) }
+    ensures placed { IfOk result (λ file. PathsInStorage (state_of file)) }
+    ensures ids { IfOk result (λ file. IdsAreOf reading.object_hash (entries_of (state_of file))) }
+    ensures storable { IfOk result (λ file. IsStorable (contents (state_of file))) }
+    ensures unlinked { IfOk result (λ file. (contents (state_of file)).extensions.link ≡ None) }
+{
+    let kind = reading.object_hash;
+    match bytes_at(rt, alloc, path.as_path(), kind, reading.skip_hash) {
+        Ok((bytes, digest)) => followed(rt, alloc, bytes, digest, path, reading),
+        Err(e) => {
+            if or_default && e.kind() == ErrorKind::NotFound {
+                return Ok(File::from_state(State::new(alloc, kind, reading.timestamp), path));
+            }
+            Err(read_fault(path, e))
+        }
+    }
 }
 
 impl File {
     /// Reads the index in the file at a path, with the shared index that it links to.
     ///
-    /// The file's bytes are read as [`File::decode`] reads them, into room for as many as its metadata says. Then the link is taken
-    /// out (gitformat-index, "Split index"). Where it has an id that isn't null, the file `sharedindex.` with the id in
-    /// lower-case base 16, beside the index, is read in the same way, but that its trailer has to be the id or null; and it is merged as
-    /// [`Link::dissolve_into`](index_state::extension::link::Link::dissolve_into) says. The checksum is that of the file at the path.
+    /// The file's bytes are read as [`File::decode`] reads them, into room for as many as its metadata says. Then the
+    /// link is taken out (gitformat-index, "Split index"). Where it has an id that isn't null, the file `sharedindex.`
+    /// with the id in lower-case base 16, beside the index, is read in the same way, but that its trailer has to be the
+    /// id or null; and it is merged as [`Link::dissolve_into`](index_split::link::Link::dissolve_into) says. The
+    /// checksum is that of the file at the path.
     ///
     /// [`Error::Io`] names the file that can't be opened or read, the index or the shared one. [`Error::Decode`] and
-    /// [`Error::Memory`] are those of [`File::decode`], for either; [`Error::LinkExtension`] says why the two don't fit.
+    /// [`Error::Memory`] are those of [`File::decode`], for either; [`Error::LinkExtension`] says why the two don't
+    /// fit.
     pub fn at<R: Files>(
         rt: &R,
         alloc: Global,
@@ -163,24 +211,22 @@ impl File {
         ensures read { IfOk result (λ file. IsOnDisk skip_hash object_hash timestamp options
             (contents (state_of file)) (checksum_of file)) }
         ensures path { IfOk result (λ file. path_of file ≡ path_buf_bytes path) }
-        ensures stored { IfOk result (λ file. PathsInStorage (state_of file)) }
+        ensures placed { IfOk result (λ file. PathsInStorage (state_of file)) }
         ensures ids { IfOk result (λ file. IdsAreOf object_hash (entries_of (state_of file))) }
         ensures storable { IfOk result (λ file. IsStorable (contents (state_of file))) }
         ensures unlinked { IfOk result (λ file. (contents (state_of file)).extensions.link ≡ None) }
     {
-        let how = How {
+        let reading = ReadOptions {
             object_hash,
             skip_hash,
             timestamp,
             options,
         };
-        match bytes_at(rt, alloc, path.as_path(), object_hash, skip_hash) {
-            Ok((bytes, digest)) => followed(rt, alloc, bytes, digest, path, how),
-            Err(e) => Err(read_fault(path, e)),
-        }
+        read_at(rt, alloc, path, reading, false)
     }
 
-    /// The same, but an empty index with the timestamp where there is no file at the path. It is of version 2, and has no checksum.
+    /// The same, but an empty index with the timestamp where there is no file at the path. It is of version 2, and has
+    /// no checksum.
     pub fn at_or_default<R: Files>(
         rt: &R,
         alloc: Global,
@@ -192,27 +238,19 @@ impl File {
     ) -> Result<File, Error>
         ensures read { IfOk result (λ file. IsOnDisk skip_hash object_hash timestamp options
             (contents (state_of file)) (checksum_of file)
-            ⊎ ((contents (state_of file) ≡ empty_contents object_hash timestamp) × (checksum_of file ≡ None))) }
+            ⊎ IsEmptyFile object_hash timestamp file) }
         ensures path { IfOk result (λ file. path_of file ≡ path_buf_bytes path) }
-        ensures stored { IfOk result (λ file. PathsInStorage (state_of file)) }
+        ensures placed { IfOk result (λ file. PathsInStorage (state_of file)) }
         ensures ids { IfOk result (λ file. IdsAreOf object_hash (entries_of (state_of file))) }
         ensures storable { IfOk result (λ file. IsStorable (contents (state_of file))) }
         ensures unlinked { IfOk result (λ file. (contents (state_of file)).extensions.link ≡ None) }
     {
-        let how = How {
+        let reading = ReadOptions {
             object_hash,
             skip_hash,
             timestamp,
             options,
         };
-        match bytes_at(rt, alloc, path.as_path(), object_hash, skip_hash) {
-            Ok((bytes, digest)) => followed(rt, alloc, bytes, digest, path, how),
-            Err(e) => {
-                if e.kind() == ErrorKind::NotFound {
-                    return Ok(File::from_state(State::new(alloc, object_hash, timestamp), path));
-                }
-                Err(read_fault(path, e))
-            }
-        }
+        read_at(rt, alloc, path, reading, true)
     }
 }

@@ -49,8 +49,8 @@ fn opened<R: Files>(rt: &R, alloc: Global, path: Path<'_>) -> io::Result<(R::Fil
     Ok((file, room))
 }
 
-/// Whether a file's last bytes, of which an id has as many, are all zero. It says no of what is no plain file, as a pipe,
-/// which can be read only in order. The file then stands at its start, and the room is empty.
+/// Whether a file's last bytes, of which an id has as many, are all zero. It says no of what is no plain file, as a
+/// pipe, which can be read only in order. The file then stands at its start, and the room is empty.
 fn ends_in_null<F: OpenFile + Read + Seek>(
     file: &mut F,
     kind: Kind,
@@ -73,8 +73,8 @@ fn ends_in_null<F: OpenFile + Read + Seek>(
     Ok(is_null)
 }
 
-/// Reads the rest of a reader in pieces, and hashes each while it is at hand. The digest is that of all bytes but the last,
-/// of which an id of the kind has as many.
+/// Reads the rest of a reader in pieces, and hashes each while it is at hand. The digest is that of all bytes but the
+/// last, of which an id of the kind has as many.
 fn read_hashed<R: Read>(reader: &mut R, kind: Kind, bytes: &mut Vec<u8>) -> io::Result<ObjectId>
     requires { bytes.old.items ≡ [] }
     ensures { IfOk result (λ id. id ≡ digest_id kind bytes.new.items) }
@@ -92,8 +92,8 @@ fn read_hashed<R: Read>(reader: &mut R, kind: Kind, bytes: &mut Vec<u8>) -> io::
     }
 }
 
-/// All bytes of a file, read into room for as many as its metadata says, and the digest of all but the last, of which an id
-/// of the kind has as many.
+/// All bytes of a file, read into room for as many as its metadata says, and the digest of all but the last, of which
+/// an id of the kind has as many.
 pub(super) fn hashed_at<R: Files>(
     rt: &R,
     alloc: Global,

@@ -2,17 +2,17 @@
 
 ghost use Rattle.std.specs.Prelude.{◌≡◌, true, false, OnOk};
 ghost use Rattle.index_parts.specs.Taking.{Hashes};
-ghost use Rattle.index_state.specs.Image.{body, image};
+ghost use Rattle.index_format.specs.Image.{body, image};
 ghost use Rattle.index_state.specs.State.{PathsInStorage, contents};
 ghost use Rattle.gix_index.specs.File.{state_of};
-ghost use Rattle.gix_index.specs.Written.{WritesIndex};
+ghost use Rattle.gix_index.specs.WrittenFile.{WritesIndex};
 
 use super::File;
 use index_entries::Version;
+use index_format::write::{Error, Options};
 use index_parts::hash::ObjectId;
 use index_parts::hash::io::{Out, Write};
 use index_state::State;
-use index_state::write::{Error, Options};
 
 /// Writes all but the trailer, and gives the digest of that.
 fn put_hashed<W: Out>(
@@ -23,9 +23,11 @@ fn put_hashed<W: Out>(
     requires placed { PathsInStorage state.now }
     requires unfailed { W.failed out.old ≡ false }
     requires digest { options.skip_hash ≡ false }
-    ensures answer { WritesIndex W.taken W.failed out.old out.new result (contents state.now) options
+    ensures answer { WritesIndex W.taken W.failed out.old out.new result (contents state.now)
+        options
         (body (contents state.now) options) }
-    ensures hashed { OnOk result (Hashes W.hashed out.old out.new (body (contents state.now) options)) }
+    ensures hashed { OnOk result
+        (Hashes W.hashed out.old out.new (body (contents state.now) options)) }
     ensures loan { W.loan out.new ≡ W.loan out.old }
 {
     let mut hashing = Write::new(out, state.object_hash());
@@ -48,9 +50,11 @@ fn put_unhashed<W: Out>(
     requires placed { PathsInStorage state.now }
     requires unfailed { W.failed out.old ≡ false }
     requires no_digest { options.skip_hash ≡ true }
-    ensures answer { WritesIndex W.taken W.failed out.old out.new result (contents state.now) options
+    ensures answer { WritesIndex W.taken W.failed out.old out.new result (contents state.now)
+        options
         (body (contents state.now) options) }
-    ensures hashed { OnOk result (Hashes W.hashed out.old out.new (body (contents state.now) options)) }
+    ensures hashed { OnOk result
+        (Hashes W.hashed out.old out.new (body (contents state.now) options)) }
     ensures loan { W.loan out.new ≡ W.loan out.old }
 {
     match state.write_to(out, options) {
@@ -60,16 +64,18 @@ fn put_unhashed<W: Out>(
 }
 
 /// Writes all but the trailer, and gives the id that is to stand behind it.
-fn put_front<W: Out>(
+fn put_body<W: Out>(
     state: &State,
     out: &mut W,
     options: Options,
 ) -> Result<(Version, ObjectId), Error>
     requires placed { PathsInStorage state.now }
     requires unfailed { W.failed out.old ≡ false }
-    ensures answer { WritesIndex W.taken W.failed out.old out.new result (contents state.now) options
+    ensures answer { WritesIndex W.taken W.failed out.old out.new result (contents state.now)
+        options
         (body (contents state.now) options) }
-    ensures hashed { OnOk result (Hashes W.hashed out.old out.new (body (contents state.now) options)) }
+    ensures hashed { OnOk result
+        (Hashes W.hashed out.old out.new (body (contents state.now) options)) }
     ensures loan { W.loan out.new ≡ W.loan out.old }
 {
     if options.skip_hash {
@@ -85,8 +91,8 @@ impl File {
     /// `File` stays.
     ///
     /// The refusals are those of [`State::write_to`]: [`Error::TooManyEntries`], [`Error::NulInPath`] and
-    /// [`Error::TooLarge`] before any byte; [`Error::Io`] where the writer failed, which then took a front of the bytes. No
-    /// memory is taken.
+    /// [`Error::TooLarge`] before any byte; [`Error::Io`] where the writer failed, which then took a front of the
+    /// bytes. No memory is taken.
     pub fn write_to<W: Out>(
         &self,
         out: &mut W,
@@ -94,13 +100,15 @@ impl File {
     ) -> Result<(Version, ObjectId), Error>
         requires placed { PathsInStorage (state_of self.now) }
         requires unfailed { W.failed out.old ≡ false }
-        ensures answer { WritesIndex W.taken W.failed out.old out.new result (contents (state_of self.now)) options
+        ensures answer { WritesIndex W.taken W.failed out.old out.new result
+            (contents (state_of self.now)) options
             (image (contents (state_of self.now)) options) }
-        ensures hashed { OnOk result (Hashes W.hashed out.old out.new (image (contents (state_of self.now)) options)) }
+        ensures hashed { OnOk result
+            (Hashes W.hashed out.old out.new (image (contents (state_of self.now)) options)) }
         ensures loan { W.loan out.new ≡ W.loan out.old }
     {
-        let (version, id) = match put_front(&self.state, out, options) {
-            Ok(front) => front,
+        let (version, id) = match put_body(&self.state, out, options) {
+            Ok(answer) => answer,
             Err(e) => return Err(e),
         };
         match out.put(id.as_bytes()) {

@@ -2,19 +2,21 @@
 
 ghost use Rattle.std.specs.Prelude.{◌≡◌, IfOk, IfErr, IfSome, OnOk, OnErr};
 ghost use Rattle.std.specs.Path.{path_buf_bytes};
-ghost use Rattle.index_state.specs.Storable.{IsStorable};
-ghost use Rattle.index_state.specs.State.{ExtensionIdsAreOf, PathsInStorage, contents, entries_of};
+ghost use Rattle.index_format.specs.Storable.{IsStorable};
+ghost use Rattle.index_format.specs.Contents.{ExtensionIdsAreOf};
+ghost use Rattle.index_state.specs.State.{PathsInStorage, contents, entries_of};
 ghost use Rattle.index_entries.specs.Record.{IdsAreOf};
 ghost use Rattle.gix_index.specs.Checked.{needs_check, digest_id, digest_fault, IsIntact, IsBroken, IsFileAnswer, error_of, SaysFile};
 ghost use Rattle.gix_index.specs.File.{state_of, path_of};
 
 use super::File;
 use super::disk::PathError;
-use index_parts::entry::FileTime;
+use index_format::decode;
+use index_metadata::entry::FileTime;
 use index_parts::hash::{Kind, ObjectId, digest};
 use index_parts::read;
-use index_state::extension::link;
-use index_state::{State, decode};
+use index_split::link;
+use index_state::State;
 use std::alloc::Global;
 use std::path::PathBuf;
 use thiserror::Error;
@@ -50,7 +52,7 @@ impl From<decode::Error> for Error {
 
 /// How an index file is read.
 #[derive(Clone, Copy)]
-pub(super) struct How {
+pub(super) struct ReadOptions {
     pub object_hash: Kind,
     pub skip_hash: bool,
     pub timestamp: FileTime,
@@ -92,29 +94,34 @@ fn check(
     Ok(())
 }
 
-/// The index in a file's bytes. The digest of all but the trailer is taken where it is to be compared and isn't known yet.
+/// The index in a file's bytes. The digest of all but the trailer is taken where it is to be compared and isn't known
+/// yet.
 pub(super) fn decoded(
     alloc: Global,
     bytes: &[u8],
     known: Option<ObjectId>,
     path: PathBuf,
-    how: How,
+    reading: ReadOptions,
 ) -> Result<File, Error>
-    requires known { IfSome known (λ id. id ≡ digest_id how.object_hash bytes.now) }
-    ensures answer { SaysFile result (IsFileAnswer how.skip_hash how.object_hash how.timestamp how.options bytes.now) }
-    ensures intact { IfErr result (λ e. e ≡ Error.Memory → IsIntact how.skip_hash how.object_hash bytes.now) }
+    requires known { IfSome known (λ id. id ≡ digest_id reading.object_hash bytes.now) }
+    ensures answer { SaysFile result
+        (IsFileAnswer reading.skip_hash reading.object_hash reading.timestamp reading.options
+        bytes.now) }
+    ensures intact { IfErr result (λ e. e ≡ Error.Memory
+        → IsIntact reading.skip_hash reading.object_hash bytes.now) }
     ensures path { IfOk result (λ file. path_of file ≡ path_buf_bytes path) }
-    ensures stored { IfOk result (λ file. PathsInStorage (state_of file)) }
-    ensures ids { IfOk result (λ file. IdsAreOf how.object_hash (entries_of (state_of file))) }
+    ensures placed { IfOk result (λ file. PathsInStorage (state_of file)) }
+    ensures ids { IfOk result (λ file. IdsAreOf reading.object_hash (entries_of (state_of file))) }
     ensures storable { IfOk result (λ file. IsStorable (contents (state_of file))) }
-    ensures extension_ids { IfOk result (λ file. ExtensionIdsAreOf how.object_hash (contents (state_of file)).extensions) }
+    ensures extension_ids { IfOk result
+        (λ file. ExtensionIdsAreOf reading.object_hash (contents (state_of file)).extensions) }
 {
-    let How {
+    let ReadOptions {
         object_hash,
         skip_hash,
         timestamp,
         options,
-    } = how;
+    } = reading;
     check(bytes, known, object_hash, skip_hash)?;
     let (state, checksum) = State::from_bytes(alloc, bytes, timestamp, object_hash, options)?;
     Ok(File {
@@ -143,20 +150,23 @@ impl File {
         timestamp: FileTime,
         options: decode::Options,
     ) -> Result<File, Error>
-        ensures answer { SaysFile result (IsFileAnswer skip_hash object_hash timestamp options «data».now) }
-        ensures intact { IfErr result (λ e. e ≡ Error.Memory → IsIntact skip_hash object_hash «data».now) }
+        ensures answer { SaysFile result
+            (IsFileAnswer skip_hash object_hash timestamp options «data».now) }
+        ensures intact { IfErr result (λ e. e ≡ Error.Memory
+            → IsIntact skip_hash object_hash «data».now) }
         ensures path { IfOk result (λ file. path_of file ≡ path_buf_bytes path) }
-        ensures stored { IfOk result (λ file. PathsInStorage (state_of file)) }
+        ensures placed { IfOk result (λ file. PathsInStorage (state_of file)) }
         ensures ids { IfOk result (λ file. IdsAreOf object_hash (entries_of (state_of file))) }
         ensures storable { IfOk result (λ file. IsStorable (contents (state_of file))) }
-        ensures extension_ids { IfOk result (λ file. ExtensionIdsAreOf object_hash (contents (state_of file)).extensions) }
+        ensures extension_ids { IfOk result
+            (λ file. ExtensionIdsAreOf object_hash (contents (state_of file)).extensions) }
     {
-        let how = How {
+        let reading = ReadOptions {
             object_hash,
             skip_hash,
             timestamp,
             options,
         };
-        decoded(alloc, data, None, path, how)
+        decoded(alloc, data, None, path, reading)
     }
 }

@@ -5,7 +5,7 @@ ghost use Rattle.index_parts.specs.Id.{id_kind, id_len};
 ghost use Rattle.index_parts.specs.declared.hash.ObjectId.{ObjectId};
 ghost use Rattle.gix_index.specs.Checked.{digest_id};
 ghost use Rattle.gix_index.specs.File.{checksum_of};
-ghost use Rattle.gix_index.specs.Verified.{FitsSomeBytes, SaysOfBytes, SaysOfSomeBytes};
+ghost use Rattle.gix_index.specs.VerifiedFile.{FitsSomeBytes, SaysOfBytes, SaysOfSomeBytes};
 
 use super::File;
 use super::disk::{PathError, hashed_at};
@@ -35,7 +35,8 @@ pub enum Error {
 /// The same as [`bytes`], where the digest was taken already.
 fn compare(data: &[u8], digest: ObjectId, checksum: ObjectId) -> Result<(), Error>
     requires digest { digest ≡ digest_id (id_kind checksum) «data».now }
-    ensures too_short { (result ≡ Err Error.TooShort) ↔ (length «data».now < id_len (id_kind checksum)) }
+    ensures too_short { (result ≡ Err Error.TooShort)
+        ↔ (length «data».now < id_len (id_kind checksum)) }
     ensures ok { OnOk result ((id_len (id_kind checksum) ≤ length «data».now)
         × (digest_id (id_kind checksum) «data».now ≡ checksum)) }
     ensures fault { IfErr result (SaysOfBytes «data».now checksum) }
@@ -55,7 +56,8 @@ fn compare(data: &[u8], digest: ObjectId, checksum: ObjectId) -> Result<(), Erro
 /// [`Error::TooShort`]: there are fewer bytes than the checksum has. [`Error::Verify`]: the digest, which it names as
 /// `actual`, is another. No other error comes, and no memory is taken.
 pub fn bytes(data: &[u8], checksum: ObjectId) -> Result<(), Error>
-    ensures too_short { (result ≡ Err Error.TooShort) ↔ (length «data».now < id_len (id_kind checksum)) }
+    ensures too_short { (result ≡ Err Error.TooShort)
+        ↔ (length «data».now < id_len (id_kind checksum)) }
     ensures ok { OnOk result ((id_len (id_kind checksum) ≤ length «data».now)
         × (digest_id (id_kind checksum) «data».now ≡ checksum)) }
     ensures fault { IfErr result (SaysOfBytes «data».now checksum) }
@@ -66,15 +68,16 @@ pub fn bytes(data: &[u8], checksum: ObjectId) -> Result<(), Error>
 }
 
 impl File {
-    /// Reads the file at the path again, and compares its bytes with the checksum by [`bytes`]. Without a checksum it is
-    /// Ok, and nothing is read.
+    /// Reads the file at the path again, and compares its bytes with the checksum by [`bytes`]. Without a checksum it
+    /// is Ok, and nothing is read.
     ///
     /// [`Error::Io`] names the path. Room is asked for as many bytes as the file's metadata says. Nothing is changed.
     pub fn verify_integrity<R: Files>(&self, rt: &R, alloc: Global) -> Result<(), Error>
         ensures nothing { checksum_of self.now ≡ None → IsOk result }
         // The file's bytes can't be named: the answer is that for some bytes.
         ensures ok { OnOk result (IfSome (checksum_of self.now) FitsSomeBytes) }
-        ensures fault { IfErr result (λ e. (checksum : ObjectId) × (checksum_of self.now ≡ Some checksum)
+        ensures fault { IfErr result (λ e. (checksum : ObjectId)
+            × (checksum_of self.now ≡ Some checksum)
             × SaysOfSomeBytes checksum e) }
     {
         let Some(checksum) = self.checksum else {

@@ -2,17 +2,18 @@
 
 ghost use Rattle.std.specs.Prelude.{◌≡◌, IfOk, OnErr, OnOk};
 ghost use Rattle.index_parts.specs.Id.{make_id};
-ghost use Rattle.index_state.specs.Image.{image_version, trailer};
+ghost use Rattle.index_format.specs.Image.{image_version, trailer};
 ghost use Rattle.index_state.specs.State.{PathsInStorage, contents};
 ghost use Rattle.gix_index.specs.File.{state_of};
-ghost use Rattle.gix_index.specs.Written.{IsWritten};
+ghost use Rattle.gix_index.specs.WrittenFile.{IsWritten};
 
 use super::File;
 use super::disk::PathError;
 use index_entries::Version;
+use index_format::write;
+use index_format::write::Options;
 use index_parts::hash::ObjectId;
 use index_parts::hash::io::{Plain, Retrying};
-use index_state::write::{self, Options};
 use std::alloc::{AllocError, Global};
 use std::io::{BufWriter, ErrorKind, Write};
 use std::path::PathBuf;
@@ -82,12 +83,14 @@ fn lock_path(alloc: Global, path: &PathBuf) -> Result<PathBuf, AllocError> {
     PathBuf::from_str(alloc, lock.as_str())
 }
 
-/// Why the bytes didn't go to a writer.
-enum Fault {
-    Put(io::Error),
-    TooManyEntries,
-    NulInPath,
-    TooLarge,
+/// What it says that the bytes didn't go to the lock file.
+fn put_fault(lock: PathBuf, error: write::Error) -> Error {
+    match error {
+        write::Error::Io(e) => fault_of(Step::Put, lock, e),
+        write::Error::TooManyEntries => Error::TooManyEntries,
+        write::Error::NulInPath => Error::NulInPath,
+        write::Error::TooLarge => Error::TooLarge,
+    }
 }
 
 impl File {
@@ -97,28 +100,18 @@ impl File {
         alloc: Global,
         file: W,
         options: Options,
-    ) -> Result<(Version, ObjectId), Fault>
+    ) -> Result<(Version, ObjectId), write::Error>
         requires { PathsInStorage (state_of self.now) }
-        ensures version { IfOk result (λ x. x.0 ≡ image_version (contents (state_of self.now)) options) }
+        ensures version { IfOk result
+            (λ x. x.0 ≡ image_version (contents (state_of self.now)) options) }
         ensures id { IfOk result (λ x. x.1 ≡ make_id (contents (state_of self.now)).kind
             (trailer (contents (state_of self.now)) options)) }
     {
-        let buffer = match BufWriter::with_capacity(alloc, BUFFER_LEN, Retrying { inner: file }) {
-            Ok(buffer) => buffer,
-            Err(e) => return Err(Fault::Put(e)),
-        };
+        let buffer = BufWriter::with_capacity(alloc, BUFFER_LEN, Retrying { inner: file })?;
         let mut out = Plain::new(buffer);
-        let answer = match self.write_to(&mut out, options) {
-            Ok(answer) => answer,
-            Err(write::Error::Io(e)) => return Err(Fault::Put(e)),
-            Err(write::Error::TooManyEntries) => return Err(Fault::TooManyEntries),
-            Err(write::Error::NulInPath) => return Err(Fault::NulInPath),
-            Err(write::Error::TooLarge) => return Err(Fault::TooLarge),
-        };
-        match out.inner.flush() {
-            Ok(()) => Ok(answer),
-            Err(e) => Err(Fault::Put(e)),
-        }
+        let answer = self.write_to(&mut out, options)?;
+        out.inner.flush()?;
+        Ok(answer)
     }
 
     /// Writes all bytes to the lock file, which is made new, and lets it take the index's place. After a failure its
@@ -130,7 +123,8 @@ impl File {
         options: Options,
     ) -> Result<(Version, ObjectId), Error>
         requires { PathsInStorage (state_of self.now) }
-        ensures version { IfOk result (λ x. x.0 ≡ image_version (contents (state_of self.now)) options) }
+        ensures version { IfOk result
+            (λ x. x.0 ≡ image_version (contents (state_of self.now)) options) }
         ensures id { IfOk result (λ x. x.1 ≡ make_id (contents (state_of self.now)).kind
             (trailer (contents (state_of self.now)) options)) }
     {
@@ -142,14 +136,9 @@ impl File {
         };
         let answer = match self.fill(alloc, file, options) {
             Ok(answer) => answer,
-            Err(fault) => {
+            Err(e) => {
                 let _ = fs::remove_file(rt, lock.as_path());
-                return Err(match fault {
-                    Fault::Put(e) => fault_of(Step::Put, lock, e),
-                    Fault::TooManyEntries => Error::TooManyEntries,
-                    Fault::NulInPath => Error::NulInPath,
-                    Fault::TooLarge => Error::TooLarge,
-                });
+                return Err(put_fault(lock, e));
             }
         };
         match fs::rename(rt, lock.as_path(), self.path.as_path()) {
@@ -163,22 +152,19 @@ impl File {
 
     /// Writes the index to its path, by way of the lock file `<path>.lock`, which keeps other writers out.
     ///
-    /// The lock file is made new; where there is one already, nothing is written. What [`File::write_to`] writes goes to it
-    /// through a buffer of 64 KiB, and then it is renamed to the path. Version and checksum become those that were
-    /// written; the checksum becomes None with `skip_hash`. All else stays. Nothing is synced to the disk.
+    /// The lock file is made new; where there is one already, nothing is written. What [`File::write_to`] writes goes
+    /// to it through a buffer of 64 KiB, and then it is renamed to the path. Version and checksum become those that
+    /// were written; the checksum becomes None with `skip_hash`. All else stays. Nothing is synced to the disk.
     ///
     /// [`Error::AcquireLock`], [`Error::Io`] and [`Error::CommitLock`] say which step failed;
-    /// [`Error::TooManyEntries`], [`Error::NulInPath`] and [`Error::TooLarge`] are those of [`File::write_to`]. After an error this
-    /// `File` is as it was, and it was tried to remove the lock file, unless that was another's.
+    /// [`Error::TooManyEntries`], [`Error::NulInPath`] and [`Error::TooLarge`] are those of [`File::write_to`]. After
+    /// an error this `File` is as it was, and it was tried to remove the lock file, unless that was another's.
     pub fn write<R: Files>(&mut self, rt: &R, alloc: Global, options: Options) -> Result<(), Error>
         requires { PathsInStorage (state_of self.old) }
         ensures ok { OnOk result (IsWritten self.old self.new options) }
         ensures err { OnErr result (self.new ≡ self.old) }
     {
-        let (version, id) = match self.replace(rt, alloc, options) {
-            Ok(answer) => answer,
-            Err(e) => return Err(e),
-        };
+        let (version, id) = self.replace(rt, alloc, options)?;
         self.state.set_version(version);
         self.checksum = if options.skip_hash { None } else { Some(id) };
         Ok(())

@@ -1,7 +1,6 @@
 //! One entry as bytes of version 4: its path as a difference to the path before it (gitformat-index, "Index entry").
 
 ghost use Rattle.std.specs.Prelude.{◌≡◌, ◌-◌, ◌+◌, ◌<◌, ◌^◌, ◌++◌, ◌∷◌, [], length, false, is_err};
-ghost use Rattle.std.specs.List.{flat_map};
 ghost use Rattle.index_parts.specs.Taking.{Puts};
 ghost use Rattle.index_entries.specs.EntryImage.{delta_bytes};
 ghost use Rattle.index_entries.specs.Record.{IsPlaced, record_in};
@@ -12,15 +11,8 @@ use index_parts::hash::io::Out;
 use index_parts::spell;
 use std::io;
 
-/// The three pieces of an entry behind its flags.
-fn three<'a>(a: &'a [u8], b: &'a [u8], c: &'a [u8]) -> [&'a [u8]; 3]
-    ensures { flat_map (λ p. p.now) result ≡ a.now ++ (b.now ++ c.now) }
-{
-    [a, b, c]
-}
-
 impl Entry {
-    /// How many bytes the entry has behind this path.
+    /// How many bytes the entry has in version 4, behind this path.
     pub(super) fn delta_len(&self, previous: &[u8], storage: &[u8]) -> u64
         requires { IsPlaced (length storage.now) self.now }
         ensures len { result ≡ length (delta_bytes previous.now (record_in storage.now self.now)) }
@@ -32,7 +24,7 @@ impl Entry {
         self.unpadded_len(storage) - shared as u64 + number.len() as u64 + 1
     }
 
-    /// Writes the entry behind this path.
+    /// Writes the entry as version 4 has it behind this path.
     pub(super) fn put_delta<W: Out>(
         &self,
         previous: &[u8],
@@ -41,7 +33,8 @@ impl Entry {
     ) -> io::Result<()>
         requires placed { IsPlaced (length storage.now) self.now }
         requires unfailed { W.failed out.old ≡ false }
-        ensures bytes { Puts W.taken W.hashed out.old out.new result (delta_bytes previous.now (record_in storage.now self.now)) }
+        ensures bytes { Puts W.taken W.hashed out.old out.new result
+            (delta_bytes previous.now (record_in storage.now self.now)) }
         ensures mark { W.failed out.new ≡ is_err result }
         ensures loan { W.loan out.new ≡ W.loan out.old }
     {
@@ -50,16 +43,16 @@ impl Entry {
         let (_, tail) = path.split_at(shared);
         let (bytes, start) = spell::offset((previous.len() - shared) as u64);
         let (_, number) = bytes.split_at(start);
-        self.put_front(storage, out)?;
-        out.put_each(&three(number, tail, b"\0"))
+        self.put_head(storage, out)?;
+        out.put_each(&[number, tail, b"\0"])
     }
 
-    /// Writes the entry as a file of version 4 has it behind the path `previous`, which is empty before the first entry: how
-    /// many bytes of that path are taken off behind those that both begin with, the bytes of its own that follow them, and
-    /// one NUL (gitformat-index, "Index entry"). Its path lies in the storage of this state. A path may hold any bytes, but with
-    /// a NUL it is another one that is read.
+    /// Writes the entry as a file of version 4 has it behind the path `previous`, which is empty before the first
+    /// entry: as a varint, how many bytes of that path are taken off behind those that both begin with; the bytes of
+    /// its own that follow them; and one NUL (gitformat-index, "Index entry"). Its path lies in the storage of this
+    /// state. A path may hold any bytes, but with a NUL it is another one that is read.
     ///
-    /// An error comes only where the writer failed, which then took a front of the bytes. No memory is taken.
+    /// An error comes only where the writer failed, which then took a prefix of the bytes. No memory is taken.
     pub fn write_delta_to<W: Out, S: PathBacking>(
         &self,
         out: &mut W,
@@ -68,7 +61,8 @@ impl Entry {
     ) -> io::Result<()>
         requires placed { IsPlaced (length (S.paths state.now)) self.now }
         requires unfailed { W.failed out.old ≡ false }
-        ensures bytes { Puts W.taken W.hashed out.old out.new result (delta_bytes previous.now (record_in (S.paths state.now) self.now)) }
+        ensures bytes { Puts W.taken W.hashed out.old out.new result
+            (delta_bytes previous.now (record_in (S.paths state.now) self.now)) }
         ensures mark { W.failed out.new ≡ is_err result }
         ensures loan { W.loan out.new ≡ W.loan out.old }
     {

@@ -1,30 +1,34 @@
 //! One entry as bytes.
 
 ghost use Rattle.std.specs.Prelude.{◌≡◌, ◌+◌, ◌<◌, ◌^◌, ◌++◌, ◌∷◌, [], ℕ, List, length, false, is_err, if◌then◌else◌};
-ghost use Rattle.std.specs.List.{flat_map};
-ghost use Rattle.index_parts.specs.Flags.{is_extended};
+ghost use Rattle.index_metadata.specs.Flags.{is_extended};
 ghost use Rattle.index_parts.specs.Taking.{Puts};
-ghost use Rattle.index_entries.specs.Entry.{front_bytes};
-ghost use Rattle.index_entries.specs.EntryImage.{be16, numbers_of, first_word, front_of, second_word, unpadded, padding, entry_bytes, entry_in, is_removed};
+ghost use Rattle.index_entries.specs.Entry.{head_bytes};
+ghost use Rattle.index_entries.specs.EntryImage.{be16, numbers_of, first_word, head_of, second_word, unpadded, padding, entry_bytes, entry_in, is_removed};
 ghost use Rattle.index_entries.specs.Record.{IsPlaced, record_in};
 
+use crate::sizes::{ENTRY_ALIGN, FLAGS_LEN, NUMBERS_LEN};
 use crate::{Entry, PathBacking, Version};
 use bitflags::Flags as _;
-use index_parts::entry::{Flags, at_rest};
+use index_metadata::entry::{Flags, at_rest};
 use index_parts::hash::io::Out;
 use std::io;
 
-const NULS: [u8; 8] = [0; 8];
+/// As a number of bytes of a file.
+const ALIGN: u64 = ENTRY_ALIGN as u64;
+
+/// What an entry is padded with.
+const NULS: [u8; ENTRY_ALIGN] = [0; ENTRY_ALIGN];
 
 /// 1 to 8 NULs behind so many bytes.
 fn padding_behind(len: u64) -> &'static [u8]
     ensures { result.now ≡ padding len }
 {
-    &NULS[..(8 - len % 8) as usize]
+    &NULS[..(ALIGN - len % ALIGN) as usize]
 }
 
 /// The word where the flags ask for a second one.
-fn second_of<'a>(flags: Flags, word: &'a [u8; 2]) -> &'a [u8]
+fn second_of<'a>(flags: Flags, word: &'a [u8; FLAGS_LEN]) -> &'a [u8]
     ensures { result.now ≡ (if is_extended flags.0 then word.now else []) }
 {
     if flags.contains(Flags::EXTENDED) {
@@ -33,23 +37,9 @@ fn second_of<'a>(flags: Flags, word: &'a [u8; 2]) -> &'a [u8]
     &[]
 }
 
-/// The four pieces of an entry before its path.
-fn four<'a>(a: &'a [u8], b: &'a [u8], c: &'a [u8], d: &'a [u8]) -> [&'a [u8]; 4]
-    ensures { flat_map (λ p. p.now) result ≡ a.now ++ (b.now ++ (c.now ++ d.now)) }
-{
-    [a, b, c, d]
-}
-
-/// Two pieces.
-fn two<'a>(a: &'a [u8], b: &'a [u8]) -> [&'a [u8]; 2]
-    ensures { flat_map (λ p. p.now) result ≡ a.now ++ b.now }
-{
-    [a, b]
-}
-
 impl Entry {
-    /// Whether a file leaves the entry out.
-    pub(crate) fn is_removed(&self) -> bool
+    /// Whether the entry is marked `REMOVE`: a file leaves it out.
+    pub fn is_removed(&self) -> bool
         ensures { result ≡ is_removed self.now.flags.0 }
     {
         self.flags.contains(Flags::REMOVE)
@@ -57,7 +47,7 @@ impl Entry {
 
     /// The ten numbers before the id.
     #[tactic(auto, unfolding(crate::specs::EntryImage::numbers_of))]
-    fn numbers(&self) -> [u8; 40]
+    fn numbers(&self) -> [u8; NUMBERS_LEN]
         ensures { (storage : List ℕ) → result ≡ numbers_of (record_in storage self.now) }
     {
         let [a0, a1, a2, a3] = self.stat.ctime.secs.to_be_bytes();
@@ -93,11 +83,12 @@ impl Entry {
         ensures small { result < 2 ^ 63 + 2 ^ 9 }
     {
         let words = if self.flags.contains(Flags::EXTENDED) {
-            4
+            2 * FLAGS_LEN
         } else {
-            2
+            FLAGS_LEN
         };
-        40 + words + self.id.as_bytes().len() as u64 + self.path_in(storage).len() as u64
+        let fixed = (NUMBERS_LEN + words) as u64;
+        fixed + self.id.as_bytes().len() as u64 + self.path_in(storage).len() as u64
     }
 
     /// How many bytes the entry has in a file of version 2 or 3, with its padding.
@@ -107,13 +98,14 @@ impl Entry {
         ensures small { result < 2 ^ 63 + 2 ^ 10 }
     {
         let len = self.unpadded_len(storage);
-        len - len % 8 + 8
+        len - len % ALIGN + ALIGN
     }
 
     /// How many bytes the entry has in a file of this version, behind this path.
     pub(super) fn written_len(&self, version: Version, previous: &[u8], storage: &[u8]) -> u64
         requires { IsPlaced (length storage.now) self.now }
-        ensures len { result ≡ length (entry_in version previous.now (record_in storage.now self.now)) }
+        ensures len { result ≡ length
+            (entry_in version previous.now (record_in storage.now self.now)) }
         ensures small { result < 2 ^ 63 + 2 ^ 10 }
     {
         match version {
@@ -124,10 +116,11 @@ impl Entry {
 
     /// Writes the entry up to its path.
     #[tactic(auto, using(crate::proofs::Lengths::pieces_are))]
-    pub(super) fn put_front<W: Out>(&self, storage: &[u8], out: &mut W) -> io::Result<()>
+    pub(super) fn put_head<W: Out>(&self, storage: &[u8], out: &mut W) -> io::Result<()>
         requires placed { IsPlaced (length storage.now) self.now }
         requires unfailed { W.failed out.old ≡ false }
-        ensures bytes { Puts W.taken W.hashed out.old out.new result (front_bytes (front_of (record_in storage.now self.now))) }
+        ensures bytes { Puts W.taken W.hashed out.old out.new result
+            (head_bytes (head_of (record_in storage.now self.now))) }
         ensures mark { W.failed out.new ≡ is_err result }
         ensures loan { W.loan out.new ≡ W.loan out.old }
     {
@@ -137,26 +130,28 @@ impl Entry {
             .bits()
             .to_be_bytes();
         let second = second_of(self.flags, &extended);
-        out.put_each(&four(&numbers, self.id.as_bytes(), &first, second))
+        out.put_each(&[&numbers, self.id.as_bytes(), &first, second])
     }
 
     /// Writes the entry up to the end of its path, and these bytes behind it.
     fn put_with<W: Out>(&self, storage: &[u8], end: &[u8], out: &mut W) -> io::Result<()>
         requires placed { IsPlaced (length storage.now) self.now }
         requires unfailed { W.failed out.old ≡ false }
-        ensures bytes { Puts W.taken W.hashed out.old out.new result (unpadded (record_in storage.now self.now) ++ end.now) }
+        ensures bytes { Puts W.taken W.hashed out.old out.new result
+            (unpadded (record_in storage.now self.now) ++ end.now) }
         ensures mark { W.failed out.new ≡ is_err result }
         ensures loan { W.loan out.new ≡ W.loan out.old }
     {
-        self.put_front(storage, out)?;
-        out.put_each(&two(self.path_in(storage), end))
+        self.put_head(storage, out)?;
+        out.put_each(&[self.path_in(storage), end])
     }
 
     /// Writes the entry as a file of version 2 or 3 has it, with its padding.
     fn put_padded<W: Out>(&self, storage: &[u8], out: &mut W) -> io::Result<()>
         requires placed { IsPlaced (length storage.now) self.now }
         requires unfailed { W.failed out.old ≡ false }
-        ensures bytes { Puts W.taken W.hashed out.old out.new result (entry_bytes (record_in storage.now self.now)) }
+        ensures bytes { Puts W.taken W.hashed out.old out.new result
+            (entry_bytes (record_in storage.now self.now)) }
         ensures mark { W.failed out.new ≡ is_err result }
         ensures loan { W.loan out.new ≡ W.loan out.old }
     {
@@ -174,7 +169,8 @@ impl Entry {
     ) -> io::Result<()>
         requires placed { IsPlaced (length storage.now) self.now }
         requires unfailed { W.failed out.old ≡ false }
-        ensures bytes { Puts W.taken W.hashed out.old out.new result (entry_in version previous.now (record_in storage.now self.now)) }
+        ensures bytes { Puts W.taken W.hashed out.old out.new result
+            (entry_in version previous.now (record_in storage.now self.now)) }
         ensures mark { W.failed out.new ≡ is_err result }
         ensures loan { W.loan out.new ≡ W.loan out.old }
     {
@@ -184,14 +180,15 @@ impl Entry {
         }
     }
 
-    /// Writes the entry up to the end of its path, as an entry of version 2 or 3 begins, and one NUL behind it in place of the
-    /// padding (gitformat-index, "Index entry"). Its path lies in the storage of this state.
+    /// Writes the entry up to the end of its path, as an entry of version 2 or 3 begins, and one NUL behind it in place
+    /// of the padding (gitformat-index, "Index entry"). Its path lies in the storage of this state.
     ///
-    /// An error comes only where the writer failed, which then took a front of the bytes. No memory is taken.
+    /// An error comes only where the writer failed, which then took a prefix of the bytes. No memory is taken.
     pub fn write_to<W: Out, S: PathBacking>(&self, out: &mut W, state: &S) -> io::Result<()>
         requires placed { IsPlaced (length (S.paths state.now)) self.now }
         requires unfailed { W.failed out.old ≡ false }
-        ensures bytes { Puts W.taken W.hashed out.old out.new result (unpadded (record_in (S.paths state.now) self.now) ++ 0 ∷ []) }
+        ensures bytes { Puts W.taken W.hashed out.old out.new result
+            (unpadded (record_in (S.paths state.now) self.now) ++ 0 ∷ []) }
         ensures mark { W.failed out.new ≡ is_err result }
         ensures loan { W.loan out.new ≡ W.loan out.old }
     {

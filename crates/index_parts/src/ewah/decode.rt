@@ -1,7 +1,7 @@
 //! Reading a bitmap (git's bitmap-format document, "Serialization format for an EWAH bitmap").
 
 ghost use Rattle.std.specs.Prelude.{◌≡◌, ◌*◌, ℕ, List, length, IfOk, IfErr, MatchResult};
-ghost use Rattle.index_parts.specs.Bitmap.{bitmap, AreWords, IsBitmap, Lacks, Says};
+ghost use Rattle.index_parts.specs.Bitmap.{bitmap, AreWords, IsBitmap, Lacks, SaysBitmapFault};
 ghost use Rattle.index_parts.specs.declared.ewah.decode.Error.TheVariants.{Memory};
 
 use super::Vec;
@@ -16,13 +16,13 @@ pub enum Error {
     /// The number of bits needs four bytes, and there are fewer.
     #[error("the bitmap ends within its number of bits")]
     NumBits,
-    /// The number of words needs four bytes, and there are fewer behind the number of bits.
+    /// The number of words needs four bytes, and there are fewer after the number of bits.
     #[error("the bitmap ends within its number of words")]
     Length,
     /// There are fewer bytes than the declared words take, at eight bytes a word.
     #[error("the bitmap ends within its words")]
     Words,
-    /// The position of the last run word needs four bytes, and there are fewer behind the words.
+    /// The position of the last run word needs four bytes, and there are fewer after the words.
     #[error("the bitmap ends within the position of its last run word")]
     LastRun,
     /// A growth was refused.
@@ -57,7 +57,8 @@ struct Parts<'a> {
 
 /// The parts of the bitmap at the front of bytes.
 fn parts_of(bytes: &[u8]) -> Result<Parts<'_>, Error>
-    ensures found { IfOk result (λ p. (words : List ℕ) → AreWords p.words.now words → IsBitmap bytes.now (record { num_bits = p.num_bits; words = words }) p.rest.now) }
+    ensures found { IfOk result (λ p. (words : List ℕ) → AreWords p.words.now words
+        → IsBitmap bytes.now (record { num_bits = p.num_bits; words = words }) p.rest.now) }
     ensures size { IfOk result (λ p. length p.words.now ≡ 8 * p.len) }
     ensures fault { IfErr result (λ e. Lacks e bytes.now) }
 {
@@ -83,7 +84,7 @@ fn parts_of(bytes: &[u8]) -> Result<Parts<'_>, Error>
     })
 }
 
-/// The words that bytes spell, of which there are `len`.
+/// The words that bytes encode, of which there are `len`.
 fn words_of(alloc: Global, len: u32, bytes: &[u8]) -> Result<Words<u64>, AllocError>
     requires { length bytes.now ≡ 8 * len }
     ensures { IfOk result (λ words. AreWords bytes.now words.items) }
@@ -97,14 +98,14 @@ fn words_of(alloc: Global, len: u32, bytes: &[u8]) -> Result<Words<u64>, AllocEr
     Ok(words)
 }
 
-/// The bitmap at the front of bytes, and the bytes behind it.
+/// The bitmap at the front of bytes, and the bytes after it.
 ///
 /// A bitmap is the number of its bits (4 bytes), the number of its words (4 bytes), the words (8 bytes each), and the
-/// position of the last run word (4 bytes), which may be any; all numbers are big-endian. The first part that isn't there
-/// whole is the fault. Memory is asked for only where all parts are there, and then for the words alone.
+/// position of the last run word (4 bytes), which may be any; all numbers are big-endian. The first part that isn't
+/// there whole is the fault. Memory is asked for only where all parts are there, and then for the words alone.
 pub fn decode(alloc: Global, data: &[u8]) -> Result<(Vec, &[u8]), Error>
     ensures found { IfOk result (λ x. IsBitmap «data».now (bitmap x.0) x.1.now) }
-    ensures fault { IfErr result (λ e. Says e «data».now) }
+    ensures fault { IfErr result (λ e. SaysBitmapFault e «data».now) }
 {
     let parts = parts_of(data)?;
     let words = words_of(alloc, parts.len, parts.words)?;

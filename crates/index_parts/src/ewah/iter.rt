@@ -1,24 +1,24 @@
-//! The places of a bitmap's set bits, one after another.
+//! The positions of a bitmap's set bits, one after another.
 
 ghost use Rattle.std.specs.Prelude.{◌≡◌, ◌≤◌, ◌<◌, ◌^◌, [], ◌∷◌, length, Some};
 ghost use Rattle.std.specs.Iterator.{YieldsFirst, item_count};
 ghost use Rattle.index_parts.specs.Ascending.{Ascends};
 ghost use Rattle.index_parts.specs.Bits.{set, places, ListPlaces};
-ghost use Rattle.index_parts.specs.Unpacking.{unpacked, place_of, bits_left, items_left, IsBetweenChunks, IsPlaceAfter};
+ghost use Rattle.index_parts.specs.UnpackingSteps.{unpacked, next_place, bits_left, items_left, IsBetweenChunks, IsPlaceAfter};
 
 use thiserror::Error;
 
-/// A run word lacks some of its literal words, or a set bit has a place of 2^64 or more.
+/// A run word lacks some of its literal words, or a set bit has a position of 2^64 or more.
 #[derive(Clone, Copy, Debug, PartialEq, Eq, Error)]
 #[error("the bitmap is malformed: words are missing, or a place has more than 64 bits")]
 pub struct Malformed;
 
-/// The places of a bitmap's set bits, as [`Vec::positions`](super::Vec::positions) gives them.
+/// The positions of a bitmap's set bits, as [`Vec::positions`](super::Vec::positions) gives them.
 #[derive(Debug, Drop)]
 pub struct Positions<'a> {
     /// The words that aren't begun.
     words: &'a [u64],
-    /// The place of the next bit; None where it is 2^64 or more.
+    /// The position of the next bit; None where it is 2^64 or more.
     place: Option<u64>,
     /// How many bits are left of a run of set bits.
     ones: u64,
@@ -32,14 +32,14 @@ pub struct Positions<'a> {
     is_broken: bool,
 }
 
-/// The place so many bits on, where it has 64 bits.
+/// The position so many bits on, where it has 64 bits.
 fn skip(place: Option<u64>, count: u64) -> Option<u64>
     ensures { IsPlaceAfter place count result }
 {
     place?.checked_add(count)
 }
 
-/// The place behind one that has 64 bits.
+/// The position after one that has 64 bits.
 fn next_place(place: u64) -> Option<u64>
     ensures fits { place < 2 ^ 64 }
     ensures after { IsPlaceAfter (Some place) 1 result }
@@ -48,7 +48,7 @@ fn next_place(place: u64) -> Option<u64>
 }
 
 impl<'a> Positions<'a> {
-    /// The places in words of which none is begun.
+    /// The positions in words of which none is begun.
     pub(super) fn new(words: &'a [u64]) -> Self
         ensures places { ListPlaces (items_left result) words.now }
         ensures ascending { Ascends 0 (items_left result) }
@@ -75,9 +75,10 @@ impl<'a> Positions<'a> {
         self.is_broken = false;
     }
 
-    /// The item of a set bit, which was taken off before, and the place moved behind it.
+    /// The item of a set bit, which was taken off before, and the position moved after it.
     fn take_place(&mut self) -> Result<u64, Malformed>
-        ensures { places (place_of self.old.place) (set ∷ bits_left self.old) ≡ result ∷ items_left self.new }
+        ensures { places (next_place self.old.place) (set ∷ bits_left self.old)
+            ≡ result ∷ items_left self.new }
     {
         match self.place {
             Some(place) => {
@@ -94,7 +95,8 @@ impl<'a> Positions<'a> {
     /// Begins the chunk of a run word, which was taken off before. A run of clear bits is passed at once.
     fn begin_chunk(&mut self, run: u64)
         requires { IsBetweenChunks self.old }
-        ensures left { items_left self.new ≡ places (place_of self.old.place) (unpacked (run ∷ self.old.words.now)) }
+        ensures left { items_left self.new ≡ places (next_place self.old.place)
+            (unpacked (run ∷ self.old.words.now)) }
         ensures fewer { length self.new.words.now ≤ length self.old.words.now }
         ensures bits { self.new.bits ≡ 0 }
     {

@@ -30,7 +30,8 @@ impl<W: io::Write> io::Write for Retrying<W> {
     /// [`ErrorKind::Interrupted`]; or [`ErrorKind::TimedOut`] where signals interrupt 2^32 - 1 calls in a row.
     fn write(&mut self, buf: &[u8]) -> io::Result<usize>
         ensures bound { WritesAtMost result buf.now }
-        ensures bytes { WriteAppends (W.contents self.old.inner) (W.contents self.new.inner) result buf.now }
+        ensures bytes { WriteAppends (W.contents self.old.inner) (W.contents self.new.inner) result
+            buf.now }
         ensures retried { IfErr result (λ e. error_kind e ≢ ErrorKind.Interrupted) }
     {
         for _ in 0..MAX_TRIES {
@@ -47,8 +48,8 @@ impl<W: io::Write> io::Write for Retrying<W> {
     }
 }
 
-/// Writes all bytes, by as many calls of `write` as it takes. An error of any kind ends it, and so does a call that takes
-/// no byte, with [`ErrorKind::WriteZero`]. By then the writer took a front of the bytes, maybe none.
+/// Writes all bytes, by as many calls of `write` as it takes. An error of any kind ends it, and so does a call that
+/// takes no byte, with [`ErrorKind::WriteZero`]. By then the writer took a prefix of the bytes, maybe none.
 pub fn put_all<W: io::Write>(out: &mut W, bytes: &[u8]) -> io::Result<()>
     ensures ok { OnOk result (Appends (W.contents out.old) (W.contents out.new) bytes.now) }
     ensures err { OnErr result (AppendsFront (W.contents out.old) (W.contents out.new) bytes.now) }
@@ -65,22 +66,23 @@ pub fn put_all<W: io::Write>(out: &mut W, bytes: &[u8]) -> io::Result<()>
     Ok(())
 }
 
-/// Takes bytes piece by piece, and bears a mark from the first piece on that it did not take whole.
+/// Takes bytes piece by piece, and has failed from the first piece on that it did not take whole.
 pub trait Out {
     // The bytes taken so far; None where they are not known, as of a file.
     ghost taken: { Self → Option (List ℕ) };
 
-    // The mark: a piece was not taken whole.
+    // It has failed: a piece was not taken whole.
     ghost failed: { Self → Bool };
 
-    // At this depth, counted from 0, a hasher of this kind has taken in the pieces that were taken whole, which are these bytes.
+    // At this depth, counted from 0, a hasher of this kind has taken in the pieces that were taken whole, which are
+    // these bytes.
     ghost hashed: { Self → ℕ → Kind → List ℕ → Type 0 } = { λ _ _ _ _. ⊤ };
 
     // The loans through which it writes, the nearest first.
     ghost loan: { Self → List ℕ } = { λ _. [] };
 
-    /// Takes the whole piece. An error took a front of it, maybe none or all, hashed nothing of it, and sets the
-    /// mark; no piece can be put behind it.
+    /// Takes the whole piece. An error took a prefix of it, maybe none or all, and hashed nothing of it; the writer has
+    /// then failed, and no piece can be put after it.
     fn put(&mut self, piece: &[u8]) -> io::Result<()>
         requires { failed self.old ≡ false }
         ensures bytes { Puts taken hashed self.old self.new result piece.now }
@@ -88,18 +90,20 @@ pub trait Out {
         ensures mark { failed self.new ≡ is_err result }
         ensures loan { loan self.new ≡ loan self.old };
 
-    /// Whether the mark is set: a piece was not taken whole.
+    /// Whether the writer has failed: a piece was not taken whole.
     fn has_failed(&self) -> bool
         ensures { result ≡ failed self.now };
 
-    /// Takes these pieces in turn. The first error ends it, and took a front of its piece; the pieces before that one
+    /// Takes these pieces in turn. The first error ends it, and took a prefix of its piece; the pieces before that one
     /// were taken whole, and they alone were hashed.
     final fn put_each(&mut self, pieces: &[&[u8]]) -> io::Result<()>
     where
         Self: Sized,
         requires { failed self.old ≡ false }
-        ensures bytes { Puts taken hashed self.old self.new result (flat_map (λ p. p.now) pieces.now) }
-        ensures failure { OnErr result (Breaks taken hashed self.old self.new (map (λ p. p.now) pieces.now)) }
+        ensures bytes { Puts taken hashed self.old self.new result
+            (flat_map (λ p. p.now) pieces.now) }
+        ensures failure { OnErr result
+            (Breaks taken hashed self.old self.new (map (λ p. p.now) pieces.now)) }
         ensures mark { failed self.new ≡ is_err result }
         ensures loan { loan self.new ≡ loan self.old }
     {
@@ -137,7 +141,7 @@ pub struct Plain<W> {
 }
 
 impl<W: io::Write> Plain<W> {
-    /// Over this writer, with the mark unset.
+    /// Over this writer. It has not failed yet.
     pub fn new(inner: W) -> Plain<W>
         ensures mark { ⟦<Plain<W> as Out>⟧.failed result ≡ false }
         ensures inner { result.inner ≡ inner }
@@ -166,7 +170,7 @@ impl<W: io::Write> Out for Plain<W> {
     }
 }
 
-/// Passes pieces on, and hashes each one that was taken whole. The mark is that of `inner`.
+/// Passes pieces on, and hashes each one that was taken whole. It has failed where `inner` has.
 #[derive(Drop)]
 pub struct Write<W> {
     /// Where the pieces go.
@@ -201,7 +205,8 @@ impl<W: Out> Out for Write<W> {
     /// Takes the whole piece and hashes it. An error leaves the hasher as it was.
     fn put(&mut self, piece: &[u8]) -> io::Result<()>
         requires { W.failed self.old.inner ≡ false }
-        ensures bytes { Puts ⟦<Write<W> as Out>⟧.taken ⟦<Write<W> as Out>⟧.hashed self.old self.new result piece.now }
+        ensures bytes { Puts ⟦<Write<W> as Out>⟧.taken ⟦<Write<W> as Out>⟧.hashed self.old self.new
+            result piece.now }
         ensures mark { ⟦<Write<W> as Out>⟧.failed self.new ≡ is_err result }
         ensures loan { ⟦<Write<W> as Out>⟧.loan self.new ≡ ⟦<Write<W> as Out>⟧.loan self.old }
         ensures unhashed { OnErr result (KeepsHashed ⟦<Write<W> as Out>⟧.hashed self.old self.new) }

@@ -1,5 +1,7 @@
 //! Comparing a digest with the one that was expected.
 
+ghost use Rattle.std.specs.Prelude.{◌≡◌, ◌↔◌, IsOk, IfErr};
+
 use super::ObjectId;
 use thiserror::Error;
 
@@ -11,4 +13,21 @@ pub struct Error {
     pub actual: ObjectId,
     /// The digest that was expected.
     pub expected: ObjectId,
+}
+
+impl ObjectId {
+    /// Compares this digest with the one that was expected. An error names both.
+    pub fn verify(&self, expected: &ObjectId) -> Result<(), Error>
+        ensures ok { IsOk result ↔ (self.now ≡ expected.now) }
+        ensures actual { IfErr result (λ error. error.actual ≡ self.now) }
+        ensures expected { IfErr result (λ error. error.expected ≡ expected.now) }
+    {
+        if self != expected {
+            return Err(Error {
+                actual: *self,
+                expected: *expected,
+            });
+        }
+        Ok(())
+    }
 }

@@ -3,7 +3,7 @@
 ghost use Rattle.std.specs.Borrow.{sem};
 ghost use Rattle.std.specs.Option.{option_copied_mut};
 ghost use Rattle.std.specs.Prelude.{◌≡◌, Contains, IfSome, option_and_then, slice_get};
-ghost use Rattle.index_parts.specs.Flags.{stage_code};
+ghost use Rattle.index_metadata.specs.Flags.{stage_code};
 ghost use Rattle.index_entries.specs.Order.{IsStrictlyOrdered};
 ghost use Rattle.index_entries.specs.Record.{record_in};
 ghost use Rattle.index_lookups.specs.Lookup.{HasKey, place_of};
@@ -12,7 +12,7 @@ ghost use Rattle.index_state.specs.State.{PathsInStorage, contents, entries_of, 
 
 use crate::State;
 use index_entries::{Entry, PathStorage, PathStorageRef, Version};
-use index_parts::entry::{FileTime, Stage};
+use index_metadata::entry::{FileTime, Stage};
 
 impl State {
     /// Sets when the file was last written. All else stays.
@@ -21,17 +21,17 @@ impl State {
         ensures entries { entries_of self.new ≡ entries_of self.old }
         ensures storage { storage_of self.new ≡ storage_of self.old }
     {
-        self.timestamp = timestamp;
+        self.parts.timestamp = timestamp;
     }
 
-    /// Sets the version, as a file that was just written has it. All else stays: which version a later write takes is told
-    /// by the entries alone.
+    /// Sets the version, as a file that was just written has it. All else stays: which version a later write takes is
+    /// told by the entries alone.
     pub fn set_version(&mut self, version: Version)
         ensures version { contents self.new ≡ with_version (contents self.old) version }
         ensures entries { entries_of self.new ≡ entries_of self.old }
         ensures storage { storage_of self.new ≡ storage_of self.old }
     {
-        self.version = version;
+        self.parts.version = version;
     }
 
     /// The entries and the storage of their paths; all else is given up.
@@ -39,32 +39,33 @@ impl State {
         ensures entries { result.0.items ≡ entries_of self }
         ensures storage { result.1.items ≡ storage_of self }
     {
-        (self.entries, self.path_backing)
+        (self.parts.entries, self.parts.path_backing)
     }
 
-    /// The entries, lent for writing, and beside them the storage of their paths. What was last written through the slice
-    /// is what the state has then; all else stays. A loop by index over both meets each entry with its path.
+    /// The entries, lent for writing, and beside them the storage of their paths. What was last written through the
+    /// slice is what the state has then; all else stays. A loop by index over both meets each entry with its path.
     pub fn entries_mut_and_pathbacking(&mut self) -> (&mut [Entry], PathStorageRef<'_>)
         ensures* writes_back { sem 𝓛 (LendsEntries self.entry result.0) }
         ensures value { result.0.now ≡ entries_of self.old }
         ensures storage { result.1.now ≡ storage_of self.old }
     {
-        (self.entries.as_mut_slice(), self.path_backing.as_slice())
+        self.parts.entries_mut_and_storage()
     }
 
     /// The entry at the path and the stage, lent for writing, or None, as
-    /// [`entry_by_path_and_stage`](State::entry_by_path_and_stage) finds it. What was last written through it stands in its
-    /// place then; all else stays.
+    /// [`entry_by_path_and_stage`](State::entry_by_path_and_stage) finds it. What was last written through it stands in
+    /// its place then; all else stays.
     pub fn entry_mut_by_path_and_stage(&mut self, path: &[u8], stage: Stage) -> Option<&mut Entry>
         requires { PathsInStorage self.old }
         ensures* writes_back { sem 𝓛 (LendsEntryAt path.now (stage_code stage) self.entry result) }
         ensures found { IfSome result (λ e. Contains (entries_of self.old) e.now) }
-        ensures key { IfSome result (λ e. HasKey path.now (stage_code stage) (record_in (storage_of self.old) e.now)) }
+        ensures key { IfSome result
+            (λ e. HasKey path.now (stage_code stage) (record_in (storage_of self.old) e.now)) }
         ensures answer { IsStrictlyOrdered (records self.old)
             → option_copied_mut result ≡ option_and_then (slice_get (entries_of self.old))
             (place_of path.now (stage_code stage) (records self.old)) }
     {
         let idx = self.entry_index_by_path_and_stage(path, stage)?;
-        Some(&mut self.entries[idx])
+        Some(self.parts.entry_mut(idx))
     }
 }

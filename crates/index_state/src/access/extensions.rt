@@ -5,32 +5,34 @@ ghost use Rattle.std.specs.Option.{option_map, option_copied_mut};
 ghost use Rattle.std.specs.Prelude.{◌≡◌, map};
 ghost use Rattle.index_extensions.specs.FsMonitor.{monitor_of};
 ghost use Rattle.index_extensions.specs.ResolveUndo.{path_stages};
-ghost use Rattle.index_extensions.specs.Tree.{node_of};
+ghost use Rattle.index_cached_tree.specs.Tree.{node_of};
 ghost use Rattle.index_untracked.specs.Untracked.{cache_of};
 ghost use Rattle.index_state.specs.Edits.{LendsTree, without_link, without_resolve_undo, without_tree};
-ghost use Rattle.index_state.specs.Link.{link_of};
+ghost use Rattle.index_split.specs.Link.{link_of};
 ghost use Rattle.index_state.specs.State.{contents, entries_of, storage_of};
 
 use crate::State;
-use crate::extension::link::Link;
-use index_extensions::extension::{FsMonitor, Tree, resolve_undo};
-use index_untracked::untracked_cache::UntrackedCache;
+use index_cached_tree::Tree;
+use index_extensions::{FsMonitor, resolve_undo};
+use index_split::link::Link;
+use index_untracked::UntrackedCache;
 
 impl State {
-    /// The cached tree, where the file had one that could be read (gitformat-index, "Cache tree"). Edits of entries leave
-    /// it as it was.
+    /// The cached tree, where the file had one that could be read (gitformat-index, "Cache tree"). Edits of entries
+    /// leave it as it was.
     pub fn tree(&self) -> Option<&Tree>
         ensures { option_map (λ t. node_of t.now) result ≡ (contents self.now).extensions.tree }
     {
-        self.extensions.tree.as_ref()
+        self.parts.extensions.tree.as_ref()
     }
 
     /// The same, to be changed in place. All else stays.
     pub fn tree_mut(&mut self) -> Option<&mut Tree>
         ensures* writes_back { sem 𝓛 (LendsTree self.entry result) }
-        ensures value { option_map node_of (option_copied_mut result) ≡ (contents self.old).extensions.tree }
+        ensures value { option_map node_of (option_copied_mut result)
+            ≡ (contents self.old).extensions.tree }
     {
-        self.extensions.tree_mut()
+        self.parts.tree_mut()
     }
 
     /// Takes the cached tree out, and leaves none. All else stays.
@@ -40,14 +42,14 @@ impl State {
         ensures entries { entries_of self.new ≡ entries_of self.old }
         ensures storage { storage_of self.new ≡ storage_of self.old }
     {
-        self.extensions.tree.take()
+        self.parts.extensions.tree.take()
     }
 
     /// The link to a shared index, where the file was a split index (gitformat-index, "Split index").
     pub fn link(&self) -> Option<&Link>
         ensures { option_map (λ l. link_of l.now) result ≡ (contents self.now).extensions.link }
     {
-        self.extensions.link.as_ref()
+        self.parts.extensions.link.as_ref()
     }
 
     /// Takes the link out, and leaves none. All else stays.
@@ -57,54 +59,58 @@ impl State {
         ensures entries { entries_of self.new ≡ entries_of self.old }
         ensures storage { storage_of self.new ≡ storage_of self.old }
     {
-        self.extensions.link.take()
+        self.parts.extensions.link.take()
     }
 
     /// The stages of conflicts that were resolved, path by path, where the file had them and they could be read
     /// (gitformat-index, "Resolve undo").
     pub fn resolve_undo(&self) -> Option<&resolve_undo::Paths>
-        ensures { option_map (λ paths. map path_stages paths.now.items) result ≡ (contents self.now).extensions.resolve_undo }
+        ensures { option_map (λ paths. map path_stages paths.now.items) result
+            ≡ (contents self.now).extensions.resolve_undo }
     {
-        self.extensions.resolve_undo.as_ref()
+        self.parts.extensions.resolve_undo.as_ref()
     }
 
     /// Takes these out, and leaves none. All else stays.
     pub fn remove_resolve_undo(&mut self) -> Option<resolve_undo::Paths>
-        ensures given { option_map (λ paths. map path_stages paths.items) result ≡ (contents self.old).extensions.resolve_undo }
+        ensures given { option_map (λ paths. map path_stages paths.items) result
+            ≡ (contents self.old).extensions.resolve_undo }
         ensures removed { contents self.new ≡ without_resolve_undo (contents self.old) }
         ensures entries { entries_of self.new ≡ entries_of self.old }
         ensures storage { storage_of self.new ≡ storage_of self.old }
     {
-        self.extensions.resolve_undo.take()
+        self.parts.extensions.resolve_undo.take()
     }
 
     /// What was known of untracked files, where the file had it and it could be read (gitformat-index, "Untracked
     /// cache").
     pub fn untracked(&self) -> Option<&UntrackedCache>
-        ensures { option_map (λ cache. cache_of cache.now) result ≡ (contents self.now).extensions.untracked }
+        ensures { option_map (λ cache. cache_of cache.now) result
+            ≡ (contents self.now).extensions.untracked }
     {
-        self.extensions.untracked.as_ref()
+        self.parts.extensions.untracked.as_ref()
     }
 
     /// What a monitor of the file system had said, where the file had it and it could be read (gitformat-index, "File
     /// System Monitor cache").
     pub fn fs_monitor(&self) -> Option<&FsMonitor>
-        ensures { option_map (λ monitor. monitor_of monitor.now) result ≡ (contents self.now).extensions.fs_monitor }
+        ensures { option_map (λ monitor. monitor_of monitor.now) result
+            ≡ (contents self.now).extensions.fs_monitor }
     {
-        self.extensions.fs_monitor.as_ref()
+        self.parts.extensions.fs_monitor.as_ref()
     }
 
     /// Whether the file had an end marker, whatever it said (gitformat-index, "End of Index Entry").
     pub fn had_end_of_index_marker(&self) -> bool
         ensures { result ≡ (contents self.now).extensions.had_end_marker }
     {
-        self.extensions.had_end_of_index_marker
+        self.parts.extensions.had_end_of_index_marker
     }
 
     /// Whether the file had an offset table, whatever it said (gitformat-index, "Index Entry Offset Table").
     pub fn had_offset_table(&self) -> bool
         ensures { result ≡ (contents self.now).extensions.had_offset_table }
     {
-        self.extensions.had_offset_table
+        self.parts.extensions.had_offset_table
     }
 }

@@ -5,24 +5,24 @@ ghost use Rattle.std.specs.List.{list_any};
 ghost use Rattle.std.specs.Option.{option_copied, option_map};
 ghost use Rattle.std.specs.Prelude.{◌≡◌, ◌↔◌, ℕ, ◌+◌, ◌<◌, ◌≤◌, Contains, List, Option, length, take, is_some, option_and_then, slice_get, true, IfOk, IfSome, IsTrue};
 ghost use Rattle.std.specs.declared.ops.Range.{Range};
-ghost use Rattle.index_parts.specs.Flags.{stage_code};
+ghost use Rattle.index_metadata.specs.Flags.{stage_code};
 ghost use Rattle.index_lookups.specs.Closest.{closest, stands_in};
 ghost use Rattle.index_lookups.specs.Digits.{digits};
 ghost use Rattle.index_lookups.specs.FilterMap.{closure_of, entries_left, storage_left};
 ghost use Rattle.index_lookups.specs.Folded.{IsNamed, folded_closest, folded_place};
 ghost use Rattle.index_lookups.specs.Lookup.{IsKeyAt, insertion_of_path, place_of};
 ghost use Rattle.index_entries.specs.Order.{IsOrderedByPath, IsStrictlyOrdered};
-ghost use Rattle.index_lookups.specs.Range.{HasStageOf, IsPart, IsPrefixRange, IsRange, IsWithin, is_at, part_at, place_of_path};
+ghost use Rattle.index_lookups.specs.Range.{HasStageOf, IsPart, IsPrefixRange, IsRange, LiesWithin, is_at, part_at, place_of_path};
 ghost use Rattle.index_entries.specs.Record.{record_in};
 ghost use Rattle.index_state.specs.State.{PathsInStorage, entries_of, records, storage_of};
 
 use crate::State;
 use index_entries::Entry;
-use index_lookups::folded::{self, AccelerateLookup};
+use index_lookups::folded::AccelerateLookup;
 use index_lookups::paths::{self, FilterMapPaths};
 use index_lookups::tables::{self, DirectoryTable, PathSearch};
 use index_lookups::{directory, range};
-use index_parts::entry::Stage;
+use index_metadata::entry::Stage;
 use std::alloc::{AllocError, Global};
 use std::ops::Range;
 
@@ -53,17 +53,12 @@ impl State {
     ) -> Option<usize>
         requires placed { PathsInStorage self.now }
         requires bound { upper_bound ≤ length (entries_of self.now) }
-        ensures found { IfSome result (IsKeyAt path.now (stage_code stage) (take upper_bound (records self.now))) }
+        ensures found { IfSome result
+            (IsKeyAt path.now (stage_code stage) (take upper_bound (records self.now))) }
         ensures answer { IsStrictlyOrdered (take upper_bound (records self.now))
             → result ≡ place_of path.now (stage_code stage) (take upper_bound (records self.now)) }
     {
-        range::entry_index_by_path_and_stage_bounded(
-            self.entries(),
-            self.path_backing(),
-            path,
-            stage,
-            upper_bound,
-        )
+        range::entry_index_by_path_and_stage_bounded(&self.slice(), path, stage, upper_bound)
     }
 
     /// The entry at the path: that at stage 0, or else that at stage 2, our side of a merge, or else None.
@@ -73,11 +68,14 @@ impl State {
     pub fn entry_by_path(&self, path: &[u8]) -> Option<&Entry>
         requires { PathsInStorage self.now }
         ensures found { IfSome result (λ e. Contains (entries_of self.now) e.now) }
-        ensures key { IfSome result (λ e. HasStageOf path.now (record_in (storage_of self.now) e.now)) }
+        ensures key { IfSome result
+            (λ e. HasStageOf path.now (record_in (storage_of self.now) e.now)) }
         ensures answer { IsStrictlyOrdered (records self.now) → option_copied result
-            ≡ option_and_then (slice_get (entries_of self.now)) (place_of_path path.now (records self.now)) }
+            ≡ option_and_then (slice_get (entries_of self.now))
+            (place_of_path path.now (records self.now)) }
     {
-        range::entry_by_path(self.entries(), self.path_backing(), path)
+        let place = range::place_by_path(&self.slice(), path)?;
+        Some(&self.parts.entries[place])
     }
 
     /// The places of the entries at the path, counted from 0, or None where there are none.
@@ -90,20 +88,22 @@ impl State {
         ensures exactly { IsOrderedByPath (records self.now)
             → IsRange (is_at path.now) (records self.now) result }
     {
-        range::entry_range(self.entries(), self.path_backing(), path)
+        range::entry_range(&self.slice(), path)
     }
 
     /// The entries whose path begins with the bytes of the prefix, or None where there are none, as
     /// [`prefixed_entries_range`](State::prefixed_entries_range) has their places.
     pub fn prefixed_entries(&self, prefix: &[u8]) -> Option<&[Entry]>
         requires { PathsInStorage self.now }
-        ensures in_range { (range : Option (Range ℕ)) × IfSome range (IsWithin (entries_of self.now))
+        ensures in_range { (range : Option (Range ℕ))
+            × IfSome range (LiesWithin (entries_of self.now))
             × (option_copied result ≡ option_map (part_at (entries_of self.now)) range) }
         ensures exactly { IsOrderedByPath (records self.now)
             → (range : Option (Range ℕ)) × IsPrefixRange prefix.now (records self.now) range
             × (option_copied result ≡ option_map (part_at (entries_of self.now)) range) }
     {
-        range::prefixed_entries(self.entries(), self.path_backing(), prefix)
+        let range = range::prefixed_entries_range(&self.slice(), prefix)?;
+        Some(&self.parts.entries[range])
     }
 
     /// The places of the entries whose path begins with the bytes of the prefix, counted from 0, or None where there
@@ -112,12 +112,12 @@ impl State {
     /// Over entries whose paths never fall they are all such places. Over other entries they are places of the list.
     pub fn prefixed_entries_range(&self, prefix: &[u8]) -> Option<Range<usize>>
         requires { PathsInStorage self.now }
-        ensures in_range { IfSome result (IsWithin (records self.now)) }
+        ensures in_range { IfSome result (LiesWithin (records self.now)) }
         ensures exactly { IsOrderedByPath (records self.now)
             → IsPrefixRange prefix.now (records self.now) result }
         ensures empty { length prefix.now ≡ 0 → IsPrefixRange prefix.now (records self.now) result }
     {
-        range::prefixed_entries_range(self.entries(), self.path_backing(), prefix)
+        range::prefixed_entries_range(&self.slice(), prefix)
     }
 
     /// Where the range of the prefix begins, that is how many paths are below it; and how many times the prefix was
@@ -131,7 +131,7 @@ impl State {
             → result.0 ≡ insertion_of_path prefix.now (records self.now) }
         ensures count { result.1 ≤ digits (length (records self.now)) + 1 }
     {
-        range::search_prefix(self.entries(), self.path_backing(), prefix)
+        range::search_prefix(&self.slice(), prefix)
     }
 
     /// Where entries stand at the directory, the first that stands for a directory itself, a sparse one or a
@@ -143,15 +143,14 @@ impl State {
     pub fn entry_closest_to_directory_or_directory(&self, directory: &[u8]) -> Option<&Entry>
         requires { PathsInStorage self.now }
         ensures found { IfSome result (λ e. Contains (entries_of self.now) e.now) }
-        ensures place { IfSome result (λ e. stands_in directory.now (record_in (storage_of self.now) e.now) ≡ true) }
+        ensures place { IfSome result
+            (λ e. stands_in directory.now (record_in (storage_of self.now) e.now) ≡ true) }
         ensures answer { IsOrderedByPath (records self.now) → option_copied result
-            ≡ option_and_then (slice_get (entries_of self.now)) (closest directory.now (records self.now)) }
+            ≡ option_and_then (slice_get (entries_of self.now))
+            (closest directory.now (records self.now)) }
     {
-        directory::entry_closest_to_directory_or_directory(
-            self.entries(),
-            self.path_backing(),
-            directory,
-        )
+        let place = directory::closest_place(&self.slice(), directory)?;
+        Some(&self.parts.entries[place])
     }
 
     /// Whether the path is a directory: one that an entry stands for, or one that entries are below.
@@ -164,7 +163,7 @@ impl State {
         ensures answer { IsOrderedByPath (records self.now)
             → result ≡ is_some (closest path.now (records self.now)) }
     {
-        directory::path_is_directory(self.entries(), self.path_backing(), path)
+        directory::path_is_directory(&self.slice(), path)
     }
 
     /// The table by which the folded lookups find entries of this state. It borrows the state, asks for memory, and
@@ -186,9 +185,11 @@ impl State {
     ) -> Option<&Entry>
         requires { lookup.now ≡ records self.now }
         ensures { option_copied result
-            ≡ option_and_then (slice_get (entries_of self.now)) (folded_place ignore_case path.now (records self.now)) }
+            ≡ option_and_then (slice_get (entries_of self.now))
+            (folded_place ignore_case path.now (records self.now)) }
     {
-        folded::entry_by_path_icase(self.entries(), path, ignore_case, lookup)
+        let place = lookup.search_path_icase(path, ignore_case).0?;
+        Some(&self.parts.entries[place])
     }
 
     /// The place of that entry, and how many paths were compared: of n entries at most one more than n has binary
@@ -216,14 +217,11 @@ impl State {
     ) -> Option<&Entry>
         requires { lookup.now ≡ records self.now }
         ensures { option_copied result
-            ≡ option_and_then (slice_get (entries_of self.now)) (folded_closest ignore_case directory.now (records self.now)) }
+            ≡ option_and_then (slice_get (entries_of self.now))
+            (folded_closest ignore_case directory.now (records self.now)) }
     {
-        folded::entry_closest_to_directory_or_directory_icase(
-            self.entries(),
-            directory,
-            ignore_case,
-            lookup,
-        )
+        let place = lookup.search_directory_icase(directory, ignore_case).0?;
+        Some(&self.parts.entries[place])
     }
 
     /// The place of that entry, and how many names were compared: of m directories at most one more than m has
@@ -260,7 +258,7 @@ impl State {
         requires { PathsInStorage self.now }
         ensures { IsTrue result ↔ IsOrderedByPath (records self.now) }
     {
-        tables::is_ordered_by_path(self.entries(), self.path_backing())
+        tables::is_ordered_by_path(&self.slice())
     }
 
     /// The table of the directories that entries stand below, for searches by way of them. It borrows the state, asks

@@ -4,28 +4,32 @@ ghost use Rattle.std.specs.Prelude.{◌≡◌, ◌<◌, length, remove, slice_ge
 ghost use Rattle.index_entries.specs.Removed.{RemovesWith};
 ghost use Rattle.index_state.specs.Edits.{with_records};
 ghost use Rattle.index_state.specs.State.{PathsInStorage, contents, entries_of, records, storage_of};
-ghost use Rattle.index_state.specs.Storable.{IsStorable};
+ghost use Rattle.index_format.specs.Storable.{IsStorable};
 
 use crate::State;
-use index_entries::Entry;
-use index_entries::access::remove;
+use index_entries::{Entry, remove};
 
 impl State {
-    /// Shows every entry to the closure, from the first to the last and each one time, with its path and the place that it
-    /// has at this call, and takes out those for which the closure answers true. The others keep their order and what the closure changed. The storage of paths and all
-    /// else stay. No memory is asked for.
+    /// Shows every entry to the closure, from the first to the last and each one time, with its path and the place that
+    /// it has at this call, and takes out those for which the closure answers true. The others keep their order and
+    /// what the closure changed. The storage of paths and all else stay. No memory is asked for.
     pub fn remove_entries<F: FnMut(usize, &[u8], &mut Entry) -> bool>(
         &mut self,
         mut should_remove: F,
     )
         requires placed { PathsInStorage self.old }
         requires callable { F.IsAlwaysCallable should_remove }
-        ensures removed { (last : F) × RemovesWith (λ f i p e b o g. F.step f i p e b o g) (storage_of self.old)
+        ensures removed { (last : F)
+            × RemovesWith (λ f i p e b o g. F.step f i p e b o g) (storage_of self.old)
             should_remove (entries_of self.old) last (entries_of self.new) }
         ensures storage { storage_of self.new ≡ storage_of self.old }
         ensures others { contents self.new ≡ with_records (contents self.old) (records self.new) }
     {
-        remove::remove_entries(&mut self.entries, &self.path_backing, &mut should_remove);
+        remove::remove_entries(
+            &mut self.parts.entries,
+            &self.parts.path_backing,
+            &mut should_remove,
+        );
     }
 
     /// Takes the entry at a place out, counted from 0. The others keep their order; the storage of paths, its own among
@@ -36,9 +40,9 @@ impl State {
         ensures removed { entries_of self.new ≡ remove (entries_of self.old) index }
         ensures storage { storage_of self.new ≡ storage_of self.old }
         ensures others { contents self.new ≡ with_records (contents self.old) (records self.new) }
-        ensures stored { PathsInStorage self.old → PathsInStorage self.new }
+        ensures placed { PathsInStorage self.old → PathsInStorage self.new }
         ensures storable { IsStorable (contents self.old) → IsStorable (contents self.new) }
     {
-        self.entries.remove(index)
+        self.parts.entries.remove(index)
     }
 }

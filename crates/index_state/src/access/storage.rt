@@ -8,28 +8,29 @@ use crate::State;
 use index_entries::PathStorage;
 
 impl State {
-    /// Takes the storage of paths out, and leaves an empty one, without asking for memory. The entries stay as they are.
+    /// Takes the storage of paths out, and leaves an empty one, without asking for memory. The entries stay as they
+    /// are.
     ///
-    /// Until a storage that has their paths is put in by [`return_path_backing`](State::return_path_backing), calls that
-    /// read paths may not be made where there are entries.
+    /// Until a storage that has their paths is put in by [`return_path_backing`](State::return_path_backing), calls
+    /// that read paths may not be made where there are entries.
     pub fn take_path_backing(&mut self) -> PathStorage
         ensures given { result.items ≡ storage_of self.old }
         ensures emptied { storage_of self.new ≡ [] }
         ensures entries { entries_of self.new ≡ entries_of self.old }
         ensures others { contents self.new ≡ with_records (contents self.old) (records self.new) }
     {
-        let alloc = *self.path_backing.allocator();
-        std::mem::replace(&mut self.path_backing, Vec::new(alloc))
+        let alloc = *self.parts.path_backing.allocator();
+        std::mem::replace(&mut self.parts.path_backing, Vec::new(alloc))
     }
 
-    /// Puts a storage of paths in where there is none. The entries stay as they are: with the storage that was taken out
-    /// they have the paths that they had.
+    /// Puts a storage of paths in where there is none. The entries stay as they are: with the storage that was taken
+    /// out they have the paths that they had.
     pub fn return_path_backing(&mut self, backing: PathStorage)
         requires { storage_of self.old ≡ [] }
         ensures stored { storage_of self.new ≡ backing.items }
         ensures entries { entries_of self.new ≡ entries_of self.old }
         ensures others { contents self.new ≡ with_records (contents self.old) (records self.new) }
     {
-        self.path_backing = backing;
+        self.parts.path_backing = backing;
     }
 }

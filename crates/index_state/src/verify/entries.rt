@@ -4,7 +4,7 @@ ghost use Rattle.std.specs.Prelude.{◌≡◌};
 ghost use Rattle.index_state.specs.declared.verify.entries.Error.TheVariants.{Memory};
 
 use bstr::BString;
-use index_parts::entry::Stage;
+use index_metadata::entry::Stage;
 use std::alloc::AllocError;
 use thiserror::Error;
 

@@ -17,8 +17,8 @@ const OK_LINE: &[u8] = b"ok\n";
 
 /// Checks the index in a file, with the shared index that it links to, and writes `ok` and a newline to `out`.
 ///
-/// Its entries have to increase strictly by path, then stage. Its cached tree has to hold together, and no node of it counts more
-/// entries than there are; objects aren't looked at. The file's bytes have to have the digest still that
+/// Its entries have to increase strictly by path, then stage. Its cached tree has to hold together, and no node of it
+/// counts more entries than there are; objects aren't looked at. The file's bytes have to have the digest still that
 /// their trailer gave. Nothing goes to `out` before the last check has passed. Ok: `out` took the whole line.
 /// [`Failure::Output`]: it took a front. Any other failure: it took nothing.
 pub fn check<'a, R: Files, W: io::Write>(
@@ -29,7 +29,8 @@ pub fn check<'a, R: Files, W: io::Write>(
     out: &mut W,
 ) -> Result<(), Failure<'a>>
     ensures checked { OnOk result (Checks kind (W.contents out.old) (W.contents out.new)) }
-    ensures refused { IfErr result (λ failure. FailsToCheck kind path.now failure (W.contents out.old) (W.contents out.new)) }
+    ensures refused { IfErr result
+        (λ failure. FailsToCheck kind path.now failure (W.contents out.old) (W.contents out.new)) }
 {
     let index = match index_at(rt, alloc, kind, path) {
         Ok(index) => index,

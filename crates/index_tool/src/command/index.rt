@@ -25,8 +25,8 @@ fn failure_of(path: &str, fault: file::init::Error) -> Failure<'_>
 
 /// The index in a file, with the shared index that it links to.
 ///
-/// The digest of the bytes is compared with their trailer, unless that is null. [`Failure::Read`] names the file that can't
-/// be read, this one or the shared one; [`Failure::Index`] comes for any other fault of either.
+/// The digest of the bytes is compared with their trailer, unless that is null. [`Failure::Read`] names the file that
+/// can't be read, this one or the shared one; [`Failure::Index`] comes for any other fault of either.
 pub fn index_at<'a, R: Files>(
     rt: &R,
     alloc: Global,
@@ -34,7 +34,7 @@ pub fn index_at<'a, R: Files>(
     path: &'a str,
 ) -> Result<File, Failure<'a>>
     ensures read { IfOk result (λ index. IsInFile kind (contents (state_of index))) }
-    ensures stored { IfOk result (λ index. PathsInStorage (state_of index)) }
+    ensures placed { IfOk result (λ index. PathsInStorage (state_of index)) }
     ensures fault { IfErr result (FailsToRead path.now) }
 {
     let Ok(file) = PathBuf::from_str(alloc, path) else {

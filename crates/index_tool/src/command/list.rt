@@ -1,7 +1,7 @@
 //! The command `list`.
 
 ghost use Rattle.std.specs.Prelude.{IfErr, OnOk};
-ghost use Rattle.index_tool.specs.Listing.{FailsToList, Lists};
+ghost use Rattle.index_tool.specs.Listing.{FailsToList, ListsIndex};
 
 use crate::command::index::index_at;
 use crate::failure::Failure;
@@ -13,8 +13,8 @@ use std::rt::Files;
 
 /// Lists the index in a file: a line to `out` for each entry.
 ///
-/// Nothing goes to `out` before the index was read whole, with the shared index that it links to. Ok: `out` took the whole
-/// listing. [`Failure::Output`]: it took a front. Any other failure: it took nothing.
+/// Nothing goes to `out` before the index was read whole, with the shared index that it links to. Ok: `out` took the
+/// whole listing. [`Failure::Output`]: it took a front. Any other failure: it took nothing.
 pub fn list<'a, R: Files, W: io::Write>(
     rt: &R,
     alloc: Global,
@@ -22,8 +22,9 @@ pub fn list<'a, R: Files, W: io::Write>(
     path: &'a str,
     out: &mut W,
 ) -> Result<(), Failure<'a>>
-    ensures listed { OnOk result (Lists kind (W.contents out.old) (W.contents out.new)) }
-    ensures refused { IfErr result (λ failure. FailsToList kind path.now failure (W.contents out.old) (W.contents out.new)) }
+    ensures listed { OnOk result (ListsIndex kind (W.contents out.old) (W.contents out.new)) }
+    ensures refused { IfErr result
+        (λ failure. FailsToList kind path.now failure (W.contents out.old) (W.contents out.new)) }
 {
     let index = match index_at(rt, alloc, kind, path) {
         Ok(index) => index,

@@ -14,9 +14,9 @@ use std::rt::Files;
 
 /// Writes the index in a file, with the shared index that it links to, to another path, or to the same.
 ///
-/// It is written by [`File::write`](gix_index::File::write) in the version that is chosen, and else with the default options.
-/// [`Failure::Rewrite`]: it can't be written, and what was at the path is there as before. Any other failure concerns the file
-/// that is read.
+/// It is written by [`File::write`](gix_index::File::write) in the version that is chosen, and else with the default
+/// options. [`Failure::Rewrite`]: it can't be written, and what was at the path is there as before. Any other failure
+/// concerns the file that is read.
 pub fn rewrite<'a, R: Files>(
     rt: &R,
     alloc: Global,

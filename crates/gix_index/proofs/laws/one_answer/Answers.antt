@@ -1,5 +1,5 @@
-use Rattle.index_state.proofs.OnceAnswers.{answer_one}
-use Rattle.index_state.proofs.SomeAnswers.{answer_some}
+use Rattle.index_format.proofs.OnceAnswers.{answer_one}
+use Rattle.index_format.proofs.SomeAnswers.{answer_some}
 use Rattle.gix_index.proofs.laws.one_answer.Goals as goal
 
 pub returns-clause-some : goal.returns-clause-some

@@ -4,13 +4,13 @@ use Rattle.index_extensions.proofs.Monitors.{monitor_reading, monitor_reading_on
 use Rattle.index_extensions.proofs.Readings.{one_read}
 use Rattle.index_extensions.proofs.ResolveUndo.{resolve_undo_reading, resolve_undo_reading_one}
 use Rattle.index_extensions.proofs.TableReadings.{table_reading, table_reading_one}
-use Rattle.index_extensions.proofs.TreeReadings.{tree_reading, tree_reading_one}
+use Rattle.index_cached_tree.proofs.TreeReadings.{tree_reading, tree_reading_one}
 use Rattle.index_extensions.proofs.Walks.{walk_of, walk_one}
 use Rattle.index_parts.proofs.BitmapFaults.{bitmap_or_fault, no_fault, one_fault}
 use Rattle.index_parts.proofs.Bitmaps.{one_bitmap}
-use Rattle.index_state.specs.Link.{IsLink}
-use Rattle.index_state.proofs.OnceLinks.{link_reading, one_link}
-use Rattle.index_state.proofs.OnceLinkFaults.{one_link_fault}
+use Rattle.index_split.specs.Link.{IsLink}
+use Rattle.index_split.proofs.OnceLinks.{link_reading, one_link}
+use Rattle.index_split.proofs.OnceLinkFaults.{one_link_fault}
 use Rattle.gix_index.proofs.laws.one_reading.Goals as goal
 
 pub returns-clause-tree : goal.returns-clause-tree

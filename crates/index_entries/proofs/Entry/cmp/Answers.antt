@@ -1,4 +1,4 @@
-use Rattle.index_entries.proofs.Order.{records_total}
+use Rattle.index_entries.proofs.Orders.{records_total}
 use Rattle.index_entries.proofs.Entry.cmp.Goals as goal
 
 pub returns-clause-total : goal.returns-clause-total

@@ -1,4 +1,4 @@
-use Rattle.index_entries.proofs.Order.{paths_total, same_path}
+use Rattle.index_entries.proofs.Orders.{paths_total, same_path}
 use Rattle.index_entries.proofs.Entry.cmp_filepaths.Goals as goal
 
 pub returns-clause-equal : goal.returns-clause-equal

@@ -1,7 +1,7 @@
 use Rattle.std.proofs.Common.{◌≡◌, ◌+◌, ◌<◌, ◌∙◌, [], length, take, sym, ap, arith, rules}
 use Rattle.std.specs.List.{list_any}
 use Rattle.std.proofs.lemmas.List.{take_all}
-use Rattle.index_parts.specs.Flags.{is_extended}
+use Rattle.index_metadata.specs.Flags.{is_extended}
 use Rattle.index_entries.specs.EntryImage.{chosen_version, entries_in, version_by}
 use Rattle.index_entries.specs.Record.{records_in}
 use Rattle.index_entries.proofs.Written.{any_push, any_record, count_push, counted_entries, last_of, last_push, length_push, too_large_at, written_of, written_skip}

@@ -1,6 +1,6 @@
 use Rattle.std.proofs.Common.{◌≡◌, ◌+◌, ◌<◌, ◌≤◌, ◌^◌, [], length, take}
 use Rattle.std.specs.List.{list_any}
-use Rattle.index_parts.specs.Flags.{is_extended}
+use Rattle.index_metadata.specs.Flags.{is_extended}
 use Rattle.index_entries.specs.EntryImage.{entries_in}
 use Rattle.index_entries.proofs.Written.{written_of, last_of}
 use Rattle.index_entries.proofs.write.totals_of.Given as goal

@@ -2,31 +2,32 @@ use Rattle.std.proofs.Common.{◌≡◌, ◌<◌, ◌++◌, ◌∷◌, [], ℕ, 
 use Rattle.std.specs.List.{HoldsAt}
 use Rattle.std.specs.Prelude.{IfSome}
 use Rattle.std.specs.declared.cmp.Ordering.{Ordering}
-use Rattle.index_entries.specs.Record.{Record, records_in}
+use Rattle.index_entries.specs.Record.{Record}
+use Rattle.std.proofs.lemmas.List.{length-map}
 use Rattle.index_lookups.specs.Closest.{is_below}
-use Rattle.index_lookups.specs.Search.{front_cmp}
+use Rattle.index_lookups.specs.SearchSteps.{prefix_cmp}
 use Rattle.index_lookups.proofs.Closest.{below_first, below_found}
 use Rattle.index_lookups.proofs.Parting.{bracket_whole}
-use Rattle.index_lookups.proofs.RowAnswers.{equal_at, gap_at, records_length}
-use Rattle.index_lookups.proofs.RunsFound.{rising_of, split_fronts}
+use Rattle.index_lookups.proofs.OrderedAnswers.{equal_at, gap_at}
+use Rattle.index_lookups.proofs.RunsFound.{rising_of, split_prefixes}
 use Rattle.index_lookups.proofs.directory.first_below.Goals as goal
 
 pub returns-clause-found : goal.returns-clause-found
 returns-clause-found c =
     let directory = c.args.directory.now in
-    let rs = records_in c.args.backing.now c.args.entries.now in
-    let cmp : Record → Ordering = λ r. front_cmp (directory ++ 47 ∷ []) r.path in
+    let rs = c.args.entries.now in
+    let cmp : Record → Ordering = λ r. prefix_cmp (directory ++ 47 ∷ []) r.path in
     let P : Option ℕ → Type 0 = λ r. IfSome r (λ i. (i < length rs) × HoldsAt (λ r. is_below directory r ≡ true) rs i) in
     subst P (sym c.ok.ensures.value) (below_found directory rs c.search_within.result.0 (equal_at cmp rs c.search_within.result.0 c.search_within.ensures.found))
 
 pub returns-clause-answer : goal.returns-clause-answer
 returns-clause-answer c = λ o.
     let directory = c.args.directory.now in
-    let rs = records_in c.args.backing.now c.args.entries.now in
-    let cmp : Record → Ordering = λ r. front_cmp (directory ++ 47 ∷ []) r.path in
-    let split = split_fronts (directory ++ 47 ∷ []) rs o in
-    let bracket = bracket_whole (map cmp rs) (length c.args.entries.now) (records_length cmp c.args.backing.now c.args.entries.now) in
+    let rs = c.args.entries.now in
+    let cmp : Record → Ordering = λ r. prefix_cmp (directory ++ 47 ∷ []) r.path in
+    let split = split_prefixes (directory ++ 47 ∷ []) rs o in
+    let bracket = bracket_whole (map cmp rs) c.len.result (c.len.ensures ∙ sym (length-map rs cmp)) in
     c.ok.ensures.value ∙ below_first directory rs c.search_within.result.0
     (equal_at cmp rs c.search_within.result.0 c.search_within.ensures.found)
     (c.search_within.ensures.first (rising_of cmp rs split) bracket)
-    (gap_at cmp rs 0 (length c.args.entries.now) c.search_within.result.0 bracket c.search_within.ensures.absent split)
+    (gap_at cmp rs 0 c.len.result c.search_within.result.0 bracket c.search_within.ensures.absent split)

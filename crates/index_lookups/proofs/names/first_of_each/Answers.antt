@@ -1,5 +1,5 @@
 use Rattle.std.proofs.Common.{◌≡◌, ◌+◌, List, map, take, arith, sym, ap, subst, ◌∙◌}
-use Rattle.index_lookups.specs.Names.{Key, key_of, IsFirstOfEach}
+use Rattle.index_lookups.specs.NameSteps.{NamedValue, named_value, IsFirstOfEach}
 use Rattle.index_lookups.specs.declared.names.Named.{Named}
 use Rattle.index_lookups.proofs.FirstOfEach.{skip_one, push_first, push_other}
 use Rattle.index_lookups.proofs.names.first_of_each.Goals as goal
@@ -18,6 +18,6 @@ loop-i-preserved c =
           ]
       | else-i-eq0+else-is_ne w ↦
           let same = skip_one c.args.ignore_case names kept c.loop-i.i _ c.requires c.loop-i-test.true c.loop-i.invariant (omega (arith, w.if-i-eq0.false)) w.compare_names.result w.compare_names.ensures (sym w.is_ne.ensures ∙ w.if-is_ne.false) in
-          let e : map key_of c.if-i-eq0.kept.items ≡ map key_of kept = ap (λ (v : _). map key_of v.items) w.kept-is in
-          subst (λ (xs : List Key). IsFirstOfEach c.args.ignore_case (take (c.loop-i.i + 1) (map key_of names)) xs) (sym e) same
+          let e : map named_value c.if-i-eq0.kept.items ≡ map named_value kept = ap (λ (v : _). map named_value v.items) w.kept-is in
+          subst (λ (xs : List NamedValue). IsFirstOfEach c.args.ignore_case (take (c.loop-i.i + 1) (map named_value names)) xs) (sym e) same
     ]

@@ -1,6 +1,5 @@
 use Rattle.std.proofs.Common.{ℕ, ◌<◌, length, ◌∙◌}
 use Rattle.std.specs.List.{HoldsAt}
-use Rattle.index_entries.specs.Record.{records_in}
 use Rattle.index_lookups.specs.declared.range.Wanted.TheVariants.{OurSide}
 use Rattle.index_lookups.specs.Range.{HasStageOf}
 use Rattle.index_lookups.proofs.Lookup.{err_is, ok_is, ordered_by_path, split_by_path}
@@ -9,19 +8,19 @@ use Rattle.index_lookups.proofs.range.place_by_path.Goals as goal
 
 pub returns-in-Ok-clause-found : goal.returns-in-Ok-clause-found
 returns-in-Ok-clause-found c =
-    let rs = records_in c.args.backing.now c.args.entries.now in
+    let rs = c.args.entries.now in
     if_some _ (λ (i : ℕ). (i < length rs) × HoldsAt (HasStageOf c.args.path.now) rs i) (λ i h. (h.0, λ d. ours_has c.args.path.now _ (h.1 d))) c.first_wanted.result c.first_wanted.ensures.found
 
 pub returns-in-Ok-clause-answer : goal.returns-in-Ok-clause-answer
 returns-in-Ok-clause-answer c = λ o.
-    let rs = records_in c.args.backing.now c.args.entries.now in
+    let rs = c.args.entries.now in
     let path = c.args.path.now in
     c.first_wanted.ensures.answer (ordered_by_path rs o) (ok_is c.search.result.0 c.in-Ok.low _ c.in-Ok.is (c.search.ensures.first (split_by_path path rs (ordered_by_path rs o))))
     ∙ ours_place path rs o
 
 pub returns-in-Err-clause-answer : goal.returns-in-Err-clause-answer
 returns-in-Err-clause-answer c = λ o.
-    let rs = records_in c.args.backing.now c.args.entries.now in
+    let rs = c.args.entries.now in
     let path = c.args.path.now in
     gap_wanted path OurSide rs _ (err_is c.search.result.0 _ _ c.in-Err.is (c.search.ensures.absent (split_by_path path rs (ordered_by_path rs o))))
     ∙ ours_place path rs o

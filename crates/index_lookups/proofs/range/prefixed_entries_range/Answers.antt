@@ -1,15 +1,15 @@
 use Rattle.std.proofs.Common.{◌++◌, [], arith}
 use Rattle.std.proofs.lemmas.Bool.Decides.{nat_tests}
-use Rattle.index_entries.specs.Record.{Record, records_in}
-use Rattle.index_lookups.specs.Search.{front_cmp}
+use Rattle.index_entries.specs.Record.{Record}
+use Rattle.index_lookups.specs.SearchSteps.{prefix_cmp}
 use Rattle.index_lookups.specs.Range.{begins_with}
-use Rattle.index_lookups.proofs.RunsFound.{rising_fronts, range_map, begins_is, prefix_range}
+use Rattle.index_lookups.proofs.RunsFound.{rising_prefixes, range_map, begins_is, prefix_range}
 use Rattle.index_lookups.proofs.range.prefixed_entries_range.Goals as goal
 
 pub returns-clause-exactly : goal.returns-clause-exactly
 returns-clause-exactly c = λ o.
     let prefix = c.args.prefix.now in
-    let rs = records_in c.args.backing.now c.args.entries.now in
-    let found = range_map (λ (r : Record). front_cmp (prefix ++ []) r.path) (begins_with (prefix ++ [])) (begins_is (prefix ++ [])) rs c.run_of.result (c.run_of.ensures.exactly (rising_fronts (prefix ++ []) rs o)) in
+    let rs = c.args.entries.now in
+    let found = range_map (λ (r : Record). prefix_cmp (prefix ++ []) r.path) (begins_with (prefix ++ [])) (begins_is (prefix ++ [])) rs c.run_of.result (c.run_of.ensures.exactly (rising_prefixes (prefix ++ []) rs o)) in
     let e = c.is_empty.ensures in let f = c.if-is_empty.false in
     prefix_range prefix rs c.run_of.result (λ z. grind (arith, nat_tests, e, f, z)) found

@@ -1,11 +1,13 @@
 use Rattle.std.proofs.Common.{◌++◌, ◌∷◌, []}
-use Rattle.index_entries.specs.Record.{records_in}
-use Rattle.index_lookups.proofs.RunsFound.{rising_fronts}
+use Rattle.index_lookups.specs.SearchSteps.{prefix_answers}
+use Rattle.index_lookups.proofs.Parting.{parted_bracket}
+use Rattle.index_lookups.proofs.RunsFound.{rising_prefixes}
 use Rattle.index_lookups.proofs.TableSearch.{span_is}
 use Rattle.index_lookups.proofs.spans.span_of.Goals as goal
 
 pub returns-clause-span : goal.returns-clause-span
-returns-clause-span c = λ o t.
-    let rs = records_in c.args.backing.now c.args.entries.now in
-    let rising = rising_fronts (c.args.name.now ++ 47 ∷ []) rs o in
-    span_is c.args.name.now rs c.part-start.result.0 c.part-end.result.0 (c.part-start.ensures.parts rising) (c.part-end.ensures.parts rising) t
+returns-clause-span c = λ o p t.
+    let rs = c.args.entries.now in
+    let prefix = c.args.name.now ++ 47 ∷ [] in
+    let bracket = parted_bracket (prefix_answers prefix rs) c.args.start c.len.result c.len.ensures p in
+    span_is c.args.name.now rs c.args.start c.part_within-end.result.0 p (c.part_within-end.ensures.parts (rising_prefixes prefix rs o) bracket) t

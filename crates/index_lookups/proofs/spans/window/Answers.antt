@@ -1,7 +1,5 @@
 use Rattle.std.proofs.Common.{arith, get_or, take, length, length-take, sym, ◌∙◌}
-use Rattle.std.proofs.lemmas.List.{length-map}
-use Rattle.index_entries.specs.Record.{record_in, records_in}
-use Rattle.index_lookups.specs.Spans.{names_of}
+use Rattle.index_lookups.specs.SpanSteps.{names_of}
 use Rattle.index_lookups.proofs.Lookup.{err_is, ok_is}
 use Rattle.index_lookups.proofs.TableSearch.{no_span, slash_at, span_found, window_absent, window_is, window_count}
 use Rattle.index_lookups.proofs.spans.window.Goals as goal
@@ -11,17 +9,17 @@ slice_bounds-find-end c = omega (arith, (slash_at c.args.path.now c.in-Some.slas
 
 pub returns-in-Ok-clause-window : goal.returns-in-Ok-clause-window
 returns-in-Ok-clause-window c =
-    let rs = records_in c.args.backing.now c.args.entries.now in
+    let rs = c.args.entries.now in
     let d = take c.in-Some.slash c.args.path.now in
     window_is rs c.args.path.now c.in-Some.slash (get_or c.args.spans.now c.in-Ok.place no_span) (sym c.last_slash.ensures ∙ c.in-Some.is) (span_found rs c.args.spans.now d c.in-Ok.place no_span (ok_is c.find-place.result.0 c.in-Ok.place _ c.in-Ok.is c.find-place.ensures.found) c.requires.each)
 
 pub returns-in-Ok-clause-count : goal.returns-in-Ok-clause-count
 returns-in-Ok-clause-count c =
-    let rs = records_in c.args.backing.now c.args.entries.now in
+    let rs = c.args.entries.now in
     let d = take c.in-Some.slash c.args.path.now in
     window_count rs c.args.path.now (length (names_of c.args.spans.now)) c.in-Some.slash c.find-place.result.1 (get_or c.args.spans.now c.in-Ok.place no_span) (sym c.last_slash.ensures ∙ c.in-Some.is) (span_found rs c.args.spans.now d c.in-Ok.place no_span (ok_is c.find-place.result.0 c.in-Ok.place _ c.in-Ok.is c.find-place.ensures.found) c.requires.each) c.find-place.ensures.count
 
 pub returns-in-Err-clause-count : goal.returns-in-Err-clause-count
 returns-in-Err-clause-count c =
-    let rs = records_in c.args.backing.now c.args.entries.now in
-    window_absent rs c.args.path.now (length (names_of c.args.spans.now)) c.in-Some.slash c.find-place.result.1 (length c.args.entries.now) (sym c.last_slash.ensures ∙ c.in-Some.is) (err_is c.find-place.result.0 _ _ c.in-Err.is (c.find-place.ensures.absent rs c.requires.dirs)) (sym (length-map c.args.entries.now (record_in c.args.backing.now))) c.find-place.ensures.count
+    let rs = c.args.entries.now in
+    window_absent rs c.args.path.now (length (names_of c.args.spans.now)) c.in-Some.slash c.find-place.result.1 c.len.result (sym c.last_slash.ensures ∙ c.in-Some.is) (err_is c.find-place.result.0 _ _ c.in-Err.is (c.find-place.ensures.absent rs c.requires.dirs)) c.len.ensures c.find-place.ensures.count

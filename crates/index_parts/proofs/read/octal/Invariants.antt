@@ -1,5 +1,5 @@
 use Rattle.std.proofs.Common.{◌≡◌, drop}
-use Rattle.index_parts.specs.Reading.{octal_from, octal_of}
+use Rattle.index_parts.specs.ReadingSteps.{octal_from, octal_of}
 use Rattle.index_parts.proofs.read.octal.Given as goal
 
 abbrev pub invariant-loop-b : goal.invariant-loop-b

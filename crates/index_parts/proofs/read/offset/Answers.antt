@@ -1,5 +1,5 @@
 use Rattle.std.proofs.Common.{◌≡◌, ◌∙◌, sym, refl, None, drop, arith}
-use Rattle.index_parts.specs.Reading.{offset_at}
+use Rattle.index_parts.specs.ReadingSteps.{offset_at}
 use Rattle.index_parts.proofs.Offsets.{offset_over}
 use Rattle.index_parts.proofs.read.offset.Goals as goal
 

@@ -1,4 +1,4 @@
-use Rattle.index_parts.specs.Flags.{stage_code}
+use Rattle.index_metadata.specs.Flags.{stage_code}
 use Rattle.index_state.specs.State.{entries_of, storage_of}
 use Rattle.index_lookups.proofs.Lookup.{entry_key, entry_place}
 use Rattle.index_state.proofs.State.entry_by_path_and_stage.Goals as goal

@@ -1,6 +1,6 @@
 use Rattle.std.proofs.Common.{◌<◌, length, refl, sym, arith}
 use Rattle.std.proofs.lemmas.List.{length-map}
-use Rattle.index_parts.specs.Flags.{stage_code}
+use Rattle.index_metadata.specs.Flags.{stage_code}
 use Rattle.index_entries.specs.Record.{record_in}
 use Rattle.index_state.specs.Edits.{IsUnchanged}
 use Rattle.index_state.specs.State.{entries_of, storage_of}
@@ -18,8 +18,8 @@ returns c =
       (refl, λ w. (i, found, refl), unchanged),
       record {
         writes_back = tt;
-        found = (i, inside, sym c.index_mut.ensures.value);
-        key = entry_key c.args.path.now (stage_code c.args.stage) storage es i c.index_mut.result.now found c.index_mut.ensures.value;
-        answer = λ o. entry_place c.args.path.now (stage_code c.args.stage) storage es i c.index_mut.result.now found c.index_mut.ensures.value _ (c.in_ok-idx.ensures.answer o);
+        found = (i, inside, sym c.entry_mut.ensures.value);
+        key = entry_key c.args.path.now (stage_code c.args.stage) storage es i c.entry_mut.result.now found c.entry_mut.ensures.value;
+        answer = λ o. entry_place c.args.path.now (stage_code c.args.stage) storage es i c.entry_mut.result.now found c.entry_mut.ensures.value _ (c.in_ok-idx.ensures.answer o);
       },
     )

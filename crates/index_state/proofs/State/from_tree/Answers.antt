@@ -2,8 +2,9 @@ use Rattle.std.proofs.Common.{◌∙◌, ap, sym, subst}
 use Rattle.index_parts.specs.Id.{id_kind}
 use Rattle.index_parts.specs.declared.hash.Kind.{Kind}
 use Rattle.index_state.specs.Edits.{empty_contents, with_records}
-use Rattle.index_state.specs.State.{Contents, records}
-use Rattle.index_state.specs.Storable.{IsStorable}
+use Rattle.index_format.specs.Contents.{Contents}
+use Rattle.index_state.specs.State.{records}
+use Rattle.index_format.specs.Storable.{IsStorable}
 use Rattle.index_state.specs.declared.State.{State}
 use Rattle.index_state.proofs.Storables.{fitting_storable}
 use Rattle.index_trees.proofs.Fits.{leaves_fit}
@@ -11,11 +12,13 @@ use Rattle.index_state.proofs.State.from_tree.Goals as goal
 
 pub returns-clause-others : goal.returns-clause-others
 returns-clause-others g c =
-    let s : State = record c.new-state.result { entries = c.in_ok-leaves.leaves.entries; path_backing = c.in_ok-leaves.leaves.storage } in
+    let new = c.new-state.result in
+    let s : State = record new { parts = record new.parts { entries = c.into_parts-entries.result.0; path_backing = c.into_parts-entries.result.1 } } in
     ap (λ (v : Contents). with_records v (records s)) c.new-state.ensures.empty ∙ ap (λ (k : Kind). with_records (empty_contents k c.args.now) (records s)) c.kind.ensures
 
 pub returns-clause-storable : goal.returns-clause-storable
 returns-clause-storable g c =
-    let s : State = record c.new-state.result { entries = c.in_ok-leaves.leaves.entries; path_backing = c.in_ok-leaves.leaves.storage } in
+    let new = c.new-state.result in
+    let s : State = record new { parts = record new.parts { entries = c.into_parts-entries.result.0; path_backing = c.into_parts-entries.result.1 } } in
     subst IsStorable (sym (returns-clause-others g c)) (fitting_storable (id_kind c.args.tree.now) c.args.now (records s)
-    (leaves_fit (g.F.Find.found c.args.objects.now) (g.C.ComponentCheck.refusal c.args.check.now) c.args.tree.now c.args.max_objects (records s) c.in_ok-leaves.ensures.leaves))
+    (leaves_fit (g.F.Find.found c.args.objects.now) (g.C.ComponentCheck.refusal c.args.check.now) c.args.tree.now c.args.max_objects (records s) (rw (← c.into_parts-entries.ensures.records) at c.in_ok-leaves.ensures.leaves)))

@@ -1,7 +1,7 @@
 use Rattle.std.proofs.Common.{rules, ◌≡◌, Ok, Some, None, length, refl}
-use Rattle.index_extensions.specs.Sound.{IsSoundTree}
-use Rattle.index_extensions.specs.Tree.{node_of}
-use Rattle.index_extensions.proofs.Agreements.{some_trees}
+use Rattle.index_cached_tree.specs.Sound.{IsSoundTree}
+use Rattle.index_cached_tree.specs.Tree.{node_of}
+use Rattle.index_cached_tree.proofs.Agreements.{some_trees}
 use Rattle.index_state.specs.State.{contents, entries_of}
 use Rattle.index_state.proofs.VerifiedTrees.{later_fault, judged_later}
 use Rattle.index_state.proofs.State.verify_extensions.Goals as goal

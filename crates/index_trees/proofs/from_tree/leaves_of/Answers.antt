@@ -4,7 +4,7 @@ use Rattle.index_trees.proofs.LeavesOrder.{leaves_ordered}
 use Rattle.index_trees.proofs.Listings.{says_also}
 use Rattle.index_trees.proofs.Trees.{way_begins, way_ends, way_fails, way_limit, way_reaches, way_sound, way_unread}
 use Rattle.index_trees.specs.Leaves.{AreLeaves, IsUnread}
-use Rattle.index_trees.specs.Walking.{Ends, HasFault, Reaches, GoesTo}
+use Rattle.index_trees.specs.LeafSteps.{Ends, WalkHasFault, Reaches, EndsOrReaches}
 use Rattle.index_trees.proofs.from_tree.leaves_of.Goals as goal
 
 pub loop-init : goal.loop-init
@@ -43,7 +43,7 @@ returns-in_err-id-clause-fault g c =
     let kind = c.kind-kind.result in
     let left : c.args.max_objects - c.loop.counter ≡ suc (c.args.max_objects - (c.loop.counter + 1)) = omega (arith, c.loop-test.true) in
     let p = err_from_is_err_and c.from_residual-in_err-id.result c.from_residual-in_err-id.ensures.1 in
-    rw (p.1, p.2) (says_also c.in_err-id.field-0.0 (HasFault check kind c.begin.new.self) (λ f. AreLeaves find check c.args.tree.now c.args.max_objects (Err f))
+    rw (p.1, p.2) (says_also c.in_err-id.field-0.0 (WalkHasFault check kind c.begin.new.self) (λ f. AreLeaves find check c.args.tree.now c.args.max_objects (Err f))
     (λ f u. way_fails find check kind c.args.tree.now c.args.max_objects c.kind-kind.ensures (c.args.max_objects - c.loop.counter) c.loop.walk c.loop.next c.loop.invariant.way _ left
     c.begin.new.self c.in_ok-bytes.bytes.items c.in_ok-bytes.ensures.found c.in_ok-bytes.ensures.whole c.in_ok-begin.ensures.begins f u)
     c.in_err-id.ensures.fault)
@@ -54,8 +54,8 @@ returns-in-None-clause-leaves g c =
     let check = g.C.ComponentCheck.refusal c.args.check.now in
     let kind = c.kind-kind.result in
     let left : c.args.max_objects - c.loop.counter ≡ suc (c.args.max_objects - (c.loop.counter + 1)) = omega (arith, c.loop-test.true) in
-    let ends : Ends check kind c.begin.new.self c.next_tree.new.self = subst (GoesTo check kind c.begin.new.self c.next_tree.new.self) c.in-None.is c.in_ok-id.ensures.steps in
-    rw (c.into_leaves.ensures.storage, c.into_leaves.ensures.entries)
+    let ends : Ends check kind c.begin.new.self c.next_tree.new.self = subst (EndsOrReaches check kind c.begin.new.self c.next_tree.new.self) c.in-None.is c.in_ok-id.ensures.steps in
+    rw c.into_leaves.ensures
     (way_ends find check kind c.args.tree.now c.args.max_objects c.kind-kind.ensures (c.args.max_objects - c.loop.counter) c.loop.walk c.loop.next c.loop.invariant.way _ left
     c.begin.new.self c.in_ok-bytes.bytes.items c.in_ok-bytes.ensures.found c.in_ok-bytes.ensures.whole c.in_ok-begin.ensures.begins c.next_tree.new.self ends)
 
@@ -69,7 +69,7 @@ loop-preserved g c =
     let check = g.C.ComponentCheck.refusal c.args.check.now in
     let kind = c.kind-kind.result in
     let left : c.args.max_objects - c.loop.counter ≡ suc (c.args.max_objects - (c.loop.counter + 1)) = omega (arith, c.loop-test.true) in
-    let reaches : Reaches check kind c.begin.new.self c.next_tree.new.self c.in-Some.id = subst (GoesTo check kind c.begin.new.self c.next_tree.new.self) c.in-Some.is c.in_ok-id.ensures.steps in
+    let reaches : Reaches check kind c.begin.new.self c.next_tree.new.self c.in-Some.id = subst (EndsOrReaches check kind c.begin.new.self c.next_tree.new.self) c.in-Some.is c.in_ok-id.ensures.steps in
     record {
       within = omega (arith, c.loop-test.true);
       way = way_reaches find check kind c.args.tree.now c.args.max_objects c.kind-kind.ensures (c.args.max_objects - c.loop.counter) c.loop.walk c.loop.next c.loop.invariant.way _ left

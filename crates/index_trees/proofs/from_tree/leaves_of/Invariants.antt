@@ -1,5 +1,5 @@
 use Rattle.std.proofs.Common.{◌-◌, ◌≤◌}
-use Rattle.index_trees.specs.Walking.{IsUnderWay}
+use Rattle.index_trees.proofs.WalkLoops.{IsUnderWay}
 use Rattle.index_trees.proofs.from_tree.leaves_of.Given as goal
 
 -- as many objects are read as the loop counts

@@ -1,6 +1,7 @@
 use Rattle.std.proofs.Common.{◌≡◌, ◌≤◌, take, length}
-use Rattle.index_parts.specs.TreeObject.{kind_of_entries, unread_entries}
-use Rattle.index_trees.specs.Walking.{IsListing, IsPacked}
+use Rattle.index_metadata.specs.TreeObject.{kind_of_entries, unread_entries}
+use Rattle.index_trees.specs.LeafSteps.{IsPacked}
+use Rattle.index_trees.proofs.WalkLoops.{IsListing}
 use Rattle.index_trees.proofs.walk.list_entries.Given as goal
 
 -- of the bytes those that are read are listed
@@ -8,7 +9,7 @@ abbrev pub invariant-loop-entry : goal.invariant-loop-entry
 invariant-loop-entry g l = record {
   same_kind : kind_of_entries l.entries ≡ l.fn.kind;
   packed : IsPacked l.listed;
-  front : take l.fn.front l.listed.path.items ≡ take l.fn.front l.initial.listed.path.items;
-  long : l.fn.front ≤ length l.listed.path.items;
-  listing : IsListing (g.C.ComponentCheck.refusal l.check) l.fn.kind l.initial.listed l.listed (take l.fn.front l.initial.listed.path.items) l.bytes (unread_entries l.entries);
+  prefix : take l.fn.prefix_len l.listed.path.items ≡ take l.fn.prefix_len l.initial.listed.path.items;
+  long : l.fn.prefix_len ≤ length l.listed.path.items;
+  listing : IsListing (g.C.ComponentCheck.refusal l.check) l.fn.kind l.initial.listed l.listed (take l.fn.prefix_len l.initial.listed.path.items) l.bytes (unread_entries l.entries);
 }

@@ -1,7 +1,7 @@
 use Rattle.std.proofs.Common.{◌∙◌, ap, rules}
 use Rattle.index_parts.proofs.Ids.{id_bytes-make_id}
 use Rattle.index_parts.specs.Id.{id_bytes}
-use Rattle.index_state.specs.Image.{body, trailer}
+use Rattle.index_format.specs.Image.{body, trailer}
 use Rattle.index_state.specs.State.{contents}
 use Rattle.gix_index.specs.File.{state_of}
 use Rattle.gix_index.proofs.Files.{fails_more, front_then}
@@ -13,7 +13,7 @@ returns-in-Err-clause-answer g c =
     record {
       version = search rules;
       id = search rules;
-      bytes = fails_more g.W.Out.taken g.W.Out.failed c.args.out.now c.put_front.new.out c.in-Err.e (body v c.args.options) (trailer v c.args.options) c.in-Err.ensures.answer.bytes;
+      bytes = fails_more g.W.Out.taken g.W.Out.failed c.args.out.now c.put_body.new.out c.in-Err.e (body v c.args.options) (trailer v c.args.options) c.in-Err.ensures.answer.bytes;
       too_many = c.in-Err.ensures.answer.too_many;
       nul_in_path = c.in-Err.ensures.answer.nul_in_path;
       too_large = c.in-Err.ensures.answer.too_large;
@@ -25,7 +25,7 @@ returns-in-Err-put-clause-answer g c =
     record {
       version = search rules;
       id = search rules;
-      bytes = (front_then g.W.Out.taken c.args.out.now c.put_front.new.out c.put.new.self (body v c.args.options) (trailer v c.args.options) c.as_bytes.result.now (c.as_bytes.ensures.bytes ∙ ap id_bytes c.in-Ok.ensures.answer.id ∙ id_bytes-make_id v.kind (trailer v c.args.options)) c.in-Ok.ensures.answer.bytes.0 c.in-Err-put.ensures.bytes, c.in-Err-put.ensures.mark);
+      bytes = (front_then g.W.Out.taken c.args.out.now c.put_body.new.out c.put.new.self (body v c.args.options) (trailer v c.args.options) c.as_bytes.result.now (c.as_bytes.ensures.bytes ∙ ap id_bytes c.in-Ok.ensures.answer.id ∙ id_bytes-make_id v.kind (trailer v c.args.options)) c.in-Ok.ensures.answer.bytes.0 c.in-Err-put.ensures.bytes, c.in-Err-put.ensures.mark);
       too_many = search rules;
       nul_in_path = search rules;
       too_large = search rules;

@@ -1,10 +1,11 @@
 use Rattle.std.proofs.Common.{◌≡◌, Some, None, refl, sym, ap, ◌∙◌, subst}
 use Rattle.std.specs.Option.{option_map}
 use Rattle.index_state.specs.Edits.{without_link}
-use Rattle.index_state.specs.Link.{link_of}
-use Rattle.index_state.specs.Merge.{IsDissolved}
-use Rattle.index_state.specs.State.{Contents, contents, entries_of}
-use Rattle.index_state.specs.Storable.{IsStorable}
+use Rattle.index_split.specs.Link.{link_of}
+use Rattle.index_state.specs.Dissolve.{IsDissolved}
+use Rattle.index_format.specs.Contents.{Contents}
+use Rattle.index_state.specs.State.{contents, entries_of}
+use Rattle.index_format.specs.Storable.{IsStorable}
 use Rattle.gix_index.specs.File.{state_of, checksum_of}
 use Rattle.gix_index.specs.Linked.{IsUnfollowed, own, joined}
 use Rattle.gix_index.proofs.Joined.{read_kind, unlinked_storable}
@@ -43,7 +44,7 @@ returns-in-Ok-dissolve_into-clause-read g c =
 
 pub returns-in-Ok-dissolve_into-clause-ids : goal.returns-in-Ok-dissolve_into-clause-ids
 returns-in-Ok-dissolve_into-clause-ids g c =
-    c.dissolve_into.ensures.ids c.args.how.object_hash (rw c.take_link.ensures.entries c.requires.ids) c.in-Ok.ensures.ids
+    c.dissolve_into.ensures.ids c.args.reading.object_hash (rw c.take_link.ensures.entries c.requires.ids) c.in-Ok.ensures.ids
 
 pub returns-in-Ok-dissolve_into-clause-storable : goal.returns-in-Ok-dissolve_into-clause-storable
 returns-in-Ok-dissolve_into-clause-storable g c =

@@ -1,6 +1,6 @@
 use Rattle.std.proofs.Common.{◌-◌, ℕ, List, length, drop, take, ap, ◌∙◌, arith, length-drop}
 use Rattle.std.proofs.lemmas.List.{take_all}
-use Rattle.index_parts.specs.Stat.{stat_of}
+use Rattle.index_metadata.specs.Stat.{stat_of}
 use Rattle.index_entries.proofs.decode.entry.stat_of.Goals as goal
 
 pub returns : goal.returns

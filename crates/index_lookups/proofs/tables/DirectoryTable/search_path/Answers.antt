@@ -1,17 +1,17 @@
 use Rattle.std.proofs.Common.{List, IfOk, IfErr, subst}
 use Rattle.index_lookups.specs.Lookup.{IsPathAt, IsPathGap}
-use Rattle.index_entries.specs.Record.{Record, records_in}
+use Rattle.index_entries.specs.Record.{Record}
 use Rattle.index_lookups.proofs.Lookup.{path_at, path_gap}
 use Rattle.index_lookups.proofs.tables.DirectoryTable.search_path.Goals as goal
 
 pub returns-clause-found : goal.returns-clause-found
 returns-clause-found c =
-    let rs = records_in c.self.inside.backing.now c.self.inside.entries.now in
+    let rs = c.self.inside.entries in
     let P : List Record → Type 0 = λ xs. IfOk c.search_among.result.0 (IsPathAt c.args.path.now xs) in
     subst P c.self.view_is (path_at c.args.path.now rs c.search_among.result.0 c.search_among.ensures.found)
 
 pub returns-clause-absent : goal.returns-clause-absent
 returns-clause-absent c =
-    let rs = records_in c.self.inside.backing.now c.self.inside.entries.now in
+    let rs = c.self.inside.entries in
     let P : List Record → Type 0 = λ xs. IfErr c.search_among.result.0 (IsPathGap c.args.path.now xs) in
     subst P c.self.view_is (path_gap c.args.path.now rs c.search_among.result.0 c.search_among.ensures.in_range c.search_among.ensures.absent c.self.invariant.ordered)

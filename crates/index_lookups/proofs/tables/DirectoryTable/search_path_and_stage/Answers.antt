@@ -1,21 +1,21 @@
 use Rattle.std.proofs.Common.{◌≡◌, List, IfOk, subst}
 use Rattle.std.specs.Option.{ok_or}
-use Rattle.index_parts.specs.Flags.{stage_code}
+use Rattle.index_metadata.specs.Flags.{stage_code}
 use Rattle.index_lookups.specs.Lookup.{IsKeyAt, insertion_of, place_of}
 use Rattle.index_entries.specs.Order.{IsStrictlyOrdered}
-use Rattle.index_entries.specs.Record.{Record, records_in}
+use Rattle.index_entries.specs.Record.{Record}
 use Rattle.index_lookups.proofs.Lookup.{key_at, key_answer}
 use Rattle.index_lookups.proofs.tables.DirectoryTable.search_path_and_stage.Goals as goal
 
 pub returns-clause-found : goal.returns-clause-found
 returns-clause-found c =
-    let rs = records_in c.self.inside.backing.now c.self.inside.entries.now in
+    let rs = c.self.inside.entries in
     let P : List Record → Type 0 = λ xs. IfOk c.search_among.result.0 (IsKeyAt c.args.path.now (stage_code c.args.stage) xs) in
     subst P c.self.view_is (key_at c.args.path.now (stage_code c.args.stage) rs c.search_among.result.0 c.search_among.ensures.found)
 
 pub returns-clause-answer : goal.returns-clause-answer
 returns-clause-answer c =
-    let rs = records_in c.self.inside.backing.now c.self.inside.entries.now in
+    let rs = c.self.inside.entries in
     let path = c.args.path.now in
     let stage = stage_code c.args.stage in
     let P : List Record → Type 0 = λ xs. IsStrictlyOrdered xs → c.search_among.result.0 ≡ ok_or (place_of path stage xs) (insertion_of path stage xs) in

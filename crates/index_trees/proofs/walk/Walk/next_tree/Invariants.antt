@@ -1,5 +1,5 @@
 use Rattle.std.proofs.Common.{length}
-use Rattle.index_trees.specs.Walking.{ComesFrom, IsSound}
+use Rattle.index_trees.specs.LeafSteps.{ComesFrom, IsSound}
 use Rattle.index_trees.proofs.walk.Walk.next_tree.Given as goal
 
 -- what is left of the walk comes to what it came to at first

@@ -1,5 +1,5 @@
 use Rattle.std.proofs.Common.{◌∷◌, ◌∙◌, ap, sym, ◌<◌, ◌^◌, Ok, Some}
-use Rattle.index_parts.specs.Unpacking.{bits_left}
+use Rattle.index_parts.specs.UnpackingSteps.{bits_left}
 use Rattle.index_parts.proofs.Places.{places_after, places_set}
 use Rattle.index_parts.proofs.ewah.iter.Positions.take_place.Goals as goal
 

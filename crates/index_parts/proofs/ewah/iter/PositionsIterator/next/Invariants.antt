@@ -1,5 +1,5 @@
 use Rattle.std.proofs.Common.{◌+◌, ◌*◌, ◌≡◌, length}
-use Rattle.index_parts.specs.Unpacking.{items_left}
+use Rattle.index_parts.specs.UnpackingSteps.{items_left}
 use Rattle.index_parts.proofs.ewah.iter.PositionsIterator.next.Given as goal
 
 abbrev pub invariant-loop-self : goal.invariant-loop-self

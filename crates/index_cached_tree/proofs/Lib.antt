@@ -1,0 +1,16 @@
+pub mod Agreements
+pub mod Children
+pub mod Decimals
+pub mod Excesses
+pub mod KeptTrees
+pub mod NodeHeads
+pub mod Orders
+pub mod Rows
+pub mod Sorted
+pub mod Sounds
+pub mod Spelled
+pub mod TreeChecks
+pub mod TreeLengths
+pub mod TreeReadings
+pub mod Trees
+pub mod WrittenTrees

@@ -1,0 +1,10 @@
+pub mod Agreement
+pub mod Decimal
+pub mod NodeSteps
+pub mod ObjectSteps
+pub mod Sound
+pub mod StoredTree
+pub mod Tree
+pub mod TreeFaults
+pub mod TreeImage
+pub mod TreeWriting

@@ -1,0 +1,31 @@
+-- What became of a writer (`std::io::Write`) that a cached tree was written to, and the sizes that 32 bits count
+-- (gitformat-index, "Extensions").
+use Rattle.std.specs.Prelude.{◌≡◌, ℕ, ◌-◌, ◌^◌, nat_lt, Bool, true, false, List, Option, Some, None, Result, Ok, Err, MatchResult, if◌then◌else◌}
+use Rattle.index_parts.specs.declared.hash.Kind.{Kind}
+use Rattle.index_parts.specs.Taking.{AppendsFront, Took}
+use Rattle.index_cached_tree.specs.declared.write.Error.{Error}
+use Rattle.index_cached_tree.specs.declared.write.Error.TheVariants as errors
+
+-- a failed writer took a front of the bytes; at a refusal it is as it was
+abbrev pub TreeFails : {S : Type 0} → (S → Option (List ℕ)) → (S → Bool) → S → S → Error → List ℕ → Type 0
+TreeFails taken failed old new (errors.Io e) bytes = AppendsFront (taken old) (taken new) bytes × (failed new ≡ true)
+TreeFails taken failed old new errors.TooLarge bytes = new ≡ old
+
+-- an Ok took the bytes whole, and the writer bears no mark
+abbrev pub WritesTree : {S T : Type 0} → (S → Option (List ℕ)) → (S → ℕ → Kind → List ℕ → Type 0) → (S → Bool) → S → S → Result T Error → List ℕ → Type 0
+WritesTree taken hashed failed old new r bytes =
+    MatchResult r (λ _. Took taken hashed old new bytes × (failed new ≡ false)) (λ e. TreeFails taken failed old new e bytes)
+
+-- the answer that the writer failed
+abbrev pub IsIo : {T : Type 0} → Result T Error → Type 0
+IsIo (Ok x) = ⊥
+IsIo (Err (errors.Io e)) = Unit {0}
+IsIo (Err errors.TooLarge) = ⊥
+
+-- the number where it has at most 32 bits
+abbrev pub within_32 : ℕ → Option ℕ
+within_32 n = if nat_lt n (2 ^ 32) then Some n else None
+
+-- what is left of so much room behind so many bytes
+abbrev pub room_left : ℕ → ℕ → Option ℕ
+room_left room len = if nat_lt room len then None else Some (room - len)

@@ -1,0 +1,105 @@
+//! A node and all below it.
+
+ghost use Rattle.std.specs.List.Sorted.{IsPermutation};
+ghost use Rattle.std.specs.Prelude.{◌≡◌, ℕ, false, List, [], ◌∷◌, ◌++◌, map, IsTrue, IfOk, IfErr, IfSome, IfNone};
+ghost use Rattle.index_cached_tree.specs.Tree.{Node, node, nodes_from, node_of, name_cmp, NamesRise, IsNode, HasNodeHead};
+
+use super::Tree;
+use super::head::{NodeHead, roomy_head_of};
+use index_parts::hash::Kind;
+use smallvec::SmallVec;
+use std::alloc::{AllocError, Global};
+use std::cmp::Ordering;
+
+/// The order of two nodes by the bytes of their names.
+pub(super) fn compare_names(a: &Tree, b: &Tree) -> Ordering
+    ensures { result ≡ name_cmp (node_of a.now) (node_of b.now) }
+{
+    a.name.as_slice().cmp(&b.name.as_slice())
+}
+
+/// Sorts siblings by name, and says whether their names are apart.
+fn sort_siblings(siblings: &mut Vec<Tree>) -> bool
+    ensures same { IsPermutation (map node_of siblings.old.items) (map node_of siblings.new.items) }
+    ensures apart { IsTrue result → NamesRise (map node_of siblings.new.items) }
+    ensures refused { result ≡ false → (ts : List Node)
+        → IsPermutation (map node_of siblings.old.items) ts → NamesRise ts → ⊥ }
+{
+    siblings.sort_unstable_by(|a, b| compare_names(a, b));
+    let sorted = siblings.as_slice();
+    for i in 1..sorted.len() {
+        if !compare_names(&sorted[i - 1], &sorted[i]).is_lt() {
+            return false;
+        }
+    }
+    true
+}
+
+/// Puts a node with this head and these children behind its siblings, its children sorted; false where two of them have
+/// one name.
+fn push_tree(
+    alloc: Global,
+    head: NodeHead<'_>,
+    mut children: Vec<Tree>,
+    siblings: &mut Vec<Tree>,
+) -> Result<bool, AllocError>
+    ensures pushed { IfOk result (λ made. IsTrue made
+        → (ts : List Node) × IsPermutation (map node_of children.items) ts × NamesRise ts
+        × (map node_of siblings.new.items ≡ map node_of siblings.old.items ++ node
+        head.entry.name.now head.entry.id head.entry.count (nodes_from ts) ∷ [])) }
+    ensures refused { IfOk result (λ made. made ≡ false → (ts : List Node)
+        → IsPermutation (map node_of children.items) ts → NamesRise ts → ⊥) }
+{
+    if !sort_siblings(&mut children) {
+        return Ok(false);
+    }
+    let name = SmallVec::from_slice(alloc, head.name)?;
+    siblings.push(Tree {
+        name,
+        id: head.id,
+        num_entries: head.count,
+        children,
+    })?;
+    Ok(true)
+}
+
+/// Puts the node at the front behind its siblings, and gives the bytes behind it; None where no node stands there with
+/// at most so many levels below it.
+///
+/// A child takes memory only once it was read. The call keeps little on the stack, since it is as deep as the tree.
+pub(super) fn push_node<'a>(
+    alloc: Global,
+    kind: Kind,
+    limit: Option<usize>,
+    levels: u32,
+    bytes: &'a [u8],
+    siblings: &mut Vec<Tree>,
+) -> Result<Option<&'a [u8]>, AllocError>
+    ensures some { IfOk result
+        (λ found. IfSome found (λ rest. (t : Node)
+        × (map node_of siblings.new.items ≡ map node_of siblings.old.items ++ t ∷ [])
+        × IsNode kind limit levels bytes.now t rest.now)) }
+    ensures none { IfOk result
+        (λ found. IfNone found ((t : Node) (rest : List ℕ)
+        → IsNode kind limit levels bytes.now t rest → ⊥)) }
+    ensures memory { IfErr result (λ _. HasNodeHead kind limit bytes.now) }
+{
+    let Some((head, tail)) = roomy_head_of(kind, limit, bytes) else {
+        return Ok(None);
+    };
+    let mut children = Vec::new(alloc);
+    let mut rest = tail;
+    for _i in 0..head.number {
+        if levels == 0 {
+            return Ok(None);
+        }
+        let Some(after) = push_node(alloc, kind, limit, levels - 1, rest, &mut children)? else {
+            return Ok(None);
+        };
+        rest = after;
+    }
+    if !push_tree(alloc, head, children, siblings)? {
+        return Ok(None);
+    }
+    Ok(Some(rest))
+}

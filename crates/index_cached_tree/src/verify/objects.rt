@@ -1,0 +1,142 @@
+//! Whether the trees that a cached tree names are there, and list its nodes.
+
+ghost use Rattle.std.specs.Prelude.{◌≡◌, ◌⊎◌, ℕ, List, length, map, Some, None, IfOk, IfErr};
+ghost use Rattle.std.specs.Cmp.Lexicographic.{slice_cmp};
+ghost use Rattle.std.specs.Ordering.{nat_cmp};
+ghost use Rattle.index_parts.specs.Id.{id_kind};
+ghost use Rattle.index_metadata.specs.Object.{tree_bytes};
+ghost use Rattle.index_metadata.specs.TreeObject.{TreeEntry, Lists, tree_entry_of};
+ghost use Rattle.index_cached_tree.specs.Agreement.{Trees, AreTrees, directories, has_child};
+ghost use Rattle.index_cached_tree.specs.Sound.{RiseFrom};
+ghost use Rattle.index_cached_tree.specs.Tree.{name_of, node_of, nodes_from};
+ghost use Rattle.index_cached_tree.specs.declared.verify.Error.TheVariants.{Memory};
+ghost use Rattle.index_cached_tree.specs.TreeFaults.{no_tree, child_fault, missing_fault, listed_fault, SaysTree, SaysOrWants};
+
+use super::Error;
+use crate::Tree;
+use bstr::BString;
+use index_metadata::object;
+use index_metadata::object::tree::{Entries, EntryRef};
+use index_metadata::object::{Find, find};
+use index_parts::hash::{Kind, ObjectId};
+use std::alloc::Global;
+use std::cmp::Ordering;
+
+/// Puts the tree with this id into the buffer. Fails where there is none.
+fn find_tree<F: Find>(objects: &F, id: ObjectId, buf: &mut Vec<u8>) -> Result<(), Error>
+    ensures ok { IfOk result (λ _. tree_bytes (F.found objects.now id) ≡ Some buf.new.items) }
+    ensures err { IfErr result
+        (λ e. (e ≡ Memory) ⊎ (SaysTree e (Some (no_tree id))
+        × (tree_bytes (F.found objects.now id) ≡ None))) }
+{
+    match objects.find(&id, buf) {
+        Ok(Some(object::Kind::Tree)) => Ok(()),
+        Ok(Some(object::Kind::Blob)) => Err(Error::TreeNodeNotFound { id }),
+        Ok(Some(object::Kind::Commit)) => Err(Error::TreeNodeNotFound { id }),
+        Ok(Some(object::Kind::Tag)) => Err(Error::TreeNodeNotFound { id }),
+        Ok(None) => Err(Error::TreeNodeNotFound { id }),
+        Err(find::Error::Fault(_number)) => Err(Error::TreeNodeNotFound { id }),
+        Err(find::Error::Memory) => Err(Error::Memory),
+    }
+}
+
+/// How a node's name stands to this one, by their bytes.
+fn compare_to(tree: &Tree, name: &[u8]) -> Ordering
+    ensures { result ≡ slice_cmp nat_cmp (name_of (node_of tree.now)) name.now }
+{
+    tree.name.as_slice().cmp(&name)
+}
+
+/// Whether one of the nodes has this name, where each name is above the one before.
+fn has_child(children: &[Tree], name: &[u8]) -> bool
+    requires rise { RiseFrom None (nodes_from (map node_of children.now)) }
+    ensures { result ≡ has_child name.now (nodes_from (map node_of children.now)) }
+{
+    children
+        .binary_search_by(|child| compare_to(child, name))
+        .is_ok()
+}
+
+/// Fails where no child has the name of a directory that the tree of their node lists.
+fn check_child(
+    alloc: Global,
+    parent_id: ObjectId,
+    children: &[Tree],
+    entry: EntryRef<'_>,
+) -> Result<(), Error>
+    requires rise { RiseFrom None (nodes_from (map node_of children.now)) }
+    ensures ok { IfOk result
+        (λ _. child_fault parent_id (nodes_from (map node_of children.now))
+        (tree_entry_of entry.entry) ≡ None) }
+    ensures err { IfErr result
+        (λ e. SaysTree e
+        (child_fault parent_id (nodes_from (map node_of children.now))
+        (tree_entry_of entry.entry))) }
+{
+    if has_child(children, entry.filename) {
+        return Ok(());
+    }
+    let name = BString::from_slice(alloc, entry.filename)?;
+    Err(Error::MissingTreeDirectory {
+        parent_id,
+        entry_id: entry.oid,
+        name,
+    })
+}
+
+/// How many directories a tree lists before it ends or is malformed. Fails at the first that no child has the name of.
+fn count_directories(
+    alloc: Global,
+    parent_id: ObjectId,
+    children: &[Tree],
+    bytes: &[u8],
+) -> Result<usize, Error>
+    requires rise { RiseFrom None (nodes_from (map node_of children.now)) }
+    ensures number { IfOk result (λ number. (es : List TreeEntry)
+        → Lists (id_kind parent_id) bytes.now es → number ≡ length (directories es)) }
+    ensures ok { IfOk result (λ _. (es : List TreeEntry) → Lists (id_kind parent_id) bytes.now es
+        → missing_fault parent_id (nodes_from (map node_of children.now)) (directories es) ≡ None) }
+    ensures err { IfErr result (λ e. (es : List TreeEntry) → Lists (id_kind parent_id) bytes.now es
+        → SaysTree e (missing_fault parent_id (nodes_from (map node_of children.now))
+        (directories es))) }
+{
+    let mut entries = Entries::new(bytes, parent_id.kind());
+    let mut number = 0usize;
+    while let Some(entry) = entries.next() {
+        let Ok(entry) = entry else {
+            return Ok(number);
+        };
+        if entry.mode.is_tree() {
+            check_child(alloc, parent_id, children, entry)?;
+            number += 1;
+        }
+    }
+    Ok(number)
+}
+
+/// Fails where a node isn't there as a tree, or where the directories that it lists aren't the node's children.
+pub(super) fn check_tree<F: Find>(
+    alloc: Global,
+    objects: &F,
+    buf: &mut Vec<u8>,
+    id: ObjectId,
+    children: &[Tree],
+) -> Result<(), Error>
+    requires rise { RiseFrom None (nodes_from (map node_of children.now)) }
+    ensures ok { IfOk result (λ _. (trees : Trees) → AreTrees (F.found objects.now) trees
+        → listed_fault id (nodes_from (map node_of children.now)) (trees id) ≡ None) }
+    ensures err { IfErr result (λ e. (trees : Trees) → AreTrees (F.found objects.now) trees
+        → SaysOrWants e (listed_fault id (nodes_from (map node_of children.now)) (trees id))) }
+{
+    find_tree(objects, id, buf)?;
+    let expected_childcount = count_directories(alloc, id, children, buf.as_slice())?;
+    let actual_childcount = children.len();
+    if expected_childcount == actual_childcount {
+        return Ok(());
+    }
+    Err(Error::TreeNodeChildcountMismatch {
+        oid: id,
+        expected_childcount,
+        actual_childcount,
+    })
+}

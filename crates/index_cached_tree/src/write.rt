@@ -1,0 +1,238 @@
+//! Writing a cached tree as an extension.
+
+ghost use Rattle.std.specs.Prelude.{◌≡◌, ◌↔◌, ◌≤◌, ◌<◌, ◌^◌, ◌+◌, ◌++◌, ℕ, List, length, take, map, true, false, is_err};
+ghost use Rattle.std.specs.List.{flat_map};
+ghost use Rattle.index_parts.specs.Taking.{Puts};
+ghost use Rattle.index_extensions.specs.Spelling.{item_bytes};
+ghost use Rattle.index_parts.specs.Numbers.{be32};
+ghost use Rattle.index_cached_tree.specs.TreeImage.{tree_item};
+ghost use Rattle.index_cached_tree.specs.Tree.{node_of};
+ghost use Rattle.index_cached_tree.specs.TreeImage.{count_bytes, id_part, behind_name, node_head_bytes, node_bytes};
+ghost use Rattle.index_cached_tree.specs.TreeWriting.{WritesTree, IsIo, within_32, room_left};
+ghost use Rattle.index_cached_tree.specs.declared.write.Error.TheVariants.{Io};
+ghost use Rattle.index_cached_tree.specs.declared.Tree.TheViews.{out-Tree};
+
+use super::{SIGNATURE, Tree};
+use index_parts::hash::io::Out;
+use itoa::Buffer;
+use std::io;
+use thiserror::Error;
+
+/// Why a cached tree was not written.
+#[derive(Debug, Drop, Error)]
+pub enum Error {
+    /// Its content takes more than 2^32 - 1 bytes. No byte was written.
+    #[error("the cached tree takes more than the 4294967295 bytes that an extension can have")]
+    TooLarge,
+    /// The writer failed. What it took is a front of the bytes.
+    #[error("the cached tree was not written whole: {0}")]
+    Io(io::Error),
+}
+
+impl From<io::Error> for Error {
+    ghost from_gives = { λ e error. error ≡ Io e };
+
+    fn from(e: io::Error) -> Error {
+        Error::Io(e)
+    }
+}
+
+/// The number of entries, or -1.
+fn count_text<'a>(count: Option<u32>, buffer: &'a mut Buffer) -> &'a [u8]
+    ensures text { result.now ≡ count_bytes count }
+    ensures short { length result.now ≤ 40 }
+{
+    match count {
+        Some(n) => buffer.format(n).as_bytes(),
+        None => b"-1",
+    }
+}
+
+/// The id, where the number of entries is known.
+fn id_text(tree: &Tree) -> &[u8]
+    ensures text { result.now ≡ id_part (out-Tree tree.now).num_entries (out-Tree tree.now).id }
+    ensures short { length result.now ≤ 32 }
+{
+    match tree.num_entries {
+        Some(_) => tree.id.as_bytes(),
+        None => &[],
+    }
+}
+
+/// Room for what stands behind a node's name: two numbers, an id, and three separators.
+const BEHIND_NAME_LEN: usize = 128;
+
+/// Copies a piece to a place of the buffer, and gives the place behind it.
+fn copy_to(buffer: &mut [u8], place: usize, piece: &[u8]) -> usize
+    requires { place + length piece.now ≤ length buffer.old }
+    ensures end { result ≡ place + length piece.now }
+    ensures bytes { take result buffer.new ≡ take place buffer.old ++ piece.now }
+{
+    let end = place + piece.len();
+    buffer[place..end].copy_from_slice(piece);
+    end
+}
+
+/// Puts together what stands behind the name of a node, and gives how many bytes that is.
+fn gather_behind_name(tree: &Tree, buffer: &mut [u8]) -> usize
+    requires { length buffer.old ≡ 128 }
+    ensures len { result ≤ 128 }
+    ensures bytes { take result buffer.new ≡ behind_name (out-Tree tree.now).id
+        (out-Tree tree.now).num_entries (length (out-Tree tree.now).children.items) }
+{
+    let mut first = Buffer::new();
+    let mut second = Buffer::new();
+    let count = count_text(tree.num_entries, &mut first);
+    let number = second.format(tree.children.len()).as_bytes();
+    let end = copy_to(buffer, 0, b"\0");
+    let end = copy_to(buffer, end, count);
+    let end = copy_to(buffer, end, b" ");
+    let end = copy_to(buffer, end, number);
+    let end = copy_to(buffer, end, b"\n");
+    copy_to(buffer, end, id_text(tree))
+}
+
+/// Two pieces.
+fn two<'a>(a: &'a [u8], b: &'a [u8]) -> [&'a [u8]; 2]
+    ensures { flat_map (λ p. p.now) result ≡ a.now ++ b.now }
+{
+    [a, b]
+}
+
+/// Writes a node without its children.
+#[tactic(auto, unfolding(crate::specs::TreeImage::node_head_bytes))]
+fn put_node_head<W: Out>(tree: &Tree, out: &mut W) -> io::Result<()>
+    requires { W.failed out.old ≡ false }
+    ensures bytes { Puts W.taken W.hashed out.old out.new result
+        (node_head_bytes (out-Tree tree.now).name.items (out-Tree tree.now).id
+        (out-Tree tree.now).num_entries (length (out-Tree tree.now).children.items)) }
+    ensures mark { W.failed out.new ≡ is_err result }
+    ensures loan { W.loan out.new ≡ W.loan out.old }
+{
+    let mut buffer = [0u8; BEHIND_NAME_LEN];
+    let end = gather_behind_name(tree, &mut buffer);
+    let (behind, _) = buffer.split_at(end);
+    let pieces = two(tree.name.as_slice(), behind);
+    out.put_each(&pieces)
+}
+
+/// Writes a node and all below it, in preorder.
+#[cycle(nodes)]
+fn put_node<W: Out>(tree: &Tree, out: &mut W) -> io::Result<()>
+    requires { W.failed out.old ≡ false }
+    ensures bytes { Puts W.taken W.hashed out.old out.new result (node_bytes (node_of tree.now)) }
+    ensures mark { W.failed out.new ≡ is_err result }
+    ensures loan { W.loan out.new ≡ W.loan out.old }
+{
+    put_node_head(tree, out)?;
+    put_nodes(&tree.children, out)
+}
+
+/// Writes several nodes and all below them.
+#[cycle(nodes)]
+fn put_nodes<W: Out>(trees: &[Tree], out: &mut W) -> io::Result<()>
+    requires { W.failed out.old ≡ false }
+    ensures bytes { Puts W.taken W.hashed out.old out.new result
+        (flat_map (λ t. node_bytes (node_of t)) trees.now) }
+    ensures mark { W.failed out.new ≡ is_err result }
+    ensures loan { W.loan out.new ≡ W.loan out.old }
+{
+    for tree in trees {
+        put_node(tree, out)?;
+    }
+    Ok(())
+}
+
+/// How many bytes a node has without its children.
+#[tactic(auto, using(crate::proofs::TreeLengths::length_head))]
+fn node_head_len(tree: &Tree) -> u64
+    ensures { result ≡ length
+        (node_head_bytes (out-Tree tree.now).name.items (out-Tree tree.now).id
+        (out-Tree tree.now).num_entries (length (out-Tree tree.now).children.items)) }
+{
+    let mut buffer = Buffer::new();
+    let count = count_text(tree.num_entries, &mut buffer).len() as u64;
+    let number = buffer.format(tree.children.len()).len() as u64;
+    tree.name.as_slice().len() as u64 + count + number + id_text(tree).len() as u64 + 3
+}
+
+/// What is left of the room behind a node and all below it; None where it is too small.
+#[cycle(sizes)]
+fn room_behind(tree: &Tree, room: u64) -> Option<u64>
+    ensures { result ≡ room_left room (length (node_bytes (node_of tree.now))) }
+{
+    let len = node_head_len(tree);
+    if room < len {
+        return None;
+    }
+    room_behind_all(&tree.children, room - len)
+}
+
+/// The same of several nodes.
+#[cycle(sizes)]
+fn room_behind_all(trees: &[Tree], room: u64) -> Option<u64>
+    ensures { result ≡ room_left room (length (flat_map (λ t. node_bytes (node_of t)) trees.now)) }
+{
+    let mut left = room;
+    for tree in trees {
+        let Some(rest) = room_behind(tree, left) else {
+            return None;
+        };
+        left = rest;
+    }
+    Some(left)
+}
+
+/// The eight bytes before the content of an extension.
+fn item_head(signature: [u8; 4], len: u32) -> [u8; 8]
+    ensures { result ≡ signature ++ be32 len }
+{
+    let [a, b, c, d] = signature;
+    let [e, f, g, h] = len.to_be_bytes();
+    [a, b, c, d, e, f, g, h]
+}
+
+impl Tree {
+    /// How many bytes the content of the extension has; None where it has more than 2^32 - 1. It takes no memory.
+    pub fn content_len(&self) -> Option<u32>
+        ensures { result ≡ within_32 (length (node_bytes (node_of self.now))) }
+    {
+        let room = u64::from(u32::MAX);
+        let left = room_behind(self, room)?;
+        Some((room - left) as u32)
+    }
+
+    /// Writes the tree as the extension of a file, its nodes in preorder, the children of each as they stand in it
+    /// (gitformat-index, "Cache tree"). A node without a count has -1 in its place, and no id.
+    ///
+    /// [`Error::TooLarge`] comes before any byte and leaves the writer as it was. [`Error::Io`] comes only where the
+    /// writer failed, which then took a front of the bytes. No memory is taken; the call is as deep as the tree.
+    pub fn write_to<W: Out>(&self, out: &mut W) -> Result<(), Error>
+        requires { W.failed out.old ≡ false }
+        ensures bytes { WritesTree W.taken W.hashed W.failed out.old out.new result
+            (item_bytes (tree_item (node_of self.now))) }
+        ensures loan { W.loan out.new ≡ W.loan out.old }
+        ensures io { IsIo result ↔ (W.failed out.new ≡ true) }
+        ensures too_large { (result ≡ Err Error.TooLarge)
+            ↔ (2 ^ 32 ≤ length (node_bytes (node_of self.now))) }
+    {
+        let Some(len) = self.content_len() else {
+            return Err(Error::TooLarge);
+        };
+        self.put_item(len, out)?;
+        Ok(())
+    }
+
+    /// Writes the extension, whose content has this length.
+    fn put_item<W: Out>(&self, len: u32, out: &mut W) -> io::Result<()>
+        requires len { len ≡ length (node_bytes (node_of self.now)) }
+        requires unfailed { W.failed out.old ≡ false }
+        ensures bytes { Puts W.taken W.hashed out.old out.new result
+            (item_bytes (tree_item (node_of self.now))) }
+        ensures mark { W.failed out.new ≡ is_err result }
+        ensures loan { W.loan out.new ≡ W.loan out.old }
+    {
+        out.put(&item_head(SIGNATURE, len))?;
+        put_node(self, out)
+    }
+}

@@ -1,0 +1,71 @@
+//! Putting entries in order, by path and then by stage.
+
+ghost use Rattle.std.specs.Prelude.{◌≡◌, All, IsOk, OnErr, OnOk, length};
+ghost use Rattle.std.specs.List.Sorted.{IsPermutation, IsStable, IsStableBy};
+ghost use Rattle.index_entries.specs.Order.{record_cmp};
+ghost use Rattle.index_entries.specs.Record.{IsPlaced, records_in};
+ghost use Rattle.index_entries.specs.Sorted.{AsksThird, IsOrdered, TiesFollow, is_entry_before};
+
+use crate::Entry;
+use crate::order::compare_entries;
+use crate::slice::EntrySlice;
+use std::alloc::AllocError;
+use std::cmp::Ordering;
+
+/// Puts the entries in order. Those of the same path and stage keep theirs.
+///
+/// Entries that are in order already are read once, and stay where they are; no memory is asked for then. After a
+/// refusal of memory they stand as they stood.
+pub fn sort(entries: &mut Vec<Entry>, backing: &[u8]) -> Result<(), AllocError>
+    requires { All (IsPlaced (length backing.now)) entries.old.items }
+    ensures permutation { IsPermutation entries.old.items entries.new.items }
+    ensures ordered { OnOk result (IsOrdered (records_in backing.now entries.new.items)) }
+    ensures stable { IsStableBy (is_entry_before backing.now) entries.old.items entries.new.items }
+    ensures stable_records { IsStable record_cmp (records_in backing.now entries.old.items)
+        (records_in backing.now entries.new.items) }
+    ensures no_memory { IsOrdered (records_in backing.now entries.old.items) → IsOk result }
+    ensures unmoved { IsOrdered (records_in backing.now entries.old.items)
+        → entries.new.items ≡ entries.old.items }
+    ensures err { OnErr result (entries.new.items ≡ entries.old.items) }
+{
+    if EntrySlice::new(entries, backing).is_ordered() {
+        return Ok(());
+    }
+    entries.sort_by(|a, b| compare_entries(a, b, backing))
+}
+
+/// Puts the entries in order, and those of the same path and stage in the order of the closure. It is asked of such
+/// entries alone.
+///
+/// Where the closure answers by no order, the entries are still in order by path and stage. They are copied first, so
+/// that after a refusal of memory they stand as they stood.
+pub fn sort_by<F: FnMut(&Entry, &Entry) -> Ordering>(
+    entries: &mut Vec<Entry>,
+    backing: &[u8],
+    mut compare: F,
+) -> Result<(), AllocError>
+    requires callable { F.IsAlwaysCallable compare }
+    requires placed { All (IsPlaced (length backing.now)) entries.old.items }
+    ensures permutation { IsPermutation entries.old.items entries.new.items }
+    ensures ordered { OnOk result (IsOrdered (records_in backing.now entries.new.items)) }
+    ensures ties { OnOk result
+        (TiesFollow F.FnMut compare backing.now entries.old.items entries.new.items) }
+    ensures err { OnErr result (entries.new.items ≡ entries.old.items) }
+{
+    let mut copy = entries.clone()?;
+    copy.sort_by(
+        |a, b|
+            requires { F.IsAlwaysCallable compare }
+            ensures { AsksThird (λ f x y o g. F.step f x y o g) backing.entry.now compare.entry
+                a.entry b.entry result compare.exit }
+        {
+            match compare_entries(a, b, backing) {
+                Ordering::Equal => compare(a, b),
+                order => order,
+            }
+        },
+    )?;
+    sort(&mut copy, backing)?;
+    *entries = copy;
+    Ok(())
+}

@@ -1,6 +1,0 @@
-use Rattle.std.proofs.Common.{◌≡◌, drop}
-use Rattle.index_extensions.specs.Reading.{decimal_from, decimal_of}
-use Rattle.index_extensions.proofs.extension.tree.decimal.decimal_of.Given as goal
-
-abbrev pub invariant-loop-b : goal.invariant-loop-b
-invariant-loop-b l = decimal_from l.value (drop l.b-index l.text) ≡ decimal_of l.text

@@ -1,0 +1,35 @@
+-- Extensions by their signature, and the value that the content of one spells (gitformat-index, "Extensions").
+use Rattle.std.specs.Prelude.{◌≡◌, ℕ, nat_eq, Bool, List, [], ◌∷◌, Option, Some, None, if◌then◌else◌}
+use Rattle.std.specs.Cmp.Lexicographic.{pointwise}
+use Rattle.index_extensions.specs.Walk.{Item}
+
+abbrev pub is_named : List ℕ → Item → Bool
+is_named signature i = pointwise nat_eq i.signature signature
+
+abbrev pub or_else : {A : Type 0} → Option A → Option A → Option A
+or_else None y = y
+or_else (Some x) y = Some x
+
+-- the content of the item, where it has the signature
+abbrev pub content_named : List ℕ → Item → Option (List ℕ)
+content_named signature i = if is_named signature i then Some i.content else None
+
+-- the content of the first item with the signature
+abbrev pub first_content : List ℕ → List Item → Option (List ℕ)
+first_content signature [] = None
+first_content signature (i ∷ items) = or_else (content_named signature i) (first_content signature items)
+
+-- the content of the last item with the signature
+abbrev pub last_content : List ℕ → List Item → Option (List ℕ)
+last_content signature [] = None
+last_content signature (i ∷ items) = or_else (last_content signature items) (content_named signature i)
+
+-- the value that bytes spell, or None where they spell none
+abbrev pub IsRead : {A : Type 0} → (List ℕ → A → Type 0) → List ℕ → Option A → Type 0
+IsRead {A} Is bytes (Some x) = Is bytes x
+IsRead {A} Is bytes None = (x : A) → Is bytes x → ⊥
+
+-- the value of a content, None also where there is no content
+abbrev pub IsValue : {A : Type 0} → (List ℕ → A → Type 0) → Option (List ℕ) → Option A → Type 0
+IsValue Is (Some content) value = IsRead Is content value
+IsValue Is None value = value ≡ None

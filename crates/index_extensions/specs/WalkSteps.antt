@@ -1,0 +1,38 @@
+-- What the readers of extensions find at the front of bytes, as functions: a value and the rest, or nothing
+-- (gitformat-index, "Extensions", "End of Index Entry"). Public clauses cite none of these.
+use Rattle.std.specs.Prelude.{ℕ, ◌-◌, nat_eq, nat_lt, List, [], ◌∷◌, ◌++◌, length, take, drop, codes, Option, Some, None, if◌then◌else◌}
+use Rattle.std.specs.List.{starts_with}
+use Rattle.index_parts.specs.Numbers.{be}
+use Rattle.index_parts.specs.ReadingSteps.{◌>>=◌, piece_at}
+use Rattle.index_extensions.specs.Walk.{Item}
+
+-- ---- the walk
+
+-- the extension at the front, and the rest
+unfoldable pub item_at : List ℕ → Option (Item × List ℕ)
+item_at bytes =
+    piece_at 4 bytes >>= λ signature.
+    piece_at 4 signature.1 >>= λ size.
+    piece_at (be size.0) size.1 >>= λ content.
+    Some (record { signature = signature.0; size = size.0; content = content.0 }, content.1)
+
+-- the last 52 bytes, in which a marker and a trailer of 20 bytes have room
+abbrev pub ending_of : List ℕ → List ℕ
+ending_of bytes = drop (length bytes - 52) bytes
+
+-- the signature of a marker, and its size
+abbrev pub marker_start : List ℕ
+marker_start = codes "EOIE" ++ (0 ∷ 0 ∷ 0 ∷ 24 ∷ [])
+
+abbrev pub offset_in : List ℕ → ℕ
+offset_in ending = be (take 4 (drop 8 ending))
+
+-- a marker's offset, the bytes from there to the marker, and its digest
+unfoldable pub marker_at : List ℕ → Option (ℕ × List ℕ × List ℕ)
+marker_at bytes =
+    if nat_lt (length bytes) 52 then None
+    else (if starts_with nat_eq (take 8 (ending_of bytes)) marker_start then
+    (if nat_lt (offset_in (ending_of bytes)) 12 then None
+    else (piece_at (offset_in (ending_of bytes)) (take (length bytes - 52) bytes) >>= λ front.
+    Some (offset_in (ending_of bytes), front.1, take 20 (drop 4 (drop 8 (ending_of bytes))))))
+    else None)

@@ -1,0 +1,163 @@
+//! The end marker, which names the place where the extensions begin (gitformat-index, "End of Index Entry").
+
+ghost use Rattle.std.specs.Prelude.{◌≡◌, ◌+◌, ◌++◌, codes, List, [], ◌∷◌, false, is_err, IfSome, IfNone};
+ghost use Rattle.std.specs.List.{flat_map};
+ghost use Rattle.std.specs.Option.{option_map};
+ghost use Rattle.index_parts.specs.Digest.{digest};
+ghost use Rattle.index_parts.specs.Id.{id_bytes, id_len};
+ghost use Rattle.index_parts.specs.Taking.{Puts};
+ghost use Rattle.index_parts.specs.declared.hash.Kind.TheVariants.{Sha1};
+ghost use Rattle.index_extensions.specs.EndMarker.{heads, IsMarker};
+ghost use Rattle.index_extensions.specs.WalkSteps.{marker_at};
+ghost use Rattle.index_extensions.specs.Spelling.{heads_bytes, item_bytes, marker_item};
+ghost use Rattle.index_parts.specs.Numbers.{be32};
+ghost use Rattle.index_extensions.specs.Walk.{Item, AreItems};
+
+use super::Signature;
+use super::iter::item_of;
+use index_parts::hash::io::Out;
+use index_parts::hash::{Hasher, Kind, ObjectId};
+use index_parts::util::from_be_u32;
+use std::io;
+
+/// The signature.
+pub const SIGNATURE: Signature = *b"EOIE";
+
+/// The bytes of a marker's content, with a digest of SHA-1: an offset of four bytes, and the digest.
+pub const MIN_SIZE: usize = 24;
+
+/// The same with the head of an extension.
+pub const MIN_SIZE_WITH_HEADER: usize = super::MIN_SIZE + MIN_SIZE;
+
+/// The bytes of a file's header. No extension begins before its end.
+const HEADER_LEN: usize = 12;
+
+/// The bytes of a marker and of the trailer behind it.
+const MARKER_AND_TRAILER: usize = MIN_SIZE_WITH_HEADER + 20;
+
+/// What a marker says, before it is compared with the extensions.
+#[derive(Drop)]
+struct Marker<'a> {
+    offset: usize,
+    /// The bytes from the offset to the marker.
+    between: &'a [u8],
+    hash: &'a [u8],
+}
+
+/// Where the extensions begin, by the marker in the last bytes before the trailer. None where no marker stands there,
+/// or where its offset and its digest don't fit the extensions before it.
+///
+/// A file of SHA-256 has no marker that counts. Only where the bytes begin as a marker does is a digest made, of the
+/// heads of the extensions. It takes no memory.
+pub fn decode(data: &[u8], object_hash: Kind) -> Option<usize>
+    ensures { IsMarker object_hash «data».now result }
+{
+    if object_hash != Kind::Sha1 {
+        return None;
+    }
+    let marker = marker_of(data)?;
+    let id = digest_of_heads(marker.between)?;
+    if id.as_bytes() != marker.hash {
+        return None;
+    }
+    Some(marker.offset)
+}
+
+/// The marker before the trailer of a SHA-1 file.
+#[tactic(auto, unfolding(crate::specs::WalkSteps::marker_at))]
+fn marker_of(bytes: &[u8]) -> Option<Marker<'_>>
+    ensures { option_map (λ m. (m.offset, m.between.now, m.hash.now)) result ≡ marker_at bytes.now }
+{
+    if bytes.len() < MARKER_AND_TRAILER {
+        return None;
+    }
+    let (before, rest) = bytes.split_at(bytes.len() - MARKER_AND_TRAILER);
+    let (start, rest) = rest.split_at(8);
+    if !start.starts_with(b"EOIE\x00\x00\x00\x18") {
+        return None;
+    }
+    let (offset, rest) = rest.split_at(4);
+    let offset = from_be_u32(offset) as usize;
+    if offset < HEADER_LEN {
+        return None;
+    }
+    let (_, between) = before.split_at_checked(offset)?;
+    let (hash, _) = rest.split_at(20);
+    Some(Marker {
+        offset,
+        between,
+        hash,
+    })
+}
+
+/// The SHA-1 digest of the signatures and sizes of extensions, one or more, that are all of the bytes.
+fn digest_of_heads(bytes: &[u8]) -> Option<ObjectId>
+    ensures some { IfSome result (λ id. (first : Item) × (others : List Item)
+        × AreItems bytes.now (first ∷ others) []
+        × (id_bytes id ≡ digest Sha1 (heads (first ∷ others)))) }
+    ensures none { IfNone result ((first : Item) (others : List Item)
+        → AreItems bytes.now (first ∷ others) [] → ⊥) }
+{
+    let mut hasher = Hasher::new(Kind::Sha1);
+    let mut rest = bytes;
+    while let Some((signature, size, _, after)) = item_of(rest) {
+        hasher.update(signature);
+        hasher.update(size);
+        rest = after;
+    }
+    if bytes.is_empty() || !rest.is_empty() {
+        return None;
+    }
+    Some(hasher.finalize())
+}
+
+/// The digest of signatures and sizes.
+fn digest_of_pairs(object_hash: Kind, prior_extensions: &[(Signature, u32)]) -> ObjectId
+    ensures { id_bytes result ≡ digest object_hash (heads_bytes prior_extensions.now) }
+{
+    let mut hasher = Hasher::new(object_hash);
+    for (signature, size) in prior_extensions {
+        hasher.update(signature);
+        hasher.update(&size.to_be_bytes());
+    }
+    hasher.finalize()
+}
+
+/// The twelve bytes before the digest of a marker.
+fn marker_front(object_hash: Kind, offset: u32) -> [u8; 12]
+    ensures { result ≡ codes "EOIE" ++ (be32 (4 + id_len object_hash) ++ be32 offset) }
+{
+    let [a, b, c, d] = (4 + object_hash.len_in_bytes() as u32).to_be_bytes();
+    let [e, f, g, h] = offset.to_be_bytes();
+    [b'E', b'O', b'I', b'E', a, b, c, d, e, f, g, h]
+}
+
+/// Two pieces.
+fn two<'a>(a: &'a [u8], b: &'a [u8]) -> [&'a [u8]; 2]
+    ensures { flat_map (λ p. p.now) result ≡ a.now ++ b.now }
+{
+    [a, b]
+}
+
+/// Writes an end marker behind extensions that begin at this offset and have these signatures and sizes, which may be
+/// none (gitformat-index, "End of Index Entry").
+///
+/// An error comes only where the writer failed, which then took a front of the bytes. No memory is taken.
+pub fn write_to<W: Out>(
+    out: &mut W,
+    object_hash: Kind,
+    offset_to_extensions: u32,
+    prior_extensions: &[(Signature, u32)],
+) -> io::Result<()>
+    requires { W.failed out.old ≡ false }
+    ensures bytes { Puts W.taken W.hashed out.old out.new result
+        (item_bytes (marker_item object_hash offset_to_extensions
+        (heads_bytes prior_extensions.now))) }
+    ensures mark { W.failed out.new ≡ is_err result }
+    ensures loan { W.loan out.new ≡ W.loan out.old }
+{
+    let id = digest_of_pairs(object_hash, prior_extensions);
+    let front = marker_front(object_hash, offset_to_extensions);
+    let pieces = two(&front, id.as_bytes());
+    out.put_each(&pieces)
+}

@@ -1,0 +1,15 @@
+pub mod Additions
+pub mod Answers
+pub mod Bodies
+pub mod Canonical
+pub mod Clones
+pub mod Extensions
+pub mod Ids
+pub mod LinkErrors
+pub mod OnceAnswers
+pub mod Outcomes
+pub mod ReadValues
+pub mod RoundTrip
+pub mod SomeAnswers
+pub mod Twice
+pub mod WrittenOutcomes

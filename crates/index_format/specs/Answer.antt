@@ -1,0 +1,82 @@
+-- What reading a file gives: the value and the trailer's id, or the first fault (gitformat-index, as a whole).
+use Rattle.std.specs.Prelude.{◌≡◌, ◌≢◌, ℕ, ◌+◌, ◌<◌, ◌||◌, ◌⊎◌, nat_lt, List, ◌++◌, length, drop, codes, Option, Some, None, Result, Ok, Err, MatchBool, MatchResult, if◌then◌else◌}
+use Rattle.index_parts.specs.Id.{id_len, is_null, make_id}
+use Rattle.index_parts.specs.declared.hash.Kind.{Kind}
+use Rattle.index_parts.specs.declared.hash.ObjectId.{ObjectId}
+use Rattle.index_metadata.specs.declared.entry.stat.FileTime.{FileTime}
+use Rattle.index_extensions.specs.EndMarker.{IsMarker}
+use Rattle.index_extensions.specs.Walk.{Item, IsWalk, left_of}
+use Rattle.index_entries.specs.declared.Version.{Version}
+use Rattle.index_format.specs.declared.decode.Options.{Options}
+use Rattle.index_entries.specs.Entries.{AreEntries, LacksEntry}
+use Rattle.index_entries.specs.Header.{HeaderFault, Corrupt, header_len, header_of, count_of}
+use Rattle.index_entries.specs.Limits.{most_entries, is_too_large}
+use Rattle.index_format.specs.Outcome.{Outcome, ExtensionFault, IsFirstFault, AreSound, IsOutcome}
+use Rattle.index_entries.specs.Record.{Record, has_directory}
+use Rattle.index_format.specs.Contents.{Contents}
+
+-- why bytes are no index, with what a fault names: the entry's place; the expected and the actual length of the trailer;
+-- the trailer and the expected id
+pub data Fault : Type 0 where
+  Header : HeaderFault → Fault
+  OutOfMemory : Fault
+  NoEntry : ℕ → Fault
+  Extension : ExtensionFault → Fault
+  TrailerLength : ℕ → ℕ → Fault
+  Verify : ObjectId → ObjectId → Fault
+
+abbrev pub Answer : Type 0
+Answer = Result (Contents × Option ObjectId) Fault
+
+-- the trailer's id, or None where all its bytes are zero
+abbrev pub trailer_checksum : Kind → List ℕ → Option ObjectId
+trailer_checksum kind trailer = if is_null trailer then None else Some (make_id kind trailer)
+
+-- the whole answer, unless there are an expected id and a trailer's, and they differ
+abbrev pub IsVerified : Option ObjectId → Option ObjectId → Answer → Answer → Type 0
+IsVerified (Some expected) (Some actual) whole a = ((actual ≡ expected) × (a ≡ whole)) ⊎ ((actual ≢ expected) × (a ≡ Err (Verify actual expected)))
+IsVerified expected actual whole a = a ≡ whole
+
+-- the value of these records and of what the extensions come to
+abbrev pub value_of : Kind → FileTime → Version → List Record → Outcome → Contents
+value_of kind time version rs o = record {
+  kind = kind;
+  time = time;
+  version = version;
+  records = rs;
+  extensions = record o { sparse = o.sparse || has_directory rs };
+}
+
+-- what follows from the extensions, the bytes that their walk leaves, and the trailer: the first fault of an extension, a
+-- trailer that isn't alone, or the value
+pub data IsClosed (kind : Kind) (time : FileTime) (options : Options) (version : Version) (rs : List Record) (items : List Item) (tail trailer : List ℕ) (a : Answer) : Type 0 where
+  faulty : (fault : ExtensionFault) → IsFirstFault kind items fault → a ≡ Err (Extension fault) → IsClosed kind time options version rs items tail trailer a
+  left : AreSound kind items → left_of tail ≢ 0 → a ≡ Err (TrailerLength (id_len kind) (left_of tail + id_len kind)) → IsClosed kind time options version rs items tail trailer a
+  whole : (o : Outcome) → AreSound kind items → left_of tail ≡ 0 → IsOutcome kind options.alloc_limit_bytes items o → IsVerified options.expected_checksum (trailer_checksum kind trailer) (Ok (value_of kind time version rs o, trailer_checksum kind trailer)) a → IsClosed kind time options version rs items tail trailer a
+
+-- what follows from the bytes behind the last entry: they are fewer than a trailer has, or extensions, what their walk leaves, and the trailer
+pub data IsEnding (kind : Kind) (time : FileTime) (options : Options) (version : Version) (rs : List Record) (rest : List ℕ) (a : Answer) : Type 0 where
+  short : length rest < id_len kind → a ≡ Err (TrailerLength (id_len kind) (length rest)) → IsEnding kind time options version rs rest a
+  walked : (extensions trailer : List ℕ) (items : List Item) (tail : List ℕ) → rest ≡ extensions ++ trailer → length trailer ≡ id_len kind → IsWalk extensions items tail → IsClosed kind time options version rs items tail trailer a → IsEnding kind time options version rs rest a
+
+-- what follows from the bytes behind the header: all entries stand there, or some i-th is the first that doesn't
+pub data IsBehindHeader (kind : Kind) (time : FileTime) (options : Options) (version : Version) (count : ℕ) (bytes : List ℕ) (a : Answer) : Type 0 where
+  lacks : (i : ℕ) → i < count → LacksEntry version kind bytes i → a ≡ Err (NoEntry i) → IsBehindHeader kind time options version count bytes a
+  has : (rs : List Record) (rest : List ℕ) → AreEntries version kind None bytes rs rest → length rs ≡ count → IsEnding kind time options version rs rest a → IsBehindHeader kind time options version count bytes a
+
+-- What follows from all bytes behind a header that stands, with the offset that an end marker names or none: a count that no
+-- such file holds, entries that pass the limit, or what the body says.
+abbrev pub IsCounted : Option ℕ → Kind → FileTime → Options → List ℕ → Answer → Version → Type 0
+IsCounted offset kind time options bytes a version =
+    MatchBool (nat_lt (most_entries (length bytes) offset kind version) (count_of bytes))
+    (a ≡ Err (Header (Corrupt (codes "Declared entry count exceeds possible entries for file size"))))
+    (MatchBool (is_too_large options.alloc_limit_bytes (count_of bytes) (length bytes) offset kind version)
+    (a ≡ Err OutOfMemory)
+    (IsBehindHeader kind time options version (count_of bytes) (drop header_len bytes) a))
+
+-- the answer to all bytes: the header's fault, or what follows behind it
+abbrev pub IsAnswer : Kind → FileTime → Options → List ℕ → Answer → Type 0
+IsAnswer kind time options bytes a =
+    MatchResult (header_of kind bytes)
+    (λ version. (offset : Option ℕ) × IsMarker kind bytes offset × IsCounted offset kind time options bytes a version)
+    (λ fault. a ≡ Err (Header fault))

@@ -1,0 +1,81 @@
+-- A whole index as bytes (gitformat-index): the one spelling that is written of a value.
+use Rattle.std.specs.Prelude.{ℕ, ◌+◌, ◌==◌, nat_eq, ◌&&◌, not, Bool, true, false, List, [], ◌∷◌, ◌++◌, length, replicate, codes, Option, Some, None, if◌then◌else◌}
+use Rattle.std.specs.Cmp.Lexicographic.{pointwise}
+use Rattle.std.specs.List.{flat_map}
+use Rattle.index_parts.specs.Digest.{digest}
+use Rattle.index_parts.specs.Id.{id_len}
+use Rattle.index_extensions.specs.EndMarker.{heads}
+use Rattle.index_extensions.specs.Spelling.{item_bytes, sparse_item, marker_item}
+use Rattle.index_cached_tree.specs.TreeImage.{tree_item}
+use Rattle.index_cached_tree.specs.Tree.{Node}
+use Rattle.index_extensions.specs.Walk.{Item}
+use Rattle.index_entries.specs.EntryImage.{chosen_version, entries_in, header_bytes, written}
+use Rattle.index_entries.specs.Header.{header_len}
+use Rattle.index_entries.specs.declared.Version.{Version}
+use Rattle.index_format.specs.declared.write.Extensions.{Extensions}
+use Rattle.index_format.specs.declared.write.Extensions.TheVariants as extensions
+use Rattle.index_format.specs.declared.write.Options.{Options}
+use Rattle.index_format.specs.Contents.{Contents}
+
+-- ---- header and entries
+
+-- the version that is written
+abbrev pub image_version : Contents → Options → Version
+image_version v options = chosen_version options.version v.records
+
+-- the entries that are written, one after another
+abbrev pub entries_bytes : Contents → Options → List ℕ
+entries_bytes v options = entries_in (image_version v options) [] (written v.records)
+
+-- the place behind the entries
+abbrev pub entries_end : Contents → Options → ℕ
+entries_end v options = header_len + length (entries_bytes v options)
+
+-- ---- the extensions ("Extensions")
+
+-- whether an extension that a reader can do without is asked for
+abbrev pub asks_for : Extensions → List ℕ → Bool
+asks_for extensions.All signature = true
+asks_for (extensions.Given tree marker) signature =
+    if pointwise nat_eq signature (codes "TREE") then tree else if pointwise nat_eq signature (codes "EOIE") then marker else false
+asks_for extensions.None signature = false
+
+-- the cached tree, where there is one and it is asked for
+abbrev pub tree_items : Bool → Option Node → List Item
+tree_items true (Some t) = tree_item t ∷ []
+tree_items true None = []
+tree_items false t = []
+
+-- the mark of a sparse index, which no option leaves out
+abbrev pub sparse_items : Bool → List Item
+sparse_items sparse = if sparse then sparse_item ∷ [] else []
+
+-- all extensions before the end marker
+unfoldable pub items_of : Contents → Options → List Item
+items_of v options = tree_items (asks_for options.extensions (codes "TREE")) v.extensions.tree ++ sparse_items v.extensions.sparse
+
+-- an end marker comes behind other extensions, where there are entries, written or left out, and it is asked for
+abbrev pub has_marker : Contents → Options → Bool
+has_marker v options = not (length v.records == 0) && (asks_for options.extensions (codes "EOIE") && not (length (items_of v options) == 0))
+
+-- it names the place behind the entries
+abbrev pub marker_of : Contents → Options → List Item
+marker_of v options = if has_marker v options then marker_item v.kind (entries_end v options) (heads (items_of v options)) ∷ [] else []
+
+-- ---- the file
+
+-- all that stands before the end marker
+unfoldable pub unmarked : Contents → Options → List ℕ
+unmarked v options =
+    header_bytes (image_version v options) (length (written v.records)) ++ (entries_bytes v options ++ flat_map item_bytes (items_of v options))
+
+-- all that stands before the trailer
+unfoldable pub body : Contents → Options → List ℕ
+body v options = unmarked v options ++ flat_map item_bytes (marker_of v options)
+
+-- the digest of all bytes before it, or zeros where it is left out
+abbrev pub trailer : Contents → Options → List ℕ
+trailer v options = if options.skip_hash then replicate (id_len v.kind) 0 else digest v.kind (body v options)
+
+abbrev pub image : Contents → Options → List ℕ
+image v options = body v options ++ trailer v options

@@ -1,0 +1,36 @@
+-- What is lent of an index in memory, to be changed in place: what it ends as, once the loan is over (the library's own).
+use Rattle.std.specs.Prelude.{ℕ, List, Option, Some}
+use Rattle.std.specs.Borrow.{Lends, LendsIf, MutBor, Fml, Array}
+use Rattle.std.specs.Vec.{with_item, with_items}
+use Rattle.index_cached_tree.specs.declared.Tree.{Tree}
+use Rattle.index_cached_tree.specs.contracts.Tree as tree
+use Rattle.index_entries.specs.declared.Entry.{Entry}
+use Rattle.index_entries.specs.contracts.Entry as entry
+use Rattle.index_format.specs.declared.Parts.{Parts}
+use Rattle.index_format.specs.contracts.Parts as parts
+use Rattle.index_format.specs.declared.extension.Outcome.{Outcome}
+use Rattle.index_format.specs.contracts.extension.Outcome as outcome
+
+-- what is kept of the extensions ends with the last cached tree behind the loan, if one is lent; all else stays
+abbrev pub LendsOwnTree : MutBor Outcome → Option (MutBor Tree) → Fml
+LendsOwnTree o r = LendsIf outcome.the_row tree.the_row o r (λ t. record o.now { tree = Some t }) o.now
+
+-- the parts with these entries, as many as there are, with another entry at a place, or with this cached tree; all else stays
+abbrev pub parts_with_entries : Parts → List Entry → Parts
+parts_with_entries p entries = record p { entries = with_items p.entries entries }
+
+abbrev pub parts_with_entry_at : Parts → ℕ → Entry → Parts
+parts_with_entry_at p i e = record p { entries = with_item p.entries i e }
+
+abbrev pub parts_with_tree : Parts → Tree → Parts
+parts_with_tree p t = record p { extensions = record p.extensions { tree = Some t } }
+
+-- the parts end with the last entries behind the loan, with the last entry at a place, or with the last cached tree, if one is lent
+abbrev pub LendsPartsEntries : MutBor Parts → MutBor (List Entry) → Fml
+LendsPartsEntries p r = Lends parts.the_row (Array entry.the_row 0) p r (parts_with_entries p.now)
+
+abbrev pub LendsPartsEntryAt : ℕ → MutBor Parts → MutBor Entry → Fml
+LendsPartsEntryAt i p r = Lends parts.the_row entry.the_row p r (parts_with_entry_at p.now i)
+
+abbrev pub LendsPartsTree : MutBor Parts → Option (MutBor Tree) → Fml
+LendsPartsTree p r = LendsIf parts.the_row tree.the_row p r (parts_with_tree p.now) p.now

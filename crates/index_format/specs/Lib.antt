@@ -1,0 +1,12 @@
+pub mod Answer
+pub mod Contents
+pub mod DecodeErrors
+pub mod ExtensionSteps
+pub mod HeaderErrors
+pub mod Image
+pub mod LayoutSteps
+pub mod Lending
+pub mod Outcome
+pub mod Storable
+pub mod Stored
+pub mod Writing

@@ -1,0 +1,36 @@
+-- What a file can hold: what is written of such a value is read again (gitformat-index, "Index entry", "Cache tree").
+use Rattle.std.specs.Prelude.{◌≡◌, ◌≢◌, ◌<◌, ◌≤◌, ◌^◌, All, IfSome, length, false, None}
+use Rattle.index_parts.specs.Id.{id_kind}
+use Rattle.index_parts.specs.declared.hash.Kind.TheVariants.{Sha1}
+use Rattle.index_extensions.specs.EndMarker.{IsMarker}
+use Rattle.index_cached_tree.specs.StoredTree.{IsStorableTree}
+use Rattle.index_entries.specs.declared.write.VersionChoice.{VersionChoice}
+use Rattle.index_entries.specs.declared.write.VersionChoice.TheVariants as choices
+use Rattle.index_entries.specs.EntryImage.{LackNul}
+use Rattle.index_entries.specs.Record.{IsSized}
+use Rattle.index_format.specs.declared.write.Options.{Options}
+use Rattle.index_format.specs.Image.{has_marker, image, unmarked}
+use Rattle.index_format.specs.Contents.{Contents}
+
+-- The ids of all entries, also of those that a file leaves out, are of the value's kind, and all numbers fit their bits. A path
+-- that the length field can't count has no NUL. The cached tree, where there is one, is such that bytes can hold it.
+pub record IsStorable (v : Contents) : Type 0 where
+  pub ids : All (λ r. id_kind r.id ≡ v.kind) v.records
+  pub paths : All (λ r. 4095 ≤ length r.path → All (λ b. b ≢ 0) r.path) v.records
+  pub fits : All IsSized v.records
+  pub tree : IfSome v.extensions.tree (IsStorableTree v.kind)
+
+-- in version 4 no path that is written has a NUL
+abbrev pub CanSpell : VersionChoice → Contents → Type 0
+CanSpell choices.Smallest v = Unit {0}
+CanSpell choices.V4 v = LackNul v.records
+
+-- the limits of a file are not passed, and its version has all paths: writing has no reason to refuse
+pub record IsWritable (v : Contents) (options : Options) : Type 0 where
+  pub few : length v.records < 2 ^ 32
+  pub paths : CanSpell options.version v
+  pub small : length (unmarked v options) < 2 ^ 32
+
+-- a file of SHA-1 that has no end marker doesn't end as if it had one
+abbrev pub IsUnmistakable : Contents → Options → Type 0
+IsUnmistakable v options = v.kind ≡ Sha1 → has_marker v options ≡ false → IsMarker v.kind (image v options) None

@@ -1,0 +1,30 @@
+-- What became of a writer (`std::io::Write`) that an index was written to, and why an index is not written (the
+-- library's own; the limits are those of gitformat-index, "A 12-byte header" and "End of Index Entry": 32 bits).
+use Rattle.std.specs.Prelude.{◌≡◌, ℕ, ◌≤◌, ◌<◌, ◌^◌, Bool, true, false, List, length, Option, Result, MatchResult}
+use Rattle.std.specs.Io.KnownBytes.{Appends}
+use Rattle.index_parts.specs.Taking.{AppendsFront}
+use Rattle.index_format.specs.Contents.{Contents}
+use Rattle.index_format.specs.Image.{unmarked}
+use Rattle.index_format.specs.Storable.{CanSpell}
+use Rattle.index_format.specs.declared.write.Options.{Options}
+use Rattle.index_format.specs.declared.write.Error.{Error}
+use Rattle.index_format.specs.declared.write.Error.TheVariants as errors
+
+-- the writer failed, and took a front of the bytes; at a refusal it is as it was
+abbrev pub Fails : {S : Type 0} → (S → Option (List ℕ)) → (S → Bool) → S → S → Error → List ℕ → Type 0
+Fails taken failed old new (errors.Io e) bytes = AppendsFront (taken old) (taken new) bytes × (failed new ≡ true)
+Fails taken failed old new errors.TooManyEntries bytes = new ≡ old
+Fails taken failed old new errors.NulInPath bytes = new ≡ old
+Fails taken failed old new errors.TooLarge bytes = new ≡ old
+
+-- an Ok took the bytes whole, and the writer bears no mark
+abbrev pub Writes : {S T : Type 0} → (S → Option (List ℕ)) → (S → Bool) → S → S → Result T Error → List ℕ → Type 0
+Writes taken failed old new r bytes =
+    MatchResult r (λ _. Appends (taken old) (taken new) bytes × (failed new ≡ false)) (λ e. Fails taken failed old new e bytes)
+
+-- when a value is refused with each error: each comes where those before it don't; a writer's fault is no refusal
+abbrev pub RefusedWith : Contents → Options → Error → Type 0
+RefusedWith v options errors.TooManyEntries = 2 ^ 32 ≤ length v.records
+RefusedWith v options errors.NulInPath = (length v.records < 2 ^ 32) × (CanSpell options.version v → ⊥)
+RefusedWith v options errors.TooLarge = (length v.records < 2 ^ 32) × CanSpell options.version v × (2 ^ 32 ≤ length (unmarked v options))
+RefusedWith v options (errors.Io e) = ⊥

@@ -1,0 +1,333 @@
+//! Reading an index from the bytes of a file.
+
+pub mod entries;
+pub mod header;
+
+ghost use Rattle.std.specs.Prelude.{◌≡◌, ◌≤◌, ◌+◌, ◌*◌, ◌||◌, not, length, IfOk, IfErr, OnOk, All};
+ghost use Rattle.index_parts.specs.Id.{id_kind, id_len};
+ghost use Rattle.index_format.specs.Outcome.{outcome_of};
+ghost use Rattle.index_format.specs.Answer.{Answer, IsVerified, IsAnswer, IsBehindHeader, IsEnding, trailer_checksum};
+ghost use Rattle.index_format.specs.DecodeErrors.{Says, SaysFault, entries_error, link_error};
+ghost use Rattle.index_parts.specs.Limit.{is_within};
+ghost use Rattle.index_entries.specs.Limits.{entry_cost};
+ghost use Rattle.index_format.specs.ExtensionSteps.{IsTaken};
+ghost use Rattle.index_format.specs.Storable.{IsStorable};
+ghost use Rattle.index_format.specs.Contents.{PartsInStorage, ExtensionIdsAreOf, parts_contents, parts_entries};
+ghost use Rattle.index_entries.specs.Record.{IdsAreOf, has_directory};
+ghost use Rattle.index_format.specs.declared.decode.Error.TheVariants.{Header, Memory};
+
+use crate::extension::Outcome;
+use crate::{Parts, extension};
+use index_entries::Version;
+use index_entries::decode::entries::{Error as EntriesError, Read, read_entries};
+use index_extensions::end_of_index_entry;
+use index_metadata::entry::FileTime;
+use index_parts::hash::{Kind, ObjectId};
+use index_parts::read;
+use index_split::link;
+use std::alloc::{AllocError, AllocFailed, Global};
+use thiserror::Error;
+
+/// How many bytes an entry counts as against [`Options::alloc_limit_bytes`].
+const ENTRY_COST: usize = 96;
+
+/// Why bytes are no index, or that no state could be made of them.
+#[derive(Debug, Drop, Error)]
+pub enum Error {
+    /// The first twelve bytes are at fault, or they declare more entries than the file has room for.
+    #[error("{0}")]
+    Header(header::Error),
+    /// Never given: hashing can't fail here.
+    #[error("the index's digest can't be computed")]
+    Hasher,
+    /// The caller's limit, [`Options::alloc_limit_bytes`], is passed. It is no want of memory.
+    #[error("the index's entries or their paths take more memory than the caller's limit allows")]
+    OutOfMemory,
+    /// No entry stands where this one should.
+    #[error("entry {index} of the index, counted from 0, can't be read")]
+    Entry {
+        /// The entry's place.
+        index: u32,
+    },
+    /// A mandatory extension is at fault.
+    #[error("{0}")]
+    Extension(extension::Error),
+    /// The bytes behind all entries and extensions aren't as many as the trailer has.
+    #[error("{actual} bytes are left for the index's trailer, which takes {expected}")]
+    UnexpectedTrailerLength {
+        /// How many bytes an id of the index's kind has.
+        expected: usize,
+        /// How many bytes there are.
+        actual: usize,
+    },
+    /// The trailer differs from [`Options::expected_checksum`]. Where a whole file is checked before it is read, the
+    /// digest of its bytes differs from its trailer: there `actual` is the digest, and `expected` the trailer.
+    #[error("the index's digest is {actual} and not {expected}: the file may be damaged, have ids of the other kind, or be no index")]
+    Verify {
+        /// The trailer, or the digest.
+        actual: ObjectId,
+        /// What the caller expected, or the trailer.
+        expected: ObjectId,
+    },
+    /// A growth was refused. It comes in place of no fault that is found before memory is asked for.
+    #[error("out of memory while reading an index")]
+    Memory,
+}
+
+/// How to read.
+#[derive(Clone, Copy, Debug, Default)]
+pub struct Options {
+    /// Changes nothing: an index is read in one thread.
+    pub thread_limit: Option<usize>,
+    /// Changes nothing, as no second thread is started.
+    pub min_extension_block_in_bytes_for_threading: usize,
+    /// The id that the trailer must be, unless the trailer is null.
+    pub expected_checksum: Option<ObjectId>,
+    /// How many bytes the entries, at 96 each, and the estimate of their paths may take, each by itself; no limit where
+    /// it is None. A cached tree or an untracked cache that declares more is malformed, and so None. It bounds neither
+    /// what paths of version 4 really take nor what the allocator rounds up.
+    pub alloc_limit_bytes: Option<usize>,
+}
+
+impl From<header::Error> for Error {
+    ghost from_gives = { λ h e. e ≡ Header h };
+
+    fn from(e: header::Error) -> Error {
+        Error::Header(e)
+    }
+}
+
+impl From<EntriesError> for Error {
+    ghost from_gives = { λ entries e. e ≡ entries_error entries };
+
+    fn from(e: EntriesError) -> Error {
+        match e {
+            EntriesError::NoEntry { index } => Error::Entry { index },
+            EntriesError::Memory => Error::Memory,
+        }
+    }
+}
+
+/// Want of memory is told by the variant of its own.
+impl From<link::decode::Error> for Error {
+    ghost from_gives = { λ link e. e ≡ link_error link };
+
+    fn from(e: link::decode::Error) -> Error {
+        match e {
+            link::decode::Error::Memory => Error::Memory,
+            e => Error::Extension(extension::Error::Link(e)),
+        }
+    }
+}
+
+impl From<AllocError> for Error {
+    ghost from_gives = { λ _ e. e ≡ Memory };
+
+    fn from(_e: AllocError) -> Error {
+        Error::Memory
+    }
+}
+
+impl<T: Drop> From<AllocFailed<T>> for Error {
+    ghost from_gives = { λ _ e. e ≡ Memory };
+
+    fn from(_e: AllocFailed<T>) -> Error {
+        Error::Memory
+    }
+}
+
+/// The id that a trailer is, or None where all its bytes are zero.
+fn checksum_in(kind: Kind, trailer: &[u8]) -> Option<ObjectId>
+    requires { length trailer.now ≡ id_len kind }
+    ensures { result ≡ trailer_checksum kind trailer.now }
+{
+    if read::is_null(trailer) {
+        return None;
+    }
+    Some(ObjectId::of_kind(kind, trailer))
+}
+
+/// Whether the ids, if there are two, agree.
+fn verify(expected: Option<ObjectId>, actual: Option<ObjectId>) -> Result<(), Error>
+    ensures ok { OnOk result ((whole : Answer) → IsVerified expected actual whole whole) }
+    ensures err { IfErr result (λ e. (whole : Answer)
+        → SaysFault e (IsVerified expected actual whole)) }
+{
+    let Some(expected) = expected else {
+        return Ok(());
+    };
+    let Some(actual) = actual else {
+        return Ok(());
+    };
+    if actual != expected {
+        return Err(Error::Verify { actual, expected });
+    }
+    Ok(())
+}
+
+/// What a file is read as.
+#[derive(Clone, Copy)]
+struct ReadAs {
+    /// When the file was changed last.
+    timestamp: FileTime,
+    /// The hash of its ids.
+    object_hash: Kind,
+    /// The version that its header declares.
+    version: Version,
+    /// What the caller asked for.
+    options: Options,
+}
+
+/// The state of entries and extensions that were read. So many bytes are left before the trailer.
+fn read_parts(
+    read: Read<'_>,
+    outcome: Outcome,
+    left: usize,
+    trailer: &[u8],
+    read_as: ReadAs,
+) -> Result<(Parts, Option<ObjectId>), Error>
+    requires ids { All (λ r. id_kind r.id ≡ read_as.object_hash) read.list.records }
+    requires extension_ids { ExtensionIdsAreOf read_as.object_hash (outcome_of outcome) }
+    requires sparse { read.sparse ≡ has_directory read.list.records }
+    requires trailer { length trailer.now ≡ id_len read_as.object_hash }
+    requires room { left + id_len read_as.object_hash ≤ 0xffffffffffffffff }
+    ensures taken { Says parts_contents result (IsTaken read_as.object_hash read_as.timestamp
+        read_as.options read_as.version read.entry.list.records (outcome_of outcome) left
+        trailer.now) }
+    ensures placed { IfOk result (λ x. PartsInStorage x.0) }
+    ensures ids { IfOk result (λ x. IdsAreOf read_as.object_hash (parts_entries x.0)) }
+    ensures extension_ids { IfOk result
+        (λ x. ExtensionIdsAreOf read_as.object_hash (parts_contents x.0).extensions) }
+{
+    let ReadAs {
+        timestamp,
+        object_hash,
+        version,
+        options,
+    } = read_as;
+    if left != 0 {
+        let expected = object_hash.len_in_bytes();
+        let actual = left + expected;
+        return Err(Error::UnexpectedTrailerLength { expected, actual });
+    }
+    let checksum = checksum_in(object_hash, trailer);
+    verify(options.expected_checksum, checksum)?;
+    let (entries, path_backing) = read.list.into_parts();
+    let state = Parts {
+        object_hash,
+        timestamp,
+        version,
+        entries,
+        path_backing,
+        extensions: Outcome {
+            is_sparse: outcome.is_sparse || read.sparse,
+            ..outcome
+        },
+    };
+    Ok((state, checksum))
+}
+
+/// The state of entries that were read, with the extensions and the trailer behind them.
+fn read_ending(
+    alloc: Global,
+    read: Read<'_>,
+    read_as: ReadAs,
+) -> Result<(Parts, Option<ObjectId>), Error>
+    requires ids { All (λ r. id_kind r.id ≡ read_as.object_hash) read.list.records }
+    requires sparse { read.sparse ≡ has_directory read.list.records }
+    ensures ending { Says parts_contents result (IsEnding read_as.object_hash read_as.timestamp
+        read_as.options read_as.version read.entry.list.records read.entry.rest.now) }
+    ensures placed { IfOk result (λ x. PartsInStorage x.0) }
+    ensures ids { IfOk result (λ x. IdsAreOf read_as.object_hash (parts_entries x.0)) }
+    ensures extension_ids { IfOk result
+        (λ x. ExtensionIdsAreOf read_as.object_hash (parts_contents x.0).extensions) }
+{
+    let expected = read_as.object_hash.len_in_bytes();
+    let actual = read.rest.len();
+    if actual < expected {
+        return Err(Error::UnexpectedTrailerLength { expected, actual });
+    }
+    let (extensions, trailer) = read.rest.split_at(actual - expected);
+    let limit = read_as.options.alloc_limit_bytes;
+    let (outcome, left) = extension::all(alloc, extensions, read_as.object_hash, limit)?;
+    read_parts(read, outcome, left, trailer, read_as)
+}
+
+/// Whether entries, or the estimate of their paths, pass the limit.
+fn is_too_large(limit: Option<usize>, count: u32, paths: usize) -> bool
+    ensures { result ≡ (not (is_within limit (entry_cost * count)) || not (is_within limit paths)) }
+{
+    !read::is_within(limit, ENTRY_COST * count as usize) || !read::is_within(limit, paths)
+}
+
+/// The state of so many entries at the front of the bytes, and the end behind them.
+fn read_behind_header(
+    alloc: Global,
+    read_as: ReadAs,
+    count: u32,
+    paths: usize,
+    bytes: &[u8],
+) -> Result<(Parts, Option<ObjectId>), Error>
+    ensures body { Says parts_contents result
+        (IsBehindHeader read_as.object_hash read_as.timestamp read_as.options read_as.version
+        count bytes.now) }
+    ensures placed { IfOk result (λ x. PartsInStorage x.0) }
+    ensures ids { IfOk result (λ x. IdsAreOf read_as.object_hash (parts_entries x.0)) }
+    ensures extension_ids { IfOk result
+        (λ x. ExtensionIdsAreOf read_as.object_hash (parts_contents x.0).extensions) }
+{
+    let ReadAs {
+        object_hash,
+        version,
+        ..
+    } = read_as;
+    let read = read_entries(alloc, version, object_hash, count, paths, bytes)?;
+    read_ending(alloc, read, read_as)
+}
+
+impl Parts {
+    /// Reads the parts of an index from all bytes of its file, and gives them with the trailer's id, or None where the
+    /// trailer is null; or the first fault, in the order of the variants of [`Error`]. The digest isn't computed.
+    pub fn from_bytes(
+        alloc: Global,
+        data: &[u8],
+        timestamp: FileTime,
+        object_hash: Kind,
+        options: Options,
+    ) -> Result<(Parts, Option<ObjectId>), Error>
+        // The state or the first fault that the format gives these bytes.
+        ensures answer { Says parts_contents result
+            (IsAnswer object_hash timestamp options «data».now) }
+        ensures placed { IfOk result (λ x. PartsInStorage x.0) }
+        ensures ids { IfOk result (λ x. IdsAreOf object_hash (parts_entries x.0)) }
+        ensures storable { IfOk result (λ x. IsStorable (parts_contents x.0)) }
+        ensures extension_ids { IfOk result
+            (λ x. ExtensionIdsAreOf object_hash (parts_contents x.0).extensions) }
+    {
+        let (version, count, rest) = header::decode(data, object_hash)?;
+        let offset = end_of_index_entry::decode(data, object_hash);
+        let most = entries::max_entries_possible(data.len(), offset, object_hash, version);
+        if count as usize > most {
+            return Err(Error::Header(header::Error::Corrupt(
+                "Declared entry count exceeds possible entries for file size",
+            )));
+        }
+        let paths = entries::estimate_path_storage_requirements_in_bytes(
+            count,
+            data.len(),
+            offset,
+            object_hash,
+            version,
+        );
+        if is_too_large(options.alloc_limit_bytes, count, paths) {
+            return Err(Error::OutOfMemory);
+        }
+        let read_as = ReadAs {
+            timestamp,
+            object_hash,
+            version,
+            options,
+        };
+        read_behind_header(alloc, read_as, count, paths, rest)
+    }
+}

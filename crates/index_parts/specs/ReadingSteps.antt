@@ -1,0 +1,58 @@
+-- What the readers find at the front of bytes, as functions: a value and the rest, or nothing (gitformat-index). The
+-- relations of Numbers and Offset say the same in the format's words. Clauses that a user meets cite none of these.
+use Rattle.std.specs.Prelude.{ℕ, ◌+◌, ◌-◌, ◌*◌, ◌%◌, ◌^◌, ◌==◌, ◌&&◌, nat_le, nat_lt, List, [], ◌∷◌, length, take, drop, Bool, Option, Some, None, if◌then◌else◌, position}
+use Rattle.std.specs.Option.{option_map}
+use Rattle.index_parts.specs.Numbers.{be}
+use Rattle.index_parts.specs.Id.{id_len, make_id}
+use Rattle.index_parts.specs.declared.hash.Kind.{Kind}
+use Rattle.index_parts.specs.declared.hash.ObjectId.{ObjectId}
+
+-- the next step's answer, where there is a value
+infixl 10 ◌>>=◌
+abbrev pub ◌>>=◌ : {A B : Type 0} → Option A → (A → Option B) → Option B
+None >>= f = None
+(Some x) >>= f = f x
+
+-- a piece of so many bytes, and the rest
+abbrev pub piece_at : ℕ → List ℕ → Option (List ℕ × List ℕ)
+piece_at size bytes = if nat_lt (length bytes) size then None else Some (take size bytes, drop size bytes)
+
+-- a number of so many bytes, and the rest
+abbrev pub number_at : ℕ → List ℕ → Option (ℕ × List ℕ)
+number_at size bytes = piece_at size bytes >>= λ piece. Some (be piece.0, piece.1)
+
+-- an id of a kind, and the rest
+abbrev pub object_id_at : Kind → List ℕ → Option (ObjectId × List ℕ)
+object_id_at kind bytes = piece_at (id_len kind) bytes >>= λ piece. Some (make_id kind piece.0, piece.1)
+
+-- the bytes before the first b, and those after it; there are at least two bytes
+abbrev pub split_at_byte : ℕ → List ℕ → Option (List ℕ × List ℕ)
+split_at_byte b bytes = if nat_lt (length bytes) 2 then None else option_map (λ place. (take place bytes, drop (place + 1) bytes)) (position (λ x. x == b) bytes)
+
+-- the offset number at the front, where the bytes before gave so much, and the rest
+abbrev pub offset_from : ℕ → List ℕ → Option (ℕ × List ℕ)
+offset_from high [] = None
+offset_from high (b ∷ bytes) =
+    if nat_lt (high * 128 + b % 128) (2 ^ 64) then
+    (if nat_lt b 128 then Some (high * 128 + b % 128, bytes)
+    else (if nat_lt (high * 128 + b % 128 + 1) (2 ^ 64) then offset_from (high * 128 + b % 128 + 1) bytes else None))
+    else None
+
+abbrev pub offset_at : List ℕ → Option (ℕ × List ℕ)
+offset_at bytes = offset_from 0 bytes
+
+abbrev pub is_octal_digit : ℕ → Bool
+is_octal_digit b = nat_le 48 b && nat_le b 55
+
+-- the number that octal digits spell, where the digits before them stand for so much
+abbrev pub octal_from : ℕ → List ℕ → Option ℕ
+octal_from high [] = Some high
+octal_from high (b ∷ text) =
+    if is_octal_digit b then
+    (if nat_lt (high * 8 + (b - 48)) (2 ^ 32) then octal_from (high * 8 + (b - 48)) text else None)
+    else None
+
+-- the number of one octal digit or more
+abbrev pub octal_of : List ℕ → Option ℕ
+octal_of [] = None
+octal_of (b ∷ text) = octal_from 0 (b ∷ text)

@@ -1,3 +1,0 @@
-//! What can be wrong with the first twelve bytes of a file (gitformat-index, "A 12-byte header").
-
-pub use index_entries::decode::header::Error;

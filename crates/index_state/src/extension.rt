@@ -1,4 +1,0 @@
-//! The extensions of a state.
-
-pub mod decode;
-pub mod link;

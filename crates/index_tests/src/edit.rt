@@ -1,0 +1,60 @@
+//! Entries that are put in order by a closure, and taken out by one.
+
+use gix_index::State;
+use gix_index::entry::{FileTime, Flags, Mode, Stage, Stat};
+use gix_index::hash::{Kind, ObjectId};
+use std::cmp::Ordering;
+use std::test::Fail;
+
+/// A new state with the entries `b`, `a` and `a`, whose ids are of the bytes 1, 2 and 3.
+fn three_entries(rt: &HostRuntime) -> Result<State, Fail> {
+    let mut state = State::new(rt.alloc(), Kind::Sha1, FileTime::EPOCH);
+    let flags = Flags::from_stage(Stage::Unconflicted);
+    for (byte, path) in [(1, b"b"), (2, b"a"), (3, b"a")] {
+        let id = ObjectId::Sha1([byte; 20]);
+        state.dangerously_push_entry(Stat::default(), id, flags, Mode::FILE, path)?;
+    }
+    Ok(state)
+}
+
+/// Of which byte the entries' ids are, in the order of the entries.
+fn bytes_of_ids(rt: &HostRuntime, state: &State) -> Result<Vec<u8>, Fail> {
+    let mut bytes = Vec::new(rt.alloc());
+    for entry in state.entries() {
+        bytes.extend_from_slice(entry.id.as_bytes().get(..1).unwrap_or_default())?;
+    }
+    Ok(bytes)
+}
+
+#[test]
+fn ties_follow_a_lawful_closure(rt: HostRuntime) -> Result<(), Fail> {
+    let mut state = three_entries(&rt)?;
+    if !state.paths_in_storage() {
+        return Err("a path outside of the storage".into());
+    }
+    state.sort_entries_by(|_, _| Ordering::Less)?;
+    let last = state.entries().last().map(|entry| entry.id);
+    assert_eq!(rt; last, Some(ObjectId::Sha1([1; 20])));
+    state.sort_entries_by(|a, b| b.id.as_bytes().cmp(a.id.as_bytes()))?;
+    assert_eq!(rt; bytes_of_ids(&rt, &state)?.as_slice(), [3, 2, 1].as_slice());
+    Ok(())
+}
+
+#[test]
+fn places_are_those_before_a_removal(rt: HostRuntime) -> Result<(), Fail> {
+    let mut state = three_entries(&rt)?;
+    if !state.paths_in_storage() {
+        return Err("a path outside of the storage".into());
+    }
+    let mut places = 9usize;
+    state.remove_entries(|place, _path, entry| {
+        places = places.wrapping_mul(10).wrapping_add(place);
+        entry.flags = Flags::UPTODATE;
+        place != 1
+    });
+    assert_eq!(rt; places, 9012);
+    assert_eq!(rt; bytes_of_ids(&rt, &state)?.as_slice(), [2].as_slice());
+    let flags = state.entries().last().map(|entry| entry.flags);
+    assert_eq!(rt; flags, Some(Flags::UPTODATE));
+    Ok(())
+}
