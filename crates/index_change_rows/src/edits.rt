@@ -2,21 +2,22 @@
 
 ghost use Rattle.gix_index.specs.State.{PathsInStorage};
 
-use crate::fault::Fault;
-use crate::lines::Lines;
-use crate::list;
-use crate::words::number_of;
 use bitflags::Flags as _;
 use gix_index::State;
 use gix_index::entry::Flags;
 use gix_index::hash::Kind;
 use gix_index::verify::entries::Error;
-use std::str::SplitWhitespace;
+use index_row_kit::show::{Bytes, Fields, Listed, Text, entries};
+use index_row_kit::words::number_of;
+use index_row_kit::{Fault, Lines, Words};
 
-/// `edits KIND LIST EDIT..`: what each edit answers, and the entries behind it.
-pub fn edits(out: &mut Lines, kind: Kind, words: &mut SplitWhitespace<'_>) -> Result<(), Fault> {
-    let mut state = list::state_of(out.alloc(), kind, words.next())?;
-    for word in words {
+/// `edits`: what each edit answers, and the entries behind it.
+pub fn edits(out: &mut Lines, kind: Kind, words: &mut Words<'_>) -> Result<(), Fault> {
+    let mut state = words.entries(kind)?;
+    for _ in 0..u64::MAX {
+        let Some(word) = words.optional() else {
+            break;
+        };
         edit(out, &mut state, word)?;
     }
     Ok(())
@@ -26,44 +27,43 @@ pub fn edits(out: &mut Lines, kind: Kind, words: &mut SplitWhitespace<'_>) -> Re
 fn edit(out: &mut Lines, state: &mut State, word: &str) -> Result<(), Fault> {
     let (name, taken) = word.split_once('=').unwrap_or((word, ""));
     if !state.paths_in_storage() {
-        return Err(Fault::Wrong("a list with its paths in the storage"));
+        return Err(Fault::Wrong("an edit of a list with its paths in the storage"));
     }
     match name {
         "verify" => {
-            verify(out, state);
+            verify(out, word, state);
             return Ok(());
         }
         "storage" => {
-            lend_storage(out, state);
+            lend_storage(out, word, state);
             return Ok(());
         }
         "sort" => state.sort_entries()?,
         "sort-down" => state.sort_entries_by(|a, b| b.id.as_bytes().cmp(a.id.as_bytes()))?,
-        "remove" => remove(out, state, taken),
-        "at" => remove_at(out, state, number_of(Some(taken))? as usize)?,
+        "remove" => remove(out, word, state, taken),
+        "at" => remove_at(out, word, state, number_of(taken)?)?,
         _ => return Err(Fault::Wrong("the name of an edit")),
     }
-    list::show(out, state);
+    write!(out, "{word}: ");
+    if state.paths_in_storage() {
+        entries(out, state);
+    }
     Ok(())
 }
 
 /// Takes the storage of the paths out, tells its bytes, and gives it back.
-fn lend_storage(out: &mut Lines, state: &mut State) {
+fn lend_storage(out: &mut Lines, word: &str, state: &mut State) {
     let storage = state.take_path_backing();
-    write!(out, "storage ");
-    for byte in &storage {
-        write!(out, "{byte:02x}");
-    }
-    writeln!(out);
+    writeln!(out, "{word}: storage: {}", Bytes(&storage));
     state.return_path_backing(storage);
 }
 
 /// Tells which entry is the first that isn't above the one before it.
-fn verify(out: &mut Lines, state: &State)
+fn verify(out: &mut Lines, word: &str, state: &State)
     requires { PathsInStorage state.now }
 {
     match state.verify_entries() {
-        Ok(()) => writeln!(out, "ordered"),
+        Ok(()) => writeln!(out, "{word}: verify: ordered"),
         Err(
             Error::OutOfOrder {
                 current_index,
@@ -74,24 +74,28 @@ fn verify(out: &mut Lines, state: &State)
             },
         ) => {
             let (current, previous) = (current_stage as u32, previous_stage as u32);
-            write!(out, "place {current_index}: {current_path} {current} ");
-            writeln!(out, "behind {previous_path} {previous}");
+            write!(out, "{word}: fault: {}:{current} at ", Text(&current_path));
+            writeln!(
+                out,
+                "{current_index} behind {}:{previous}",
+                Text(&previous_path)
+            );
         }
-        Err(Error::Memory) => writeln!(out, "no memory"),
+        Err(Error::Memory) => writeln!(out, "{word}: fault: memory"),
     }
 }
 
 /// Takes out the entries at these places, and tells which places the closure sees. It marks each entry with `UPTODATE`.
-fn remove(out: &mut Lines, state: &mut State, places: &str)
+fn remove(out: &mut Lines, word: &str, state: &mut State, places: &str)
     requires { PathsInStorage state.old }
 {
-    write!(out, "places");
+    let mut seen = Vec::new(out.alloc());
     state.remove_entries(|place, _path, entry| {
-        write!(out, " {place}");
+        out.note(seen.push(place));
         entry.flags = entry.flags.union(Flags::UPTODATE);
         is_among(places, place)
     });
-    writeln!(out);
+    writeln!(out, "{word}: seen: {}", Listed(&seen));
 }
 
 /// Whether the place is one of those that a word joins by `,`.
@@ -105,13 +109,11 @@ fn is_among(places: &str, place: usize) -> bool {
 }
 
 /// Takes the entry at a place out, and tells what it is but for its path.
-fn remove_at(out: &mut Lines, state: &mut State, place: usize) -> Result<(), Fault> {
+fn remove_at(out: &mut Lines, word: &str, state: &mut State, place: usize) -> Result<(), Fault> {
     if place >= state.entries().len() {
         return Err(Fault::Wrong("the place of an entry"));
     }
     let entry = state.remove_entry_at_index(place);
-    write!(out, "removed ");
-    list::fields(out, &entry);
-    writeln!(out);
+    writeln!(out, "{word}: removed: {}", Fields(&entry));
     Ok(())
 }

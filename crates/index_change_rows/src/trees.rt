@@ -1,101 +1,97 @@
 //! The rows about cached trees that are verified without objects.
 
-use crate::fault::Fault;
-use crate::images::state_of;
-use crate::lines::Lines;
-use crate::list;
-use crate::words::{id_of, number_of, path_of};
 use gix_index::extension::Tree;
 use gix_index::extension::tree::verify::Error;
 use gix_index::hash::Kind;
 use gix_index::object::NoObjects;
+use index_row_kit::show::Text;
+use index_row_kit::words::{id_of, items_of, number_of, text_of};
+use index_row_kit::{Fault, Lines, Words, refusal};
 use smallvec::SmallVec;
 use std::alloc::{AllocError, Global};
-use std::str::SplitWhitespace;
 
-/// `verify-tree KIND TREE`: the first fault of a cached tree.
-pub fn tree(out: &mut Lines, kind: Kind, words: &mut SplitWhitespace<'_>) -> Result<(), Fault> {
-    let mut trees = Vec::new(out.alloc());
-    for node in words.next().unwrap_or("").split(',') {
-        push_node(out.alloc(), &mut trees, kind, node)?;
+/// `verify-tree`: the first fault of a cached tree, whose nodes are listed in preorder.
+pub fn tree(out: &mut Lines, kind: Kind, words: &mut Words<'_>) -> Result<(), Fault> {
+    let alloc = out.alloc();
+    let mut trees = Vec::new(alloc);
+    for node in items_of(alloc, words.list()?)?.iter().rev() {
+        push_node(alloc, &mut trees, kind, node)?;
     }
-    for tree in &trees {
-        show(out, tree.verify(out.alloc(), false, &NoObjects));
-    }
+    let (Some(tree), true) = (trees.pop(), trees.is_empty()) else {
+        return Err(Fault::Wrong("one tree"));
+    };
+    show(out, tree.verify(alloc, false, &NoObjects));
     Ok(())
 }
 
-/// Puts a node behind the trees, and as its children the last of these. It is `NAME:COUNT:CHILDREN`, with `-` for no
-/// count.
+/// Puts a node before the trees, which lie in reverse order, and as its children the first of these.
 fn push_node(alloc: Global, trees: &mut Vec<Tree>, kind: Kind, node: &str) -> Result<(), Fault> {
     let mut fields = node.split(':');
-    let name = SmallVec::from_slice(alloc, path_of(fields.next().unwrap_or("")))?;
-    let num_entries = count_of(fields.next())?;
-    let children = number_of(fields.next())? as usize;
+    let name = text_of(alloc, fields.next().unwrap_or(""))?;
+    let name = SmallVec::from_slice(alloc, &name)?;
+    let num_entries = count_of(fields.next().unwrap_or(""))?;
+    let children: usize = number_of(fields.next().unwrap_or(""))?;
+    let id = id_of(alloc, kind, fields.next().unwrap_or("11"))?;
     if children > trees.len() {
-        return Err(Fault::Wrong("a node behind its children"));
+        return Err(Fault::Wrong("a node before its children"));
     }
-    let children = trees.split_off(trees.len() - children)?;
-    let id = id_of(kind, 17);
-    Ok(append(
-        trees,
-        Tree {
-            name,
-            id,
-            num_entries,
-            children,
-        },
-    )?)
-}
-
-fn append(trees: &mut Vec<Tree>, tree: Tree) -> Result<(), AllocError> {
-    trees.push(tree)?;
+    let mut children = trees.split_off(trees.len() - children)?;
+    children.reverse();
+    trees.push(Tree {
+        name,
+        id,
+        num_entries,
+        children,
+    })?;
     Ok(())
 }
 
-fn count_of(word: Option<&str>) -> Result<Option<u32>, Fault> {
+/// The number of entries below a node, or None for `-`.
+fn count_of(word: &str) -> Result<Option<u32>, Fault> {
     match word {
-        Some("-") => Ok(None),
+        "-" => Ok(None),
         _ => Ok(Some(number_of(word)?)),
     }
 }
 
-/// `verify-extensions KIND STATE`: the first fault of the cached tree of an index.
-pub fn extensions(
-    out: &mut Lines,
-    kind: Kind,
-    words: &mut SplitWhitespace<'_>,
-) -> Result<(), Fault> {
-    let state = state_of(out.alloc(), kind, words.next())?;
-    show(out, state.verify_extensions(out.alloc(), false, &NoObjects));
+/// `verify-extensions`: the first fault of the cached tree of an index.
+pub fn extensions(out: &mut Lines, kind: Kind, words: &mut Words<'_>) -> Result<(), Fault> {
+    match words.state(kind)? {
+        Ok(state) => show(out, state.verify_extensions(out.alloc(), false, &NoObjects)),
+        Err(e) => refusal::decode(out, &e),
+    }
     Ok(())
 }
 
 fn show(out: &mut Lines, found: Result<(), Error>) {
     match found {
-        Ok(()) => writeln!(out, "sound"),
+        Ok(()) => out.put("verify", "sound"),
         Err(e) => fault(out, &e),
     }
 }
 
 fn fault(out: &mut Lines, fault: &Error) {
     match fault {
-        Error::RootWithName { name } => writeln!(out, "a root named {name}"),
-        Error::EntriesCount { actual, expected } => writeln!(out, "{actual} within {expected}"),
-        Error::EntriesCountOverflow => writeln!(out, "too many"),
+        Error::RootWithName { name } => {
+            writeln!(out, "fault: a root named {}", Text(name));
+        }
+        Error::EntriesCount { actual, expected } => {
+            writeln!(out, "fault: {actual} within {expected}");
+        }
+        Error::EntriesCountOverflow => out.put("fault", "too many"),
         Error::OutOfOrder {
             parent_id,
             current_path,
             previous_path,
-        } => writeln!(out, "{current_path} behind {previous_path} in {parent_id}"),
+        } => {
+            let (current, previous) = (Text(current_path), Text(previous_path));
+            writeln!(out, "fault: {current} behind {previous} in {parent_id}");
+        }
         Error::EntriesCountExceedsIndex {
             name,
             actual,
             expected,
-        } => {
-            list::path(out, name.as_bytes());
-            writeln!(out, " counts {actual} of {expected}");
-        }
-        _ => writeln!(out, "another fault"),
+        } => writeln!(out, "fault: {} counts {actual} of {expected}", Text(name)),
+        _ => out.put("fault", "another"),
     }
 }

@@ -1,63 +1,53 @@
 //! `index-lookup-rows`: what lookups answer for each row of a table.
 //!
-//! The table comes on standard input. A row is a list of entries and the paths that are asked for, words with spaces
-//! between them. The row is printed behind `> `, and below it the answer. A line that is empty or begins with `#` is
-//! passed over. The first lines of the table beside the program, `stdin`, tell how entries and answers are written.
-//!
-//! A row that can't be understood ends the program with its number on standard error and status 1.
+//! The table comes on standard input. `tests/model/DIALECT.md` says how a row is spelled and which lines answer it. A
+//! row that can't be understood ends the program with its number on standard error and status 1.
 #![tactic(auto)]
 
-mod fault;
-mod lines;
-mod lookups;
-mod row;
+mod icase;
+mod ordered;
+mod place;
+mod unordered;
 
-use fault::Fault;
-use lines::Lines;
-use std::alloc::Global;
-use std::io::{self, BufRead, BufReader, BufWriter, Write};
+ghost use Rattle.std.specs.Prelude.{◌≡◌};
+ghost use Rattle.gix_index.specs.State.{PathsInStorage};
+
+use gix_index::State;
+use index_row_kit::{Answer, Fault, Lines, Words, refusal, rows};
 use std::process::ExitCode;
 
-/// The row and its answer, in lines.
-fn answer(alloc: Global, row: &str) -> Result<String, Fault> {
-    let words: Vec<&str> = row.split_whitespace().collect(alloc)?;
-    let Some((list, paths)) = words.split_first() else {
-        return Err(Fault::Wrong("a list of entries"));
-    };
-    let state = row::state_of(alloc, list)?;
-    let mut out = Lines::new(alloc);
-    writeln!(out, "> {row}");
-    lookups::answer(&mut out, &state, paths)?;
-    Ok(out.end()?)
+/// The rows of this program.
+struct Rows;
+
+impl Answer for Rows {
+    fn answer(&self, call: &str, words: &mut Words<'_>, out: &mut Lines) -> Result<(), Fault> {
+        if call != "lookup" {
+            return Err(Fault::Wrong("the name of a call"));
+        }
+        let kind = words.kind()?;
+        match words.state(kind)? {
+            Ok(state) => lookup(out, &state, &words.texts()?),
+            Err(e) => {
+                refusal::decode(out, &e);
+                Ok(())
+            }
+        }
+    }
 }
 
-/// Answers each row of the table. `line` is the number of the last line that was read, counted from 1.
-fn answer_all<W: Write>(rt: &HostRuntime, out: &mut W, line: &mut u64) -> Result<(), Fault> {
-    let alloc = rt.alloc();
-    for text in BufReader::new(alloc, rt.reader())?.lines(alloc) {
-        *line = line.saturating_add(1);
-        let text = text?;
-        let row = text.as_str();
-        if !row.is_empty() && !row.starts_with('#') {
-            write!(out, "{}", answer(alloc, row)?)?;
-        }
+/// What the lookups answer for the paths. A new lookup is a line of one of the three modules.
+fn lookup(out: &mut Lines, state: &State, paths: &[Vec<u8>]) -> Result<(), Fault>
+    requires { PathsInStorage state.now }
+{
+    icase::lookups(out, state, paths)?;
+    if state.is_ordered_by_path() {
+        ordered::lookups(out, state, paths)?;
+    } else {
+        unordered::lookups(out, state, paths);
     }
     Ok(())
 }
 
-/// Answers the table, and prints what was answered before a fault.
-fn run(rt: &HostRuntime, line: &mut u64) -> Result<(), Fault> {
-    let mut out = BufWriter::new(rt.alloc(), io::writer(rt))?;
-    let outcome = answer_all(rt, &mut out, line);
-    out.flush()?;
-    outcome
-}
-
 fn main(rt: HostRuntime) -> ExitCode {
-    let mut line = 0;
-    let Err(fault) = run(&rt, &mut line) else {
-        return ExitCode::SUCCESS;
-    };
-    let _ = eprintln!(rt; "index-lookup-rows: line {line} of the table: {fault}");
-    ExitCode::FAILURE
+    rows(&rt, "index-lookup-rows", &Rows)
 }

@@ -1,29 +1,27 @@
 //! The rows about the values of an entry: flags, stages, modes, times and paths.
 
-use crate::fault::Fault;
-use crate::show::Lines;
-use crate::states::sign_of;
-use crate::words::Words;
 use bitflags::Flags as _;
 use gix_index::Entry;
-use gix_index::entry::{FileTime, Flags, Mode, Stage, at_rest};
+use gix_index::entry::{FileTime, Flags, Mode, at_rest};
+use index_row_kit::show::{FileSeconds, OrNone, sign_of, stage_of, yes};
+use index_row_kit::{Fault, Lines, Words};
 
 /// Which value is made of the words.
 #[derive(Clone, Copy)]
 pub enum Call {
-    /// `flags BITS`: flags in memory, and what is stored of them.
+    /// `flags`: flags in memory, and what is stored of them.
     Flags,
-    /// `word BITS`: the first word of flags in a file.
+    /// `word`: the first word of flags in a file.
     Word,
-    /// `second-word BITS`: the second word of flags in a file.
+    /// `second-word`: the second word of flags in a file.
     SecondWord,
-    /// `stage N`
+    /// `stage`
     Stage,
-    /// `mode BITS`
+    /// `mode`
     Mode,
-    /// `time SECONDS NANOSECONDS`
+    /// `time`
     Time,
-    /// `compare PATH PATH`
+    /// `compare`
     Compare,
 }
 
@@ -43,7 +41,7 @@ impl Call {
     }
 
     /// Tells what the call answers with the words behind it.
-    pub fn answer(self, out: &mut Lines, words: &mut Words<'_>) -> Result<(), Fault> {
+    pub fn answer(self, words: &mut Words<'_>, out: &mut Lines) -> Result<(), Fault> {
         match self {
             Call::Flags => flags(out, words.hex()?),
             Call::Word => word(out, word_of(words)?),
@@ -52,35 +50,28 @@ impl Call {
             Call::Mode => mode(out, words.octal()?),
             Call::Time => time(out, words)?,
             Call::Compare => {
-                let path = words.path(out.alloc())?;
-                let other = words.path(out.alloc())?;
-                writeln!(out, "{}", sign_of(Entry::cmp_filepaths(&path, &other)));
+                let (path, other) = (words.text()?, words.text()?);
+                out.put(
+                    "cmp_filepaths",
+                    sign_of(Entry::cmp_filepaths(&path, &other)),
+                );
             }
         }
         Ok(())
     }
 }
 
-fn name_of(stage: Stage) -> &'static str {
-    match stage {
-        Stage::Unconflicted => "unconflicted",
-        Stage::Base => "base",
-        Stage::Ours => "ours",
-        Stage::Theirs => "theirs",
-    }
-}
-
 fn flags(out: &mut Lines, bits: u32) {
     let Some(flags) = Flags::from_bits(bits) else {
-        writeln!(out, "none");
-        return;
+        return out.put("flags", "none");
     };
-    let (raw, stage) = (flags.stage_raw(), name_of(flags.stage()));
-    let stored = flags.to_storage().bits();
-    let second = at_rest::FlagsExtended::from_flags(flags).bits();
-    let kept = flags.to_kept().bits();
-    write!(out, "{:08x} stage {raw} {stage} ", flags.bits());
-    writeln!(out, "stored {stored:04x} {second:04x} kept {kept:08x}");
+    let second = at_rest::FlagsExtended::from_flags(flags);
+    writeln!(out, "flags: {:08x}", flags.bits());
+    out.put("stage_raw", flags.stage_raw());
+    out.put("stage", stage_of(flags.stage()));
+    writeln!(out, "first word: {:04x}", flags.to_storage().bits());
+    writeln!(out, "second word: {:04x}", second.bits());
+    writeln!(out, "stored flags: {:08x}", flags.to_kept().bits());
 }
 
 /// A word of 16 bits.
@@ -93,16 +84,16 @@ fn word_of(words: &mut Words<'_>) -> Result<u16, Fault> {
 
 fn word(out: &mut Lines, bits: u16) {
     let word = at_rest::Flags::from_bits_retain(bits);
-    let memory = word.to_memory().bits();
-    writeln!(out, "{:04x} in memory {memory:08x}", word.bits());
+    writeln!(out, "bits: {:04x}", word.bits());
+    writeln!(out, "flags: {:08x}", word.to_memory().bits());
 }
 
 fn second_word(out: &mut Lines, bits: u16) {
     let word = at_rest::FlagsExtended::from_bits_retain(bits);
-    write!(out, "{:04x} ", word.bits());
+    writeln!(out, "bits: {:04x}", word.bits());
     match word.to_flags() {
-        Some(flags) => writeln!(out, "in memory {:08x}", flags.bits()),
-        None => writeln!(out, "none in memory"),
+        Some(flags) => writeln!(out, "flags: {:08x}", flags.bits()),
+        None => out.put("flags", "none"),
     }
 }
 
@@ -111,34 +102,24 @@ fn stage(out: &mut Lines, words: &mut Words<'_>) -> Result<(), Fault> {
         return Err(Fault::Missing("a stage"));
     };
     let (flags, same) = (Flags::from_stage(stage), Flags::from(stage));
-    let name = name_of(flags.stage());
-    writeln!(out, "{name} {:08x} {:08x}", flags.bits(), same.bits());
+    out.put("stage", stage_of(flags.stage()));
+    writeln!(out, "from_stage: {:08x}", flags.bits());
+    writeln!(out, "from: {:08x}", same.bits());
     Ok(())
 }
 
 fn mode(out: &mut Lines, bits: u32) {
     let mode = Mode::from_bits_truncate(bits);
-    let kept = Mode::from_bits_retain(bits).to_kept();
-    write!(out, "{:06o} kept {:06o}", mode.bits(), kept.bits());
-    if mode.is_sparse() {
-        write!(out, ", sparse directory");
-    }
-    if mode.is_submodule() {
-        write!(out, ", submodule");
-    }
-    writeln!(out);
+    let stored = Mode::from_bits_retain(bits).to_kept();
+    writeln!(out, "from_bits_truncate: {:o}", mode.bits());
+    writeln!(out, "stored mode: {:o}", stored.bits());
+    out.put("is_sparse", yes(mode.is_sparse()));
+    out.put("is_submodule", yes(mode.is_submodule()));
 }
 
 fn time(out: &mut Lines, words: &mut Words<'_>) -> Result<(), Fault> {
-    let Ok(seconds) = words.next("seconds")?.parse::<i64>() else {
-        return Err(Fault::Wrong("a number of seconds"));
-    };
-    let Ok(nanoseconds) = words.next("nanoseconds")?.parse::<u32>() else {
-        return Err(Fault::Wrong("a number of nanoseconds"));
-    };
-    match FileTime::new(seconds, nanoseconds) {
-        Some(time) => writeln!(out, "{} s {} ns", time.unix_seconds(), time.nanoseconds()),
-        None => writeln!(out, "none"),
-    }
+    let (seconds, nanoseconds) = words.seconds()?;
+    let time = FileTime::new(seconds, nanoseconds);
+    out.put("time", OrNone(time.map(FileSeconds)));
     Ok(())
 }

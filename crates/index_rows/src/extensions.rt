@@ -1,18 +1,16 @@
 //! The rows about the content of one extension.
 
-use crate::fault::Fault;
-use crate::show::{Lines, extension, fault};
-use crate::words::Words;
+use crate::show::{extension, untracked};
 use gix_index::ewah;
-use gix_index::extension::index_entry_offset_table::Offset;
 use gix_index::extension::{
-    Iter, end_of_index_entry, fs_monitor, index_entry_offset_table, link, resolve_undo, tree,
-    untracked_cache,
+    Iter, Signature, end_of_index_entry, fs_monitor, index_entry_offset_table, link, resolve_undo,
+    tree, untracked_cache,
 };
 use gix_index::hash::Kind;
-use std::rt::Files;
+use index_row_kit::show::{Bytes, OrNone, Text};
+use index_row_kit::{Fault, Lines, Words, refusal};
 
-/// Which reader is called, with `KIND BYTES [limit N]` behind its name.
+/// Which reader is called.
 #[derive(Clone, Copy)]
 pub enum Call {
     /// `tree`
@@ -59,109 +57,105 @@ impl Call {
     }
 
     /// Tells what the call answers with the words behind it.
-    pub fn answer<R: Files + AllocGlobal>(
-        self,
-        rt: &R,
-        out: &mut Lines,
-        words: &mut Words<'_>,
-    ) -> Result<(), Fault> {
-        let kind = words.kind()?;
-        let bytes = words.bytes(rt)?;
-        let limit = words.number_named("limit")?;
+    pub fn answer(self, words: &mut Words<'_>, out: &mut Lines) -> Result<(), Fault> {
         match self {
-            Call::Tree | Call::ResolveUndo | Call::Untracked | Call::Monitor => {
-                self.value(out, kind, limit, &bytes)
+            Call::Monitor => monitor(out, &words.bytes()?)?,
+            Call::Offsets => {
+                let blocks = index_entry_offset_table::decode(out.alloc(), &words.bytes()?)?;
+                extension::offsets(out, blocks.as_deref());
             }
-            _ => self.place(out, kind, &bytes),
+            Call::Walk => walk(out, Iter::new(&words.bytes()?)),
+            Call::Bitmap => bitmap(out, &words.bytes()?),
+            _ => {
+                let kind = words.kind()?;
+                let bytes = words.bytes()?;
+                self.answer_kind(kind, &bytes, words, out)?;
+            }
         }
+        Ok(())
     }
 
-    /// The answer of a reader whose value a state has.
-    fn value(
+    /// The same of a call that takes a kind of hash before the bytes.
+    fn answer_kind(
         self,
-        out: &mut Lines,
         kind: Kind,
-        limit: Option<usize>,
         bytes: &[u8],
+        words: &mut Words<'_>,
+        out: &mut Lines,
     ) -> Result<(), Fault> {
         let alloc = out.alloc();
         match self {
-            Call::Tree => match tree::decode(alloc, bytes, kind, limit)? {
-                Some(tree) => extension::tree(out, &tree),
-                None => none(out),
-            },
-            Call::ResolveUndo => match resolve_undo::decode(alloc, bytes, kind)? {
-                Some(paths) => extension::resolve_undo(out, &paths),
-                None => none(out),
-            },
-            Call::Untracked => match untracked_cache::decode(alloc, bytes, kind, limit)? {
-                Some(cache) => extension::untracked(out, &cache),
-                None => none(out),
-            },
-            _ => match fs_monitor::decode(alloc, bytes)? {
-                Some(monitor) => extension::monitor(out, &monitor),
-                None => none(out),
-            },
+            Call::Tree => {
+                let tree = tree::decode(alloc, bytes, kind, words.number_named("limit")?)?;
+                extension::tree(out, tree.as_ref());
+            }
+            Call::ResolveUndo => {
+                let paths = resolve_undo::decode(alloc, bytes, kind)?;
+                extension::resolve_undo(out, paths.as_deref());
+            }
+            Call::Untracked => {
+                let limit = words.number_named("limit")?;
+                let cache = untracked_cache::decode(alloc, bytes, kind, limit)?;
+                untracked::untracked(out, cache.as_ref());
+            }
+            _ => self.answer_place(kind, bytes, out)?,
         }
         Ok(())
     }
 
-    /// The answer of every other reader.
-    fn place(self, out: &mut Lines, kind: Kind, bytes: &[u8]) -> Result<(), Fault> {
+    /// The same of a call that tells a place, a link or a walk.
+    fn answer_place(self, kind: Kind, bytes: &[u8], out: &mut Lines) -> Result<(), Fault> {
         let alloc = out.alloc();
         match self {
-            Call::Offsets => offsets(out, index_entry_offset_table::decode(alloc, bytes)?),
             Call::FirstOffsets => {
-                offsets(out, index_entry_offset_table::find(alloc, bytes, kind)?);
+                let blocks = index_entry_offset_table::find(alloc, bytes, kind)?;
+                extension::offsets(out, blocks.as_deref());
             }
-            Call::Marker => marker(out, end_of_index_entry::decode(bytes, kind)),
+            Call::Marker => out.put("marker", OrNone(end_of_index_entry::decode(bytes, kind))),
             Call::Link => match link::decode::decode(alloc, bytes, kind) {
-                Ok(link) => extension::link(out, &link),
-                Err(e) => fault::link(out, &e),
+                Ok(link) => extension::link(out, Some(&link)),
+                Err(e) => refusal::link(out, &e),
             },
-            Call::Walk => walk(out, Iter::new(bytes)),
-            Call::WalkFile => match Iter::new_without_checksum(bytes, kind) {
+            _ => match Iter::new_without_checksum(bytes, kind) {
                 Some(extensions) => walk(out, extensions),
-                None => none(out),
+                None => out.put("extensions", "none"),
             },
-            _ => bitmap(out, bytes),
         }
         Ok(())
     }
 }
 
-fn none(out: &mut Lines) {
-    writeln!(out, "none");
-}
-
-fn offsets(out: &mut Lines, blocks: Option<Vec<Offset>>) {
-    match blocks {
-        Some(blocks) => extension::offsets(out, &blocks),
-        None => none(out),
-    }
-}
-
-fn marker(out: &mut Lines, place: Option<usize>) {
-    match place {
-        Some(place) => writeln!(out, "entries end at {place}"),
-        None => none(out),
-    }
+fn monitor(out: &mut Lines, bytes: &[u8]) -> Result<(), Fault> {
+    let monitor = fs_monitor::decode(out.alloc(), bytes)?;
+    extension::monitor(out, monitor.as_ref());
+    Ok(())
 }
 
 fn bitmap(out: &mut Lines, bytes: &[u8]) {
     match ewah::decode::decode(out.alloc(), bytes) {
         Ok((bitmap, rest)) => {
-            extension::bitmap(out, "bitmap", &bitmap);
-            writeln!(out, "{} bytes behind it", rest.len());
+            extension::bitmap(out, "", &bitmap);
+            out.put("rest", rest.len());
         }
-        Err(e) => fault::bitmap(out, &e),
+        Err(e) => refusal::bitmap(out, &e),
     }
 }
 
 /// The extensions of a walk, and how many bytes they take.
 fn walk(out: &mut Lines, mut extensions: Iter<'_>) {
+    let mut place = 0;
     while let Some(item) = extensions.next() {
-        extension::item(out, item);
+        self::item(out, place, item);
+        place = usize::saturating_add(place, 1);
     }
-    writeln!(out, "{} bytes walked", extensions.consumed);
+    out.put("consumed", extensions.consumed);
+}
+
+fn item(out: &mut Lines, place: usize, item: (Signature, &[u8])) {
+    writeln!(
+        out,
+        "extension {place}: {} {}",
+        Text(&item.0),
+        Bytes(item.1)
+    );
 }

@@ -1,37 +1,38 @@
 //! The rows about a whole index: read, searched and written.
 
-use crate::fault::Fault;
-use crate::show::{self, Lines, fault};
-use crate::words::Words;
-use gix_index::entry::FileTime;
+ghost use Rattle.std.specs.Prelude.{◌≡◌};
+ghost use Rattle.gix_index.specs.State.{PathsInStorage};
+
+use crate::{fronts, show};
+use gix_index::entry::{FileTime, Stage};
 use gix_index::hash::io::Plain;
 use gix_index::hash::{Kind, ObjectId};
-use gix_index::{Entry, File, State, decode, write};
-use std::alloc::{AllocError, Global};
-use std::cmp::Ordering;
+use gix_index::{File, State, decode, write};
+use index_row_kit::show::{Bytes, Item, OrNone, sign_of, version_of};
+use index_row_kit::{Fault, Lines, Words, refusal};
+use std::alloc::AllocError;
 use std::path::PathBuf;
-use std::rt::Files;
 
 /// What is asked about an index.
 #[derive(Clone, Copy)]
 pub enum Call {
-    /// `state KIND BYTES [limit N] [expected ID]`: what is read of the bytes.
+    /// `state`: what is read of bytes.
     State,
-    /// `file KIND BYTES [unchecked]`: the same of a file whose digest is compared first.
+    /// `file`: the same of a file whose digest is compared first.
     File,
-    /// `fronts KIND BYTES`: in a line what is read of each front of the bytes, once for those that answer alike.
+    /// `fronts`: what is read of each front of bytes.
     Fronts,
-    /// `file-fronts KIND BYTES`: the same of files whose digest is compared first.
+    /// `file-fronts`: the same of files whose digest is compared first.
     FileFronts,
-    /// `search KIND STATE PATH [STAGE]`: where the path stands.
+    /// `search`: where a path stands.
     Search,
-    /// `order KIND STATE`: each entry compared with the next.
+    /// `order`: each entry compared with the next.
     Order,
-    /// `entry KIND STATE PLACE`: the bytes of one entry alone.
+    /// `entry`: the bytes of one entry alone.
     Entry,
-    /// `body KIND STATE`: what is written of the state.
+    /// `body`: what is written of a state.
     Body,
-    /// `write KIND STATE [null]`: the file that is written, with its digest or with a null trailer.
+    /// `write`: the file that is written.
     Write,
 }
 
@@ -53,22 +54,17 @@ impl Call {
     }
 
     /// Tells what the call answers with the words behind it.
-    pub fn answer<R: Files + AllocGlobal>(
-        self,
-        rt: &R,
-        out: &mut Lines,
-        words: &mut Words<'_>,
-    ) -> Result<(), Fault> {
+    pub fn answer(self, words: &mut Words<'_>, out: &mut Lines) -> Result<(), Fault> {
         let kind = words.kind()?;
         match self {
             Call::State | Call::File | Call::Fronts | Call::FileFronts => {
-                let bytes = words.bytes(rt)?;
-                self.answer_bytes(out, kind, &bytes, words)
+                let bytes = words.bytes()?;
+                self.answer_bytes(kind, &bytes, words, out)
             }
-            _ => match words.state(rt, kind)? {
-                Ok(state) => self.answer_state(out, state, words),
+            _ => match words.state(kind)? {
+                Ok(state) => self.answer_state(state, words, out),
                 Err(e) => {
-                    fault::decode(out, &e);
+                    refusal::decode(out, &e);
                     Ok(())
                 }
             },
@@ -78,10 +74,10 @@ impl Call {
     /// The same of a call about bytes.
     fn answer_bytes(
         self,
-        out: &mut Lines,
         kind: Kind,
         bytes: &[u8],
         words: &mut Words<'_>,
+        out: &mut Lines,
     ) -> Result<(), Fault> {
         let reading = match self {
             Call::File | Call::FileFronts => Reading::File {
@@ -89,30 +85,31 @@ impl Call {
             },
             _ => Reading::State(decode::Options {
                 alloc_limit_bytes: words.number_named("limit")?,
-                expected_checksum: words.expected(out.alloc())?,
+                expected_checksum: words.id_named("expected")?,
                 ..decode::Options::default()
             }),
         };
         match self {
-            Call::State | Call::File => read(out, kind, bytes, reading, Measure::Whole)?,
-            _ => fronts(out, kind, bytes, reading)?,
+            Call::State | Call::File => {
+                if let Some((state, checksum)) = read(out, kind, bytes, reading)? {
+                    show::state::state(out, &state, checksum);
+                }
+            }
+            _ => fronts::fronts(out, kind, bytes, reading)?,
         }
         Ok(())
     }
 
     /// The same of a call about a state.
-    fn answer_state(
-        self,
-        out: &mut Lines,
-        state: State,
-        words: &mut Words<'_>,
-    ) -> Result<(), Fault> {
+    fn answer_state(self, state: State, words: &mut Words<'_>, out: &mut Lines) -> Result<(), Fault>
+        requires { PathsInStorage state }
+    {
         match self {
-            Call::Search => search(out, &state, words)?,
+            Call::Search => search(&state, words, out)?,
             Call::Order => order(out, &state),
-            Call::Entry => entry(out, &state, words)?,
+            Call::Entry => entry(&state, words, out)?,
             Call::Body => body(out, &state),
-            _ => file(out, &file_of(out, state)?, words.has("null")),
+            _ => file(out, state, words.has("null")),
         }
         Ok(())
     }
@@ -120,42 +117,22 @@ impl Call {
 
 /// How bytes are read: as a state, or as a file, whose digest is compared first unless that is to be skipped.
 #[derive(Clone, Copy)]
-enum Reading {
+pub enum Reading {
     State(decode::Options),
     File { skip_hash: bool },
 }
 
-/// How much is told of what was read.
-#[derive(Clone, Copy)]
-enum Measure {
-    /// All that it has.
-    Whole,
-    /// One line.
-    Line,
-}
-
-impl Measure {
-    fn show(self, out: &mut Lines, state: &State, checksum: Option<ObjectId>) {
-        match self {
-            Measure::Whole => show::state::state(out, state, checksum),
-            Measure::Line => show::state::summary(out, state, checksum),
-        }
-    }
-}
-
-/// What is read of the bytes.
-fn read(
+/// The state that is read of the bytes and the id at their end, or None behind the line of a refusal.
+pub fn read(
     out: &mut Lines,
     kind: Kind,
     bytes: &[u8],
     reading: Reading,
-    measure: Measure,
-) -> Result<(), AllocError> {
+) -> Result<Option<(State, Option<ObjectId>)>, AllocError> {
     match reading {
-        Reading::State(options) => read_state(out, kind, bytes, options, measure),
-        Reading::File { skip_hash } => read_file(out, kind, bytes, skip_hash, measure)?,
+        Reading::State(options) => Ok(read_state(out, kind, bytes, options)),
+        Reading::File { skip_hash } => read_file(out, kind, bytes, skip_hash),
     }
-    Ok(())
 }
 
 fn read_state(
@@ -163,11 +140,13 @@ fn read_state(
     kind: Kind,
     bytes: &[u8],
     options: decode::Options,
-    measure: Measure,
-) {
+) -> Option<(State, Option<ObjectId>)> {
     match State::from_bytes(out.alloc(), bytes, FileTime::EPOCH, kind, options) {
-        Ok((state, checksum)) => measure.show(out, &state, checksum),
-        Err(e) => fault::decode(out, &e),
+        Ok(read) => Some(read),
+        Err(e) => {
+            refusal::decode(out, &e);
+            None
+        }
     }
 }
 
@@ -176,112 +155,120 @@ fn read_file(
     kind: Kind,
     bytes: &[u8],
     skip_hash: bool,
-    measure: Measure,
-) -> Result<(), AllocError> {
+) -> Result<Option<(State, Option<ObjectId>)>, AllocError> {
     let (alloc, time, options) = (out.alloc(), FileTime::EPOCH, decode::Options::default());
     let path = PathBuf::from_str(alloc, "index")?;
     match File::decode(alloc, bytes, path, kind, skip_hash, time, options) {
-        Ok(file) => measure.show(out, &file, file.checksum()),
-        Err(e) => fault::file(out, &e),
-    }
-    Ok(())
-}
-
-/// The answer of each front, and of which lengths the fronts are that have it.
-fn fronts(out: &mut Lines, kind: Kind, bytes: &[u8], reading: Reading) -> Result<(), AllocError> {
-    let mut first = 0;
-    let mut last = front(out.alloc(), kind, &[], reading)?;
-    for len in 1..=bytes.len() {
-        let line = front(out.alloc(), kind, &bytes[..len], reading)?;
-        if line.as_str() != last.as_str() {
-            write!(out, "{first} to {}: {last}", len - 1);
-            first = len;
-            last = line;
+        Ok(file) => {
+            let checksum = file.checksum();
+            Ok(Some((file.into_parts().0, checksum)))
+        }
+        Err(e) => {
+            refusal::file(out, &e);
+            Ok(None)
         }
     }
-    write!(out, "{first} to {}: {last}", bytes.len());
-    Ok(())
 }
 
-/// The line of what is read of one front.
-fn front(alloc: Global, kind: Kind, bytes: &[u8], reading: Reading) -> Result<String, AllocError> {
-    let mut line = Lines::new(alloc);
-    read(&mut line, kind, bytes, reading, Measure::Line)?;
-    line.end()
-}
-
-fn search(out: &mut Lines, state: &State, words: &mut Words<'_>) -> Result<(), Fault> {
-    let path = words.path(out.alloc())?;
+fn search(state: &State, words: &mut Words<'_>, out: &mut Lines) -> Result<(), Fault>
+    requires { PathsInStorage state.now }
+{
+    let path = words.text()?;
     match words.stage()? {
-        Some(stage) => show::state::path_and_stage(out, state, &path, stage),
-        None => show::state::path(out, state, &path),
+        Some(stage) => search_stage(out, state, &path, stage),
+        None => {
+            let (found, count) = state.search_path(&path);
+            place(out, "search_path", found);
+            compared(out, "search_path", state, count);
+            place(out, "entry_index_by_path", state.entry_index_by_path(&path));
+        }
     }
     Ok(())
 }
 
-/// The sign between two values of this order.
-pub fn sign_of(order: Ordering) -> &'static str {
-    match order {
-        Ordering::Less => "<",
-        Ordering::Equal => "=",
-        Ordering::Greater => ">",
+fn search_stage(out: &mut Lines, state: &State, path: &[u8], stage: Stage)
+    requires { PathsInStorage state.now }
+{
+    let (found, count) = state.search_path_and_stage(path, stage);
+    place(out, "search_path_and_stage", found);
+    compared(out, "search_path_and_stage", state, count);
+    let index = state.entry_index_by_path_and_stage(path, stage);
+    out.put("entry_index_by_path_and_stage", OrNone(index));
+    let entry = state.entry_by_path_and_stage(path, stage);
+    let item = entry.map(|entry| Item { path, entry });
+    out.put("entry_by_path_and_stage", OrNone(item));
+}
+
+/// Where a search ended: at a place, or before the place where the path belongs.
+fn place(out: &mut Lines, name: &str, found: Result<usize, usize>) {
+    match found {
+        Ok(place) => writeln!(out, "{name}: at {place}"),
+        Err(place) => writeln!(out, "{name}: before {place}"),
     }
 }
 
-fn order(out: &mut Lines, state: &State) {
-    if !state.paths_in_storage() {
-        return show::state::no_paths(out);
-    }
-    for (entry, next) in state.entries().iter().zip(state.entries().iter().skip(1)) {
-        writeln!(out, "{}", sign_of(entry.cmp(next, state)));
+/// How many paths a search may have compared at most: no more than the number of entries has binary digits, and one.
+fn compared(out: &mut Lines, name: &str, state: &State, count: usize) {
+    let len = state.entries().len();
+    let digits = usize::BITS.saturating_sub(len.leading_zeros());
+    let most = digits.saturating_add(1) as usize;
+    if count <= most && (count > 0 || len == 0) {
+        writeln!(out, "{name} comparisons: at most {most}");
+    } else {
+        writeln!(out, "{name} comparisons: {count}, not at most {most}");
     }
 }
 
-fn entry(out: &mut Lines, state: &State, words: &mut Words<'_>) -> Result<(), Fault> {
-    let place = words.number()?;
-    if place >= state.entries().len() || !state.paths_in_storage() {
+fn order(out: &mut Lines, state: &State)
+    requires { PathsInStorage state.now }
+{
+    let pairs = state.entries().iter().zip(state.entries().iter().skip(1));
+    for (place, (entry, next)) in pairs.enumerate() {
+        writeln!(out, "cmp {place}: {}", sign_of(entry.cmp(next, state)));
+    }
+}
+
+fn entry(state: &State, words: &mut Words<'_>, out: &mut Lines) -> Result<(), Fault>
+    requires { PathsInStorage state.now }
+{
+    let place: usize = words.number()?;
+    if place >= state.entries().len() {
         return Err(Fault::Wrong("the place of an entry"));
     }
     let mut image = Plain::new(Vec::new(out.alloc()));
     state.entry(place).write_to(&mut image, state)?;
-    show::bytes(out, &image.inner);
+    out.put("write_to", Bytes(&image.inner));
     Ok(())
 }
 
-fn body(out: &mut Lines, state: &State) {
-    if !state.paths_in_storage() {
-        return show::state::no_paths(out);
-    }
+fn body(out: &mut Lines, state: &State)
+    requires { PathsInStorage state.now }
+{
     let mut image = Plain::new(Vec::new(out.alloc()));
     match state.write_to(&mut image, write::Options::default()) {
         Ok(version) => {
-            writeln!(out, "version {}", show::state::version_of(version));
-            show::bytes(out, &image.inner);
+            out.put("version", version_of(version));
+            out.put("bytes", Bytes(&image.inner));
         }
-        Err(e) => fault::write(out, &e),
+        Err(e) => refusal::write(out, &e),
     }
 }
 
-/// The file of a state that lies nowhere.
-fn file_of(out: &Lines, state: State) -> Result<File, AllocError> {
-    let path = PathBuf::from_str(out.alloc(), "index")?;
-    Ok(File::from_state(state, path))
-}
-
-fn file(out: &mut Lines, file: &File, skip_hash: bool) {
-    if !file.paths_in_storage() {
-        return show::state::no_paths(out);
-    }
+fn file(out: &mut Lines, state: State, skip_hash: bool)
+    requires { PathsInStorage state }
+{
     let options = write::Options {
         skip_hash,
         ..write::Options::default()
     };
+    let file = File::from_state(state, PathBuf::new(out.alloc()));
     let mut image = Plain::new(Vec::new(out.alloc()));
     match file.write_to(&mut image, options) {
         Ok((version, id)) => {
-            writeln!(out, "version {} {id}", show::state::version_of(version));
-            show::bytes(out, &image.inner);
+            out.put("version", version_of(version));
+            out.put("checksum", id);
+            out.put("bytes", Bytes(&image.inner));
         }
-        Err(e) => fault::write(out, &e),
+        Err(e) => refusal::write(out, &e),
     }
 }

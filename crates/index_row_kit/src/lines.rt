@@ -1,10 +1,10 @@
-//! The answer of a row.
+//! The lines of an answer.
 
 use std::alloc::{AllocError, Global};
 use std::fmt::Display;
 
-/// Lines that are put together in memory by `write!` and `writeln!`, of which none can fail: where memory is wanting,
-/// `end` says so.
+/// The answer of a row, put together in memory by `put`, `write!` and `writeln!`, of which none can fail: where memory
+/// is wanting, `end` says so.
 #[derive(Drop)]
 pub struct Lines {
     alloc: Global,
@@ -29,7 +29,18 @@ impl Lines {
 
     /// Puts text at the end.
     pub fn write_fmt<D: Display + Drop>(&mut self, text: D) {
-        if self.text.write_fmt(text).is_err() {
+        let grown = self.text.write_fmt(text);
+        self.note(grown);
+    }
+
+    /// Puts the line of one value.
+    pub fn put<D: Display + Drop>(&mut self, name: &str, value: D) {
+        writeln!(self, "{name}: {value}");
+    }
+
+    /// Takes note where memory that an answer needs is refused.
+    pub fn note<E: Drop>(&mut self, grown: Result<(), E>) {
+        if grown.is_err() {
             self.is_short = true;
         }
     }

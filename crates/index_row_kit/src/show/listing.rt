@@ -1,0 +1,103 @@
+//! Entries, and the ids and stat numbers in them.
+
+ghost use Rattle.std.specs.Prelude.{◌≡◌};
+ghost use Rattle.gix_index.specs.State.{PathsInStorage};
+
+use super::Text;
+use crate::Lines;
+use bitflags::Flags as _;
+use gix_index::entry::stat::Time;
+use gix_index::entry::{FileTime, Flags, Stat};
+use gix_index::hash::ObjectId;
+use gix_index::{Entry, State};
+use std::fmt::{self, Display};
+
+/// An id by all its digits, or by two where all of its bytes are equal.
+#[derive(Clone, Copy)]
+pub struct ShortId(pub ObjectId);
+
+impl Display for ShortId {
+    fn fmt<W: fmt::Write>(&self, f: &mut fmt::Formatter<W>) -> fmt::Result {
+        let bytes = self.0.as_bytes();
+        match bytes.first() {
+            Some(byte) if bytes.iter().all(|other| other == byte) => write!(f, "{byte:02x}"),
+            _ => write!(f, "{}", self.0),
+        }
+    }
+}
+
+/// The numbers of a stat in the order of the index, joined by `,`.
+#[derive(Clone, Copy)]
+pub struct StatNumbers(pub Stat);
+
+impl Display for StatNumbers {
+    fn fmt<W: fmt::Write>(&self, f: &mut fmt::Formatter<W>) -> fmt::Result {
+        let it = self.0;
+        write!(f, "{},{},", Seconds(it.ctime), Seconds(it.mtime))?;
+        write!(f, "{},{},{},{},{}", it.dev, it.ino, it.uid, it.gid, it.size)
+    }
+}
+
+/// The time of an entry.
+#[derive(Clone, Copy)]
+pub struct Seconds(pub Time);
+
+impl Display for Seconds {
+    fn fmt<W: fmt::Write>(&self, f: &mut fmt::Formatter<W>) -> fmt::Result {
+        write!(f, "{}.{}", self.0.secs, self.0.nsecs)
+    }
+}
+
+/// The time of a file.
+#[derive(Clone, Copy)]
+pub struct FileSeconds(pub FileTime);
+
+impl Display for FileSeconds {
+    fn fmt<W: fmt::Write>(&self, f: &mut fmt::Formatter<W>) -> fmt::Result {
+        write!(f, "{}.{}", self.0.unix_seconds(), self.0.nanoseconds())
+    }
+}
+
+/// The fields of an entry behind its path.
+#[derive(Clone, Copy)]
+pub struct Fields<'a>(pub &'a Entry);
+
+impl Display for Fields<'_> {
+    fn fmt<W: fmt::Write>(&self, f: &mut fmt::Formatter<W>) -> fmt::Result {
+        let flags = self.0.flags.difference(Flags::STAGE_MASK).bits();
+        let (stage, mode) = (self.0.stage_raw(), self.0.mode.bits());
+        write!(f, "{stage}:{mode:o}:{flags:x}:{}", ShortId(self.0.id))?;
+        if self.0.stat != Stat::default() {
+            write!(f, ":{}", StatNumbers(self.0.stat))?;
+        }
+        Ok(())
+    }
+}
+
+/// An entry with its path, as an item of a list.
+#[derive(Clone, Copy)]
+pub struct Item<'a> {
+    pub path: &'a [u8],
+    pub entry: &'a Entry,
+}
+
+impl Display for Item<'_> {
+    fn fmt<W: fmt::Write>(&self, f: &mut fmt::Formatter<W>) -> fmt::Result {
+        write!(f, "{}:{}", Text(self.path), Fields(self.entry))
+    }
+}
+
+/// The list of a state's entries.
+pub fn entries(out: &mut Lines, state: &State)
+    requires { PathsInStorage state.now }
+{
+    write!(out, "entries: [");
+    for (place, entry) in state.entries().iter().enumerate() {
+        if place > 0 {
+            write!(out, ";");
+        }
+        let path = entry.path(state);
+        write!(out, "{}", Item { path, entry });
+    }
+    writeln!(out, "]");
+}

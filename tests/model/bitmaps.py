@@ -1,0 +1,69 @@
+"""Compressed bitmaps, by gitformat-bitmap: words of 64 bits, of which each run word says what follows it."""
+
+from dataclasses import dataclass
+
+from bytes import Unreadable, number, numbers
+
+# What stands in the place of a position where the words break off.
+MALFORMED = "malformed"
+
+LAST_PLACE = 2 ** 64 - 1
+
+
+class PartMissing(Exception):
+    """A bitmap can't be read: the part that its bytes lack."""
+
+    def __init__(self, part):
+        super().__init__(part)
+        self.part = part
+
+
+@dataclass
+class Bitmap:
+    """The declared number of bits, and the words."""
+
+    bits: int
+    words: list
+
+    def positions(self):
+        """The places of the bits that are 1, ascending.
+
+        The last item is `MALFORMED` where the words break off, or where a place is past what 64 bits hold.
+        """
+        for place in self.unbounded_positions():
+            if place == MALFORMED or place > LAST_PLACE:
+                yield MALFORMED
+                return
+            yield place
+
+    def unbounded_positions(self):
+        place, at = 0, 0
+        while at < len(self.words):
+            word = self.words[at]
+            bit, run, literals = word % 2, word // 2 % 2 ** 32 * 64, word // 2 ** 33
+            if bit:
+                yield from range(place, place + run)
+            follow = self.words[at + 1:at + 1 + literals]
+            if len(follow) < literals:
+                yield MALFORMED
+                return
+            place, at = place + run, at + 1 + literals
+            for literal in follow:
+                yield from (place + digit for digit in range(64) if literal >> digit & 1)
+                place += 64
+
+
+def read(data):
+    """The bitmap at the front and what is left. `PartMissing` names the first part that isn't there."""
+    part = "number of bits"
+    try:
+        bits, data = number(data, 4)
+        part = "number of words"
+        count, data = number(data, 4)
+        part = "words"
+        words, data = numbers(data, 8, count)
+        part = "last run word"
+        _, data = number(data, 4)
+    except Unreadable:
+        raise PartMissing(part) from None
+    return Bitmap(bits, words), data

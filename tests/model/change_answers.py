@@ -1,0 +1,169 @@
+"""What `index_change_rows` has to answer: edits, merges, verified trees, writing, and files of a working tree."""
+
+import edits
+import extensions
+import faults
+import lookups
+import merging
+import show
+import state
+import trees
+import words
+import worktree
+import writing
+
+# Which choice of extensions writes a cached tree and an end marker.
+CHOICES = {
+    "all": (True, True),
+    "none": (False, False),
+    "neither": (False, False),
+    "tree": (True, False),
+    "marker": (False, True),
+    "both": (True, True),
+}
+
+
+def answer(row, folder):
+    call, *rest = row.split(" ")
+    return CALLS[call](rest, folder)
+
+
+def answer_edits(row, _):
+    found, lines = words.list_of(row[1], row[0]), []
+    for word in row[2:]:
+        lines += [f"{word}: {line}" for line in edit(found, word)]
+    return lines
+
+
+def edit(found, word):
+    """Makes one edit."""
+    name, _, taken = word.partition("=")
+    if name == "verify":
+        return [verified(found.entries)]
+    if name == "storage":
+        return [f"storage: {show.bytes_word(found.storage)}"]
+    lines = []
+    if name == "sort":
+        edits.sort(found)
+    elif name == "sort-down":
+        edits.sort_by_falling_ids(found)
+    elif name == "remove":
+        places = [int(place) for place in taken.split(",") if place]
+        lines.append(f"seen: {show.listed(edits.remove_places(found, places))}")
+    elif name == "at":
+        lines.append(f"removed: {show.entry_fields(edits.remove_at(found, int(taken)))}")
+    else:
+        raise ValueError(f"not an edit: {word}")
+    return lines + [f"entries: {show.entries(found.entries)}"]
+
+
+def verified(entries):
+    place = lookups.first_out_of_order(entries)
+    if place is None:
+        return "verify: ordered"
+    return f"fault: {faults.of_order(entries, place)}"
+
+
+def answer_merge(row, folder):
+    kind = row[0]
+    shared, split = words.list_of(row[1], kind), words.list_of(row[2], kind)
+    link, lines = extensions.read_link(words.bytes_of(row[3], folder), kind), []
+    try:
+        split.entries = merging.merged(link, split, shared)
+    except merging.MergeFault as fault:
+        lines.append(f"fault: link: {fault}")
+    return lines + [f"entries: {show.entries(split.entries)}"]
+
+
+def first_fault(verify, *taken):
+    try:
+        verify(*taken)
+    except trees.TreeFault as fault:
+        return [f"fault: {faults.of_tree(fault)}"]
+    return ["verify: sound"]
+
+
+def answer_verify_tree(row, _):
+    return first_fault(trees.verify, words.tree_of(row[1], row[0]))
+
+
+def answer_verify_extensions(row, folder):
+    found = words.state_of(row[1], row[0], folder)
+    if found.tree is None:
+        return ["verify: sound"]
+    return first_fault(trees.verify_in_index, found.tree, len(found.entries))
+
+
+def answer_image(row, folder, is_version_4=False):
+    kind, choice, trailer, times = row[0], row[2], row[3], int(row[4])
+    found = words.state_of(row[1], kind, folder)
+    options = writing.Options(*CHOICES[choice], trailer == "digest", is_version_4)
+    try:
+        for _ in range(times):
+            found, _ = state.read(writing.image(found, options)[2], kind)
+        version, checksum, data = writing.image(found, options)
+        lines = [f"version: {version}", f"checksum: {checksum.hex()}"]
+    except writing.NulInPath:
+        lines, data = ["fault: nul in a path"], b""
+    return lines + [f"len: {len(data)}", f"bytes: {show.bytes_word(data)}"]
+
+
+def answer_image4(row, folder):
+    return answer_image(row, folder, is_version_4=True)
+
+
+def answer_end_marker(row, _):
+    return [f"write_to: {show.bytes_word(extensions.end_marker_bytes(row[0], int(row[1]), []))}"]
+
+
+def answer_change_mode(row, _):
+    mode, (is_executable, has_links, has_bits) = int(row[0], 8), map(words.is_yes, row[2:])
+    change = worktree.changed_mode(mode, row[1], is_executable, has_links, has_bits)
+    if change is None:
+        return ["change_to_match_fs: none"]
+    name, changed = change
+    if name == "type":
+        return [f"change_to_match_fs: type {changed:o}"]
+    return ["change_to_match_fs: executable bit", f"apply: {changed:o}"]
+
+
+def answer_racy(row, _):
+    is_racy = worktree.is_racy(words.time_of(row[0]), words.time_of(row[1]), row[2])
+    return [f"is_racy: {show.yes(is_racy)}"]
+
+
+def answer_stats(row, _):
+    one, other = words.stat_of(row[1]), words.stat_of(row[2])
+    return [f"matches: {show.yes(worktree.stats_match(one, other, row[0]))}"]
+
+
+def answer_stat(row, _):
+    modified, created = map(words.optional_time_of, row[:2])
+    return [f"from_fs: {show.stat(worktree.stat_of_file(modified, created, *map(int, row[2:])))}"]
+
+
+def answer_entry_time(row, _):
+    time = words.time_of(row[0])
+    exact, low = worktree.exact_time(time), worktree.low_time(time)
+    return [f"try_from: {show.time(exact)}", f"from_system: {show.time(low)}"]
+
+
+def answer_file_time(row, _):
+    return [f"time: {show.time(worktree.file_time(words.time_of(row[0])))}"]
+
+
+CALLS = {
+    "edits": answer_edits,
+    "merge": answer_merge,
+    "verify-tree": answer_verify_tree,
+    "verify-extensions": answer_verify_extensions,
+    "image": answer_image,
+    "image4": answer_image4,
+    "end-marker": answer_end_marker,
+    "change-mode": answer_change_mode,
+    "racy": answer_racy,
+    "stats": answer_stats,
+    "stat": answer_stat,
+    "entry-time": answer_entry_time,
+    "file-time": answer_file_time,
+}

@@ -1,0 +1,48 @@
+"""Refusals as answers spell them, by DIALECT.md."""
+
+from show import text
+
+
+def of_link(fault):
+    """The fault of a link."""
+    if fault.bitmap is None:
+        return f"link: {fault.text}"
+    return f"link, {fault.bitmap} bitmap: {fault.text}"
+
+
+def of_digest(actual, expected):
+    return f"digest {actual.hex()}, not {expected.hex()}"
+
+
+def of_index(fault):
+    """The fault of a whole index."""
+    spellings = {
+        "header": lambda text: f"header: {text}",
+        "version": lambda number: f"version {number}",
+        "limit": lambda: "past the limit",
+        "entry": lambda place: f"entry {place}",
+        "mandatory": lambda signature: f"mandatory {text(signature)}",
+        "link": of_link,
+        "trailer": lambda actual, expected: f"trailer of {actual} bytes, not {expected}",
+        "digest": of_digest,
+    }
+    return spellings[fault.name](**fault.carried)
+
+
+def of_tree(fault):
+    """The fault of a cached tree."""
+    spellings = {
+        "root with a name": lambda name: f"a root named {text(name)}",
+        "count": lambda actual, expected: f"{actual} within {expected}",
+        "count overflow": lambda: "too many",
+        "out of order": lambda parent, current, previous:
+            f"{text(current)} behind {text(previous)} in {parent.hex()}",
+        "count past the index": lambda name, actual, expected: f"{text(name)} counts {actual} of {expected}",
+    }
+    return spellings[fault.name](**fault.carried)
+
+
+def of_order(entries, place):
+    """The entry at this place isn't above the one before it."""
+    current, previous = entries[place], entries[place - 1]
+    return f"{text(current.path)}:{current.stage} at {place} behind {text(previous.path)}:{previous.stage}"

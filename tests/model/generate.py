@@ -1,0 +1,232 @@
+"""Rows that a rule makes: all cases of a few choices, and lists at random from fixed seeds.
+
+A line `= NAME` in a file of rows/ stands for the rows that `ROWS[NAME]` makes.
+"""
+
+import show
+from bitmaps import Bitmap
+from bytes import ID_LENGTH
+from draws import Draws
+from entries import DIRECTORY, EXECUTABLE, FILE, REMOVE, SUBMODULE, SYMLINK, Entry, flags_of_stage
+from lookups import is_ordered_by_path, is_strictly_ordered
+
+# Names that clash in two cases, and names that stand before and behind a slash.
+NAMES = "A Ab B D DIR Dir F a a-b a.b a0 ab b d dir f x".split()
+FEW_NAMES = "B a a-b a/b b c".split()
+
+LOOKUP_LISTS = {"strict": 90, "by-path": 35, "any-order": 80}
+EDIT_LISTS = 60
+MERGED_LISTS = 70
+
+
+def id_of(draws):
+    """An id of SHA-1 whose bytes are all equal, and not those that rows leave out."""
+    return bytes([draws.below(199) + 1]) * ID_LENGTH["sha1"]
+
+
+def entry_word(entry):
+    """An entry as a row spells it, without what it can leave out at its end."""
+    fields = show.entry(entry).split(":")
+    absent = ["", "0", "100644", "0", "11"]
+    fields = [field if place == 0 or field != absent[place] else "" for place, field in enumerate(fields)]
+    return ":".join(fields).rstrip(":")
+
+
+def list_word(entries):
+    return show.listed(entry_word(entry) for entry in entries)
+
+
+# Lookups.
+
+
+def path_at_random(draws):
+    """One to four names."""
+    length = 1 + min(draws.below(3), draws.below(4))
+    return "/".join(draws.one_of(NAMES) for _ in range(length))
+
+
+def entries_of_path(draws, path):
+    """The entries that a merge leaves of one path: merged, some of three stages, or both."""
+    stages = [0] if draws.once_in(2) else draws.some_of([0, 1, 2, 3]) or [2]
+    mode = FILE
+    if draws.once_in(5):
+        mode = draws.one_of([EXECUTABLE, SYMLINK, SUBMODULE, SUBMODULE])
+    elif draws.once_in(8):
+        path, mode = path + "/" * draws.below(2), DIRECTORY
+    object_id = b"\x11" * ID_LENGTH["sha1"]
+    return [Entry(path.encode(), object_id, mode, flags_of_stage(stage)) for stage in stages]
+
+
+def list_at_random(draws, order):
+    """Up to some twenty entries, in the order that is asked for."""
+    found = {}
+    for _ in range(1 + draws.below(14)):
+        for entry in entries_of_path(draws, path_at_random(draws)):
+            found[entry.key] = entry
+    strict = [found[key] for key in sorted(found)]
+    if order == "strict":
+        return strict
+    entries = draws.shuffled(strict + draws.some_of(strict))
+    return sorted(entries, key=lambda entry: entry.path) if order == "by-path" else entries
+
+
+def asked_path(draws, entries):
+    """A path, a directory above it, either in the other case, or one that may not be there."""
+    if draws.once_in(4):
+        return path_at_random(draws)
+    path = draws.one_of(entries).path.decode()
+    if draws.once_in(2) and "/" in path:
+        path = path.rpartition("/")[0]
+    return draws.one_of([path, path, path.swapcase(), path.upper()])
+
+
+def lookups(order):
+    """Rows with lists of this order and of no stricter one."""
+    draws, rows = Draws(f"lookups {order}"), []
+    while len(rows) < LOOKUP_LISTS[order]:
+        entries = list_at_random(draws, order)
+        if order_of(entries) == order:
+            paths = [asked_path(draws, entries).encode() for _ in range(1 + draws.below(4))]
+            asked = " ".join(show.text(path) for path in paths)
+            rows.append(f"lookup sha1 {list_word(entries)} {asked}")
+    return rows
+
+
+def order_of(entries):
+    if is_strictly_ordered(entries):
+        return "strict"
+    return "by-path" if is_ordered_by_path(entries) else "any-order"
+
+
+# Edits and merges.
+
+
+def few_entries(draws, count, flags=()):
+    """So many entries of a few paths and stages; once in five with some of the flags."""
+    entries = []
+    for _ in range(count):
+        stage = draws.one_of([0, 0, 0, 1, 2, 3])
+        marks = draws.one_of(flags) if flags and draws.once_in(5) else 0
+        path = draws.one_of(FEW_NAMES).encode()
+        entries.append(Entry(path, id_of(draws), FILE, flags_of_stage(stage) | marks))
+    return entries
+
+
+def edits():
+    """Each list verified, sorted in one of two ways, and taken out of."""
+    draws, rows = Draws("edits"), []
+    for _ in range(EDIT_LISTS):
+        entries = few_entries(draws, draws.below(9))
+        places = ",".join(str(place) for place in draws.some_of(range(len(entries))))
+        sort = draws.one_of(["sort", "sort-down"])
+        rows.append(f"edits sha1 {list_word(entries)} verify {sort} verify remove={places} verify")
+    return rows
+
+
+def bitmap_bytes(bitmap):
+    """The bytes of a bitmap with one run word."""
+    numbers = [bitmap.bits, len(bitmap.words)]
+    pieces = [number.to_bytes(4, "big") for number in numbers]
+    pieces += [word.to_bytes(8, "big") for word in bitmap.words]
+    return b"".join(pieces) + bytes(4)
+
+
+def bitmap_of(places):
+    """A run word of no bits, and one word of literal bits."""
+    return Bitmap(64, [1 << 33, sum(1 << place for place in places)])
+
+
+def bitmap_at_random(draws, places):
+    """A bitmap of these places. Now and then a place more, or a run word that lacks its words."""
+    if draws.once_in(10):
+        places = places + [draws.below(8)]
+    bitmap = bitmap_of(set(places))
+    if draws.once_in(12):
+        bitmap.words[0] |= 1 << 34
+    return bitmap
+
+
+def merges():
+    """Mostly merges that fit: as many entries without a path as there are places to be replaced."""
+    draws, rows = Draws("merges"), []
+    for _ in range(MERGED_LISTS):
+        shared = few_entries(draws, draws.below(6), [REMOVE])
+        free = [place for place, entry in enumerate(shared) if not entry.is_removed or draws.once_in(6)]
+        replaced = draws.some_of(free)
+        split = few_entries(draws, len(replaced) + draws.below(3), [REMOVE])
+        for entry in split[:len(replaced)]:
+            entry.path = b"" if not draws.once_in(10) else entry.path
+        deleted = draws.some_of(range(len(shared) + len(split) - len(replaced)))
+        link = b"\x11" * ID_LENGTH["sha1"] + b"".join(
+            bitmap_bytes(bitmap_at_random(draws, places)) for places in (deleted, replaced))
+        rows.append(f"merge sha1 {list_word(shared)} {list_word(split)} {show.bytes_word(link)}")
+    return rows
+
+
+# All cases of a few choices.
+
+
+def files_to_write(kind):
+    """Names and bytes of files of this kind with one entry or none, and with each extension that is written."""
+    length = ID_LENGTH[kind]
+    one = f"444952430000000200000001,00*24,000081a4,00*12,11*{length},00016100" + (",00*4" if kind == "sha256" else "")
+    none, trailer = "444952430000000200000000", f"00*{length}"
+    tree, sparse = "5452454500000006002d3120300a", "7364697200000000"
+    return {
+        "one entry and a cached tree": [one, tree, trailer],
+        "no entry and a cached tree": [none, tree, trailer],
+        "one entry and the mark of a sparse index": [one, sparse, trailer],
+        "one entry and both": [one, tree, sparse, trailer],
+        "no entry and the mark": [none, sparse, trailer],
+        "one entry alone": [one, trailer],
+    }
+
+
+def images():
+    """Each file with each choice of extensions, with a null trailer, and written and read twice before."""
+    choices = [f"{choice} digest 0" for choice in ("all", "none", "neither", "tree", "marker", "both")]
+    rows = []
+    for kind in ID_LENGTH:
+        for name, pieces in files_to_write(kind).items():
+            rows += ["", f"# {kind}: {name}."]
+            file = ",".join(pieces)
+            rows += [f"image {kind} {file} {choice}" for choice in choices + ["all null 0", "all digest 2"]]
+    return rows[1:]
+
+
+def changed_modes():
+    """Every mode beside every kind of file, where the file system has links and bits for execution, or not."""
+    rows, answers = [], ("yes", "no")
+    for mode in (FILE, EXECUTABLE, SYMLINK, SUBMODULE, DIRECTORY):
+        for file in ("file", "directory", "link", "other"):
+            for executable in reversed(answers):
+                for links in answers:
+                    rows += [f"change-mode {mode:o} {file} {executable} {links} {bits}" for bits in answers]
+    return rows
+
+
+def stats():
+    """A stat beside itself and beside those that differ in one number, with each choice of what counts."""
+    one = ["20.2", "10.1", "3", "4", "5", "6", "7"]
+    changes = [None, (1, "11.1"), (1, "10.2"), (0, "21.2"), (0, "20.3")]
+    changes += [(place, str(place + 2)) for place in range(2, 7)]
+    rows = []
+    for options in ("cs", "csn", "csd", "csnd", "s", "c", "cn", "-", "n", "d"):
+        for change in changes:
+            other = list(one)
+            if change is not None:
+                other[change[0]] = change[1]
+            rows.append(f"stats {options} {','.join(one)} {','.join(other)}")
+    return rows
+
+
+ROWS = {
+    "lookups strict": lambda: lookups("strict"),
+    "lookups by-path": lambda: lookups("by-path"),
+    "lookups any-order": lambda: lookups("any-order"),
+    "edits": edits,
+    "merges": merges,
+    "images": images,
+    "changed modes": changed_modes,
+    "stats": stats,
+}

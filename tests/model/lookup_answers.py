@@ -1,0 +1,90 @@
+"""What `index_lookup_rows` has to answer: each lookup for some paths over a list of entries."""
+
+import lookups
+import show
+import words
+from index_answers import place_word, with_state
+
+
+def answer(row, folder):
+    call, *rest = row.split(" ")
+    return CALLS[call](rest, folder)
+
+
+def answer_lookup(found, row):
+    entries, paths = found.entries, [words.text_of(word) for word in row]
+    is_ordered = lookups.is_ordered_by_path(entries)
+    lines = [
+        f"directories: {len(lookups.named_directories(entries, False))}",
+        f"directories icase: {len(lookups.named_directories(entries, True))}",
+        f"is_ordered_by_path: {show.yes(is_ordered)}",
+        f"is_strictly_ordered: {show.yes(lookups.is_strictly_ordered(entries))}",
+    ]
+    for path in paths:
+        lines += [f"{show.text(path)}: {line}" for line in by_name(entries, path)]
+    if is_ordered:
+        return lines + by_order(entries, paths)
+    for path in paths:
+        for name in ("search_path", "entry_range", "prefixed_entries_range", "search_prefix"):
+            lines.append(f"{show.text(path)}: {name}: among the entries")
+    return lines
+
+
+def by_name(entries, path):
+    """The lookups over entries in any order, with case kept and ignored."""
+    cases = (False, True)
+    at_path = [lookups.first_at_path(entries, path, ignore_case) for ignore_case in cases]
+    below = [lookups.first_directory(entries, path, ignore_case) for ignore_case in cases]
+    places = ", ".join(show.optional(place) for place in at_path)
+    directories = ", ".join(show.optional(place) for place in below)
+    return [
+        f"search_path_icase: {places}",
+        f"entry_by_path_icase: {places}",
+        f"search_directory_icase: {directories}",
+        f"entry_closest_to_directory_or_directory_icase: {directories}",
+        f"path_is_directory_icase: {', '.join(show.yes(place is not None) for place in below)}",
+    ]
+
+
+def by_order(entries, paths):
+    """The lookups over entries whose paths never fall, and those over entries that increase."""
+    present = sum(lookups.place_of_path(entries, path)[0] for path in paths)
+    lines = [
+        f"directory_table directories: {len(lookups.directories(entries))}",
+        f"count_present: {present}",
+        f"directory_table count_present: {present}",
+    ]
+    is_strict = lookups.is_strictly_ordered(entries)
+    for path in paths:
+        found = by_path(entries, path) + (by_stage(entries, path) if is_strict else [])
+        lines += [f"{show.text(path)}: {line}" for line in found]
+    return lines
+
+
+def by_path(entries, path):
+    is_found, place = lookups.place_of_path(entries, path)
+    search = "found" if is_found else place_word(is_found, place)
+    below = lookups.span(lookups.places_below(entries, path))
+    prefixed = lookups.range_of_prefix(entries, path)
+    closest = lookups.closest_to_directory(entries, path)
+    return [
+        f"search_path: {search}",
+        f"directory_table search_path: {search}",
+        f"directory_table range: {show.range_word(below)}",
+        f"entry_range: {show.range_word(lookups.range_of_path(entries, path))}",
+        f"prefixed_entries_range: {show.range_word(prefixed)}",
+        f"search_prefix: {place}",
+        f"entry_closest_to_directory_or_directory: {show.optional(closest)}",
+    ]
+
+
+def by_stage(entries, path):
+    places = [place_word(*lookups.place_of_path_and_stage(entries, path, stage)) for stage in lookups.STAGES]
+    return [
+        f"search_path_and_stage: {', '.join(places)}",
+        f"directory_table search_path_and_stage: {', '.join(places)}",
+        f"entry_by_path: {show.optional(lookups.entry_of_path(entries, path))}",
+    ]
+
+
+CALLS = {"lookup": with_state(answer_lookup)}

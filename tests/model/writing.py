@@ -1,0 +1,98 @@
+"""The bytes of an index that is written."""
+
+from dataclasses import dataclass
+
+import extensions
+import trees
+from bytes import digest, null_id, offset_number_bytes
+from entries import EXTENDED, LENGTH_BITS, first_word, second_word
+from state import SIGNATURE
+
+
+class NulInPath(Exception):
+    """A path that version 4 can't spell."""
+
+
+@dataclass
+class Options:
+    """What is written of a state."""
+
+    with_tree: bool = True
+    with_end_marker: bool = True
+    with_digest: bool = True
+    is_version_4: bool = False
+
+
+def fixed_bytes(entry):
+    """All of an entry before its path."""
+    stat = list(entry.stat)
+    values = stat[:6] + [entry.mode] + stat[6:]
+    word = first_word(entry.flags) | min(len(entry.path), LENGTH_BITS)
+    pieces = [value.to_bytes(4, "big") for value in values] + [entry.id, word.to_bytes(2, "big")]
+    if entry.flags & EXTENDED:
+        pieces.append(second_word(entry.flags).to_bytes(2, "big"))
+    return b"".join(pieces)
+
+
+def entry_bytes(entry):
+    """An entry with the one NUL behind its path."""
+    return fixed_bytes(entry) + entry.path + b"\0"
+
+
+def padded_bytes(entry):
+    """An entry of versions 2 and 3, with as many NULs as make its length a multiple of eight."""
+    data = entry_bytes(entry)
+    return data + bytes(-len(data) % 8)
+
+
+def compressed_bytes(entry, previous):
+    """An entry of version 4 behind one with the path `previous`."""
+    common = 0
+    while common < min(len(previous), len(entry.path)) and previous[common] == entry.path[common]:
+        common += 1
+    tail = offset_number_bytes(len(previous) - common) + entry.path[common:] + b"\0"
+    return fixed_bytes(entry) + tail
+
+
+def version_of(state, options):
+    """The version of the file: an entry that is left out counts as well."""
+    if options.is_version_4:
+        return 4
+    return 3 if any(entry.flags & EXTENDED for entry in state.entries) else 2
+
+
+def entries_bytes(written, options):
+    if not options.is_version_4:
+        return b"".join(padded_bytes(entry) for entry in written)
+    if any(b"\0" in entry.path for entry in written):
+        raise NulInPath
+    pieces, previous = [], b""
+    for entry in written:
+        pieces.append(compressed_bytes(entry, previous))
+        previous = entry.path
+    return b"".join(pieces)
+
+
+def body(state, options=Options()):
+    """The version that is written, and all bytes but the trailer."""
+    version = version_of(state, options)
+    written = [entry for entry in state.entries if not entry.is_removed]
+    data = SIGNATURE + version.to_bytes(4, "big") + len(written).to_bytes(4, "big")
+    data += entries_bytes(written, options)
+    end_of_entries, items = len(data), []
+    if state.tree is not None and options.with_tree:
+        items.append((extensions.TREE, trees.to_bytes(state.tree)))
+    if state.is_sparse:
+        items.append((extensions.SPARSE, b""))
+    for signature, content in items:
+        data += signature + len(content).to_bytes(4, "big") + content
+    if state.entries and items and options.with_end_marker:
+        data += extensions.end_marker_bytes(state.kind, end_of_entries, items)
+    return version, data
+
+
+def image(state, options=Options()):
+    """The version that is written, the id that is answered, and all bytes."""
+    version, data = body(state, options)
+    trailer = digest(state.kind, data) if options.with_digest else null_id(state.kind)
+    return version, trailer, data + trailer
