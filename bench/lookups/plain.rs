@@ -1,4 +1,4 @@
-//! `plain CALL PATHS NAMES`: what plain Rust takes for what `lookup-times` does, over a file with a path a line.
+//! `plain CALL PATHS NAMES`: what plain Rust takes for what `index-times lookup` does, over a file with a path a line.
 //!
 //! Printed are nanoseconds of processor time, and how many names were found; of a table, how many names it has.
 use std::cmp::Ordering;

@@ -1,8 +1,8 @@
-//! `tree-lister ROOT FILE`: the entries of an index that is made of a tree.
+//! `index-tree-lister ROOT FILE`: the entries of an index that is made of a tree.
 //!
-//! FILE has trees as `git cat-file --batch` prints them: the one with the id ROOT, and all below it. For each entry are printed
-//! its mode in six octal digits, a space, its id, a tab, its path and a NUL; and in a line at the end, whether the entries are
-//! in order.
+//! FILE has trees as `git cat-file --batch` prints them: the one with the id ROOT, and all below it. For each entry are
+//! printed its mode in six octal digits, a space, its id, a tab, its path and a NUL; and in a line at the end, whether
+//! the entries are in order.
 #![tactic(auto)]
 
 ghost use Rattle.std.specs.Prelude.{◌≡◌, ◌<◌, length, None, IfSome};
@@ -10,8 +10,8 @@ ghost use Rattle.std.specs.BTreeMap.{get};
 ghost use Rattle.std.specs.Iterator.{at_most};
 ghost use Rattle.std.specs.Option.{option_map, unwrap_or};
 ghost use Rattle.gix_index.specs.Object.{absent, object};
-ghost use Rattle.index_parts.specs.contracts.hash.ObjectIdOrd.TheImpl as id_order;
-ghost use Rattle.index_parts.specs.declared.object.Kind.TheVariants.{Tree};
+ghost use Rattle.gix_index.specs.ObjectIdOrd.TheImpl as id_order;
+ghost use Rattle.gix_index.specs.ObjectKind.TheVariants.{Tree};
 ghost use Rattle.gix_index.specs.State.{PathsInStorage};
 
 use bitflags::Flags as _;
@@ -33,7 +33,7 @@ const MAX_TREES: usize = 1_000_000;
 /// Why nothing more is printed.
 #[derive(Debug, Drop, Error)]
 enum Fault {
-    #[error("usage: tree-lister ROOT FILE")]
+    #[error("usage: index-tree-lister ROOT FILE")]
     Usage,
     #[error("the file isn't made of trees as `git cat-file --batch` prints them")]
     Malformed,
@@ -80,7 +80,8 @@ struct Trees<'a> {
 }
 
 impl Find for Trees<'_> {
-    ghost found = { λ s id. unwrap_or (option_map (λ bytes. object Tree bytes.now) (get (id_order.ghosts).cmp s.by_id id)) absent };
+    ghost found = { λ s id. unwrap_or
+        (option_map (λ bytes. object Tree bytes.now) (get (id_order.ghosts).cmp s.by_id id)) absent };
 
     fn find(&self, id: &ObjectId, buf: &mut Vec<u8>) -> Result<Option<object::Kind>, find::Error> {
         let Some(bytes) = self.by_id.get(id) else {
@@ -200,6 +201,6 @@ fn main(rt: HostRuntime) -> ExitCode {
     let Err(fault) = run(&rt, rt.alloc()) else {
         return ExitCode::SUCCESS;
     };
-    let _ = eprintln!(rt; "tree-lister: {fault}");
+    let _ = eprintln!(rt; "index-tree-lister: {fault}");
     ExitCode::FAILURE
 }

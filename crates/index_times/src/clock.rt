@@ -1,0 +1,26 @@
+//! The time that this thread was on a processor.
+
+use std::{fs, io};
+
+/// The system whose clock is looked at, or None for a clock that is off.
+pub type Clock<'a> = Option<&'a HostRuntime>;
+
+/// The nanoseconds that this thread was on a processor, as the system counts them, or 0 by a clock that is off.
+pub fn now(clock: Clock<'_>) -> io::Result<u64> {
+    let Some(rt) = clock else {
+        return Ok(0);
+    };
+    let text = fs::read_to_string(rt, "/proc/self/schedstat")?;
+    let Some(word) = text.split_whitespace().next() else {
+        return Err(io::Error::from(io::ErrorKind::InvalidData));
+    };
+    match word.parse::<u64>() {
+        Ok(nanoseconds) => Ok(nanoseconds),
+        Err(_) => Err(io::Error::from(io::ErrorKind::InvalidData)),
+    }
+}
+
+/// The nanoseconds since then.
+pub fn since(clock: Clock<'_>, begin: u64) -> io::Result<u64> {
+    Ok(now(clock)?.saturating_sub(begin))
+}

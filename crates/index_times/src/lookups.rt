@@ -1,0 +1,212 @@
+//! Looking names up in an index.
+
+ghost use Rattle.gix_index.specs.State.{PathsInStorage};
+
+use crate::clock::{self, Clock};
+use gix_index::{AccelerateLookup, State, count_present};
+use std::alloc::Global;
+use std::io;
+
+/// The calls that can be made. The last two make a table, and look nothing up.
+pub const CALLS: [&str; 12] = [
+    "path",
+    "entry",
+    "range",
+    "prefix",
+    "directory",
+    "table",
+    "kept-path",
+    "folded-path",
+    "kept-directory",
+    "folded-directory",
+    "make-table",
+    "make-folded",
+];
+
+/// What a call gave.
+#[derive(Clone, Copy)]
+pub struct Found {
+    /// The nanoseconds of processor time that it took, 0 by a clock that is off.
+    pub nanoseconds: u64,
+    /// How many of the names it found, or how many directories the table has that it made.
+    pub count: usize,
+    /// How many directories the table has with the case of ASCII letters ignored, where it has such.
+    pub folded: Option<usize>,
+}
+
+impl Found {
+    fn new(nanoseconds: u64, count: usize) -> Found {
+        Found {
+            nanoseconds,
+            count,
+            folded: None,
+        }
+    }
+}
+
+/// How many of the names have an entry, are a prefix of one's path, or are a directory.
+fn count_in_state(state: &State, call: &str, names: &[&[u8]]) -> usize
+    requires { PathsInStorage state.now }
+{
+    match call {
+        "path" => count_present(state, names),
+        "entry" => count_entries(state, names),
+        "range" => count_ranges(state, names),
+        "prefix" => count_prefixes(state, names),
+        _ => count_directories(state, names),
+    }
+}
+
+fn count_entries(state: &State, names: &[&[u8]]) -> usize
+    requires { PathsInStorage state.now }
+{
+    let mut count = 0usize;
+    for name in names {
+        if state.entry_by_path(name).is_some() {
+            count = count.wrapping_add(1);
+        }
+    }
+    count
+}
+
+fn count_ranges(state: &State, names: &[&[u8]]) -> usize
+    requires { PathsInStorage state.now }
+{
+    let mut count = 0usize;
+    for name in names {
+        if state.entry_range(name).is_some() {
+            count = count.wrapping_add(1);
+        }
+    }
+    count
+}
+
+fn count_prefixes(state: &State, names: &[&[u8]]) -> usize
+    requires { PathsInStorage state.now }
+{
+    let mut count = 0usize;
+    for name in names {
+        if state.prefixed_entries_range(name).is_some() {
+            count = count.wrapping_add(1);
+        }
+    }
+    count
+}
+
+fn count_directories(state: &State, names: &[&[u8]]) -> usize
+    requires { PathsInStorage state.now }
+{
+    let mut count = 0usize;
+    for name in names {
+        if state.path_is_directory(name) {
+            count = count.wrapping_add(1);
+        }
+    }
+    count
+}
+
+/// How many of the names are paths of entries by the table.
+fn count_folded_paths(lookup: &AccelerateLookup<'_>, ignore_case: bool, names: &[&[u8]]) -> usize {
+    let mut count = 0usize;
+    for name in names {
+        if lookup.search_path_icase(name, ignore_case).0.is_some() {
+            count = count.wrapping_add(1);
+        }
+    }
+    count
+}
+
+/// How many of the names are directories by the table.
+fn count_folded_directories(
+    lookup: &AccelerateLookup<'_>,
+    ignore_case: bool,
+    names: &[&[u8]],
+) -> usize {
+    let mut count = 0usize;
+    for name in names {
+        if lookup.path_is_directory_icase(name, ignore_case) {
+            count = count.wrapping_add(1);
+        }
+    }
+    count
+}
+
+/// Makes the table that ignores case, and looks the names up in it unless only its making is asked for.
+fn run_folded(
+    clock: Clock<'_>,
+    alloc: Global,
+    state: &State,
+    call: &str,
+    names: &[&[u8]],
+) -> io::Result<Found>
+    requires { PathsInStorage state.now }
+{
+    let mut begin = clock::now(clock)?;
+    let lookup = state.prepare_icase_backing(alloc)?;
+    if call == "make-folded" {
+        let nanoseconds = clock::since(clock, begin)?;
+        return Ok(Found {
+            nanoseconds,
+            count: lookup.directories(false),
+            folded: Some(lookup.directories(true)),
+        });
+    }
+    begin = clock::now(clock)?;
+    let count = match call {
+        "kept-path" => count_folded_paths(&lookup, false, names),
+        "folded-path" => count_folded_paths(&lookup, true, names),
+        "kept-directory" => count_folded_directories(&lookup, false, names),
+        _ => count_folded_directories(&lookup, true, names),
+    };
+    Ok(Found::new(clock::since(clock, begin)?, count))
+}
+
+/// The same of the table of directories.
+fn run_table(
+    clock: Clock<'_>,
+    alloc: Global,
+    state: &State,
+    call: &str,
+    names: &[&[u8]],
+) -> io::Result<Found>
+    requires { PathsInStorage state.now }
+{
+    if !state.is_ordered_by_path() {
+        return Err(io::Error::from(io::ErrorKind::InvalidData));
+    }
+    let mut begin = clock::now(clock)?;
+    let table = state.prepare_directory_table(alloc)?;
+    if call == "make-table" {
+        return Ok(Found::new(clock::since(clock, begin)?, table.directories()));
+    }
+    begin = clock::now(clock)?;
+    let count = count_present(&table, names);
+    Ok(Found::new(clock::since(clock, begin)?, count))
+}
+
+/// Makes one of the [`CALLS`], or with `load` none at all. Another word is
+/// [`InvalidInput`](io::ErrorKind::InvalidInput), and entries out of order under a table of directories are
+/// [`InvalidData`](io::ErrorKind::InvalidData).
+pub fn run(
+    clock: Clock<'_>,
+    alloc: Global,
+    state: &State,
+    call: &str,
+    names: &[&[u8]],
+) -> io::Result<Found>
+    requires { PathsInStorage state.now }
+{
+    match call {
+        "load" => Ok(Found::new(0, 0)),
+        "path" | "entry" | "range" | "prefix" | "directory" => {
+            let begin = clock::now(clock)?;
+            let count = count_in_state(state, call, names);
+            Ok(Found::new(clock::since(clock, begin)?, count))
+        }
+        "table" | "make-table" => run_table(clock, alloc, state, call, names),
+        "kept-path" | "folded-path" | "kept-directory" | "folded-directory" | "make-folded" => {
+            run_folded(clock, alloc, state, call, names)
+        }
+        _ => Err(io::Error::from(io::ErrorKind::InvalidInput)),
+    }
+}

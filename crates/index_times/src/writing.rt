@@ -1,0 +1,37 @@
+//! Writing an index to memory.
+
+ghost use Rattle.gix_index.specs.File.{state_of};
+ghost use Rattle.gix_index.specs.State.{PathsInStorage};
+
+use crate::clock::{self, Clock};
+use gix_index::hash::io::Plain;
+use gix_index::{File, write};
+use std::alloc::Global;
+use std::io;
+
+/// The index as it is written into room for so many bytes that was made before, and the nanoseconds that this took, 0
+/// by a clock that is off. With `skip_hash` zeros stand in the place of the digest. An index that can't be written is
+/// [`InvalidData`](io::ErrorKind::InvalidData).
+pub fn written(
+    clock: Clock<'_>,
+    alloc: Global,
+    file: &File,
+    room: usize,
+    skip_hash: bool,
+) -> io::Result<(u64, Vec<u8>)>
+    requires { PathsInStorage (state_of file.now) }
+{
+    let options = write::Options {
+        skip_hash,
+        ..write::Options::default()
+    };
+    let mut out = Plain::new(Vec::with_capacity(alloc, room)?);
+    let begin = clock::now(clock)?;
+    let is_written = file.write_to(&mut out, options).is_ok();
+    let nanoseconds = clock::since(clock, begin)?;
+    if is_written {
+        Ok((nanoseconds, out.inner))
+    } else {
+        Err(io::Error::from(io::ErrorKind::InvalidData))
+    }
+}

@@ -1,0 +1,51 @@
+"""What the tests beside git share: the programs under test, git itself, and their last line."""
+import argparse
+import pathlib
+import subprocess
+import sys
+
+TOP = pathlib.Path(__file__).resolve().parent.parent
+sys.path.insert(0, str(TOP / "tools"))
+import crates
+
+
+def parser(description):
+    """The words of a test's command line, to which it adds its own."""
+    parse = argparse.ArgumentParser(description=description)
+    parse.add_argument("--built", action="store_true", help="take the programs that `rt ci` left, and build none")
+    return parse
+
+
+def program(crate, is_built):
+    """The path of a crate's program, which is built where it isn't yet, unless `rt ci` has done that."""
+    if not is_built:
+        return crates.built(crate)
+    path = crates.program_of(crate)
+    if not path.is_file():
+        sys.exit(f"{path.relative_to(TOP)} isn't there: `rt ci` builds it")
+    return path
+
+
+def answer(words, **options):
+    """The status of a command, and what it prints to standard output and standard error."""
+    done = subprocess.run([str(word) for word in words], capture_output=True, check=False, **options)
+    return done.returncode, done.stdout, done.stderr
+
+
+def ask_git(folder, *words, **options):
+    """The same of git in a folder."""
+    return answer(("git", "-C", folder, *words), **options)
+
+
+def git(folder, *words, **options):
+    """What git prints in a folder, where it succeeds."""
+    status, out, faults = ask_git(folder, *words, **options)
+    if status != 0:
+        sys.exit(f"git {' '.join(words)}: {faults.decode(errors='replace')}")
+    return out
+
+
+def end(passed, failed):
+    """Ends a test with its closing line."""
+    print(f"{passed} passed, {failed} failed")
+    sys.exit(0 if failed == 0 else 1)

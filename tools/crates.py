@@ -1,0 +1,56 @@
+"""The crates of this repository as crates.txt lists them, and the programs among them."""
+import os
+import pathlib
+import sys
+
+TOP = pathlib.Path(__file__).resolve().parent.parent
+
+
+def lines():
+    """The line of each crate in crates.txt, without a comment behind it."""
+    texts = [line.partition("#")[0] for line in (TOP / "crates.txt").read_text().splitlines()]
+    return {text.partition(":")[0].split()[0]: text for text in texts if ":" in text}
+
+
+def listed():
+    """The names that each crate uses, those of the kit's libraries among them."""
+    return {crate: line.partition(":")[2].split() for crate, line in lines().items()}
+
+
+def needed(crate):
+    """The crate and those that it stands on, each behind those that it uses."""
+    uses, found = listed(), []
+
+    def visit(name):
+        for below in uses[name]:
+            if below in uses:
+                visit(below)
+        if name not in found:
+            found.append(name)
+
+    visit(crate)
+    return found
+
+
+def made_of(crates):
+    """The files of the crates that their proofs and programs are made from."""
+    for crate in crates:
+        for part, ending in (("src", ".rt"), ("specs", ".antt"), ("proofs", ".antt")):
+            for folder, folders, names in os.walk(TOP / "crates" / crate / part):
+                folders.sort()
+                yield from (pathlib.Path(folder, name) for name in sorted(names) if name.endswith(ending))
+
+
+def program_of(crate):
+    """The crate's program, which is there once it is built."""
+    return TOP / "crates" / crate / "out" / crate
+
+
+def built(crate):
+    """The crate's program, which is proved and built where it isn't yet. A program that can't be built ends this one."""
+    import subprocess
+
+    done = subprocess.run([TOP / "tools" / "build", crate], stdin=subprocess.DEVNULL, stdout=subprocess.DEVNULL)
+    if done.returncode != 0:
+        sys.exit(f"{crate} can't be built")
+    return program_of(crate)
