@@ -4,6 +4,7 @@
 //! names this crate alone.
 #![tactic(auto)]
 
+pub mod decode;
 pub mod extension;
 pub mod file;
 pub mod init;
@@ -11,7 +12,7 @@ pub mod laws;
 
 pub use file::File;
 pub use index_entries::{Entry, PathBacking, PathStorage, PathStorageRef, Version};
-pub use index_format::{decode, write};
+pub use index_format::write;
 pub use index_lookups::folded::AccelerateLookup;
 pub use index_lookups::paths::FilterMapPaths;
 pub use index_lookups::tables::{DirectoryTable, PathSearch, count_present};

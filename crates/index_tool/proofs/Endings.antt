@@ -6,7 +6,7 @@ use Rattle.gix_index.specs.Kind.{Kind}
 use Rattle.gix_index.specs.Record.{record_in}
 use Rattle.gix_index.specs.State.{contents, entries_of, storage_of}
 use Rattle.gix_index.specs.StateType.{State as StateType}
-use Rattle.gix_index.specs.SoundState.{AreSound}
+use Rattle.gix_index.specs.SoundState.{AreSoundExtensions}
 use Rattle.index_tool.specs.declared.failure.Failure.{Failure}
 use Rattle.index_tool.specs.declared.failure.Failure.TheVariants as failures
 use Rattle.index_tool.specs.Checking.{FailsToCheck}
@@ -40,5 +40,5 @@ check_refused (Ok x) kind path old new h = tt
 check_refused (Err f) kind path old new h = check_gives_up f kind path old new h
 
 -- the entries are as many as the records
-pub sound_counted : (s : StateType) → AreSound (length (entries_of s)) (contents s).extensions.tree → AreSound (length (contents s).records) (contents s).extensions.tree
-sound_counted s h = subst (λ (n : ℕ). AreSound n (contents s).extensions.tree) (sym (length-map (entries_of s) (record_in (storage_of s)))) h
+pub sound_counted : (s : StateType) → AreSoundExtensions (length (entries_of s)) (contents s).extensions.tree → AreSoundExtensions (length (contents s).records) (contents s).extensions.tree
+sound_counted s h = subst (λ (n : ℕ). AreSoundExtensions n (contents s).extensions.tree) (sym (length-map (entries_of s) (record_in (storage_of s)))) h

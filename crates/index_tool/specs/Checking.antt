@@ -4,8 +4,8 @@ use Rattle.std.specs.Io.KnownBytes.{Appends, Keeps}
 use Rattle.gix_index.specs.Taking.{AppendsFront}
 use Rattle.gix_index.specs.Kind.{Kind}
 use Rattle.gix_index.specs.Order.{IsStrictlyOrdered}
-use Rattle.gix_index.specs.State.{Contents}
-use Rattle.gix_index.specs.SoundState.{AreSound}
+use Rattle.gix_index.specs.Contents.{Contents}
+use Rattle.gix_index.specs.SoundState.{AreSoundExtensions}
 use Rattle.index_tool.specs.declared.failure.Failure.{Failure}
 use Rattle.index_tool.specs.declared.failure.Failure.TheVariants as failures
 use Rattle.index_tool.specs.Listing.{IsInFile, FailsToRead}
@@ -18,7 +18,7 @@ ok_line = codes "ok\n"
 pub record IsSoundInFile (kind : Kind) (value : Contents) : Type 0 where
   pub read : IsInFile kind value
   pub ordered : IsStrictlyOrdered value.records
-  pub tree : AreSound (length value.records) value.extensions.tree
+  pub tree : AreSoundExtensions (length value.records) value.extensions.tree
 
 -- known bytes grew by the line of an index that passed all checks
 pub record Checks (kind : Kind) (old new : Option (List ℕ)) : Type 0 where

@@ -6,7 +6,7 @@ use Rattle.gix_index.specs.Taking.{AppendsFront}
 use Rattle.gix_index.specs.FileTime.{FileTime}
 use Rattle.gix_index.specs.Kind.{Kind}
 use Rattle.gix_index.specs.ObjectId.{ObjectId}
-use Rattle.gix_index.specs.State.{Contents}
+use Rattle.gix_index.specs.Contents.{Contents}
 use Rattle.gix_index.specs.DecodeOptions.{Options}
 use Rattle.gix_index.specs.Linked.{IsOnDisk}
 use Rattle.index_tool.specs.declared.failure.Failure.{Failure}

@@ -1,0 +1,6 @@
+//! Reading an index from the bytes of a file.
+
+pub mod entries;
+pub mod header;
+
+pub use index_format::decode::{Error, Options};
