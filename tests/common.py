@@ -12,18 +12,16 @@ import crates
 def parser(description):
     """The words of a test's command line, to which it adds its own."""
     parse = argparse.ArgumentParser(description=description)
-    parse.add_argument("--built", action="store_true", help="take the programs that `rt ci` left, and build none")
+    parse.add_argument("--built", action="store_true", help="take the programs that `rt ci` left, where they are there")
     return parse
 
 
 def program(crate, is_built):
-    """The path of a crate's program, which is built where it isn't yet, unless `rt ci` has done that."""
-    if not is_built:
-        return crates.built(crate)
+    """The path of a crate's program: the one that `rt ci` left, if that is wanted and there; else it is built."""
     path = crates.program_of(crate)
-    if not path.is_file():
-        sys.exit(f"{path.relative_to(TOP)} isn't there: `rt ci` builds it")
-    return path
+    if is_built and path.is_file():
+        return path
+    return crates.built(crate)
 
 
 def answer(words, **options):
