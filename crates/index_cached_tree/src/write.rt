@@ -2,7 +2,7 @@
 
 ghost use Rattle.std.specs.Prelude.{◌≡◌, ◌↔◌, ◌≤◌, ◌<◌, ◌^◌, ◌+◌, ◌++◌, ℕ, List, length, take, map, true, false, is_err};
 ghost use Rattle.std.specs.List.{flat_map};
-ghost use Rattle.index_parts.specs.Taking.{Puts};
+ghost use Rattle.index_parts.specs.Puts.{Puts};
 ghost use Rattle.index_extensions.specs.Spelling.{item_bytes};
 ghost use Rattle.index_parts.specs.Numbers.{be32};
 ghost use Rattle.index_cached_tree.specs.TreeImage.{tree_item};
@@ -103,11 +103,9 @@ fn two<'a>(a: &'a [u8], b: &'a [u8]) -> [&'a [u8]; 2]
 #[tactic(auto, unfolding(crate::specs::TreeImage::node_head_bytes))]
 fn put_node_head<W: Out>(tree: &Tree, out: &mut W) -> io::Result<()>
     requires { W.failed out.old ≡ false }
-    ensures bytes { Puts W.taken W.hashed out.old out.new result
+    ensures { Puts W.Out out.old out.new result
         (node_head_bytes (out-Tree tree.now).name.items (out-Tree tree.now).id
         (out-Tree tree.now).num_entries (length (out-Tree tree.now).children.items)) }
-    ensures mark { W.failed out.new ≡ is_err result }
-    ensures loan { W.loan out.new ≡ W.loan out.old }
 {
     let mut buffer = [0u8; BEHIND_NAME_LEN];
     let end = gather_behind_name(tree, &mut buffer);
@@ -120,9 +118,7 @@ fn put_node_head<W: Out>(tree: &Tree, out: &mut W) -> io::Result<()>
 #[cycle(nodes)]
 fn put_node<W: Out>(tree: &Tree, out: &mut W) -> io::Result<()>
     requires { W.failed out.old ≡ false }
-    ensures bytes { Puts W.taken W.hashed out.old out.new result (node_bytes (node_of tree.now)) }
-    ensures mark { W.failed out.new ≡ is_err result }
-    ensures loan { W.loan out.new ≡ W.loan out.old }
+    ensures { Puts W.Out out.old out.new result (node_bytes (node_of tree.now)) }
 {
     put_node_head(tree, out)?;
     put_nodes(&tree.children, out)
@@ -132,10 +128,8 @@ fn put_node<W: Out>(tree: &Tree, out: &mut W) -> io::Result<()>
 #[cycle(nodes)]
 fn put_nodes<W: Out>(trees: &[Tree], out: &mut W) -> io::Result<()>
     requires { W.failed out.old ≡ false }
-    ensures bytes { Puts W.taken W.hashed out.old out.new result
+    ensures { Puts W.Out out.old out.new result
         (flat_map (λ t. node_bytes (node_of t)) trees.now) }
-    ensures mark { W.failed out.new ≡ is_err result }
-    ensures loan { W.loan out.new ≡ W.loan out.old }
 {
     for tree in trees {
         put_node(tree, out)?;
@@ -192,6 +186,17 @@ fn item_head(signature: [u8; 4], len: u32) -> [u8; 8]
     [a, b, c, d, e, f, g, h]
 }
 
+/// Writes the tree as [`Tree::write_to`] does. Its content has this length, which [`Tree::content_len`] counts. An error
+/// comes only where the writer failed, which then took a front of the bytes.
+pub fn put_item<W: Out>(tree: &Tree, len: u32, out: &mut W) -> io::Result<()>
+    requires len { len ≡ length (node_bytes (node_of tree.now)) }
+    requires unfailed { W.failed out.old ≡ false }
+    ensures { Puts W.Out out.old out.new result (item_bytes (tree_item (node_of tree.now))) }
+{
+    out.put(&item_head(SIGNATURE, len))?;
+    put_node(tree, out)
+}
+
 impl Tree {
     /// How many bytes the content of the extension has; None where it has more than 2^32 - 1. It takes no memory.
     pub fn content_len(&self) -> Option<u32>
@@ -219,20 +224,7 @@ impl Tree {
         let Some(len) = self.content_len() else {
             return Err(Error::TooLarge);
         };
-        self.put_item(len, out)?;
+        put_item(self, len, out)?;
         Ok(())
-    }
-
-    /// Writes the extension, whose content has this length.
-    fn put_item<W: Out>(&self, len: u32, out: &mut W) -> io::Result<()>
-        requires len { len ≡ length (node_bytes (node_of self.now)) }
-        requires unfailed { W.failed out.old ≡ false }
-        ensures bytes { Puts W.taken W.hashed out.old out.new result
-            (item_bytes (tree_item (node_of self.now))) }
-        ensures mark { W.failed out.new ≡ is_err result }
-        ensures loan { W.loan out.new ≡ W.loan out.old }
-    {
-        out.put(&item_head(SIGNATURE, len))?;
-        put_node(self, out)
     }
 }

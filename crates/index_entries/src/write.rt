@@ -4,7 +4,7 @@ mod delta;
 mod entry;
 
 ghost use Rattle.std.specs.Prelude.{◌≡◌, ◌+◌, ◌<◌, ◌≤◌, ◌^◌, [], length, false, is_err, All, IfSome, IfNone};
-ghost use Rattle.index_parts.specs.Taking.{Puts};
+ghost use Rattle.index_parts.specs.Puts.{Puts};
 ghost use Rattle.index_entries.specs.EntryImage.{chosen_version, entries_in, header_bytes, version_by, written};
 ghost use Rattle.index_entries.specs.Header.{header_len};
 ghost use Rattle.index_entries.specs.Record.{IsPlaced, records_in};
@@ -55,10 +55,8 @@ pub fn put_entries<W: Out>(
 ) -> io::Result<()>
     requires placed { All (IsPlaced (length storage.now)) entries.now }
     requires unfailed { W.failed out.old ≡ false }
-    ensures bytes { Puts W.taken W.hashed out.old out.new result
+    ensures { Puts W.Out out.old out.new result
         (entries_in version [] (written (records_in storage.now entries.now))) }
-    ensures mark { W.failed out.new ≡ is_err result }
-    ensures loan { W.loan out.new ≡ W.loan out.old }
 {
     let mut previous: &[u8] = &[];
     for entry in entries {

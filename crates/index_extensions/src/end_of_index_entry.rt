@@ -5,7 +5,7 @@ ghost use Rattle.std.specs.List.{flat_map};
 ghost use Rattle.std.specs.Option.{option_map};
 ghost use Rattle.index_parts.specs.Digest.{digest};
 ghost use Rattle.index_parts.specs.Id.{id_bytes, id_len};
-ghost use Rattle.index_parts.specs.Taking.{Puts};
+ghost use Rattle.index_parts.specs.Puts.{Puts};
 ghost use Rattle.index_parts.specs.declared.hash.Kind.TheVariants.{Sha1};
 ghost use Rattle.index_extensions.specs.EndMarker.{heads, IsMarker};
 ghost use Rattle.index_extensions.specs.WalkSteps.{marker_at};
@@ -150,11 +150,9 @@ pub fn write_to<W: Out>(
     prior_extensions: &[(Signature, u32)],
 ) -> io::Result<()>
     requires { W.failed out.old ≡ false }
-    ensures bytes { Puts W.taken W.hashed out.old out.new result
+    ensures { Puts W.Out out.old out.new result
         (item_bytes (marker_item object_hash offset_to_extensions
         (heads_bytes prior_extensions.now))) }
-    ensures mark { W.failed out.new ≡ is_err result }
-    ensures loan { W.loan out.new ≡ W.loan out.old }
 {
     let id = digest_of_pairs(object_hash, prior_extensions);
     let front = marker_front(object_hash, offset_to_extensions);

@@ -1,7 +1,7 @@
 //! The mark of an index with entries for whole directories (gitformat-index, "Sparse Directory Entries").
 
 ghost use Rattle.std.specs.Prelude.{◌≡◌, false, is_err};
-ghost use Rattle.index_parts.specs.Taking.{Puts};
+ghost use Rattle.index_parts.specs.Puts.{Puts};
 ghost use Rattle.index_extensions.specs.Spelling.{item_bytes, sparse_item};
 
 use super::Signature;
@@ -16,9 +16,7 @@ pub const SIGNATURE: Signature = *b"sdir";
 /// An error comes only where the writer failed, which then took a front of the bytes. No memory is taken.
 pub fn write_to<W: Out>(out: &mut W) -> io::Result<()>
     requires { W.failed out.old ≡ false }
-    ensures bytes { Puts W.taken W.hashed out.old out.new result (item_bytes sparse_item) }
-    ensures mark { W.failed out.new ≡ is_err result }
-    ensures loan { W.loan out.new ≡ W.loan out.old }
+    ensures { Puts W.Out out.old out.new result (item_bytes sparse_item) }
 {
     out.put(b"sdir\0\0\0\0")
 }

@@ -87,14 +87,6 @@ pub marker_is : (version : Version) (count end : ℕ) (tree : Option ℕ) (v : C
 marker_is version count end tree v options h =
     ap (λ (n : ℕ). marked v options n (items_of v options)) (sym h.is_end) ∙ ap (λ (items : List Item). marked v options end items) (items_shown v options) ∙ by_parts v.kind end (asked_tree v options) v.extensions.sparse (not (eqb (length v.records) 0)) (asks_for options.extensions (codes "EOIE")) ∙ ap (λ (t : Option ℕ). cond (wants_marker v options) (marker_behind v.kind end t v.extensions.sparse) []) (sym h.is_tree)
 
-tree_small_by : (t : Option Node) (n : ℕ) → n + tree_len (option_map (λ x. length (node_bytes x)) t) < 2 ^ 32 → IfSome t (λ x. length (node_bytes x) < 2 ^ 32)
-tree_small_by None n lt = tt
-tree_small_by (Some t) n lt = omega arith
-
--- the tree fits 32 bits, where all does
-pub tree_small : (v : Contents) (options : Options) → length (unmarked v options) < 2 ^ 32 → IfSome (asked_tree v options) (λ t. length (node_bytes t) < 2 ^ 32)
-tree_small v options lt = tree_small_by (asked_tree v options) 0 (omega (arith, length_unmarked v options, lt))
-
 -- where a marker is wanted, it is written
 pub marker_wanted : (version : Version) (count end : ℕ) (tree : Option ℕ) (v : Contents) (options : Options) → IsLayout version count end tree v options → wants_marker v options ≡ true → marker_behind v.kind end tree v.extensions.sparse ≡ flat_map item_bytes (marker_of v options)
 marker_wanted version count end tree v options h e = sym (marker_is version count end tree v options h ∙ ap (λ (b : Bool). cond b (marker_behind v.kind end tree v.extensions.sparse) []) e)

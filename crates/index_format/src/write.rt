@@ -4,7 +4,8 @@ mod items;
 mod layout;
 
 ghost use Rattle.std.specs.Prelude.{◌≡◌, ◌≤◌, ◌<◌, ◌^◌, ◌↔◌, length, false, is_err, IfOk, IsTrue, OnOk, Some, None, if◌then◌else◌};
-ghost use Rattle.index_parts.specs.Taking.{Hashes, Puts};
+ghost use Rattle.index_parts.specs.Taking.{Hashes};
+ghost use Rattle.index_parts.specs.Puts.{Puts};
 ghost use Rattle.index_format.specs.declared.write.Error.TheVariants.{Io};
 ghost use Rattle.index_format.specs.Image.{asks_for, image_version, unmarked, body};
 ghost use Rattle.index_format.specs.LayoutSteps.{header_and_entries, IsLayout};
@@ -115,10 +116,8 @@ impl Parts {
             layout.tree (parts_contents self.now) options }
         requires placed { PartsInStorage self.now }
         requires unfailed { W.failed out.old ≡ false }
-        ensures bytes { Puts W.taken W.hashed out.old out.new result
+        ensures { Puts W.Out out.old out.new result
             (header_and_entries (parts_contents self.now) options) }
-        ensures mark { W.failed out.new ≡ is_err result }
-        ensures loan { W.loan out.new ≡ W.loan out.old }
     {
         out.put(&write::header(layout.entries.version, layout.entries.count))?;
         let version = layout.entries.version;
@@ -131,10 +130,8 @@ impl Parts {
             layout.tree (parts_contents self.now) options }
         requires placed { PartsInStorage self.now }
         requires unfailed { W.failed out.old ≡ false }
-        ensures bytes { Puts W.taken W.hashed out.old out.new result
+        ensures { Puts W.Out out.old out.new result
             (body (parts_contents self.now) options) }
-        ensures mark { W.failed out.new ≡ is_err result }
-        ensures loan { W.loan out.new ≡ W.loan out.old }
     {
         self.put_header_and_entries(layout, out, options)?;
         self.put_extensions(layout, out, options)

@@ -10,4 +10,5 @@ pub mod Spellings
 pub mod Splits
 pub mod Steps
 pub mod Taking
+pub mod Puts
 pub mod Unpackings

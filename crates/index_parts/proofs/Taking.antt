@@ -9,7 +9,7 @@ use Rattle.std.proofs.lemmas.Grind.{flat_map-append}
 use Rattle.std.proofs.Math.Seq.{take-add}
 use Rattle.std.specs.Io.KnownBytes.{Appends, Keeps}
 use Rattle.index_parts.specs.declared.hash.Kind.{Kind}
-use Rattle.index_parts.specs.Taking.{AppendsFront, Took, Puts, Breaks, Hashes, KeepsHashed}
+use Rattle.index_parts.specs.Taking.{AppendsFront, Took, Takes, Breaks, Hashes, KeepsHashed}
 
 pub Appends-nil : (a : Option (List ℕ)) → Appends a a []
 Appends-nil None = tt
@@ -94,18 +94,11 @@ on_err (Ok x) p = tt
 on_err (Err e) p = p
 
 -- at the exit of a `?`
-pub Puts-err : {S T E : Type 0} (taken : S → Option (List ℕ)) (hashed : S → ℕ → Kind → List ℕ → Type 0) (old new : S) (r : Result T E) (bytes : List ℕ) → IsErr r → AppendsFront (taken old) (taken new) bytes → Puts taken hashed old new r bytes
-Puts-err taken hashed old new (Ok x) bytes h p = absurd cc
-Puts-err taken hashed old new (Err e) bytes h p = p
+pub Takes-err : {S T E : Type 0} (taken : S → Option (List ℕ)) (hashed : S → ℕ → Kind → List ℕ → Type 0) (old new : S) (r : Result T E) (bytes : List ℕ) → IsErr r → AppendsFront (taken old) (taken new) bytes → Takes taken hashed old new r bytes
+Takes-err taken hashed old new (Ok x) bytes h p = absurd cc
+Takes-err taken hashed old new (Err e) bytes h p = p
 
 -- what was taken whole, and what comes after it
-pub puts_after : {S T E : Type 0} {taken : S → Option (List ℕ)} {hashed : S → ℕ → Kind → List ℕ → Type 0} {a b : S} {xs : List ℕ} (c : S) (ys : List ℕ) (r : Result T E) → Took taken hashed a b xs → Puts taken hashed b c r ys → Puts taken hashed a c r (xs ++ ys)
-puts_after c ys (Ok x) p q = Took-trans p q
-puts_after {taken = taken} {a = a} {b = b} {xs = xs} c ys (Err e) p q = front_after (taken a) (taken b) (taken c) xs ys p.grew q
-
-pub puts_is : {S T E : Type 0} (taken : S → Option (List ℕ)) (hashed : S → ℕ → Kind → List ℕ → Type 0) (a b : S) (r : Result T E) {xs ys : List ℕ} → xs ≡ ys → Puts taken hashed a b r xs → Puts taken hashed a b r ys
-puts_is taken hashed a b r e p = subst (λ (l : List ℕ). Puts taken hashed a b r l) e p
-
--- at the exit of a `?`, after what was taken whole and before the rest
-pub puts_failed : {S T E : Type 0} (taken : S → Option (List ℕ)) (hashed : S → ℕ → Kind → List ℕ → Type 0) {a b c : S} (r : Result T E) {xs ys all : List ℕ} (rest : List ℕ) → IsErr r → (xs ++ ys) ++ rest ≡ all → Took taken hashed a b xs → AppendsFront (taken b) (taken c) ys → Puts taken hashed a c r all
-puts_failed taken hashed {a} {b} {c} r {xs} {ys} {all} rest h e p q = Puts-err taken hashed a c r all h (subst (λ (l : List ℕ). AppendsFront (taken a) (taken c) l) e (front_before (front_after (taken a) (taken b) (taken c) xs ys p.grew q) rest))
+pub takes_after : {S T E : Type 0} {taken : S → Option (List ℕ)} {hashed : S → ℕ → Kind → List ℕ → Type 0} {a b : S} {xs : List ℕ} (c : S) (ys : List ℕ) (r : Result T E) → Took taken hashed a b xs → Takes taken hashed b c r ys → Takes taken hashed a c r (xs ++ ys)
+takes_after c ys (Ok x) p q = Took-trans p q
+takes_after {taken = taken} {a = a} {b = b} {xs = xs} c ys (Err e) p q = front_after (taken a) (taken b) (taken c) xs ys p.grew q

@@ -9,4 +9,5 @@ pub mod Octal
 pub mod Offset
 pub mod ReadingSteps
 pub mod Taking
+pub mod Puts
 pub mod UnpackingSteps

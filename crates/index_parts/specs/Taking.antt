@@ -26,8 +26,8 @@ pub record Took {S : Type 0} (taken : S → Option (List ℕ)) (hashed : S → �
   pub into_hash : Hashes hashed old new bytes
 
 -- an Ok took these bytes whole, and an Err a prefix of them
-abbrev pub Puts : {S T E : Type 0} → (S → Option (List ℕ)) → (S → ℕ → Kind → List ℕ → Type 0) → S → S → Result T E → List ℕ → Type 0
-Puts taken hashed old new r bytes = MatchResult r (λ _. Took taken hashed old new bytes) (λ _. AppendsFront (taken old) (taken new) bytes)
+abbrev pub Takes : {S T E : Type 0} → (S → Option (List ℕ)) → (S → ℕ → Kind → List ℕ → Type 0) → S → S → Result T E → List ℕ → Type 0
+Takes taken hashed old new r bytes = MatchResult r (λ _. Took taken hashed old new bytes) (λ _. AppendsFront (taken old) (taken new) bytes)
 
 -- Of pieces the first ones were taken whole, and of the next one a prefix. The hasher took in those that were taken
 -- whole.

@@ -2,10 +2,10 @@
 //!
 //! All numbers are big-endian (gitformat-index). No call here takes memory.
 
-ghost use Rattle.std.specs.Prelude.{◌≡◌, ◌<◌, ℕ, List, length, IfSome, IfNone, false, is_err};
+ghost use Rattle.std.specs.Prelude.{◌≡◌, ◌<◌, ℕ, List, length, IfSome, IfNone, false};
 ghost use Rattle.index_parts.specs.Offset.{IsOffset, StartsWithOffset, offset_bytes};
 ghost use Rattle.index_parts.specs.Numbers.{StartsWithNumber, IsUpTo};
-ghost use Rattle.index_parts.specs.Taking.{Puts};
+ghost use Rattle.index_parts.specs.Puts.{Puts};
 
 pub use crate::bytes::{from_be_u16, from_be_u32};
 use crate::hash::io::Out;
@@ -57,10 +57,8 @@ pub fn var_int(data: &[u8]) -> Option<(u64, &[u8])>
 /// An error comes only where the writer failed, which then took a prefix of the bytes. No memory is taken.
 pub fn write_var_int<W: Out>(out: &mut W, n: u64) -> io::Result<()>
     requires { W.failed out.old ≡ false }
-    ensures bytes { Puts W.taken W.hashed out.old out.new result (offset_bytes n) }
+    ensures put { Puts W.Out out.old out.new result (offset_bytes n) }
     ensures spelled { IsOffset (offset_bytes n) n }
-    ensures mark { W.failed out.new ≡ is_err result }
-    ensures loan { W.loan out.new ≡ W.loan out.old }
 {
     let (bytes, start) = spell::offset(n);
     out.put(&bytes[start..])

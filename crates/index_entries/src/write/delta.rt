@@ -1,7 +1,7 @@
 //! One entry as bytes of version 4: its path as a difference to the path before it (gitformat-index, "Index entry").
 
 ghost use Rattle.std.specs.Prelude.{◌≡◌, ◌-◌, ◌+◌, ◌<◌, ◌^◌, ◌++◌, ◌∷◌, [], length, false, is_err};
-ghost use Rattle.index_parts.specs.Taking.{Puts};
+ghost use Rattle.index_parts.specs.Puts.{Puts};
 ghost use Rattle.index_entries.specs.EntryImage.{delta_bytes};
 ghost use Rattle.index_entries.specs.Record.{IsPlaced, record_in};
 
@@ -33,10 +33,8 @@ impl Entry {
     ) -> io::Result<()>
         requires placed { IsPlaced (length storage.now) self.now }
         requires unfailed { W.failed out.old ≡ false }
-        ensures bytes { Puts W.taken W.hashed out.old out.new result
+        ensures { Puts W.Out out.old out.new result
             (delta_bytes previous.now (record_in storage.now self.now)) }
-        ensures mark { W.failed out.new ≡ is_err result }
-        ensures loan { W.loan out.new ≡ W.loan out.old }
     {
         let path = self.path_in(storage);
         let shared = shared_len(previous, path);
@@ -61,10 +59,8 @@ impl Entry {
     ) -> io::Result<()>
         requires placed { IsPlaced (length (S.paths state.now)) self.now }
         requires unfailed { W.failed out.old ≡ false }
-        ensures bytes { Puts W.taken W.hashed out.old out.new result
+        ensures { Puts W.Out out.old out.new result
             (delta_bytes previous.now (record_in (S.paths state.now) self.now)) }
-        ensures mark { W.failed out.new ≡ is_err result }
-        ensures loan { W.loan out.new ≡ W.loan out.old }
     {
         self.put_delta(previous, state.backing(), out)
     }

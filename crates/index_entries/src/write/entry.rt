@@ -2,7 +2,7 @@
 
 ghost use Rattle.std.specs.Prelude.{◌≡◌, ◌+◌, ◌<◌, ◌^◌, ◌++◌, ◌∷◌, [], ℕ, List, length, false, is_err, if◌then◌else◌};
 ghost use Rattle.index_metadata.specs.Flags.{is_extended};
-ghost use Rattle.index_parts.specs.Taking.{Puts};
+ghost use Rattle.index_parts.specs.Puts.{Puts};
 ghost use Rattle.index_entries.specs.Entry.{head_bytes};
 ghost use Rattle.index_entries.specs.EntryImage.{be16, numbers_of, first_word, head_of, second_word, unpadded, padding, entry_bytes, entry_in, is_removed};
 ghost use Rattle.index_entries.specs.Record.{IsPlaced, record_in};
@@ -119,10 +119,8 @@ impl Entry {
     pub(super) fn put_head<W: Out>(&self, storage: &[u8], out: &mut W) -> io::Result<()>
         requires placed { IsPlaced (length storage.now) self.now }
         requires unfailed { W.failed out.old ≡ false }
-        ensures bytes { Puts W.taken W.hashed out.old out.new result
+        ensures { Puts W.Out out.old out.new result
             (head_bytes (head_of (record_in storage.now self.now))) }
-        ensures mark { W.failed out.new ≡ is_err result }
-        ensures loan { W.loan out.new ≡ W.loan out.old }
     {
         let numbers = self.numbers();
         let first = self.first_word(storage).to_be_bytes();
@@ -137,10 +135,8 @@ impl Entry {
     fn put_with<W: Out>(&self, storage: &[u8], end: &[u8], out: &mut W) -> io::Result<()>
         requires placed { IsPlaced (length storage.now) self.now }
         requires unfailed { W.failed out.old ≡ false }
-        ensures bytes { Puts W.taken W.hashed out.old out.new result
+        ensures { Puts W.Out out.old out.new result
             (unpadded (record_in storage.now self.now) ++ end.now) }
-        ensures mark { W.failed out.new ≡ is_err result }
-        ensures loan { W.loan out.new ≡ W.loan out.old }
     {
         self.put_head(storage, out)?;
         out.put_each(&[self.path_in(storage), end])
@@ -150,10 +146,8 @@ impl Entry {
     fn put_padded<W: Out>(&self, storage: &[u8], out: &mut W) -> io::Result<()>
         requires placed { IsPlaced (length storage.now) self.now }
         requires unfailed { W.failed out.old ≡ false }
-        ensures bytes { Puts W.taken W.hashed out.old out.new result
+        ensures { Puts W.Out out.old out.new result
             (entry_bytes (record_in storage.now self.now)) }
-        ensures mark { W.failed out.new ≡ is_err result }
-        ensures loan { W.loan out.new ≡ W.loan out.old }
     {
         let end = padding_behind(self.unpadded_len(storage));
         self.put_with(storage, end, out)
@@ -169,10 +163,8 @@ impl Entry {
     ) -> io::Result<()>
         requires placed { IsPlaced (length storage.now) self.now }
         requires unfailed { W.failed out.old ≡ false }
-        ensures bytes { Puts W.taken W.hashed out.old out.new result
+        ensures { Puts W.Out out.old out.new result
             (entry_in version previous.now (record_in storage.now self.now)) }
-        ensures mark { W.failed out.new ≡ is_err result }
-        ensures loan { W.loan out.new ≡ W.loan out.old }
     {
         match version {
             Version::V2 | Version::V3 => self.put_padded(storage, out),
@@ -187,10 +179,8 @@ impl Entry {
     pub fn write_to<W: Out, S: PathBacking>(&self, out: &mut W, state: &S) -> io::Result<()>
         requires placed { IsPlaced (length (S.paths state.now)) self.now }
         requires unfailed { W.failed out.old ≡ false }
-        ensures bytes { Puts W.taken W.hashed out.old out.new result
+        ensures { Puts W.Out out.old out.new result
             (unpadded (record_in (S.paths state.now) self.now) ++ 0 ∷ []) }
-        ensures mark { W.failed out.new ≡ is_err result }
-        ensures loan { W.loan out.new ≡ W.loan out.old }
     {
         self.put_with(state.backing(), b"\0", out)
     }

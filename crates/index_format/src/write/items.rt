@@ -1,14 +1,14 @@
 //! Writing what stands behind the entries of a file: the extensions.
 
-ghost use Rattle.std.specs.Prelude.{◌≡◌, ◌<◌, ◌^◌, ◌++◌, length, true, false, is_err, IfSome};
+ghost use Rattle.std.specs.Prelude.{◌≡◌, ◌++◌, length, true, false};
 ghost use Rattle.std.specs.List.{flat_map};
 ghost use Rattle.std.specs.Option.{option_map};
-ghost use Rattle.index_parts.specs.Taking.{Puts};
+ghost use Rattle.index_parts.specs.Puts.{Puts};
 ghost use Rattle.index_extensions.specs.Spelling.{item_bytes};
 ghost use Rattle.index_cached_tree.specs.Tree.{node_of};
 ghost use Rattle.index_cached_tree.specs.TreeImage.{node_bytes};
 ghost use Rattle.index_format.specs.Image.{items_of, marker_of, sparse_items, tree_items};
-ghost use Rattle.index_format.specs.LayoutSteps.{IsLayout, asked_tree, marker_behind, wants_marker};
+ghost use Rattle.index_format.specs.LayoutSteps.{IsLayout, marker_behind, wants_marker};
 ghost use Rattle.index_format.specs.Contents.{parts_contents};
 
 use super::Options;
@@ -16,39 +16,30 @@ use super::layout::Layout;
 use crate::Parts;
 use index_cached_tree as tree;
 use index_cached_tree::Tree;
+use index_cached_tree::write::put_item;
 use index_extensions::{end_of_index_entry, sparse};
 use index_parts::hash::Kind;
 use index_parts::hash::io::Out;
 use std::io;
 
-/// Writes a cached tree, where there is one.
-fn put_tree<W: Out>(tree: Option<&Tree>, out: &mut W) -> io::Result<()>
-    requires small { IfSome (option_map (λ t. node_of t.now) tree)
-        (λ t. length (node_bytes t) < 2 ^ 32) }
+/// Writes a cached tree, where there is one, whose content has this length.
+fn put_tree<W: Out>(tree: Option<&Tree>, len: Option<u32>, out: &mut W) -> io::Result<()>
+    requires len { len ≡ option_map (λ t. length (node_bytes (node_of t.now))) tree }
     requires unfailed { W.failed out.old ≡ false }
-    ensures bytes { Puts W.taken W.hashed out.old out.new result
+    ensures { Puts W.Out out.old out.new result
         (flat_map item_bytes (tree_items true (option_map (λ t. node_of t.now) tree.entry))) }
-    ensures mark { W.failed out.new ≡ is_err result }
-    ensures loan { W.loan out.new ≡ W.loan out.old }
 {
-    let Some(tree) = tree else {
-        return Ok(());
-    };
-    match tree.write_to(out) {
-        Ok(()) => Ok(()),
-        Err(tree::write::Error::Io(e)) => Err(e),
-        // The length was looked at before.
-        Err(tree::write::Error::TooLarge) => Ok(()),
+    match (tree, len) {
+        (Some(tree), Some(len)) => put_item(tree, len, out),
+        _ => Ok(()),
     }
 }
 
 /// Writes the mark of a sparse index, where it is one.
 fn put_sparse<W: Out>(is_sparse: bool, out: &mut W) -> io::Result<()>
     requires { W.failed out.old ≡ false }
-    ensures bytes { Puts W.taken W.hashed out.old out.new result
+    ensures { Puts W.Out out.old out.new result
         (flat_map item_bytes (sparse_items is_sparse)) }
-    ensures mark { W.failed out.new ≡ is_err result }
-    ensures loan { W.loan out.new ≡ W.loan out.old }
 {
     if is_sparse {
         return sparse::write_to(out);
@@ -65,10 +56,8 @@ fn put_marker<W: Out>(
     out: &mut W,
 ) -> io::Result<()>
     requires { W.failed out.old ≡ false }
-    ensures bytes { Puts W.taken W.hashed out.old out.new result
+    ensures { Puts W.Out out.old out.new result
         (marker_behind kind offset tree is_sparse) }
-    ensures mark { W.failed out.new ≡ is_err result }
-    ensures loan { W.loan out.new ≡ W.loan out.old }
 {
     match (tree, is_sparse) {
         (Some(len), true) => end_of_index_entry::write_to(
@@ -100,16 +89,14 @@ impl Parts {
     }
 
     /// Writes the extensions before the end marker.
-    fn put_items<W: Out>(&self, out: &mut W, options: Options) -> io::Result<()>
-        requires small { IfSome (asked_tree (parts_contents self.now) options)
-            (λ t. length (node_bytes t) < 2 ^ 32) }
+    fn put_items<W: Out>(&self, layout: Layout, out: &mut W, options: Options) -> io::Result<()>
+        requires layout { IsLayout layout.entries.version layout.entries.count layout.entries.end
+            layout.tree (parts_contents self.now) options }
         requires unfailed { W.failed out.old ≡ false }
-        ensures bytes { Puts W.taken W.hashed out.old out.new result
+        ensures { Puts W.Out out.old out.new result
             (flat_map item_bytes (items_of (parts_contents self.now) options)) }
-        ensures mark { W.failed out.new ≡ is_err result }
-        ensures loan { W.loan out.new ≡ W.loan out.old }
     {
-        put_tree(self.asked_tree(options), out)?;
+        put_tree(self.asked_tree(options), layout.tree, out)?;
         put_sparse(self.extensions.is_sparse, out)
     }
 
@@ -118,10 +105,8 @@ impl Parts {
         requires layout { IsLayout layout.entries.version layout.entries.count layout.entries.end
             layout.tree (parts_contents self.now) options }
         requires unfailed { W.failed out.old ≡ false }
-        ensures bytes { Puts W.taken W.hashed out.old out.new result
+        ensures { Puts W.Out out.old out.new result
             (flat_map item_bytes (marker_of (parts_contents self.now) options)) }
-        ensures mark { W.failed out.new ≡ is_err result }
-        ensures loan { W.loan out.new ≡ W.loan out.old }
     {
         if self.wants_marker(options) {
             let is_sparse = self.extensions.is_sparse;
@@ -146,13 +131,11 @@ impl Parts {
         requires layout { IsLayout layout.entries.version layout.entries.count layout.entries.end
             layout.tree (parts_contents self.now) options }
         requires unfailed { W.failed out.old ≡ false }
-        ensures bytes { Puts W.taken W.hashed out.old out.new result
+        ensures { Puts W.Out out.old out.new result
             (flat_map item_bytes (items_of (parts_contents self.now) options) ++ flat_map
             item_bytes (marker_of (parts_contents self.now) options)) }
-        ensures mark { W.failed out.new ≡ is_err result }
-        ensures loan { W.loan out.new ≡ W.loan out.old }
     {
-        self.put_items(out, options)?;
+        self.put_items(layout, out, options)?;
         self.put_end(layout, out, options)
     }
 }

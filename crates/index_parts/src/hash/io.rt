@@ -7,7 +7,7 @@ ghost use Rattle.std.specs.Io.KnownBytes.{Appends, WriteAppends};
 ghost use Rattle.std.specs.IoError.{error_kind};
 ghost use Rattle.index_parts.specs.declared.hash.Kind.{Kind};
 ghost use Rattle.index_parts.specs.Digest.{Holds, hasher_kind, hashed_over};
-ghost use Rattle.index_parts.specs.Taking.{Puts, AppendsFront, Breaks, KeepsHashed};
+ghost use Rattle.index_parts.specs.Taking.{Takes, AppendsFront, Breaks, KeepsHashed};
 
 use super::{Hasher, Kind};
 use std::io;
@@ -85,7 +85,7 @@ pub trait Out {
     /// then failed, and no piece can be put after it.
     fn put(&mut self, piece: &[u8]) -> io::Result<()>
         requires { failed self.old ≡ false }
-        ensures bytes { Puts taken hashed self.old self.new result piece.now }
+        ensures bytes { Takes taken hashed self.old self.new result piece.now }
         ensures unhashed { OnErr result (KeepsHashed hashed self.old self.new) }
         ensures mark { failed self.new ≡ is_err result }
         ensures loan { loan self.new ≡ loan self.old };
@@ -100,7 +100,7 @@ pub trait Out {
     where
         Self: Sized,
         requires { failed self.old ≡ false }
-        ensures bytes { Puts taken hashed self.old self.new result
+        ensures bytes { Takes taken hashed self.old self.new result
             (flat_map (λ p. p.now) pieces.now) }
         ensures failure { OnErr result
             (Breaks taken hashed self.old self.new (map (λ p. p.now) pieces.now)) }
@@ -205,7 +205,7 @@ impl<W: Out> Out for Write<W> {
     /// Takes the whole piece and hashes it. An error leaves the hasher as it was.
     fn put(&mut self, piece: &[u8]) -> io::Result<()>
         requires { W.failed self.old.inner ≡ false }
-        ensures bytes { Puts ⟦<Write<W> as Out>⟧.taken ⟦<Write<W> as Out>⟧.hashed self.old self.new
+        ensures bytes { Takes ⟦<Write<W> as Out>⟧.taken ⟦<Write<W> as Out>⟧.hashed self.old self.new
             result piece.now }
         ensures mark { ⟦<Write<W> as Out>⟧.failed self.new ≡ is_err result }
         ensures loan { ⟦<Write<W> as Out>⟧.loan self.new ≡ ⟦<Write<W> as Out>⟧.loan self.old }

@@ -1,20 +1,20 @@
 use Rattle.std.proofs.Common.{◌++◌, ap, ◌∙◌}
 use Rattle.std.proofs.lemmas.List.{append-nil}
-use Rattle.index_parts.proofs.Taking.{puts_after, puts_is, puts_failed, Took-nil}
+use Rattle.index_parts.proofs.Puts.{puts_from, puts_after, puts_is, puts_stopped}
 use Rattle.index_entries.specs.Entry.{head_bytes}
 use Rattle.index_entries.specs.EntryImage.{head_of}
 use Rattle.index_entries.specs.Record.{record_in}
 use Rattle.index_entries.proofs.Lengths.{unpadded_is}
 use Rattle.index_entries.proofs.Entry.put_with.Goals as goal
 
-pub returns-in_err-put_head-clause-bytes : goal.returns-in_err-put_head-clause-bytes
-returns-in_err-put_head-clause-bytes g c =
+pub returns-in_err-put_head : goal.returns-in_err-put_head
+returns-in_err-put_head g c =
     let r = record_in c.args.storage.now c.args.self.now in
-    puts_failed _ _ c.from_residual.result (r.path ++ c.args.end.now) c.from_residual.ensures.0 (unpadded_is r c.args.end.now) (Took-nil _ _ _) c.in_err-put_head.ensures.bytes
+    puts_stopped c.from_residual.result (r.path ++ c.args.end.now) c.from_residual.ensures.0 (unpadded_is r c.args.end.now) c.in_err-put_head.ensures
 
-pub returns-clause-bytes : goal.returns-clause-bytes
-returns-clause-bytes g c =
+pub returns : goal.returns
+returns g c =
     let r = record_in c.args.storage.now c.args.self.now in
     let pieces = ap (λ l. c.path_in.result.now ++ l) (append-nil c.args.end.now) ∙ ap (λ p. p ++ c.args.end.now) c.path_in.ensures in
     let whole = ap (λ l. head_bytes (head_of r) ++ l) pieces ∙ unpadded_is r c.args.end.now in
-    puts_is _ _ _ _ _ whole (puts_after _ _ c.put_each.result c.in_ok-put_head.ensures.bytes c.put_each.ensures.bytes)
+    puts_is c.put_each.result whole (puts_after c.put_each.result c.in_ok-put_head.ensures (puts_from c.put_each.result c.put_each.ensures.bytes c.put_each.ensures.mark c.put_each.ensures.loan))
