@@ -4,9 +4,9 @@ use Rattle.std.specs.Io.KnownBytes.{Appends}
 use Rattle.index_parts.specs.Digest.{digest}
 use Rattle.index_parts.specs.Id.{make_id}
 use Rattle.index_parts.specs.declared.hash.Kind.{Kind}
-use Rattle.index_parts.specs.Taking.{AppendsFront}
+use Rattle.index_parts.specs.Taking.{AppendsPrefix}
 use Rattle.index_parts.specs.declared.hash.ObjectId.{ObjectId}
-use Rattle.index_parts.proofs.Taking.{front_before, front_after}
+use Rattle.index_parts.proofs.Taking.{prefix_before, prefix_after}
 use Rattle.index_format.specs.declared.write.Error.{Error}
 use Rattle.index_format.specs.declared.write.Error.TheVariants as errors
 use Rattle.index_format.specs.declared.write.Options.{Options}
@@ -16,13 +16,13 @@ use Rattle.index_format.specs.Writing.{Fails}
 
 -- a fault before the rest
 pub fails_more : {S : Type 0} (taken : S → Option (List ℕ)) (failed : S → Bool) (a b : S) (e : Error) (xs ys : List ℕ) → Fails taken failed a b e xs → Fails taken failed a b e (xs ++ ys)
-fails_more taken failed a b (errors.Io e) xs ys p = (front_before p.0 ys, p.1)
+fails_more taken failed a b (errors.Io e) xs ys p = (prefix_before p.0 ys, p.1)
 fails_more taken failed a b errors.TooManyEntries xs ys p = p
 fails_more taken failed a b errors.NulInPath xs ys p = p
 fails_more taken failed a b errors.TooLarge xs ys p = p
 
-pub front_then : {S : Type 0} (taken : S → Option (List ℕ)) (a b c : S) (xs ys zs : List ℕ) → zs ≡ ys → Appends (taken a) (taken b) xs → AppendsFront (taken b) (taken c) zs → AppendsFront (taken a) (taken c) (xs ++ ys)
-front_then taken a b c xs ys zs e p q = front_after (taken a) (taken b) (taken c) xs ys p (subst (λ (l : List ℕ). AppendsFront (taken b) (taken c) l) e q)
+pub front_then : {S : Type 0} (taken : S → Option (List ℕ)) (a b c : S) (xs ys zs : List ℕ) → zs ≡ ys → Appends (taken a) (taken b) xs → AppendsPrefix (taken b) (taken c) zs → AppendsPrefix (taken a) (taken c) (xs ++ ys)
+front_then taken a b c xs ys zs e p q = prefix_after (taken a) (taken b) (taken c) xs ys p (subst (λ (l : List ℕ). AppendsPrefix (taken b) (taken c) l) e q)
 
 -- ---- the id behind a body, by the option
 

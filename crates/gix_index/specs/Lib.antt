@@ -51,7 +51,7 @@ pub use Rattle.index_extensions.specs.FsMonitor
 pub use Rattle.index_extensions.specs.ModeDigits
 pub use Rattle.index_extensions.specs.OffsetTable
 pub use Rattle.index_extensions.specs.ResolveUndo
-pub use Rattle.index_extensions.specs.Spelling
+pub use Rattle.index_extensions.specs.Encoding
 pub use Rattle.index_extensions.specs.Walk
 pub use Rattle.index_cached_tree.specs.Agreement
 pub use Rattle.index_cached_tree.specs.Decimal

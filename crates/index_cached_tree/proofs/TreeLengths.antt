@@ -9,7 +9,7 @@ use Rattle.std.proofs.lemmas.Option.{same_Some}
 use Rattle.index_parts.specs.declared.hash.ObjectId.{ObjectId}
 use Rattle.index_cached_tree.specs.Tree.{Node, how_many_nodes, nodes_from, node_of}
 use Rattle.index_cached_tree.specs.TreeImage.{count_bytes, id_part, behind_name, node_head_bytes, node_bytes, nodes_bytes}
-use Rattle.index_extensions.specs.Spelling.{item_bytes}
+use Rattle.index_extensions.specs.Encoding.{item_bytes}
 use Rattle.index_parts.specs.Numbers.{be32}
 use Rattle.index_cached_tree.specs.TreeImage.{tree_item}
 use Rattle.index_cached_tree.specs.TreeWriting.{room_left}

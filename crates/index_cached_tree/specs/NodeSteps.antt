@@ -10,7 +10,7 @@ use Rattle.index_parts.specs.Limit.{is_within}
 use Rattle.index_cached_tree.specs.Tree.{NodeHead}
 use Rattle.index_cached_tree.specs.declared.head.NodeHead.{NodeHead as LentNodeHead}
 
--- the number that digits spell, where the digits before them stand for so much
+-- the number that digits encode, where the digits before them stand for so much
 abbrev pub decimal_from : ℕ → List ℕ → Option ℕ
 decimal_from high [] = Some high
 decimal_from high (b ∷ text) =
@@ -30,7 +30,7 @@ nonnegative_count n = if nat_lt n (2 ^ 31) then Some (Some n) else None
 abbrev pub negated_count : ℕ → Option (Option ℕ)
 negated_count n = if n == 0 then Some (Some 0) else (if nat_lt (2 ^ 31) n then None else Some None)
 
--- the count that a sign or none and digits spell
+-- the count that a sign or none and digits encode
 abbrev pub entry_count_of : List ℕ → Option (Option ℕ)
 entry_count_of [] = None
 entry_count_of (b ∷ text) =

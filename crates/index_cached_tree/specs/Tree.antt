@@ -1,4 +1,4 @@
--- The cached tree (gitformat-index, "Cache tree") as plain data, and which bytes spell one.
+-- The cached tree (gitformat-index, "Cache tree") as plain data, and which bytes encode one.
 use Rattle.std.specs.Prelude.{◌≡◌, ◌≢◌, ℕ, ◌+◌, ◌*◌, ◌≤◌, max, List, [], ◌∷◌, ◌++◌, All, length, Option, MatchOption}
 use Rattle.std.specs.List.{AllByRecursion}
 use Rattle.std.specs.List.Sorted.{IsPermutation}
@@ -68,12 +68,12 @@ pub record HasNodeHead (kind : Kind) (limit : Option ℕ) (bytes : List ℕ) : T
   pub room : 6 * head.number ≤ length tail
 
 abbrev mutual
-  -- bytes spell a node and all below it, in preorder, and the rest
+  -- bytes encode a node and all below it, in preorder, and the rest
   pub IsSpelled : Kind → Option ℕ → Node → List ℕ → List ℕ → Type 0
   IsSpelled kind limit (node name id count children) bytes rest =
       (tail : List ℕ) × IsNodeHead kind limit bytes (record { name = name; count = count; id = id; number = how_many_nodes children }) tail × AreSpelled kind limit children tail rest
 
-  -- bytes spell these nodes, one after another, and the rest
+  -- bytes encode these nodes, one after another, and the rest
   pub AreSpelled : Kind → Option ℕ → Nodes → List ℕ → List ℕ → Type 0
   AreSpelled kind limit none bytes rest = bytes ≡ rest
   AreSpelled kind limit (more t ts) bytes rest = (middle : List ℕ) × IsSpelled kind limit t bytes middle × AreSpelled kind limit ts middle rest
@@ -118,7 +118,7 @@ abbrev mutual
   SortsEach none ts = ts ≡ []
   SortsEach (more u us) ts = (t : Node) × (rest : List Node) × (ts ≡ t ∷ rest) × Sorts u t × SortsEach us rest
 
--- bytes spell a node with at most so many levels below it, and the rest; sorted it is t
+-- bytes encode a node with at most so many levels below it, and the rest; sorted it is t
 pub record IsNode (kind : Kind) (limit : Option ℕ) (levels : ℕ) (bytes : List ℕ) (t : Node) (rest : List ℕ) : Type 0 where
   pub spelled : Node
   pub spells : IsSpelled kind limit spelled bytes rest

@@ -2,7 +2,7 @@
 use Rattle.std.specs.Prelude.{ℕ, List, [], ◌∷◌, ◌++◌, codes, decimal, Option, Some, None}
 use Rattle.index_parts.specs.Id.{id_bytes}
 use Rattle.index_parts.specs.declared.hash.ObjectId.{ObjectId}
-use Rattle.index_extensions.specs.Spelling.{item_of}
+use Rattle.index_extensions.specs.Encoding.{item_of}
 use Rattle.index_extensions.specs.Walk.{Item}
 use Rattle.index_cached_tree.specs.Tree.{Node, Nodes, node, none, more, how_many_nodes}
 

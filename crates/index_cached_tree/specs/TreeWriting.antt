@@ -2,13 +2,13 @@
 -- (gitformat-index, "Extensions").
 use Rattle.std.specs.Prelude.{◌≡◌, ℕ, ◌-◌, ◌^◌, nat_lt, Bool, true, false, List, Option, Some, None, Result, Ok, Err, MatchResult, if◌then◌else◌}
 use Rattle.index_parts.specs.declared.hash.Kind.{Kind}
-use Rattle.index_parts.specs.Taking.{AppendsFront, Took}
+use Rattle.index_parts.specs.Taking.{AppendsPrefix, Took}
 use Rattle.index_cached_tree.specs.declared.write.Error.{Error}
 use Rattle.index_cached_tree.specs.declared.write.Error.TheVariants as errors
 
--- a failed writer took a front of the bytes; at a refusal it is as it was
+-- a failed writer took a prefix of the bytes; at a refusal it is as it was
 abbrev pub TreeFails : {S : Type 0} → (S → Option (List ℕ)) → (S → Bool) → S → S → Error → List ℕ → Type 0
-TreeFails taken failed old new (errors.Io e) bytes = AppendsFront (taken old) (taken new) bytes × (failed new ≡ true)
+TreeFails taken failed old new (errors.Io e) bytes = AppendsPrefix (taken old) (taken new) bytes × (failed new ≡ true)
 TreeFails taken failed old new errors.TooLarge bytes = new ≡ old
 
 -- an Ok took the bytes whole, and the writer bears no mark

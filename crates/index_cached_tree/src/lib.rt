@@ -65,9 +65,9 @@ fn copy_of(tree: &Tree) -> Result<Tree, AllocError>
     })
 }
 
-/// The cached tree that the content of its extension spells, with the children of each node sorted by name.
+/// The cached tree that the content of its extension encodes, with the children of each node sorted by name.
 ///
-/// None where the bytes spell no tree, where a node declares more children than the bytes behind it can hold at six
+/// None where the bytes encode no tree, where a node declares more children than the bytes behind it can hold at six
 /// bytes each, where two siblings have one name, where a node lies more than 2048 levels below the root, or where the
 /// children of a node pass the limit at 104 bytes each. No memory is asked for before all that the root says of itself
 /// was read, with room for its children; an error is the want of it.

@@ -3,7 +3,7 @@
 ghost use Rattle.std.specs.Prelude.{◌≡◌, ◌↔◌, ◌≤◌, ◌<◌, ◌^◌, ◌+◌, ◌++◌, ℕ, List, length, take, map, true, false, is_err};
 ghost use Rattle.std.specs.List.{flat_map};
 ghost use Rattle.index_parts.specs.Puts.{Puts};
-ghost use Rattle.index_extensions.specs.Spelling.{item_bytes};
+ghost use Rattle.index_extensions.specs.Encoding.{item_bytes};
 ghost use Rattle.index_parts.specs.Numbers.{be32};
 ghost use Rattle.index_cached_tree.specs.TreeImage.{tree_item};
 ghost use Rattle.index_cached_tree.specs.Tree.{node_of};
@@ -24,7 +24,7 @@ pub enum Error {
     /// Its content takes more than 2^32 - 1 bytes. No byte was written.
     #[error("the cached tree takes more than the 4294967295 bytes that an extension can have")]
     TooLarge,
-    /// The writer failed. What it took is a front of the bytes.
+    /// The writer failed. What it took is a prefix of the bytes.
     #[error("the cached tree was not written whole: {0}")]
     Io(io::Error),
 }
@@ -186,8 +186,8 @@ fn item_head(signature: [u8; 4], len: u32) -> [u8; 8]
     [a, b, c, d, e, f, g, h]
 }
 
-/// Writes the tree as [`Tree::write_to`] does. Its content has this length, which [`Tree::content_len`] counts. An error
-/// comes only where the writer failed, which then took a front of the bytes.
+/// Writes the tree as [`Tree::write_to`] does. Its content has this length, which [`Tree::content_len`] counts. An
+/// error comes only where the writer failed, which then took a prefix of the bytes.
 pub fn put_item<W: Out>(tree: &Tree, len: u32, out: &mut W) -> io::Result<()>
     requires len { len ≡ length (node_bytes (node_of tree.now)) }
     requires unfailed { W.failed out.old ≡ false }
@@ -211,7 +211,7 @@ impl Tree {
     /// (gitformat-index, "Cache tree"). A node without a count has -1 in its place, and no id.
     ///
     /// [`Error::TooLarge`] comes before any byte and leaves the writer as it was. [`Error::Io`] comes only where the
-    /// writer failed, which then took a front of the bytes. No memory is taken; the call is as deep as the tree.
+    /// writer failed, which then took a prefix of the bytes. No memory is taken; the call is as deep as the tree.
     pub fn write_to<W: Out>(&self, out: &mut W) -> Result<(), Error>
         requires { W.failed out.old ≡ false }
         ensures bytes { WritesTree W.taken W.hashed W.failed out.old out.new result

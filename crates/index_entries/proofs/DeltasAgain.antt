@@ -2,7 +2,7 @@
 use Rattle.std.proofs.Common.{◌≡◌, ℕ, ◌+◌, ◌-◌, ◌^◌, ◌<◌, ◌≤◌, List, [], ◌∷◌, ◌++◌, length, take, drop, All, Option, Some, None, refl, sym, ap, ◌∙◌, append_assoc, length-append, length-drop, take-append-drop, arith}
 use Rattle.std.specs.Prelude.{◌≢◌}
 use Rattle.std.proofs.lemmas.List.Elements.{All-drop}
-use Rattle.index_parts.proofs.Spellings.{offset_is, offset_some}
+use Rattle.index_parts.proofs.Encodings.{offset_is, offset_some}
 use Rattle.index_parts.specs.Offset.{offset_bytes}
 use Rattle.index_parts.specs.declared.hash.Kind.{Kind}
 use Rattle.index_entries.specs.Entry.{head_bytes, record_of, joined_path, CanStrip, IsEntry4}

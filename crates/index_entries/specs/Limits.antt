@@ -29,7 +29,7 @@ abbrev pub fixed_len : Kind → ℕ
 fixed_len kinds.Sha1 = 62
 fixed_len kinds.Sha256 = 74
 
--- how many bytes of its path an entry of version 4 is taken to spell
+-- how many bytes of its path an entry of version 4 is taken to encode
 abbrev pub average_delta_len : ℕ
 average_delta_len = 80
 

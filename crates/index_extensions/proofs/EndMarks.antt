@@ -36,16 +36,16 @@ heads_one bytes xs ys h k = ap (λ (items : List Item). digest Sha1 (heads items
 -- ---- the pieces of bytes with a marker: its offset, the bytes from there to the marker, and its digest
 
 pub record HasMarker (bytes : List ℕ) (x : ℕ × List ℕ × List ℕ) : Type 0 where
-  pub front : List ℕ
+  pub before : List ℕ
   pub offset : List ℕ
   pub trailer : List ℕ
-  pub parts : bytes ≡ front ++ (x.1 ++ (marker_start ++ (offset ++ (x.2 ++ trailer))))
+  pub parts : bytes ≡ before ++ (x.1 ++ (marker_start ++ (offset ++ (x.2 ++ trailer))))
   pub offset_len : length offset ≡ 4
   pub hash_len : length x.2 ≡ 20
   pub trailer_len : length trailer ≡ 20
-  pub is_offset : be offset ≡ length front
-  pub behind_header : 12 ≤ length front
-  pub place_is : x.0 ≡ length front
+  pub is_offset : be offset ≡ length before
+  pub behind_header : 12 ≤ length before
+  pub place_is : x.0 ≡ length before
 
 starts_whole : (l s : List ℕ) → length l ≡ length s → starts_with eqb l s ≡ true → l ≡ s
 starts_whole l s n e =
@@ -66,8 +66,8 @@ marker_takes bytes x e =
     let before = take n bytes in
     let off = offset_in end in
     let behind = drop 4 (drop 8 end) in
-    let g = three_guards (ltb (length bytes) 52) (starts_with eqb (take 8 end) marker_start) (ltb off 12) (piece_at off before >>= λ front. Some (off, front.1, take 20 behind)) x e in
-    let b = bind_some (piece_at off before) (λ front. Some (off, front.1, take 20 behind)) x g.3 in
+    let g = three_guards (ltb (length bytes) 52) (starts_with eqb (take 8 end) marker_start) (ltb off 12) (piece_at off before >>= λ before. Some (off, before.1, take 20 behind)) x e in
+    let b = bind_some (piece_at off before) (λ before. Some (off, before.1, take 20 behind)) x g.3 in
     let p = piece_takes off before b.0 b.1 in
     let long : 52 ≤ length bytes = ltb-false _ _ g.0 in
     let header : 12 ≤ off = ltb-false _ _ g.2 in
@@ -77,7 +77,7 @@ marker_takes bytes x e =
     sym (take-append-drop 8 end) ∙ ap (λ (l : List ℕ). l ++ drop 8 end) start ∙ ap (λ (l : List ℕ). marker_start ++ l) (sym (take-append-drop 4 (drop 8 end)) ∙ ap (λ (l : List ℕ). take 4 (drop 8 end) ++ l) (sym (take-append-drop 20 behind))) in
     let whole : bytes ≡ b.0.0 ++ (b.0.1 ++ end) = sym (take-append-drop n bytes) ∙ ap (λ (l : List ℕ). l ++ end) p.0 ∙ append_assoc b.0.0 b.0.1 end in
     let found : HasMarker bytes (off, b.0.1, take 20 behind) = record {
-      front = b.0.0;
+      before = b.0.0;
       offset = take 4 (drop 8 end);
       trailer = drop 20 behind;
       parts = whole ∙ ap (λ (l : List ℕ). b.0.0 ++ (b.0.1 ++ l)) ends;
@@ -97,16 +97,16 @@ marker_again bytes x h =
     let tail = h.offset ++ (x.2 ++ h.trailer) in
     let end = marker_start ++ tail in
     let tail_len : length tail ≡ 44 = omega (arith, length-append h.offset (x.2 ++ h.trailer), length-append x.2 h.trailer, h.offset_len, h.hash_len, h.trailer_len) in
-    let whole : bytes ≡ (h.front ++ between) ++ end = h.parts ∙ sym (append_assoc h.front between end) in
-    let len : length bytes ≡ length (h.front ++ between) + 52 = omega (arith, ap length whole, length-append (h.front ++ between) end, length-append marker_start tail) in
-    let n : length bytes - 52 ≡ length (h.front ++ between) = omega arith in
-    let ends : drop (length bytes - 52) bytes ≡ end = ap (λ (k : ℕ). drop k bytes) n ∙ ap (drop (length (h.front ++ between))) whole ∙ drop_at (h.front ++ between) end (length (h.front ++ between)) refl in
-    let before : take (length bytes - 52) bytes ≡ h.front ++ between = ap (λ (k : ℕ). take k bytes) n ∙ ap (take (length (h.front ++ between))) whole ∙ take_at (h.front ++ between) end (length (h.front ++ between)) refl in
-    let off : be (take 4 tail) ≡ length h.front = ap be (take_at h.offset (x.2 ++ h.trailer) 4 h.offset_len) ∙ h.is_offset in
+    let whole : bytes ≡ (h.before ++ between) ++ end = h.parts ∙ sym (append_assoc h.before between end) in
+    let len : length bytes ≡ length (h.before ++ between) + 52 = omega (arith, ap length whole, length-append (h.before ++ between) end, length-append marker_start tail) in
+    let n : length bytes - 52 ≡ length (h.before ++ between) = omega arith in
+    let ends : drop (length bytes - 52) bytes ≡ end = ap (λ (k : ℕ). drop k bytes) n ∙ ap (drop (length (h.before ++ between))) whole ∙ drop_at (h.before ++ between) end (length (h.before ++ between)) refl in
+    let before : take (length bytes - 52) bytes ≡ h.before ++ between = ap (λ (k : ℕ). take k bytes) n ∙ ap (take (length (h.before ++ between))) whole ∙ take_at (h.before ++ between) end (length (h.before ++ between)) refl in
+    let off : be (take 4 tail) ≡ length h.before = ap be (take_at h.offset (x.2 ++ h.trailer) 4 h.offset_len) ∙ h.is_offset in
     let hash : take 20 (drop 4 tail) ≡ x.2 = ap (take 20) (drop_at h.offset (x.2 ++ h.trailer) 4 h.offset_len) ∙ take_at x.2 h.trailer 20 h.hash_len in
     let one : ltb (length bytes) 52 ≡ false = le-ltb _ _ (omega arith) in
-    let three : ltb (length h.front) 12 ≡ false = le-ltb _ _ h.behind_header in
-    rw (one, ends, before, off, hash, three, piece_again (length h.front) h.front between refl, h.place_is) refl
+    let three : ltb (length h.before) 12 ≡ false = le-ltb _ _ h.behind_header in
+    rw (one, ends, before, off, hash, three, piece_again (length h.before) h.before between refl, h.place_is) refl
 
 -- ---- the marker over the extensions
 
@@ -114,10 +114,10 @@ marked_sha1 : (kind : Kind) (bytes : List ℕ) (place : ℕ) → EndsInMarker ki
 marked_sha1 kind bytes place h = subst (λ (t : Kind). EndsInMarker t bytes place) h.is_sha1 h
 
 pub marked_has : (bytes : List ℕ) (place : ℕ) (h : EndsInMarker Sha1 bytes place) → HasMarker bytes (place, h.between, h.hash)
-marked_has bytes place h = record { front = h.front; offset = h.offset; trailer = h.trailer; parts = h.parts; offset_len = h.offset_len; hash_len = h.hash_len; trailer_len = h.trailer_len; is_offset = h.is_offset; behind_header = h.behind_header; place_is = h.place_is }
+marked_has bytes place h = record { before = h.before; offset = h.offset; trailer = h.trailer; parts = h.parts; offset_len = h.offset_len; hash_len = h.hash_len; trailer_len = h.trailer_len; is_offset = h.is_offset; behind_header = h.behind_header; place_is = h.place_is }
 
 pub marked_from : (bytes : List ℕ) (x : ℕ × List ℕ × List ℕ) → HasMarker bytes x → (first : Item) (others : List Item) → AreItems x.1 (first ∷ others) [] → x.2 ≡ digest Sha1 (heads (first ∷ others)) → EndsInMarker Sha1 bytes x.0
-marked_from bytes x m first others items e = record { front = m.front; between = x.1; offset = m.offset; hash = x.2; trailer = m.trailer; is_sha1 = refl; parts = m.parts; offset_len = m.offset_len; hash_len = m.hash_len; trailer_len = m.trailer_len; is_offset = m.is_offset; behind_header = m.behind_header; first = first; others = others; items = items; is_digest = e; place_is = m.place_is }
+marked_from bytes x m first others items e = record { before = m.before; between = x.1; offset = m.offset; hash = x.2; trailer = m.trailer; is_sha1 = refl; parts = m.parts; offset_len = m.offset_len; hash_len = m.hash_len; trailer_len = m.trailer_len; is_offset = m.is_offset; behind_header = m.behind_header; first = first; others = others; items = items; is_digest = e; place_is = m.place_is }
 
 -- what a marker says of the pieces that were read
 pub marked_same : (bytes : List ℕ) (place : ℕ) (x : ℕ × List ℕ × List ℕ) → EndsInMarker Sha1 bytes place → marker_at bytes ≡ Some x

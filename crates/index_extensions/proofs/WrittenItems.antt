@@ -12,7 +12,7 @@ use Rattle.index_parts.specs.Id.{id_len}
 use Rattle.index_parts.specs.declared.hash.Kind.{Kind}
 use Rattle.index_parts.specs.declared.hash.Kind.TheVariants.{Sha1}
 use Rattle.index_extensions.specs.EndMarker.{heads, EndsInMarker}
-use Rattle.index_extensions.specs.Spelling.{item_bytes, item_of, marker_item}
+use Rattle.index_extensions.specs.Encoding.{item_bytes, item_of, marker_item}
 use Rattle.index_parts.specs.Numbers.{be32}
 use Rattle.index_extensions.specs.Walk.{Item, IsItem, AreItems}
 

@@ -15,23 +15,23 @@ heads items = flat_map (λ i. i.signature ++ i.size) items
 -- A file of SHA-1 ends in whole extensions, one or more, the marker, and the trailer. The marker has the size 24, the offset at
 -- which the extensions begin, and the digest of their signatures and sizes.
 pub record EndsInMarker (kind : Kind) (bytes : List ℕ) (place : ℕ) : Type 0 where
-  pub front : List ℕ
+  pub before : List ℕ
   pub between : List ℕ
   pub offset : List ℕ
   pub hash : List ℕ
   pub trailer : List ℕ
   pub is_sha1 : kind ≡ Sha1
-  pub parts : bytes ≡ front ++ (between ++ (codes "EOIE" ++ ((0 ∷ 0 ∷ 0 ∷ 24 ∷ []) ++ (offset ++ (hash ++ trailer)))))
+  pub parts : bytes ≡ before ++ (between ++ (codes "EOIE" ++ ((0 ∷ 0 ∷ 0 ∷ 24 ∷ []) ++ (offset ++ (hash ++ trailer)))))
   pub offset_len : length offset ≡ 4
   pub hash_len : length hash ≡ 20
   pub trailer_len : length trailer ≡ 20
-  pub is_offset : be offset ≡ length front
-  pub behind_header : 12 ≤ length front
+  pub is_offset : be offset ≡ length before
+  pub behind_header : 12 ≤ length before
   pub first : Item
   pub others : List Item
   pub items : AreItems between (first ∷ others) []
   pub is_digest : hash ≡ digest Sha1 (heads (first ∷ others))
-  pub place_is : place ≡ length front
+  pub place_is : place ≡ length before
 
 -- the place that an end marker names, or None where there is no marker
 abbrev pub IsMarker : Kind → List ℕ → Option ℕ → Type 0

@@ -1,4 +1,4 @@
--- Extensions by their signature, and the value that the content of one spells (gitformat-index, "Extensions").
+-- Extensions by their signature, and the value that the content of one encodes (gitformat-index, "Extensions").
 use Rattle.std.specs.Prelude.{◌≡◌, ℕ, nat_eq, Bool, List, [], ◌∷◌, Option, Some, None, if◌then◌else◌}
 use Rattle.std.specs.Cmp.Lexicographic.{pointwise}
 use Rattle.index_extensions.specs.Walk.{Item}
@@ -24,7 +24,7 @@ abbrev pub last_content : List ℕ → List Item → Option (List ℕ)
 last_content signature [] = None
 last_content signature (i ∷ items) = or_else (last_content signature items) (content_named signature i)
 
--- the value that bytes spell, or None where they spell none
+-- the value that bytes encode, or None where they encode none
 abbrev pub IsRead : {A : Type 0} → (List ℕ → A → Type 0) → List ℕ → Option A → Type 0
 IsRead {A} Is bytes (Some x) = Is bytes x
 IsRead {A} Is bytes None = (x : A) → Is bytes x → ⊥

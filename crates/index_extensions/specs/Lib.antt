@@ -6,6 +6,6 @@ pub mod MonitorSteps
 pub mod OffsetTable
 pub mod ResolveUndo
 pub mod ResolveUndoSteps
-pub mod Spelling
+pub mod Encoding
 pub mod Walk
 pub mod WalkSteps

@@ -7,7 +7,7 @@ use Rattle.index_extensions.specs.ResolveUndo.{PathStages}
 use Rattle.index_extensions.specs.declared.resolve_undo.Stage.{Stage}
 use Rattle.index_extensions.specs.declared.resolve_undo.path.LentPath.{LentPath}
 
--- the mode that a plus or nothing and octal digits spell
+-- the mode that a plus or nothing and octal digits encode
 abbrev pub mode_of : List ℕ → Option ℕ
 mode_of [] = None
 mode_of (b ∷ text) = if b == 43 then octal_of text else octal_of (b ∷ text)

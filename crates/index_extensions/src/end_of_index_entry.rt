@@ -9,7 +9,7 @@ ghost use Rattle.index_parts.specs.Puts.{Puts};
 ghost use Rattle.index_parts.specs.declared.hash.Kind.TheVariants.{Sha1};
 ghost use Rattle.index_extensions.specs.EndMarker.{heads, IsMarker};
 ghost use Rattle.index_extensions.specs.WalkSteps.{marker_at};
-ghost use Rattle.index_extensions.specs.Spelling.{heads_bytes, item_bytes, marker_item};
+ghost use Rattle.index_extensions.specs.Encoding.{heads_bytes, item_bytes, marker_item};
 ghost use Rattle.index_parts.specs.Numbers.{be32};
 ghost use Rattle.index_extensions.specs.Walk.{Item, AreItems};
 
@@ -142,7 +142,7 @@ fn two<'a>(a: &'a [u8], b: &'a [u8]) -> [&'a [u8]; 2]
 /// Writes an end marker behind extensions that begin at this offset and have these signatures and sizes, which may be
 /// none (gitformat-index, "End of Index Entry").
 ///
-/// An error comes only where the writer failed, which then took a front of the bytes. No memory is taken.
+/// An error comes only where the writer failed, which then took a prefix of the bytes. No memory is taken.
 pub fn write_to<W: Out>(
     out: &mut W,
     object_hash: Kind,

@@ -144,11 +144,11 @@ fn own(alloc: Global, token: LentToken<'_>) -> Result<Token, AllocError>
     }
 }
 
-/// What the content of the extension spells: a version, a token, and a bitmap with its size.
+/// What the content of the extension encodes: a version, a token, and a bitmap with its size.
 ///
 /// None where the version is neither 1 nor 2, where the bytes end within a part, where they are no bitmap, and where
 /// the bitmap has another size than the declared one or bytes stand behind it. All memory is bounded by the bytes, and
-/// an error is the want of it for bytes that spell a value.
+/// an error is the want of it for bytes that encode a value.
 pub fn decode(alloc: Global, data: &[u8]) -> Result<Option<FsMonitor>, AllocError>
     ensures read { IfOk result (λ found. IsRead IsMonitor «data».now (option_map monitor_of found)) }
     ensures memory { IfErr result (λ _. HasMonitor «data».now) }

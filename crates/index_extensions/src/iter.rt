@@ -78,7 +78,7 @@ impl<'a> Iterator for Iter<'a> {
     }
 }
 
-/// The extension at the front: its signature, its size as it is spelled, its content, and the bytes behind it.
+/// The extension at the front: its signature, its size as it is encoded, its content, and the bytes behind it.
 #[tactic(auto, unfolding(crate::specs::WalkSteps::item_at))]
 pub(super) fn item_of(bytes: &[u8]) -> Option<(&[u8], &[u8], &[u8], &[u8])>
     ensures { option_map

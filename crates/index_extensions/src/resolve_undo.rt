@@ -78,7 +78,7 @@ impl ResolvePath {
     }
 }
 
-/// The paths that the content of the extension spells. Empty content spells none.
+/// The paths that the content of the extension encodes. Empty content encodes none.
 ///
 /// None where the bytes end within a path, or where a mode is no octal number of at most 32 bits. Memory is asked for
 /// path by path, once all of it was read; an error is the want of it.

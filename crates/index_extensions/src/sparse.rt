@@ -2,7 +2,7 @@
 
 ghost use Rattle.std.specs.Prelude.{◌≡◌, false, is_err};
 ghost use Rattle.index_parts.specs.Puts.{Puts};
-ghost use Rattle.index_extensions.specs.Spelling.{item_bytes, sparse_item};
+ghost use Rattle.index_extensions.specs.Encoding.{item_bytes, sparse_item};
 
 use super::Signature;
 use index_parts::hash::io::Out;
@@ -13,7 +13,7 @@ pub const SIGNATURE: Signature = *b"sdir";
 
 /// Writes the mark, which has no content (gitformat-index, "Sparse Directory Entries").
 ///
-/// An error comes only where the writer failed, which then took a front of the bytes. No memory is taken.
+/// An error comes only where the writer failed, which then took a prefix of the bytes. No memory is taken.
 pub fn write_to<W: Out>(out: &mut W) -> io::Result<()>
     requires { W.failed out.old ≡ false }
     ensures { Puts W.Out out.old out.new result (item_bytes sparse_item) }

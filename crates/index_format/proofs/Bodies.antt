@@ -8,7 +8,7 @@ use Rattle.std.proofs.lemmas.Option.{same_Some}
 use Rattle.std.proofs.lemmas.Grind.{flat_map-append}
 use Rattle.index_parts.specs.declared.hash.Kind.{Kind}
 use Rattle.index_extensions.specs.EndMarker.{heads}
-use Rattle.index_extensions.specs.Spelling.{item_bytes, sparse_item, marker_item}
+use Rattle.index_extensions.specs.Encoding.{item_bytes, sparse_item, marker_item}
 use Rattle.index_cached_tree.specs.TreeImage.{tree_item}
 use Rattle.index_cached_tree.specs.Tree.{Node}
 use Rattle.index_cached_tree.specs.TreeImage.{node_bytes}

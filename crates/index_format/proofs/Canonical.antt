@@ -8,7 +8,7 @@ use Rattle.index_parts.specs.declared.hash.Kind.{Kind}
 use Rattle.index_parts.specs.declared.hash.ObjectId.{ObjectId}
 use Rattle.index_metadata.specs.declared.entry.stat.FileTime.{FileTime}
 use Rattle.index_extensions.specs.EndMarker.{heads}
-use Rattle.index_extensions.specs.Spelling.{item_bytes, marker_item}
+use Rattle.index_extensions.specs.Encoding.{item_bytes, marker_item}
 use Rattle.index_cached_tree.specs.StoredTree.{stored_node}
 use Rattle.index_cached_tree.specs.Tree.{Node}
 use Rattle.index_extensions.specs.Walk.{Item}

@@ -16,7 +16,7 @@ use Rattle.index_parts.specs.declared.hash.Kind.TheVariants as kinds
 use Rattle.index_parts.specs.declared.hash.ObjectId.{ObjectId}
 use Rattle.index_metadata.specs.declared.entry.stat.FileTime.{FileTime}
 use Rattle.index_extensions.specs.EndMarker.{heads, EndsInMarker, IsMarker}
-use Rattle.index_extensions.specs.Spelling.{item_bytes, marker_item}
+use Rattle.index_extensions.specs.Encoding.{item_bytes, marker_item}
 use Rattle.index_parts.specs.Numbers.{be32}
 use Rattle.index_cached_tree.specs.StoredTree.{stored_node, IsStorableTree}
 use Rattle.index_cached_tree.specs.Tree.{Node, IsTree}
@@ -43,7 +43,7 @@ use Rattle.index_format.specs.Answer.{Answer, trailer_checksum, IsVerified, valu
 use Rattle.index_format.specs.Image.{asks_for, image_version, entries_bytes, entries_end, items_of, has_marker, marker_of, unmarked, body, trailer, image}
 use Rattle.index_format.specs.Outcome.{Outcome, AreSound, IsOutcome}
 use Rattle.index_format.specs.Contents.{Contents}
-use Rattle.index_format.specs.Storable.{CanSpell, IsStorable, IsWritable, IsUnmistakable}
+use Rattle.index_format.specs.Storable.{CanEncode, IsStorable, IsWritable, IsUnmistakable}
 use Rattle.index_format.specs.Stored.{expected}
 use Rattle.index_format.proofs.WrittenOutcomes.{marker_items, written_outcome, outcome_there, all_sound, some_whole, all_whole, content_small, first_item}
 
@@ -78,13 +78,13 @@ each_path : (version : Version) (rs : List Record) → ((r : Record) → HasPath
 each_path version [] h = tt
 each_path version (r ∷ rs) h = (h r, each_path version rs h)
 
-paths_by : (choice : VersionChoice) (extended : Bool) (v : Contents) → CanSpell choice v → AllByRecursion (HasPath (version_by choice extended)) (written v.records)
+paths_by : (choice : VersionChoice) (extended : Bool) (v : Contents) → CanEncode choice v → AllByRecursion (HasPath (version_by choice extended)) (written v.records)
 paths_by choices.Smallest true v h = each_path V3 (written v.records) (λ r. tt)
 paths_by choices.Smallest false v h = each_path V2 (written v.records) (λ r. tt)
 paths_by choices.V4 extended v h = recursion_from_All (λ r. All (λ b. b ≢ 0) r.path) (written v.records) h
 
 -- the entries of an image, in the version that it has
-entries_there : (v : Contents) (options : Options) → IsStorable v → CanSpell options.version v → length (entries_bytes v options) < 2 ^ 64 → AreWritten (image_version v options) v.kind (written v.records) (entries_bytes v options)
+entries_there : (v : Contents) (options : Options) → IsStorable v → CanEncode options.version v → length (entries_bytes v options) < 2 ^ 64 → AreWritten (image_version v options) v.kind (written v.records) (entries_bytes v options)
 entries_there v options h paths small =
     let version : Version = image_version v options in
     let each = storable_from v.kind v.records h.ids h.paths h.fits in

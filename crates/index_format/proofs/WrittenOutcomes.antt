@@ -10,7 +10,7 @@ use Rattle.index_parts.specs.Id.{id_len}
 use Rattle.index_parts.specs.declared.hash.Kind.{Kind}
 use Rattle.index_parts.specs.declared.hash.Kind.TheVariants as kinds
 use Rattle.index_extensions.specs.ExtensionValue.{is_named}
-use Rattle.index_extensions.specs.Spelling.{item_bytes, item_of, sparse_item}
+use Rattle.index_extensions.specs.Encoding.{item_bytes, item_of, sparse_item}
 use Rattle.index_parts.specs.Numbers.{be32}
 use Rattle.index_cached_tree.specs.TreeImage.{tree_item}
 use Rattle.index_cached_tree.specs.Tree.{Node, IsTree}

@@ -5,7 +5,7 @@ use Rattle.std.specs.List.{flat_map}
 use Rattle.index_parts.specs.Digest.{digest}
 use Rattle.index_parts.specs.Id.{id_len}
 use Rattle.index_extensions.specs.EndMarker.{heads}
-use Rattle.index_extensions.specs.Spelling.{item_bytes, sparse_item, marker_item}
+use Rattle.index_extensions.specs.Encoding.{item_bytes, sparse_item, marker_item}
 use Rattle.index_cached_tree.specs.TreeImage.{tree_item}
 use Rattle.index_cached_tree.specs.Tree.{Node}
 use Rattle.index_extensions.specs.Walk.{Item}

@@ -2,7 +2,7 @@
 use Rattle.std.specs.Prelude.{◌≡◌, ℕ, ◌+◌, ◌<◌, ◌^◌, ◌==◌, ◌&&◌, not, Bool, true, false, List, [], ◌∷◌, ◌++◌, length, codes, Option, Some, None, if◌then◌else◌}
 use Rattle.std.specs.Option.{option_map}
 use Rattle.index_parts.specs.declared.hash.Kind.{Kind}
-use Rattle.index_extensions.specs.Spelling.{item_bytes, marker_item, heads_bytes}
+use Rattle.index_extensions.specs.Encoding.{item_bytes, marker_item, heads_bytes}
 use Rattle.index_cached_tree.specs.Tree.{Node}
 use Rattle.index_cached_tree.specs.TreeImage.{node_bytes}
 use Rattle.index_cached_tree.specs.TreeWriting.{within_32}

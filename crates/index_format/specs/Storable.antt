@@ -21,14 +21,14 @@ pub record IsStorable (v : Contents) : Type 0 where
   pub tree : IfSome v.extensions.tree (IsStorableTree v.kind)
 
 -- in version 4 no path that is written has a NUL
-abbrev pub CanSpell : VersionChoice → Contents → Type 0
-CanSpell choices.Smallest v = Unit {0}
-CanSpell choices.V4 v = LackNul v.records
+abbrev pub CanEncode : VersionChoice → Contents → Type 0
+CanEncode choices.Smallest v = Unit {0}
+CanEncode choices.V4 v = LackNul v.records
 
 -- the limits of a file are not passed, and its version has all paths: writing has no reason to refuse
 pub record IsWritable (v : Contents) (options : Options) : Type 0 where
   pub few : length v.records < 2 ^ 32
-  pub paths : CanSpell options.version v
+  pub paths : CanEncode options.version v
   pub small : length (unmarked v options) < 2 ^ 32
 
 -- a file of SHA-1 that has no end marker doesn't end as if it had one

@@ -2,17 +2,17 @@
 -- library's own; the limits are those of gitformat-index, "A 12-byte header" and "End of Index Entry": 32 bits).
 use Rattle.std.specs.Prelude.{◌≡◌, ℕ, ◌≤◌, ◌<◌, ◌^◌, Bool, true, false, List, length, Option, Result, MatchResult}
 use Rattle.std.specs.Io.KnownBytes.{Appends}
-use Rattle.index_parts.specs.Taking.{AppendsFront}
+use Rattle.index_parts.specs.Taking.{AppendsPrefix}
 use Rattle.index_format.specs.Contents.{Contents}
 use Rattle.index_format.specs.Image.{unmarked}
-use Rattle.index_format.specs.Storable.{CanSpell}
+use Rattle.index_format.specs.Storable.{CanEncode}
 use Rattle.index_format.specs.declared.write.Options.{Options}
 use Rattle.index_format.specs.declared.write.Error.{Error}
 use Rattle.index_format.specs.declared.write.Error.TheVariants as errors
 
--- the writer failed, and took a front of the bytes; at a refusal it is as it was
+-- the writer failed, and took a prefix of the bytes; at a refusal it is as it was
 abbrev pub Fails : {S : Type 0} → (S → Option (List ℕ)) → (S → Bool) → S → S → Error → List ℕ → Type 0
-Fails taken failed old new (errors.Io e) bytes = AppendsFront (taken old) (taken new) bytes × (failed new ≡ true)
+Fails taken failed old new (errors.Io e) bytes = AppendsPrefix (taken old) (taken new) bytes × (failed new ≡ true)
 Fails taken failed old new errors.TooManyEntries bytes = new ≡ old
 Fails taken failed old new errors.NulInPath bytes = new ≡ old
 Fails taken failed old new errors.TooLarge bytes = new ≡ old
@@ -25,6 +25,6 @@ Writes taken failed old new r bytes =
 -- when a value is refused with each error: each comes where those before it don't; a writer's fault is no refusal
 abbrev pub RefusedWith : Contents → Options → Error → Type 0
 RefusedWith v options errors.TooManyEntries = 2 ^ 32 ≤ length v.records
-RefusedWith v options errors.NulInPath = (length v.records < 2 ^ 32) × (CanSpell options.version v → ⊥)
-RefusedWith v options errors.TooLarge = (length v.records < 2 ^ 32) × CanSpell options.version v × (2 ^ 32 ≤ length (unmarked v options))
+RefusedWith v options errors.NulInPath = (length v.records < 2 ^ 32) × (CanEncode options.version v → ⊥)
+RefusedWith v options errors.TooLarge = (length v.records < 2 ^ 32) × CanEncode options.version v × (2 ^ 32 ≤ length (unmarked v options))
 RefusedWith v options (errors.Io e) = ⊥

@@ -10,7 +10,7 @@ ghost use Rattle.index_format.specs.declared.write.Error.TheVariants.{Io};
 ghost use Rattle.index_format.specs.Image.{asks_for, image_version, unmarked, body};
 ghost use Rattle.index_format.specs.LayoutSteps.{header_and_entries, IsLayout};
 ghost use Rattle.index_format.specs.Contents.{PartsInStorage, parts_contents};
-ghost use Rattle.index_format.specs.Storable.{CanSpell};
+ghost use Rattle.index_format.specs.Storable.{CanEncode};
 ghost use Rattle.index_format.specs.Writing.{RefusedWith, Writes};
 
 use crate::Parts;
@@ -64,7 +64,7 @@ pub enum Error {
     /// There would be more than 2^32 - 1 bytes before the end marker. No byte was written.
     #[error("the index would take more than the 4294967295 bytes that a file's offsets can reach")]
     TooLarge,
-    /// The writer failed. What it took is a front of the bytes.
+    /// The writer failed. What it took is a prefix of the bytes.
     #[error("the index was not written whole: {0}")]
     Io(io::Error),
 }
@@ -138,9 +138,9 @@ impl Parts {
     }
 
     /// Whether a file of the chosen version has all paths that would be written.
-    fn can_spell(&self, choice: VersionChoice) -> bool
+    fn can_encode(&self, choice: VersionChoice) -> bool
         requires { PartsInStorage self.now }
-        ensures { IsTrue result ↔ CanSpell choice (parts_contents self.now) }
+        ensures { IsTrue result ↔ CanEncode choice (parts_contents self.now) }
     {
         match choice {
             VersionChoice::Smallest => true,
@@ -151,8 +151,8 @@ impl Parts {
     /// Writes the index as the bytes of a file, but for the trailer, and gives the version that they have.
     ///
     /// [`Error::TooManyEntries`], then [`Error::NulInPath`], then [`Error::TooLarge`], come before any byte and leave
-    /// the writer as it was. [`Error::Io`] comes only where the writer failed, which then took a front of the bytes. No
-    /// memory is taken.
+    /// the writer as it was. [`Error::Io`] comes only where the writer failed, which then took a prefix of the bytes.
+    /// No memory is taken.
     pub fn write_to<W: Out>(&self, out: &mut W, options: Options) -> Result<Version, Error>
         requires placed { PartsInStorage self.now }
         requires unfailed { W.failed out.old ≡ false }
@@ -173,7 +173,7 @@ impl Parts {
         if self.entries.len() > u32::MAX as usize {
             return Err(Error::TooManyEntries);
         }
-        if !self.can_spell(options.version) {
+        if !self.can_encode(options.version) {
             return Err(Error::NulInPath);
         }
         let Some(layout) = self.layout(options) else {

@@ -1,6 +1,6 @@
 //! `index-lookup-rows`: what lookups answer for each row of a table.
 //!
-//! The table comes on standard input. `tests/model/DIALECT.md` says how a row is spelled and which lines answer it. A
+//! The table comes on standard input. `tests/model/DIALECT.md` says how a row is written and which lines answer it. A
 //! row that can't be understood ends the program with its number on standard error and status 1.
 #![tactic(auto)]
 

@@ -62,7 +62,7 @@ between_more from n path l =
 
 -- ---- a record more
 
--- where the path before begins alike, a front of it
+-- where the path before begins alike, a prefix of it
 earlier_parent : (before path : List ℕ) (from m : ℕ) → from ≡ shared_len before path → m < from → get_or path m 0 ≡ 47 → Contains (parents_upto (length before) before) (take m path)
 earlier_parent before path from m is l e =
     let within : from ≤ length before = omega (arith, is, shared_within before path) in

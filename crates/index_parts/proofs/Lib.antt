@@ -6,7 +6,7 @@ pub mod Octals
 pub mod Offsets
 pub mod Places
 pub mod Readers
-pub mod Spellings
+pub mod Encodings
 pub mod Splits
 pub mod Steps
 pub mod Taking

@@ -2,9 +2,9 @@
 use Rattle.std.proofs.Common.{◌≡◌, ℕ, List, ◌++◌, Result, Ok, Err, true, refl, subst, ◌∙◌}
 use Rattle.std.specs.Prelude.{IsErr, is_err}
 use Rattle.index_parts.specs.declared.hash.io.Out.{Ghosts}
-use Rattle.index_parts.specs.Taking.{AppendsFront, Takes, Took}
+use Rattle.index_parts.specs.Taking.{AppendsPrefix, Takes, Took}
 use Rattle.index_parts.specs.Puts.{Puts}
-use Rattle.index_parts.proofs.Taking.{takes_after, Takes-err, front_after, front_before}
+use Rattle.index_parts.proofs.Taking.{takes_after, Takes-err, prefix_after, prefix_before}
 
 -- the three facts of a writer's own call
 pub puts_from : {S T E : Type 0} {w : Ghosts S} {a b : S} {xs : List ℕ} (r : Result T E) → Takes w.taken w.hashed a b r xs → w.failed b ≡ is_err r → w.loan b ≡ w.loan a → Puts w a b r xs
@@ -26,9 +26,9 @@ failed_too (Ok x) h = absurd cc
 failed_too (Err e) h = refl
 
 -- at the exit of a `?`: a prefix of the bytes that come next was taken, and of the rest none
-pub puts_broken : {S T E : Type 0} {w : Ghosts S} {a b : S} (r : Result T E) {xs all : List ℕ} (rest : List ℕ) → IsErr r → xs ++ rest ≡ all → AppendsFront (w.taken a) (w.taken b) xs → w.failed b ≡ true → w.loan b ≡ w.loan a → Puts w a b r all
+pub puts_broken : {S T E : Type 0} {w : Ghosts S} {a b : S} (r : Result T E) {xs all : List ℕ} (rest : List ℕ) → IsErr r → xs ++ rest ≡ all → AppendsPrefix (w.taken a) (w.taken b) xs → w.failed b ≡ true → w.loan b ≡ w.loan a → Puts w a b r all
 puts_broken {w = w} {a = a} {b = b} r rest h whole p q l = record {
-  takes = Takes-err w.taken w.hashed a b r _ h (subst (λ (l : List ℕ). AppendsFront (w.taken a) (w.taken b) l) whole (front_before p rest));
+  takes = Takes-err w.taken w.hashed a b r _ h (subst (λ (l : List ℕ). AppendsPrefix (w.taken a) (w.taken b) l) whole (prefix_before p rest));
   failed = q ∙ failed_too r h;
   loan = l;
 }
@@ -40,4 +40,4 @@ puts_stopped r rest h whole p = puts_broken r rest h whole p.takes p.failed p.lo
 -- the same after bytes that were taken whole
 pub puts_stopped_after : {S T E U F : Type 0} {w : Ghosts S} {a b c : S} {e : F} (r : Result T E) {xs ys all : List ℕ} (rest : List ℕ) → IsErr r → (xs ++ ys) ++ rest ≡ all → Took w.taken w.hashed a b xs → w.loan b ≡ w.loan a → Puts {T = U} {E = F} w b c (Err e) ys → Puts w a c r all
 puts_stopped_after {w = w} {a = a} {b = b} {c = c} r {xs = xs} {ys = ys} rest h whole before kept p =
-    puts_broken r rest h whole (front_after (w.taken a) (w.taken b) (w.taken c) xs ys before.grew p.takes) p.failed (p.loan ∙ kept)
+    puts_broken r rest h whole (prefix_after (w.taken a) (w.taken b) (w.taken c) xs ys before.grew p.takes) p.failed (p.loan ∙ kept)

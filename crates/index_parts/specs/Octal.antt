@@ -1,4 +1,4 @@
--- Numbers in octal digits (ASCII), as modes are spelled in tree objects ("Pro Git", "Git Objects") and in resolve-undo
+-- Numbers in octal digits (ASCII), as modes are encoded in tree objects ("Pro Git", "Git Objects") and in resolve-undo
 -- (gitformat-index, "Resolve undo").
 use Rattle.std.specs.Prelude.{◌≡◌, ◌≢◌, ℕ, ◌+◌, ◌-◌, ◌*◌, ◌^◌, ◌<◌, ◌≤◌, List, [], ◌∷◌, All, length}
 

@@ -19,7 +19,7 @@ powers_sum [] = 0
 powers_sum (b ∷ []) = 0
 powers_sum (b ∷ c ∷ bytes) = 128 ^ length (c ∷ bytes) + powers_sum (c ∷ bytes)
 
--- bytes spell the number n, which has at most 64 bits
+-- bytes encode the number n, which has at most 64 bits
 pub record IsOffset (bytes : List ℕ) (n : ℕ) : Type 0 where
   pub continued : AreContinued bytes
   pub value : n ≡ digits_value bytes + powers_sum bytes

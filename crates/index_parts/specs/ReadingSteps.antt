@@ -44,7 +44,7 @@ offset_at bytes = offset_from 0 bytes
 abbrev pub is_octal_digit : ℕ → Bool
 is_octal_digit b = nat_le 48 b && nat_le b 55
 
--- the number that octal digits spell, where the digits before them stand for so much
+-- the number that octal digits encode, where the digits before them stand for so much
 abbrev pub octal_from : ℕ → List ℕ → Option ℕ
 octal_from high [] = Some high
 octal_from high (b ∷ text) =

@@ -2,8 +2,8 @@
 #![tactic(auto)]
 
 mod bytes;
+pub mod encode;
 pub mod ewah;
 pub mod hash;
 pub mod read;
-pub mod spell;
 pub mod util;

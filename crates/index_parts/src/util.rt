@@ -9,7 +9,7 @@ ghost use Rattle.index_parts.specs.Puts.{Puts};
 
 pub use crate::bytes::{from_be_u16, from_be_u32};
 use crate::hash::io::Out;
-use crate::{read, spell};
+use crate::{encode, read};
 use std::io;
 
 /// The number of the first four bytes, and the bytes after them; None where there are fewer.
@@ -60,6 +60,6 @@ pub fn write_var_int<W: Out>(out: &mut W, n: u64) -> io::Result<()>
     ensures put { Puts W.Out out.old out.new result (offset_bytes n) }
     ensures spelled { IsOffset (offset_bytes n) n }
 {
-    let (bytes, start) = spell::offset(n);
+    let (bytes, start) = encode::offset(n);
     out.put(&bytes[start..])
 }

@@ -1,6 +1,6 @@
 //! What programs share that answer tables of rows: the loop over a table, the words of a row, and the texts of answers.
 //!
-//! `tests/model/DIALECT.md` says how rows and answers are spelled.
+//! `tests/model/DIALECT.md` says how rows and answers are written.
 #![tactic(auto)]
 
 pub mod fault;

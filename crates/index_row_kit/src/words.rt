@@ -254,7 +254,7 @@ pub fn items_of<'a>(alloc: Global, list: &'a str) -> Result<Vec<&'a str>, Fault>
     Ok(list.split(';').collect(alloc)?)
 }
 
-/// The number that decimal digits spell.
+/// The number that decimal digits encode.
 pub fn number_of<N: FromStr>(word: &str) -> Result<N, Fault>
 where
     N::Err: Drop,
@@ -265,7 +265,7 @@ where
     Ok(number)
 }
 
-/// The bits that octal digits spell.
+/// The bits that octal digits encode.
 pub fn octal_of(word: &str) -> Result<u32, Fault> {
     let Ok(bits) = u32::from_str_radix(word, 8) else {
         return Err(Fault::Wrong("octal digits"));
@@ -273,7 +273,7 @@ pub fn octal_of(word: &str) -> Result<u32, Fault> {
     Ok(bits)
 }
 
-/// The bits that digits of base 16 spell.
+/// The bits that digits of base 16 encode.
 pub fn hex_of(word: &str) -> Result<u32, Fault> {
     let Ok(bits) = u32::from_str_radix(word, 16) else {
         return Err(Fault::Wrong("digits of base 16"));
@@ -281,7 +281,7 @@ pub fn hex_of(word: &str) -> Result<u32, Fault> {
     Ok(bits)
 }
 
-/// The byte that digits of base 16 spell.
+/// The byte that digits of base 16 encode.
 fn byte_of(word: &str) -> Result<u8, Fault> {
     let Ok(byte) = u8::try_from(hex_of(word)?) else {
         return Err(Fault::Wrong("one byte in base 16"));

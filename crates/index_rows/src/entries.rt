@@ -71,7 +71,7 @@ fn flags(out: &mut Lines, bits: u32) {
     out.put("stage", stage_of(flags.stage()));
     writeln!(out, "first word: {:04x}", flags.to_storage().bits());
     writeln!(out, "second word: {:04x}", second.bits());
-    writeln!(out, "stored flags: {:08x}", flags.to_kept().bits());
+    writeln!(out, "stored flags: {:08x}", flags.to_stored().bits());
 }
 
 /// A word of 16 bits.
@@ -110,7 +110,7 @@ fn stage(out: &mut Lines, words: &mut Words<'_>) -> Result<(), Fault> {
 
 fn mode(out: &mut Lines, bits: u32) {
     let mode = Mode::from_bits_truncate(bits);
-    let stored = Mode::from_bits_retain(bits).to_kept();
+    let stored = Mode::from_bits_retain(bits).to_stored();
     writeln!(out, "from_bits_truncate: {:o}", mode.bits());
     writeln!(out, "stored mode: {:o}", stored.bits());
     out.put("is_sparse", yes(mode.is_sparse()));

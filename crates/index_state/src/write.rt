@@ -25,8 +25,8 @@ impl State {
     /// In version 4 each path is written as its difference to the one that was written before it.
     ///
     /// [`Error::TooManyEntries`], then [`Error::NulInPath`], then [`Error::TooLarge`], come before any byte and leave
-    /// the writer as it was. [`Error::Io`] comes only where the writer failed, which then took a front of the bytes. No
-    /// memory is taken.
+    /// the writer as it was. [`Error::Io`] comes only where the writer failed, which then took a prefix of the bytes.
+    /// No memory is taken.
     pub fn write_to<W: Out>(&self, out: &mut W, options: Options) -> Result<Version, Error>
         requires placed { PathsInStorage self.now }
         requires unfailed { W.failed out.old ≡ false }

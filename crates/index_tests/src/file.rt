@@ -105,7 +105,7 @@ fn written(rt: &impl Abort, file: &File, short: Short, skip_hash: bool) -> (Vec<
     (inner.taken, result.is_ok())
 }
 
-/// Each room up to all of the file takes a front of it, and no byte behind the fault.
+/// Each room up to all of the file takes a prefix of it, and no byte behind the fault.
 fn assert_fronts(
     rt: &impl Abort,
     alloc: Global,

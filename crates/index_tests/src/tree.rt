@@ -99,7 +99,7 @@ fn id(byte: u8) -> ObjectId {
     ObjectId::Sha1([byte; 20])
 }
 
-/// A root with what this spells, an id and the tree `b`, in which the link `x` stands.
+/// A root with what this encodes, an id and the tree `b`, in which the link `x` stands.
 fn store_of(alloc: Global, first: &[u8]) -> Result<Store, AllocError> {
     let mut root = Vec::new(alloc);
     root.extend_from_slice(first)?;

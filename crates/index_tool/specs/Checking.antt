@@ -1,7 +1,7 @@
 -- What the program checks of an index, and what it prints then (the program's own).
 use Rattle.std.specs.Prelude.{◌≡◌, ℕ, List, length, Option, codes}
 use Rattle.std.specs.Io.KnownBytes.{Appends, Keeps}
-use Rattle.gix_index.specs.Taking.{AppendsFront}
+use Rattle.gix_index.specs.Taking.{AppendsPrefix}
 use Rattle.gix_index.specs.Kind.{Kind}
 use Rattle.gix_index.specs.Order.{IsStrictlyOrdered}
 use Rattle.gix_index.specs.Contents.{Contents}
@@ -26,11 +26,11 @@ pub record Checks (kind : Kind) (old new : Option (List ℕ)) : Type 0 where
   pub sound : IsSoundInFile kind value
   pub grew : Appends old new ok_line
 
--- known bytes grew by a front of that line, and all checks had passed
+-- known bytes grew by a prefix of that line, and all checks had passed
 pub record ChecksFront (kind : Kind) (old new : Option (List ℕ)) : Type 0 where
   pub value : Contents
   pub sound : IsSoundInFile kind value
-  pub grew : AppendsFront old new ok_line
+  pub grew : AppendsPrefix old new ok_line
 
 -- a failure of a check: only a failed output took some of the line
 abbrev pub FailsToCheck : Kind → List ℕ → Failure → Option (List ℕ) → Option (List ℕ) → Type 0

@@ -63,7 +63,7 @@ Succeeds (Listing kind file) old new = ListsIndex kind old new
 Succeeds (Checking kind file) old new = Checks kind old new
 Succeeds (Rewriting version kind file to) old new = Keeps old new
 
--- what a command that was refused did to them: nothing, or they grew by a front of that
+-- what a command that was refused did to them: nothing, or they grew by a prefix of that
 pub data GivesUp (command : CommandValue) (old new : Option (List ℕ)) : Type 0 where
   nothing : Keeps old new → GivesUp command old new
   some_lines : (kind : Kind) (file : List ℕ) → command ≡ Listing kind file → ListsFront kind old new → GivesUp command old new

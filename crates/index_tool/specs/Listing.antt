@@ -2,7 +2,7 @@
 use Rattle.std.specs.Prelude.{◌≡◌, ℕ, pos, false, List, Option, None}
 use Rattle.std.specs.Io.KnownBytes.{Appends, Keeps}
 use Rattle.gix_index.specs.Stat.{seconds_of, nanoseconds_of}
-use Rattle.gix_index.specs.Taking.{AppendsFront}
+use Rattle.gix_index.specs.Taking.{AppendsPrefix}
 use Rattle.gix_index.specs.FileTime.{FileTime}
 use Rattle.gix_index.specs.Kind.{Kind}
 use Rattle.gix_index.specs.ObjectId.{ObjectId}
@@ -34,11 +34,11 @@ pub record ListsIndex (kind : Kind) (old new : Option (List ℕ)) : Type 0 where
   pub read : IsInFile kind value
   pub grew : Appends old new (listing value.records)
 
--- known bytes grew by a front of them
+-- known bytes grew by a prefix of them
 pub record ListsFront (kind : Kind) (old new : Option (List ℕ)) : Type 0 where
   pub value : Contents
   pub read : IsInFile kind value
-  pub grew : AppendsFront old new (listing value.records)
+  pub grew : AppendsPrefix old new (listing value.records)
 
 -- a failure of reading, which names the file that it concerns, or the one that the words name
 abbrev pub FailsToRead : List ℕ → Failure → Type 0

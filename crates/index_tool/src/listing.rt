@@ -4,7 +4,7 @@ ghost use Rattle.std.specs.Prelude.{◌≡◌, ◌<◌, ◌*◌, ◌%◌, ℕ, L
 ghost use Rattle.std.specs.Io.KnownBytes.{Appends};
 ghost use Rattle.hex.specs.Hex.{encode_lower, lower_digits};
 ghost use Rattle.gix_index.specs.Id.{id_bytes};
-ghost use Rattle.gix_index.specs.Taking.{AppendsFront};
+ghost use Rattle.gix_index.specs.Taking.{AppendsPrefix};
 ghost use Rattle.gix_index.specs.State.{PathsInStorage, contents, storage_of};
 ghost use Rattle.gix_index.specs.Record.{IsPlaced, record_in};
 ghost use Rattle.index_tool.specs.Line.{digit, octal_six, line_of_parts, line_of, listing};
@@ -125,7 +125,7 @@ fn put_block<W: io::Write>(lines: &mut Vec<u8>, out: &mut W) -> io::Result<()>
         ((done : List ℕ) × Appends (W.contents out.old) (W.contents out.new) done
         × (done ++ lines.new.items ≡ lines.old.items)) }
     ensures err { OnErr result
-        (AppendsFront (W.contents out.old) (W.contents out.new) lines.old.items) }
+        (AppendsPrefix (W.contents out.old) (W.contents out.new) lines.old.items) }
 {
     if lines.len() >= BLOCK_LEN {
         put_all(out, lines.as_slice())?;
@@ -138,13 +138,13 @@ fn put_block<W: io::Write>(lines: &mut Vec<u8>, out: &mut W) -> io::Result<()>
 /// tab and the path's bytes.
 ///
 /// The lines wait in one buffer, which goes out past 64 KiB. An error is the writer's, or want of memory for
-/// that buffer; what was written by then is a front of the listing.
+/// that buffer; what was written by then is a prefix of the listing.
 pub fn write_listing<W: io::Write>(alloc: Global, state: &State, out: &mut W) -> io::Result<()>
     requires { PathsInStorage state.now }
     ensures ok { OnOk result
         (Appends (W.contents out.old) (W.contents out.new) (listing (contents state.now).records)) }
     ensures err { OnErr result
-        (AppendsFront (W.contents out.old) (W.contents out.new)
+        (AppendsPrefix (W.contents out.old) (W.contents out.new)
         (listing (contents state.now).records)) }
 {
     let mut lines = Vec::with_capacity(alloc, BLOCK_LEN + SPARE_LEN)?;

@@ -95,7 +95,7 @@ impl Find for Trees<'_> {
     }
 }
 
-/// The id that digits of base 16 spell.
+/// The id that digits of base 16 encode.
 fn id_of(alloc: Global, word: &str) -> Option<ObjectId> {
     ObjectId::from_bytes(&hex::decode(alloc, word).ok()?)
 }

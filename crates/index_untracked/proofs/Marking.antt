@@ -16,7 +16,7 @@ change_set f [] place x y lt e h = absurd (omega arith)
 change_set f (a ∷ xs) zero x y lt e h = ap (λ (d : DirectoryValue). d ∷ map directory_value xs) (h ∙ ap (λ (z : Directory). f (directory_value z)) e)
 change_set f (a ∷ xs) (suc place) x y lt e h = ap (λ (ds : List DirectoryValue). directory_value a ∷ ds) (change_set f xs place x y (omega arith) e h)
 
--- the directory behind a front of so many
+-- the directory behind a prefix of so many
 pub change_at : (f : DirectoryValue → DirectoryValue) (place : ℕ) (xs : List DirectoryValue) (d : DirectoryValue) (ys : List DirectoryValue) → place ≡ length xs → changed_directory f place (xs ++ d ∷ ys) ≡ xs ++ f d ∷ ys
 change_at f place [] d ys e = rw e refl
 change_at f zero (x ∷ xs) d ys e = absurd (omega arith)

@@ -1,4 +1,4 @@
--- The untracked cache (gitformat-index, "Untracked cache") as plain data, and which bytes spell one.
+-- The untracked cache (gitformat-index, "Untracked cache") as plain data, and which bytes encode one.
 use Rattle.std.specs.Prelude.{◌≡◌, ◌≢◌, ℕ, zero, suc, ◌*◌, ◌≤◌, List, [], ◌∷◌, ◌++◌, All, IfSome, length, map, Option, Some, None, if◌then◌else◌}
 use Rattle.std.specs.List.{AllByRecursion}
 use Rattle.bstr.specs.Owned.{bstring_bytes}

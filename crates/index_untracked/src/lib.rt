@@ -202,7 +202,7 @@ impl UntrackedCache {
     }
 }
 
-/// The directories that so many blocks spell, with what stands behind them.
+/// The directories that so many blocks encode, with what stands behind them.
 fn directories_of(
     alloc: Global,
     kind: Kind,
@@ -234,9 +234,9 @@ fn directories_of(
     Ok(Some(directories))
 }
 
-/// The untracked cache that the content of its extension spells, with ids of this kind.
+/// The untracked cache that the content of its extension encodes, with ids of this kind.
 ///
-/// None where the bytes spell none, or don't end in a 0; where a directory lies more than 2048 levels below the root;
+/// None where the bytes encode none, or don't end in a 0; where a directory lies more than 2048 levels below the root;
 /// and where the limit is passed by the directories at 152 bytes each, or in one of them by the untracked names at 24
 /// bytes each or by its directories at 8 bytes each. Memory is only asked for what the bytes hold, and not by a
 /// declared number, and none before the head of the first block, if there is one, was read; an error is the want of it.

@@ -91,7 +91,7 @@ impl File {
     /// `File` stays.
     ///
     /// The refusals are those of [`State::write_to`]: [`Error::TooManyEntries`], [`Error::NulInPath`] and
-    /// [`Error::TooLarge`] before any byte; [`Error::Io`] where the writer failed, which then took a front of the
+    /// [`Error::TooLarge`] before any byte; [`Error::Io`] where the writer failed, which then took a prefix of the
     /// bytes. No memory is taken.
     pub fn write_to<W: Out>(
         &self,

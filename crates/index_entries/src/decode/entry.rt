@@ -117,7 +117,7 @@ fn stat_of(numbers: &[u8]) -> Stat
 fn flags_of(word: u16, second: u16) -> Flags
     ensures { result.0 ≡ stored_flags (joined_words word second) }
 {
-    Flags::from_bits_retain(u32::from(word) | (u32::from(second) << 16)).to_kept()
+    Flags::from_bits_retain(u32::from(word) | (u32::from(second) << 16)).to_stored()
 }
 
 /// The entry of these pieces.
@@ -135,7 +135,7 @@ fn lent_of<'a>(kind: Kind, head: EntryHead<'a>, shared: usize, path: &'a [u8]) -
         stat: stat_of(head.numbers),
         id: ObjectId::of_kind(kind, head.id),
         flags: flags_of(head.flags, head.extended),
-        mode: Mode::from_bits_retain(read::number(head.numbers, 6)).to_kept(),
+        mode: Mode::from_bits_retain(read::number(head.numbers, 6)).to_stored(),
     }
 }
 

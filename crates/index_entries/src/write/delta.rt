@@ -7,8 +7,8 @@ ghost use Rattle.index_entries.specs.Record.{IsPlaced, record_in};
 
 use crate::paths::shared_len;
 use crate::{Entry, PathBacking};
+use index_parts::encode;
 use index_parts::hash::io::Out;
-use index_parts::spell;
 use std::io;
 
 impl Entry {
@@ -19,7 +19,7 @@ impl Entry {
         ensures small { result < 2 ^ 63 + 2 ^ 10 }
     {
         let shared = shared_len(previous, self.path_in(storage));
-        let (bytes, start) = spell::offset((previous.len() - shared) as u64);
+        let (bytes, start) = encode::offset((previous.len() - shared) as u64);
         let (_, number) = bytes.split_at(start);
         self.unpadded_len(storage) - shared as u64 + number.len() as u64 + 1
     }
@@ -39,7 +39,7 @@ impl Entry {
         let path = self.path_in(storage);
         let shared = shared_len(previous, path);
         let (_, tail) = path.split_at(shared);
-        let (bytes, start) = spell::offset((previous.len() - shared) as u64);
+        let (bytes, start) = encode::offset((previous.len() - shared) as u64);
         let (_, number) = bytes.split_at(start);
         self.put_head(storage, out)?;
         out.put_each(&[number, tail, b"\0"])

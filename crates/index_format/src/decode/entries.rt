@@ -7,7 +7,7 @@ use index_entries::Version;
 use index_entries::sizes::{ENTRY_ALIGN, FLAGS_LEN, HEADER_LEN, NUMBERS_LEN};
 use index_parts::hash::Kind;
 
-/// How many bytes of its path an entry of version 4 is taken to spell, where room for paths is estimated.
+/// How many bytes of its path an entry of version 4 is taken to encode, where room for paths is estimated.
 pub const AVERAGE_V4_DELTA_PATH_LEN_IN_BYTES: usize = 80;
 
 /// An entry with an id of SHA-1, but for its second word of flags, its path and its padding.

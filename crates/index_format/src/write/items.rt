@@ -4,7 +4,7 @@ ghost use Rattle.std.specs.Prelude.{◌≡◌, ◌++◌, length, true, false};
 ghost use Rattle.std.specs.List.{flat_map};
 ghost use Rattle.std.specs.Option.{option_map};
 ghost use Rattle.index_parts.specs.Puts.{Puts};
-ghost use Rattle.index_extensions.specs.Spelling.{item_bytes};
+ghost use Rattle.index_extensions.specs.Encoding.{item_bytes};
 ghost use Rattle.index_cached_tree.specs.Tree.{node_of};
 ghost use Rattle.index_cached_tree.specs.TreeImage.{node_bytes};
 ghost use Rattle.index_format.specs.Image.{items_of, marker_of, sparse_items, tree_items};

@@ -118,7 +118,7 @@ impl Flags {
 
     /// What a file stores of the flags: bits 12 to 15, and with `EXTENDED` also `INTENT_TO_ADD` and
     /// `SKIP_WORKTREE`.
-    pub fn to_kept(self) -> Flags
+    pub fn to_stored(self) -> Flags
         ensures { result.0 ≡ stored_flags self.0 }
     {
         if self.0 & 0x4000 != 0x4000 {

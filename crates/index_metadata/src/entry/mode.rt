@@ -51,7 +51,7 @@ impl Flags for Mode {
 
 impl Mode {
     /// What a file stores of a mode's 32 bits: those that a named mode has.
-    pub fn to_kept(self) -> Mode
+    pub fn to_stored(self) -> Mode
         ensures { result.0 ≡ stored_mode self.0 }
     {
         Mode(self.0 & 0o160755)
@@ -206,7 +206,7 @@ impl From<EntryMode> for Mode {
     ghost from_gives = { λ entry mode. mode.0 ≡ stored_mode entry.0 };
 
     fn from(mode: EntryMode) -> Mode {
-        Mode(u32::from(mode.value())).to_kept()
+        Mode(u32::from(mode.value())).to_stored()
     }
 }
 

@@ -7,7 +7,7 @@ ghost use Rattle.std.specs.Io.KnownBytes.{Appends, WriteAppends};
 ghost use Rattle.std.specs.IoError.{error_kind};
 ghost use Rattle.index_parts.specs.declared.hash.Kind.{Kind};
 ghost use Rattle.index_parts.specs.Digest.{Holds, hasher_kind, hashed_over};
-ghost use Rattle.index_parts.specs.Taking.{Takes, AppendsFront, Breaks, KeepsHashed};
+ghost use Rattle.index_parts.specs.Taking.{Takes, AppendsPrefix, Breaks, KeepsHashed};
 
 use super::{Hasher, Kind};
 use std::io;
@@ -52,7 +52,7 @@ impl<W: io::Write> io::Write for Retrying<W> {
 /// takes no byte, with [`ErrorKind::WriteZero`]. By then the writer took a prefix of the bytes, maybe none.
 pub fn put_all<W: io::Write>(out: &mut W, bytes: &[u8]) -> io::Result<()>
     ensures ok { OnOk result (Appends (W.contents out.old) (W.contents out.new) bytes.now) }
-    ensures err { OnErr result (AppendsFront (W.contents out.old) (W.contents out.new) bytes.now) }
+    ensures err { OnErr result (AppendsPrefix (W.contents out.old) (W.contents out.new) bytes.now) }
 {
     let mut at = 0;
     while at < bytes.len() {
@@ -87,7 +87,7 @@ pub trait Out {
         requires { failed self.old ≡ false }
         ensures bytes { Takes taken hashed self.old self.new result piece.now }
         ensures unhashed { OnErr result (KeepsHashed hashed self.old self.new) }
-        ensures mark { failed self.new ≡ is_err result }
+        ensures has_failed { failed self.new ≡ is_err result }
         ensures loan { loan self.new ≡ loan self.old };
 
     /// Whether the writer has failed: a piece was not taken whole.
@@ -104,7 +104,7 @@ pub trait Out {
             (flat_map (λ p. p.now) pieces.now) }
         ensures failure { OnErr result
             (Breaks taken hashed self.old self.new (map (λ p. p.now) pieces.now)) }
-        ensures mark { failed self.new ≡ is_err result }
+        ensures has_failed { failed self.new ≡ is_err result }
         ensures loan { loan self.new ≡ loan self.old }
     {
         for piece in pieces {
@@ -143,7 +143,7 @@ pub struct Plain<W> {
 impl<W: io::Write> Plain<W> {
     /// Over this writer. It has not failed yet.
     pub fn new(inner: W) -> Plain<W>
-        ensures mark { ⟦<Plain<W> as Out>⟧.failed result ≡ false }
+        ensures has_failed { ⟦<Plain<W> as Out>⟧.failed result ≡ false }
         ensures inner { result.inner ≡ inner }
     {
         Plain {
@@ -207,7 +207,7 @@ impl<W: Out> Out for Write<W> {
         requires { W.failed self.old.inner ≡ false }
         ensures bytes { Takes ⟦<Write<W> as Out>⟧.taken ⟦<Write<W> as Out>⟧.hashed self.old self.new
             result piece.now }
-        ensures mark { ⟦<Write<W> as Out>⟧.failed self.new ≡ is_err result }
+        ensures has_failed { ⟦<Write<W> as Out>⟧.failed self.new ≡ is_err result }
         ensures loan { ⟦<Write<W> as Out>⟧.loan self.new ≡ ⟦<Write<W> as Out>⟧.loan self.old }
         ensures unhashed { OnErr result (KeepsHashed ⟦<Write<W> as Out>⟧.hashed self.old self.new) }
         ensures hash { OnErr result (self.new.hash ≡ self.old.hash) }

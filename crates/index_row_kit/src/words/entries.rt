@@ -55,7 +55,7 @@ pub fn stage_of(word: &str) -> Result<Stage, Fault> {
     }
 }
 
-/// The id of all its digits, or that whose bytes are all the one that two digits spell.
+/// The id of all its digits, or that whose bytes are all the one that two digits encode.
 pub fn id_of(alloc: Global, kind: Kind, word: &str) -> Result<ObjectId, Fault> {
     if word.len() > 2 {
         let Ok(bytes) = hex::decode(alloc, word) else {

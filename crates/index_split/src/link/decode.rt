@@ -59,7 +59,7 @@ fn bitmap_of<'a>(
     }
 }
 
-/// The link that the content of its extension spells.
+/// The link that the content of its extension encodes.
 ///
 /// It is the shared index's id, and nothing more, or two bitmaps, of the entries that are deleted and replaced there.
 /// Of several faults the first is given: [`Error::Corrupt`] where the id isn't there whole; [`Error::BitmapDecode`] for

@@ -17,4 +17,4 @@ returns g c =
     let r = record_in c.args.storage.now c.args.self.now in
     let pieces = ap (λ l. c.path_in.result.now ++ l) (append-nil c.args.end.now) ∙ ap (λ p. p ++ c.args.end.now) c.path_in.ensures in
     let whole = ap (λ l. head_bytes (head_of r) ++ l) pieces ∙ unpadded_is r c.args.end.now in
-    puts_is c.put_each.result whole (puts_after c.put_each.result c.in_ok-put_head.ensures (puts_from c.put_each.result c.put_each.ensures.bytes c.put_each.ensures.mark c.put_each.ensures.loan))
+    puts_is c.put_each.result whole (puts_after c.put_each.result c.in_ok-put_head.ensures (puts_from c.put_each.result c.put_each.ensures.bytes c.put_each.ensures.has_failed c.put_each.ensures.loan))

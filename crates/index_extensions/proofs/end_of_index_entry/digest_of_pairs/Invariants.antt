@@ -1,6 +1,6 @@
 use Rattle.std.proofs.Common.{◌≡◌, take}
 use Rattle.index_parts.specs.Digest.{hasher_kind, Holds}
-use Rattle.index_extensions.specs.Spelling.{heads_bytes}
+use Rattle.index_extensions.specs.Encoding.{heads_bytes}
 use Rattle.index_extensions.proofs.end_of_index_entry.digest_of_pairs.Given as goal
 
 -- the pairs before this one were hashed

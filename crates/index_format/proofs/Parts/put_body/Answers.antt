@@ -1,7 +1,7 @@
 use Rattle.std.proofs.Common.{◌++◌}
 use Rattle.std.specs.List.{flat_map}
 use Rattle.index_parts.proofs.Puts.{puts_after, puts_is, puts_stopped}
-use Rattle.index_extensions.specs.Spelling.{item_bytes}
+use Rattle.index_extensions.specs.Encoding.{item_bytes}
 use Rattle.index_format.specs.Image.{items_of, marker_of}
 use Rattle.index_format.specs.Contents.{parts_contents}
 use Rattle.index_format.proofs.Bodies.{body_is}

@@ -10,7 +10,7 @@ returns-in_err-put g c =
     let v = parts_contents c.args.self.now in
     let o = c.args.options in
     let header : c.header.result ≡ header_bytes (image_version v o) (length (written v.records)) = rw (c.header.ensures, c.requires.layout.is_version, c.requires.layout.is_count) refl in
-    puts_broken c.from_residual.result (entries_bytes v o) c.from_residual.ensures.0 (ap (λ h. h ++ entries_bytes v o) header) c.in_err-put.ensures.bytes c.in_err-put.ensures.mark c.in_err-put.ensures.loan
+    puts_broken c.from_residual.result (entries_bytes v o) c.from_residual.ensures.0 (ap (λ h. h ++ entries_bytes v o) header) c.in_err-put.ensures.bytes c.in_err-put.ensures.has_failed c.in_err-put.ensures.loan
 
 pub returns : goal.returns
 returns g c =

@@ -1,6 +1,6 @@
 use Rattle.std.proofs.Common.{refl, arith, rules}
-use Rattle.index_parts.proofs.Spellings.{offset_is, room_next, spelled_all, spelled_last, spelled_next}
-use Rattle.index_parts.proofs.spell.offset.Goals as goal
+use Rattle.index_parts.proofs.Encodings.{offset_is, room_next, spelled_all, spelled_last, spelled_next}
+use Rattle.index_parts.proofs.encode.offset.Goals as goal
 
 pub loop-higher-init : goal.loop-higher-init
 loop-higher-init c = record {

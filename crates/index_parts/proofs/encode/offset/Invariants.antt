@@ -1,6 +1,6 @@
 use Rattle.std.proofs.Common.{◌≡◌, ◌+◌, ◌^◌, ◌<◌, ◌≤◌, ◌++◌, length, drop}
 use Rattle.index_parts.specs.Offset.{continued_bytes, offset_bytes}
-use Rattle.index_parts.proofs.spell.offset.Given as goal
+use Rattle.index_parts.proofs.encode.offset.Given as goal
 
 -- the bytes from the start on are the last ones of the spelling, and those of the higher part come before them
 abbrev pub invariant-loop-higher : goal.invariant-loop-higher
