@@ -59,7 +59,7 @@ marker_there front trailer first others low high whole len =
     let offset : List ℕ = be32 (length front) in
     let hash : List ℕ = digest Sha1 (heads items) in
     record {
-      front = front;
+      before = front;
       between = between;
       offset = offset;
       hash = hash;
