@@ -15,6 +15,7 @@ pub use Rattle.index_parts.specs.Limit
 pub use Rattle.index_parts.specs.Numbers
 pub use Rattle.index_parts.specs.Octal
 pub use Rattle.index_parts.specs.Offset
+pub use Rattle.index_parts.specs.Puts
 pub use Rattle.index_parts.specs.Taking
 pub use Rattle.index_metadata.specs.Flags
 pub use Rattle.index_metadata.specs.Mode
