@@ -5,10 +5,9 @@ use Rattle.index_parts.specs.Id.{id_len, id_bytes, id_kind}
 use Rattle.index_metadata.specs.Mode.{directory_mode}
 use Rattle.index_parts.specs.declared.hash.Kind.{Kind}
 use Rattle.index_parts.specs.declared.hash.ObjectId.{ObjectId}
-use Rattle.index_metadata.specs.declared.entry.flags.Flags.{Flags}
-use Rattle.index_metadata.specs.declared.entry.mode.Mode.{Mode}
 use Rattle.index_metadata.specs.declared.entry.stat.Stat.{Stat}
 use Rattle.index_entries.specs.declared.Entry.{Entry}
+use Rattle.index_entries.specs.declared.Pathless.{Pathless}
 
 -- an entry with its whole path; its stage is in the flags
 pub record Record : Type 0 where
@@ -30,9 +29,13 @@ pub record IsPlaced (len : ℕ) (e : Entry) : Type 0 where
   pub forward : e.path.start ≤ e.path.end
   pub inside : e.path.end ≤ len
 
+-- the record of this path and an entry's other parts
+abbrev pub with_path : List ℕ → Pathless → Record
+with_path path e = record { path = path; stat = e.stat; id = e.id; flags = e.flags.0; mode = e.mode.0 }
+
 -- the entry of these parts, whose path is the bytes of a storage from one place up to another
-abbrev pub made_entry : Stat → ObjectId → Flags → Mode → ℕ → ℕ → Entry
-made_entry stat id flags mode start end = record { stat = stat; id = id; flags = flags; mode = mode; path = record { start = start; end = end } }
+abbrev pub made_entry : Pathless → ℕ → ℕ → Entry
+made_entry e start end = record { stat = e.stat; id = e.id; flags = e.flags; mode = e.mode; path = record { start = start; end = end } }
 
 -- each entry's id is of this kind
 abbrev pub IdsAreOf : Kind → List Entry → Type 0

@@ -137,15 +137,28 @@ impl Entry {
 
 ghost use Rattle.index_entries.specs.Record.{IsPlaced, made_entry};
 
+/// All of an entry but its path.
+#[derive(Clone, Copy)]
+pub struct Pathless {
+    /// What the file system said of the file.
+    pub stat: Stat,
+    /// The object that holds the contents.
+    pub id: ObjectId,
+    /// What else is noted of the entry, and the stage.
+    pub flags: Flags,
+    /// The kind of file.
+    pub mode: Mode,
+}
+
 /// An entry of these parts, whose path is these bytes of the storage that it is made for.
-pub fn make_entry(stat: Stat, id: ObjectId, flags: Flags, mode: Mode, path: Range<usize>) -> Entry
-    ensures { result ≡ made_entry stat id flags mode path.start path.end }
+pub fn make_entry(entry: Pathless, path: Range<usize>) -> Entry
+    ensures { result ≡ made_entry entry path.start path.end }
 {
     Entry {
-        stat,
-        id,
-        flags,
-        mode,
+        stat: entry.stat,
+        id: entry.id,
+        flags: entry.flags,
+        mode: entry.mode,
         path,
     }
 }

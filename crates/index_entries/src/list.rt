@@ -2,32 +2,27 @@
 
 ghost use Rattle.std.specs.Prelude.{◌≡◌, ◌≤◌, ◌+◌, ◌++◌, ◌∷◌, [], ℕ, None, All, length, take, slice_range, unwrap_or, IfOk, OnOk, OnErr};
 ghost use Rattle.std.specs.Option.{option_map};
+ghost use Rattle.std.specs.Vec.{vec_capacity};
 ghost use Rattle.index_entries.specs.Entries.{last_path};
 ghost use Rattle.index_entries.specs.Held.{Appends, Held, IsFrontOfLast, pushed};
-ghost use Rattle.index_entries.specs.Record.{IsPlaced, records_in};
+ghost use Rattle.index_entries.specs.Record.{IsPlaced, records_in, with_path};
 
-use crate::decode::entries::copy_to_end;
 use crate::slice::EntrySlice;
-use crate::{Entry, PathStorage, make_entry};
-use index_metadata::entry::{Flags, Mode, Stat};
-use index_parts::hash::ObjectId;
+use crate::{Entry, PathStorage, Pathless, make_entry};
 use std::alloc::{AllocError, Global};
 use std::marker::Model;
+use std::ops::Range;
 
 /// Puts an entry at the end, and its path behind the others. Room for both is asked for first, so that after a refusal
 /// all is as it was.
 pub fn append(
     entries: &mut Vec<Entry>,
     storage: &mut PathStorage,
-    stat: Stat,
-    id: ObjectId,
-    flags: Flags,
-    mode: Mode,
+    entry: Pathless,
     path: &[u8],
 ) -> Result<(), AllocError>
     ensures appended { OnOk result (Appends storage.old.items entries.old.items
-        (record { path = path.now; stat = stat; id = id; flags = flags.0; mode = mode.0 })
-        storage.new.items entries.new.items) }
+        (with_path path.now entry) storage.new.items entries.new.items) }
     ensures err_entries { OnErr result (entries.new.items ≡ entries.old.items) }
     ensures err_storage { OnErr result (storage.new.items ≡ storage.old.items) }
 {
@@ -36,39 +31,53 @@ pub fn append(
     let start = storage.len();
     storage.extend_from_slice(path)?;
     let end = storage.len();
-    entries.push_reserved(make_entry(stat, id, flags, mode, start..end));
+    entries.push_reserved(make_entry(entry, start..end));
     Ok(())
 }
 
-/// Puts an entry at the end, whose path is so many bytes of the storage, from an offset on, and then these.
+/// Puts these bytes of the storage at its end too.
+fn copy_to_end(storage: &mut PathStorage, range: Range<usize>) -> Result<(), AllocError>
+    requires forward { range.start ≤ range.end }
+    requires inside { range.end ≤ length storage.old.items }
+    ensures copied { OnOk result (storage.new.items
+        ≡ storage.old.items ++ slice_range storage.old.items range.start range.end) }
+    ensures err { OnErr result (storage.new.items ≡ storage.old.items) }
+    ensures capacity { vec_capacity storage.old ≤ vec_capacity storage.new }
+{
+    let len = storage.len();
+    let Some(end) = len.checked_add(range.end - range.start) else {
+        return Err(AllocError);
+    };
+    storage.resize(end, 0)?;
+    let (front, back) = storage.as_mut_slice().split_at_mut(len);
+    back.copy_from_slice(&front[range.start..range.end]);
+    Ok(())
+}
+
+/// Puts an entry at the end, whose path is these bytes of the storage, and then those of `path`. Room for all is asked
+/// for first, so that after a refusal all is as it was.
 fn append_after(
     entries: &mut Vec<Entry>,
     storage: &mut PathStorage,
-    stat: Stat,
-    id: ObjectId,
-    flags: Flags,
-    mode: Mode,
-    place: usize,
-    shared: usize,
+    entry: Pathless,
+    shared: Range<usize>,
     path: &[u8],
 ) -> Result<(), AllocError>
-    requires { place + shared ≤ length storage.old.items }
-    ensures appended { OnOk result (Appends storage.old.items entries.old.items (record {
-      path = slice_range storage.old.items place (place + shared) ++ path.now;
-      stat = stat;
-      id = id;
-      flags = flags.0;
-      mode = mode.0;
-    }) storage.new.items entries.new.items) }
+    requires forward { shared.start ≤ shared.end }
+    requires inside { shared.end ≤ length storage.old.items }
+    ensures appended { OnOk result (Appends storage.old.items entries.old.items
+        (with_path (slice_range storage.old.items shared.start shared.end ++ path.now) entry)
+        storage.new.items entries.new.items) }
     ensures err_entries { OnErr result (entries.new.items ≡ entries.old.items) }
-    ensures err_storage { OnErr result (length storage.old.items ≤ length storage.new.items) }
+    ensures err_storage { OnErr result (storage.new.items ≡ storage.old.items) }
 {
+    storage.reserve(shared.end - shared.start + path.len())?;
     entries.reserve(1)?;
     let start = storage.len();
-    copy_to_end(storage, place, shared)?;
+    copy_to_end(storage, shared)?;
     storage.extend_from_slice(path)?;
     let end = storage.len();
-    entries.push_reserved(make_entry(stat, id, flags, mode, start..end));
+    entries.push_reserved(make_entry(entry, start..end));
     Ok(())
 }
 
@@ -128,27 +137,11 @@ impl EntryList {
 
     /// Puts an entry at the end, and its path behind the others. Room for both is asked for first, so that after a
     /// refusal all is as it was.
-    pub fn push(
-        &mut self,
-        stat: Stat,
-        id: ObjectId,
-        flags: Flags,
-        mode: Mode,
-        path: &[u8],
-    ) -> Result<(), AllocError>
-        ensures pushed { OnOk result (self.new ≡ pushed self.old
-            (record { path = path.now; stat = stat; id = id; flags = flags.0; mode = mode.0 })) }
+    pub fn push(&mut self, entry: Pathless, path: &[u8]) -> Result<(), AllocError>
+        ensures pushed { OnOk result (self.new ≡ pushed self.old (with_path path.now entry)) }
         ensures err { OnErr result (self.new ≡ self.old) }
     {
-        append(
-            &mut self.entries,
-            &mut self.storage,
-            stat,
-            id,
-            flags,
-            mode,
-            path,
-        )?;
+        append(&mut self.entries, &mut self.storage, entry, path)?;
         Ok(())
     }
 
@@ -163,37 +156,22 @@ impl EntryList {
         }
     }
 
-    /// Puts an entry at the end, whose path is so many bytes of the path before it, and then these.
+    /// Puts an entry at the end, whose path is so many bytes of the path before it, and then these. Room for all is
+    /// asked for first, so that after a refusal all is as it was.
     pub fn push_after(
         &mut self,
-        stat: Stat,
-        id: ObjectId,
-        flags: Flags,
-        mode: Mode,
+        entry: Pathless,
         shared: usize,
         path: &[u8],
     ) -> Result<(), AllocError>
         requires { shared ≤ length (unwrap_or (last_path None self.old.records) []) }
-        ensures { OnOk result (self.new ≡ pushed self.old (record {
-          path = take shared (unwrap_or (last_path None self.old.records) []) ++ path.now;
-          stat = stat;
-          id = id;
-          flags = flags.0;
-          mode = mode.0;
-        })) }
+        ensures pushed { OnOk result (self.new ≡ pushed self.old (with_path
+            (take shared (unwrap_or (last_path None self.old.records) []) ++ path.now) entry)) }
+        ensures err { OnErr result (self.new ≡ self.old) }
     {
         let previous = self.last_start();
-        append_after(
-            &mut self.entries,
-            &mut self.storage,
-            stat,
-            id,
-            flags,
-            mode,
-            previous,
-            shared,
-            path,
-        )?;
+        let front = previous..previous + shared;
+        append_after(&mut self.entries, &mut self.storage, entry, front, path)?;
         Ok(())
     }
 

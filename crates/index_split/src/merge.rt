@@ -11,9 +11,9 @@ ghost use Rattle.index_entries.specs.Record.{IsPlaced, record_in, records_in};
 
 use crate::link::decode;
 use bitflags::Flags as _;
-use index_entries::Entry;
 use index_entries::list::append;
 use index_entries::sort::sort;
+use index_entries::{Entry, Pathless};
 use index_metadata::entry::Flags;
 use index_parts::ewah;
 use std::alloc::AllocError;
@@ -188,15 +188,13 @@ fn append_entry(
     ensures placed { OnOk result (All (IsPlaced (length storage.new.items)) entries.new.items) }
 {
     let path = entry.path_in(split_storage);
-    append(
-        entries,
-        storage,
-        entry.stat,
-        entry.id,
-        entry.flags,
-        entry.mode,
-        path,
-    )?;
+    let pathless = Pathless {
+        stat: entry.stat,
+        id: entry.id,
+        flags: entry.flags,
+        mode: entry.mode,
+    };
+    append(entries, storage, pathless, path)?;
     Ok(())
 }
 

@@ -23,8 +23,8 @@ ghost use Rattle.index_parts.specs.declared.hash.Kind.{Kind};
 
 use crate::State;
 use bitflags::Flags as _;
-use index_entries::Entry;
 use index_entries::list::append;
+use index_entries::{Entry, Pathless};
 use index_lookups::search;
 use index_metadata::entry::stat::Time;
 use index_metadata::entry::{Flags, Mode, Stage, Stat};
@@ -179,13 +179,16 @@ impl State {
         ensures err { OnErr result (IsUnchanged self.old self.new) }
     {
         have_room(&stat, &id, mode);
-        append(
-            &mut self.parts.entries,
-            &mut self.parts.path_backing,
+        let entry = Pathless {
             stat,
             id,
             flags,
             mode,
+        };
+        append(
+            &mut self.parts.entries,
+            &mut self.parts.path_backing,
+            entry,
             path,
         )?;
         Ok(())

@@ -9,6 +9,7 @@ use crate::ComponentCheck;
 use crate::check::refusal_of;
 use crate::error::Error;
 use bstr::BString;
+use index_entries::Pathless;
 use index_entries::list::EntryList;
 use index_metadata::entry::{Flags, Mode, Stage, Stat};
 use index_metadata::object::tree::{Entries, EntryKind};
@@ -73,14 +74,13 @@ impl Listed {
         ensures path { self.new.path ≡ self.old.path }
         ensures fault { IfErr result (λ e. e ≡ Memory) }
     {
-        let flags = Flags::from_stage(Stage::Unconflicted);
-        self.leaves.push(
-            Stat::default(),
+        let leaf = Pathless {
+            stat: Stat::default(),
             id,
-            flags,
-            Mode::from(kind),
-            self.path.as_slice(),
-        )?;
+            flags: Flags::from_stage(Stage::Unconflicted),
+            mode: Mode::from(kind),
+        };
+        self.leaves.push(leaf, self.path.as_slice())?;
         Ok(())
     }
 }

@@ -1,6 +1,6 @@
 //! The entries behind the header.
 
-ghost use Rattle.std.specs.Prelude.{◌≡◌, ◌+◌, ◌-◌, ◌≤◌, ◌==◌, length, Some, None, IfOk, IfErr, OnErr, OnOk, All, take, slice_range, unwrap_or, [], ◌∷◌, ◌++◌};
+ghost use Rattle.std.specs.Prelude.{◌≡◌, length, None, IfOk, IfErr, All};
 ghost use Rattle.index_parts.specs.Id.{id_kind};
 ghost use Rattle.index_entries.specs.Entries.{AreEntries};
 ghost use Rattle.index_entries.specs.EntryFaults.{LacksSome};
@@ -44,28 +44,6 @@ impl<T: Drop> From<AllocFailed<T>> for Error {
     }
 }
 
-/// Puts so many bytes of the storage, from this offset on, at its end too.
-pub(crate) fn copy_to_end(
-    storage: &mut Vec<u8>,
-    start: usize,
-    count: usize,
-) -> Result<(), AllocError>
-    requires { start + count ≤ length storage.old.items }
-    ensures copied { OnOk result
-        (storage.new.items ≡ storage.old.items ++ slice_range storage.old.items start
-        (start + count)) }
-    ensures err { OnErr result (storage.new.items ≡ storage.old.items) }
-{
-    let len = storage.len();
-    let Some(end) = len.checked_add(count) else {
-        return Err(AllocError);
-    };
-    storage.resize(end, 0)?;
-    let (front, back) = storage.as_mut_slice().split_at_mut(len);
-    back.copy_from_slice(&front[start..start + count]);
-    Ok(())
-}
-
 /// Entries with their paths, and the bytes after them.
 #[derive(Drop)]
 pub struct Read<'a> {
@@ -101,16 +79,9 @@ pub fn read_entries(
         let Some((lent, after)) = entry_of(version, kind, list.last_len(), rest) else {
             return Err(Error::NoEntry { index });
         };
-        list.push_after(
-            lent.stat,
-            lent.id,
-            lent.flags,
-            lent.mode,
-            lent.shared,
-            lent.path,
-        )?;
+        list.push_after(lent.entry, lent.shared, lent.path)?;
         rest = after;
-        sparse |= lent.mode.is_sparse();
+        sparse |= lent.entry.mode.is_sparse();
     }
     Ok(Read { list, sparse, rest })
 }

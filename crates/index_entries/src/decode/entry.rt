@@ -10,8 +10,8 @@ ghost use Rattle.index_entries.specs.LentSteps.{lent_head, lent_record};
 ghost use Rattle.index_entries.specs.EntrySteps.{IsLong, record_from, second_at, head_at, path_at, entry23_at, shared_of, entry4_at};
 ghost use Rattle.index_entries.specs.Record.{Record};
 
-use crate::Version;
 use crate::sizes::{ENTRY_ALIGN, FLAGS_LEN, NUMBERS_LEN};
+use crate::{Pathless, Version};
 use bitflags::Flags as _;
 use index_metadata::entry::{Flags, Mode, Stat};
 use index_metadata::read::stat;
@@ -39,10 +39,7 @@ pub(super) struct EntryHead<'a> {
 pub(super) struct Lent<'a> {
     pub(super) shared: usize,
     pub(super) path: &'a [u8],
-    pub(super) stat: Stat,
-    pub(super) id: ObjectId,
-    pub(super) flags: Flags,
-    pub(super) mode: Mode,
+    pub(super) entry: Pathless,
 }
 
 /// The second word where the first asks for one, or 0.
@@ -124,7 +121,7 @@ fn flags_of(word: u16, second: u16) -> Flags
 fn lent_of<'a>(kind: Kind, head: EntryHead<'a>, shared: usize, path: &'a [u8]) -> Lent<'a>
     requires { IsLong kind (lent_head head) }
     ensures shared { result.shared ≡ shared }
-    ensures kind { id_kind result.id ≡ kind }
+    ensures kind { id_kind result.entry.id ≡ kind }
     ensures record { (previous : Option (List ℕ)) → lent_record previous result
         ≡ record_from kind (lent_head head.entry)
         (take shared (unwrap_or previous []) ++ path.now) }
@@ -132,10 +129,12 @@ fn lent_of<'a>(kind: Kind, head: EntryHead<'a>, shared: usize, path: &'a [u8]) -
     Lent {
         shared,
         path,
-        stat: stat_of(head.numbers),
-        id: ObjectId::of_kind(kind, head.id),
-        flags: flags_of(head.flags, head.extended),
-        mode: Mode::from_bits_retain(read::number(head.numbers, 6)).to_stored(),
+        entry: Pathless {
+            stat: stat_of(head.numbers),
+            id: ObjectId::of_kind(kind, head.id),
+            flags: flags_of(head.flags, head.extended),
+            mode: Mode::from_bits_retain(read::number(head.numbers, 6)).to_stored(),
+        },
     }
 }
 
@@ -146,7 +145,7 @@ fn entry23_of(kind: Kind, bytes: &[u8]) -> Option<(Lent<'_>, &[u8])>
     ensures none { IfNone result ((r : Record) (rest : List ℕ) → IsEntry23 kind bytes.now r rest
         → ⊥) }
     ensures shared { IfSome result (λ x. x.0.shared ≡ 0) }
-    ensures kind { IfSome result (λ x. id_kind x.0.id ≡ kind) }
+    ensures kind { IfSome result (λ x. id_kind x.0.entry.id ≡ kind) }
 {
     let ((head, path), rest) = pieces23_of(kind, bytes)?;
     Some((lent_of(kind, head, 0, path), rest))
@@ -190,7 +189,7 @@ fn entry4_of(kind: Kind, room: Option<usize>, bytes: &[u8]) -> Option<(Lent<'_>,
         → option_map length previous ≡ room
         → IsEntry4 kind previous bytes.now r rest → ⊥) }
     ensures shared { IfSome result (λ x. x.0.shared ≤ unwrap_or room 0) }
-    ensures kind { IfSome result (λ x. id_kind x.0.id ≡ kind) }
+    ensures kind { IfSome result (λ x. id_kind x.0.entry.id ≡ kind) }
 {
     let ((head, shared, tail), rest) = pieces4_of(kind, room, bytes)?;
     Some((lent_of(kind, head, shared, tail), rest))
@@ -210,7 +209,7 @@ pub(super) fn entry_of(
         → option_map length previous ≡ room
         → IsEntry version kind previous bytes.now r rest → ⊥) }
     ensures shared { IfSome result (λ x. x.0.shared ≤ unwrap_or room 0) }
-    ensures kind { IfSome result (λ x. id_kind x.0.id ≡ kind) }
+    ensures kind { IfSome result (λ x. id_kind x.0.entry.id ≡ kind) }
 {
     match version {
         Version::V2 | Version::V3 => entry23_of(kind, bytes),

@@ -1,4 +1,4 @@
-use Rattle.std.proofs.Common.{◌≡◌, ◌+◌, ◌++◌, ◌∷◌, [], ℕ, List, length, ap, ◌∙◌, append_assoc}
+use Rattle.std.proofs.Common.{◌≡◌, ◌++◌, ◌∷◌, [], ℕ, List, length, ap, ◌∙◌, append_assoc}
 use Rattle.std.specs.Prelude.{slice_range}
 use Rattle.index_entries.specs.Record.{made_entry}
 use Rattle.index_entries.specs.declared.Entry.{Entry}
@@ -8,12 +8,12 @@ use Rattle.index_entries.proofs.list.append_after.Goals as goal
 pub returns-clause-appended : goal.returns-clause-appended
 returns-clause-appended c =
     let s = c.args.storage.now.items in
-    let shared = slice_range s c.args.place (c.args.place + c.args.shared) in
+    let shared = slice_range s c.args.shared.start c.args.shared.end in
     let path = shared ++ c.args.path.now in
-    let e : Entry = made_entry c.args.stat c.args.id c.args.flags c.args.mode c.len-start.result c.len-end.result in
-    let grown : c.extend_from_slice.new.self.items ≡ s ++ path = c.in_ok-extend_from_slice.ensures.items ∙ ap (λ (l : List ℕ). l ++ c.args.path.now) c.in_ok-copy_to_end.ensures.copied ∙ append_assoc s shared c.args.path.now in
-    let added : c.push_reserved.new.self.items ≡ c.args.entries.now.items ++ e ∷ [] = c.push_reserved.ensures.items ∙ ap (λ (x : Entry). c.reserve.new.self.items ++ x ∷ []) c.make_entry.ensures ∙ ap (λ (l : List Entry). l ++ e ∷ []) c.reserve.ensures.items in
-    let start : c.len-start.result ≡ length s = c.len-start.ensures ∙ c.args.storage.now.ok.0 in
+    let e : Entry = made_entry c.args.entry c.len-start.result c.len-end.result in
+    let grown : c.extend_from_slice.new.self.items ≡ s ++ path = c.in_ok-extend_from_slice.ensures.items ∙ ap (λ (l : List ℕ). l ++ c.args.path.now) c.in_ok-copy_to_end.ensures.copied ∙ ap (λ (l : List ℕ). l ++ slice_range l c.args.shared.start c.args.shared.end ++ c.args.path.now) c.reserve.ensures.items ∙ append_assoc s shared c.args.path.now in
+    let added : c.push_reserved.new.self.items ≡ c.args.entries.now.items ++ e ∷ [] = c.push_reserved.ensures.items ∙ ap (λ (x : Entry). c.reserve-2.new.self.items ++ x ∷ []) c.make_entry.ensures ∙ ap (λ (l : List Entry). l ++ e ∷ []) c.reserve-2.ensures.items in
+    let start : c.len-start.result ≡ length s = c.len-start.ensures ∙ c.reserve.ensures.len ∙ c.args.storage.now.ok.0 in
     let end : c.len-end.result ≡ length (s ++ path) = c.len-end.ensures ∙ c.extend_from_slice.new.self.ok.0 ∙ ap length grown in
     record {
       entry = e;

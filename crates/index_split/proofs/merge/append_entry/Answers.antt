@@ -1,5 +1,3 @@
-use Rattle.std.proofs.Common.{List, ℕ, subst}
-use Rattle.index_entries.specs.Held.{Appends}
 use Rattle.index_entries.specs.Record.{Record, record_in}
 use Rattle.index_entries.proofs.Appended.{appended_placed, appended_records}
 use Rattle.index_split.proofs.merge.append_entry.Goals as goal

@@ -27,7 +27,7 @@ loop-index-preserved c =
     let last = last_path None before in
     let found = c.in-Some.ensures.found last (sym c.last_len.ensures) in
     let r = lent_record last c.in-Some.lent in
-    let stored : c.push_after.new.self.records ≡ before ++ r ∷ [] = ap (λ (h : Held). h.records) c.in_ok-push_after.ensures in
+    let stored : c.push_after.new.self.records ≡ before ++ r ∷ [] = ap (λ (h : Held). h.records) c.in_ok-push_after.ensures.pushed in
     record {
       read = rw stored (entries_push c.args.version c.args.kind None c.args.bytes.now before r c.loop-index.rest.now c.in-Some.after.now c.loop-index.invariant.read found);
       count = ap length stored ∙ omega (arith, length-append before (r ∷ []), c.loop-index.invariant.count);

@@ -8,8 +8,8 @@ use Rattle.index_trees.proofs.walk.Listed.push_leaf.Goals as goal
 
 pub returns-clause-pushed : goal.returns-clause-pushed
 returns-clause-pushed c =
-    let r : Record = record { path = c.as_slice.result.now; stat = c.default.result; id = c.args.id; flags = c.from_stage-flags.result.0; mode = c.from.result.0 } in
-    let is : r ≡ last_leaf c.args.self.now.path.items c.args.id c.args.kind = rw (c.as_slice.ensures.value, stat_of_zeros c.default.result c.default.ensures, c.from_stage-flags.ensures.bits, c.from.ensures) refl in
+    let r : Record = record { path = c.as_slice.result.now; stat = c.default.result; id = c.args.id; flags = c.from_stage.result.0; mode = c.from.result.0 } in
+    let is : r ≡ last_leaf c.args.self.now.path.items c.args.id c.args.kind = rw (c.as_slice.ensures.value, stat_of_zeros c.default.result c.default.ensures, c.from_stage.ensures.bits, c.from.ensures) refl in
     ap (λ (h : Held). h.records) c.in_ok-push.ensures.pushed ∙ ap (λ (x : Record). listed_records c.args.self.now ++ x ∷ []) is
 
 pub returns-clause-packed : goal.returns-clause-packed
