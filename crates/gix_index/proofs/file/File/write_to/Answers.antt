@@ -25,7 +25,7 @@ returns-in-Err-put-clause-answer g c =
     record {
       version = search rules;
       id = search rules;
-      bytes = (front_then g.W.Out.taken c.args.out.now c.put_body.new.out c.put.new.self (body v c.args.options) (trailer v c.args.options) c.as_bytes.result.now (c.as_bytes.ensures.bytes ∙ ap id_bytes c.in-Ok.ensures.answer.id ∙ id_bytes-make_id v.kind (trailer v c.args.options)) c.in-Ok.ensures.answer.bytes.0 c.in-Err-put.ensures.bytes, c.in-Err-put.ensures.mark);
+      bytes = (front_then g.W.Out.taken c.args.out.now c.put_body.new.out c.put.new.self (body v c.args.options) (trailer v c.args.options) c.as_bytes.result.now (c.as_bytes.ensures.bytes ∙ ap id_bytes c.in-Ok.ensures.answer.id ∙ id_bytes-make_id v.kind (trailer v c.args.options)) c.in-Ok.ensures.answer.bytes.0 c.in-Err-put.ensures.bytes, c.in-Err-put.ensures.has_failed);
       too_many = search rules;
       nul_in_path = search rules;
       too_large = search rules;
