@@ -4,9 +4,9 @@ use Rattle.std.specs.Prelude.{◌⊎◌, MatchBool}
 use Rattle.index_parts.specs.declared.hash.Kind.{Kind}
 use Rattle.index_metadata.specs.declared.entry.stat.FileTime.{FileTime}
 use Rattle.index_format.specs.declared.decode.Options.{Options}
-use Rattle.index_format.specs.declared.decode.Error.{Error as Decoding}
-use Rattle.index_format.specs.declared.decode.Error.TheVariants as decoding
-use Rattle.index_format.specs.declared.extension.Error.TheVariants as extensions
+use Rattle.index_format.specs.declared.error.Error.{Error as Decoding}
+use Rattle.index_format.specs.declared.error.Error.TheVariants as decoding
+use Rattle.index_format.specs.declared.error.Extension.TheVariants as extensions
 use Rattle.index_split.specs.declared.link.decode.Error.TheVariants as links
 use Rattle.index_format.specs.Answer.{Answer, Verify, IsAnswer}
 use Rattle.index_format.specs.DecodeErrors.{SaysFault}

@@ -7,8 +7,8 @@ use Rattle.index_parts.specs.declared.hash.Kind.{Kind}
 use Rattle.index_parts.specs.declared.hash.ObjectId.{ObjectId}
 use Rattle.index_metadata.specs.declared.entry.stat.FileTime.{FileTime}
 use Rattle.index_format.specs.declared.decode.Options.{Options}
-use Rattle.index_format.specs.declared.decode.Error.{Error as Decoding}
-use Rattle.index_format.specs.declared.decode.Error.TheVariants as decoding
+use Rattle.index_format.specs.declared.error.Error.{Error as Decoding}
+use Rattle.index_format.specs.declared.error.Error.TheVariants as decoding
 use Rattle.index_format.specs.Answer.{Answer, Fault, Verify, IsAnswer}
 use Rattle.index_format.specs.DecodeErrors.{IsEarly, SaysFault}
 use Rattle.index_state.specs.State.{contents}

@@ -106,7 +106,7 @@ pub use Rattle.index_metadata.specs.declared.object.find.Error as FindError
 pub use Rattle.index_metadata.specs.declared.object.tree.EntryKind
 pub use Rattle.index_entries.specs.declared.Entry as EntryType
 pub use Rattle.index_entries.specs.declared.Version
-pub use Rattle.index_format.specs.declared.decode.header.Error as HeaderError
+pub use Rattle.index_format.specs.declared.error.Header as HeaderError
 pub use Rattle.index_entries.specs.declared.write.VersionChoice
 pub use Rattle.index_trees.specs.declared.error.Error as FromTreeError
 pub use Rattle.index_extensions.specs.declared.fs_monitor.FsMonitor as FsMonitorType
@@ -122,9 +122,9 @@ pub use Rattle.index_untracked.specs.declared.Directory
 pub use Rattle.index_split.specs.declared.link.Link as LinkType
 pub use Rattle.index_split.specs.declared.link.Bitmaps
 pub use Rattle.index_split.specs.declared.link.decode.Error as LinkError
-pub use Rattle.index_format.specs.declared.decode.Error as DecodeError
+pub use Rattle.index_format.specs.declared.error.Error as DecodeError
 pub use Rattle.index_format.specs.declared.decode.Options as DecodeOptions
-pub use Rattle.index_format.specs.declared.extension.Error as ExtensionError
+pub use Rattle.index_format.specs.declared.error.Extension as ExtensionError
 pub use Rattle.index_format.specs.declared.write.Error as WriteError
 pub use Rattle.index_format.specs.declared.write.Extensions as WriteExtensions
 pub use Rattle.index_format.specs.declared.write.Options as WriteOptions

@@ -14,9 +14,9 @@ use Rattle.index_extensions.proofs.Readings.{one_read}
 use Rattle.index_entries.specs.declared.Version.{Version}
 use Rattle.index_format.specs.declared.Parts.{Parts}
 use Rattle.index_format.specs.declared.decode.Options.{Options}
-use Rattle.index_format.specs.declared.decode.Error.{Error}
-use Rattle.index_format.specs.declared.decode.Error.TheVariants as errors
-use Rattle.index_format.specs.declared.extension.Error.TheVariants as extensions
+use Rattle.index_format.specs.declared.error.Error.{Error}
+use Rattle.index_format.specs.declared.error.Error.TheVariants as errors
+use Rattle.index_format.specs.declared.error.Extension.TheVariants as extensions
 use Rattle.index_split.specs.declared.link.decode.Error.TheVariants as links
 use Rattle.index_format.specs.Answer.{Fault, NoEntry, Extension, TrailerLength, Verify, Answer, trailer_checksum, IsVerified, value_of, IsClosed, faulty, left, whole, IsEnding, short, walked, IsBehindHeader, lacks, has, IsCounted, IsAnswer}
 use Rattle.index_entries.specs.Entries.{AreEntries}

@@ -21,8 +21,8 @@ use Rattle.index_format.specs.ExtensionSteps.{Adds, IsGathered, HasExtensionFaul
 use Rattle.index_split.specs.Link.{LinkValue, IsLink, alone, split}
 use Rattle.index_format.specs.Outcome.{Outcome, ExtensionFault, is_understood, IsFault, unknown, broken_link, AreSound, IsOutcome, no_extension}
 use Rattle.index_format.specs.Contents.{ExtensionIdsAreOf}
-use Rattle.index_format.specs.declared.decode.Error.{Error}
-use Rattle.index_format.specs.declared.decode.Error.TheVariants as errors
+use Rattle.index_format.specs.declared.error.Error.{Error}
+use Rattle.index_format.specs.declared.error.Error.TheVariants as errors
 use Rattle.index_split.proofs.Links.{no_link_fault}
 
 -- ---- faults

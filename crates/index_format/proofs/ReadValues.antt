@@ -19,7 +19,7 @@ use Rattle.index_entries.specs.Limits.{most_entries, is_too_large}
 use Rattle.index_entries.specs.Record.{Record, AreBytes, IsSized, has_directory}
 use Rattle.index_entries.proofs.ReadRecords.{IsKept, AreKept, all_read}
 use Rattle.index_format.specs.declared.Parts.{Parts}
-use Rattle.index_format.specs.declared.decode.Error.{Error}
+use Rattle.index_format.specs.declared.error.Error.{Error}
 use Rattle.index_format.specs.declared.decode.Options.{Options}
 use Rattle.index_format.specs.Answer.{Header, OutOfMemory, Answer, trailer_checksum, IsVerified, value_of, IsClosed, faulty, left, whole, IsEnding, short, walked, IsBehindHeader, lacks, has, IsAnswer}
 use Rattle.index_format.specs.DecodeErrors.{Says}

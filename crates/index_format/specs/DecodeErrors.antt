@@ -1,16 +1,16 @@
 -- Which fault an error of the code stands for (the library's own).
-use Rattle.std.specs.Prelude.{Option, Some, None, Result, Ok, Err, MatchOption}
+use Rattle.std.specs.Prelude.{Option, Some, Result, Ok, Err, MatchOption}
 use Rattle.std.specs.Option.{option_map}
 use Rattle.index_parts.specs.declared.hash.ObjectId.{ObjectId}
-use Rattle.index_format.specs.declared.decode.Error.{Error}
-use Rattle.index_format.specs.declared.decode.Error.TheVariants as errors
+use Rattle.index_format.specs.declared.error.Error.{Error}
+use Rattle.index_format.specs.declared.error.Error.TheVariants as errors
 use Rattle.index_entries.specs.declared.decode.entries.Error.{Error as EntriesError}
 use Rattle.index_entries.specs.declared.decode.entries.Error.TheVariants as entries
 use Rattle.index_format.specs.HeaderErrors.{header_fault}
 use Rattle.index_split.specs.declared.link.decode.Error.{Error as LinkError}
 use Rattle.index_split.specs.declared.link.decode.Error.TheVariants as links
-use Rattle.index_format.specs.declared.extension.Error.{Error as ExtensionError}
-use Rattle.index_format.specs.declared.extension.Error.TheVariants as extensions
+use Rattle.index_format.specs.declared.error.Extension.{Extension as ExtensionError}
+use Rattle.index_format.specs.declared.error.Extension.TheVariants as extensions
 use Rattle.index_format.specs.Answer.{Fault, Header, OutOfMemory, NoEntry, Extension, TrailerLength, Verify, Answer}
 use Rattle.index_split.specs.Link.{link_fault}
 use Rattle.index_format.specs.Outcome.{ExtensionFault, Unimplemented, Link}

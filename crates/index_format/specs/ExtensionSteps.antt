@@ -18,8 +18,8 @@ use Rattle.index_entries.specs.declared.Version.{Version}
 use Rattle.index_format.specs.declared.decode.Options.{Options}
 use Rattle.index_split.specs.Link.{HasLink, IsLink}
 use Rattle.index_format.specs.Outcome.{Outcome, ExtensionFault, IsFault, AreSound, IsFirstFault, IsOutcome}
-use Rattle.index_format.specs.declared.decode.Error.{Error}
-use Rattle.index_format.specs.declared.decode.Error.TheVariants as errors
+use Rattle.index_format.specs.declared.error.Error.{Error}
+use Rattle.index_format.specs.declared.error.Error.TheVariants as errors
 
 -- the value of a content with this name; of another the value stays
 abbrev pub Replaces : {A : Type 0} → List ℕ → (List ℕ → A → Type 0) → List ℕ → List ℕ → Option A → Option A → Type 0

@@ -1,7 +1,7 @@
 -- What an error of reading a header says (gitformat-index, "A 12-byte header").
 use Rattle.index_entries.specs.Header.{HeaderFault, Corrupt, UnsupportedVersion}
-use Rattle.index_format.specs.declared.decode.header.Error.{Error as HeaderError}
-use Rattle.index_format.specs.declared.decode.header.Error.TheVariants as headers
+use Rattle.index_format.specs.declared.error.Header.{Header as HeaderError}
+use Rattle.index_format.specs.declared.error.Header.TheVariants as headers
 
 -- the fault that a header's error stands for
 abbrev pub header_fault : HeaderError → HeaderFault

@@ -6,73 +6,28 @@ pub mod header;
 ghost use Rattle.std.specs.Prelude.{◌≡◌, ◌≤◌, ◌+◌, ◌*◌, ◌||◌, not, length, IfOk, IfErr, OnOk, All};
 ghost use Rattle.index_parts.specs.Id.{id_kind, id_len};
 ghost use Rattle.index_format.specs.Outcome.{outcome_of};
-ghost use Rattle.index_format.specs.Answer.{Answer, IsVerified, IsAnswer, IsBehindHeader, IsEnding, trailer_checksum};
-ghost use Rattle.index_format.specs.DecodeErrors.{Says, SaysFault, entries_error, link_error};
+ghost use Rattle.index_format.specs.Answer.{Answer, IsVerified, IsAnswer, IsBehindHeader, IsEnding};
+ghost use Rattle.index_format.specs.DecodeErrors.{Says, SaysFault};
 ghost use Rattle.index_parts.specs.Limit.{is_within};
 ghost use Rattle.index_entries.specs.Limits.{entry_cost};
 ghost use Rattle.index_format.specs.ExtensionSteps.{IsTaken};
 ghost use Rattle.index_format.specs.Storable.{IsStorable};
 ghost use Rattle.index_format.specs.Contents.{PartsInStorage, ExtensionIdsAreOf, parts_contents, parts_entries};
 ghost use Rattle.index_entries.specs.Record.{IdsAreOf, has_directory};
-ghost use Rattle.index_format.specs.declared.decode.Error.TheVariants.{Header, Memory};
 
+pub use crate::error::Error;
 use crate::extension::Outcome;
-use crate::{Parts, extension};
+use crate::{Parts, extension, trailer};
 use index_entries::Version;
-use index_entries::decode::entries::{Error as EntriesError, Read, read_entries};
+use index_entries::decode::entries::{Read, read_entries};
 use index_extensions::end_of_index_entry;
 use index_metadata::entry::FileTime;
 use index_parts::hash::{Kind, ObjectId};
 use index_parts::read;
-use index_split::link;
-use std::alloc::{AllocError, AllocFailed, Global};
-use thiserror::Error;
+use std::alloc::Global;
 
 /// How many bytes an entry counts as against [`Options::alloc_limit_bytes`].
 const ENTRY_COST: usize = 96;
-
-/// Why bytes are no index, or that no state could be made of them.
-#[derive(Debug, Drop, Error)]
-pub enum Error {
-    /// The first twelve bytes are at fault, or they declare more entries than the file has room for.
-    #[error("{0}")]
-    Header(header::Error),
-    /// Never given: hashing can't fail here.
-    #[error("the index's digest can't be computed")]
-    Hasher,
-    /// The caller's limit, [`Options::alloc_limit_bytes`], is passed. It is no want of memory.
-    #[error("the index's entries or their paths take more memory than the caller's limit allows")]
-    OutOfMemory,
-    /// No entry stands where this one should.
-    #[error("entry {index} of the index, counted from 0, can't be read")]
-    Entry {
-        /// The entry's place.
-        index: u32,
-    },
-    /// A mandatory extension is at fault.
-    #[error("{0}")]
-    Extension(extension::Error),
-    /// The bytes behind all entries and extensions aren't as many as the trailer has.
-    #[error("{actual} bytes are left for the index's trailer, which takes {expected}")]
-    UnexpectedTrailerLength {
-        /// How many bytes an id of the index's kind has.
-        expected: usize,
-        /// How many bytes there are.
-        actual: usize,
-    },
-    /// The trailer differs from [`Options::expected_checksum`]. Where a whole file is checked before it is read, the
-    /// digest of its bytes differs from its trailer: there `actual` is the digest, and `expected` the trailer.
-    #[error("the index's digest is {actual} and not {expected}: the file may be damaged, have ids of the other kind, or be no index")]
-    Verify {
-        /// The trailer, or the digest.
-        actual: ObjectId,
-        /// What the caller expected, or the trailer.
-        expected: ObjectId,
-    },
-    /// A growth was refused. It comes in place of no fault that is found before memory is asked for.
-    #[error("out of memory while reading an index")]
-    Memory,
-}
 
 /// How to read.
 #[derive(Clone, Copy, Debug, Default)]
@@ -87,64 +42,6 @@ pub struct Options {
     /// it is None. A cached tree or an untracked cache that declares more is malformed, and so None. It bounds neither
     /// what paths of version 4 really take nor what the allocator rounds up.
     pub alloc_limit_bytes: Option<usize>,
-}
-
-impl From<header::Error> for Error {
-    ghost from_gives = { λ h e. e ≡ Header h };
-
-    fn from(e: header::Error) -> Error {
-        Error::Header(e)
-    }
-}
-
-impl From<EntriesError> for Error {
-    ghost from_gives = { λ entries e. e ≡ entries_error entries };
-
-    fn from(e: EntriesError) -> Error {
-        match e {
-            EntriesError::NoEntry { index } => Error::Entry { index },
-            EntriesError::Memory => Error::Memory,
-        }
-    }
-}
-
-/// Want of memory is told by the variant of its own.
-impl From<link::decode::Error> for Error {
-    ghost from_gives = { λ link e. e ≡ link_error link };
-
-    fn from(e: link::decode::Error) -> Error {
-        match e {
-            link::decode::Error::Memory => Error::Memory,
-            e => Error::Extension(extension::Error::Link(e)),
-        }
-    }
-}
-
-impl From<AllocError> for Error {
-    ghost from_gives = { λ _ e. e ≡ Memory };
-
-    fn from(_e: AllocError) -> Error {
-        Error::Memory
-    }
-}
-
-impl<T: Drop> From<AllocFailed<T>> for Error {
-    ghost from_gives = { λ _ e. e ≡ Memory };
-
-    fn from(_e: AllocFailed<T>) -> Error {
-        Error::Memory
-    }
-}
-
-/// The id that a trailer is, or None where all its bytes are zero.
-fn checksum_in(kind: Kind, trailer: &[u8]) -> Option<ObjectId>
-    requires { length trailer.now ≡ id_len kind }
-    ensures { result ≡ trailer_checksum kind trailer.now }
-{
-    if read::is_null(trailer) {
-        return None;
-    }
-    Some(ObjectId::of_kind(kind, trailer))
 }
 
 /// Whether the ids, if there are two, agree.
@@ -210,7 +107,7 @@ fn read_parts(
         let actual = left + expected;
         return Err(Error::UnexpectedTrailerLength { expected, actual });
     }
-    let checksum = checksum_in(object_hash, trailer);
+    let checksum = trailer::checksum(object_hash, trailer);
     verify(options.expected_checksum, checksum)?;
     let (entries, path_backing) = read.list.into_parts();
     let state = Parts {

@@ -8,7 +8,8 @@ ghost use Rattle.index_format.specs.ExtensionSteps.{Adds, IsGathered, SaysExtens
 ghost use Rattle.index_format.specs.Outcome.{is_mandatory, is_understood, no_extension, outcome_of};
 ghost use Rattle.index_format.specs.Contents.{ExtensionIdsAreOf};
 
-use crate::decode;
+use crate::error;
+pub use crate::error::Extension as Error;
 use index_cached_tree as tree;
 use index_cached_tree::Tree;
 use index_extensions::{
@@ -21,48 +22,6 @@ use index_split::link::Link;
 use index_untracked as untracked_cache;
 use index_untracked::UntrackedCache;
 use std::alloc::{AllocError, Global};
-use std::fmt;
-use thiserror::Error;
-
-/// The first fault of a mandatory extension.
-#[derive(Debug, Drop, Error)]
-pub enum Error {
-    /// A reader must know this extension, and this one doesn't.
-    #[error("{}", Refused(*.signature))]
-    MandatoryUnimplemented {
-        /// Its four bytes.
-        signature: Signature,
-    },
-    /// The link to a shared index is at fault.
-    #[error("{0}")]
-    Link(link::decode::Error),
-}
-
-/// A mandatory extension that isn't understood, in words: its signature as text where it is text, else in base 16.
-#[derive(Clone, Copy)]
-struct Refused(Signature);
-
-impl fmt::Display for Refused {
-    fn fmt<W: fmt::Write>(&self, f: &mut fmt::Formatter<W>) -> fmt::Result {
-        if self.0 == sparse::SIGNATURE {
-            return f.write_str(
-                "the mandatory extension `sdir` has content, which it must not have",
-            );
-        }
-        match str::from_utf8(&self.0) {
-            Ok(text) if self.0.iter().all(|byte| byte.is_ascii_graphic()) => {
-                write!(f, "the mandatory extension `{text}` isn't supported")
-            }
-            _ => {
-                let [a, b, c, d] = self.0;
-                write!(
-                    f,
-                    "the mandatory extension with the signature {a:02x} {b:02x} {c:02x} {d:02x} isn't supported"
-                )
-            }
-        }
-    }
-}
 
 /// What is kept of the extensions.
 #[derive(Drop)]
@@ -152,7 +111,7 @@ impl Outcome {
         alloc_limit_bytes: Option<usize>,
         signature: Signature,
         content: &[u8],
-    ) -> Result<(), decode::Error>
+    ) -> Result<(), error::Error>
         ensures ok { OnOk result
             (Adds object_hash alloc_limit_bytes signature content.now (outcome_of self.old)
             (outcome_of self.new)) }
@@ -188,7 +147,7 @@ pub fn all(
     extensions: &[u8],
     object_hash: Kind,
     alloc_limit_bytes: Option<usize>,
-) -> Result<(Outcome, usize), decode::Error>
+) -> Result<(Outcome, usize), error::Error>
     ensures ok { IfOk result
         (λ x. IsGathered object_hash alloc_limit_bytes extensions.now (outcome_of x.0) x.1) }
     ensures ids { IfOk result (λ x. ExtensionIdsAreOf object_hash (outcome_of x.0)) }
@@ -201,7 +160,7 @@ pub fn all(
         let (signature, content) = item;
         if !is_understood(signature, content) {
             let fault = Error::MandatoryUnimplemented { signature };
-            return Err(decode::Error::Extension(fault));
+            return Err(error::Error::Extension(fault));
         }
         outcome.add(alloc, object_hash, alloc_limit_bytes, signature, content)?;
     }

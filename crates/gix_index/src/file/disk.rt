@@ -3,8 +3,8 @@
 ghost use Rattle.std.specs.Prelude.{◌≡◌, [], IfOk, IfSome, OnOk};
 ghost use Rattle.gix_index.specs.Checked.{digest_id};
 
+use index_format::trailer;
 use index_parts::hash::{Hasher, Kind, ObjectId};
-use index_parts::read;
 use std::alloc::Global;
 use std::fmt::Write as _;
 use std::fs::OpenFile;
@@ -67,7 +67,7 @@ fn ends_in_null<F: OpenFile + Read + Seek>(
     let start = metadata.len().saturating_sub(len as u64);
     file.seek(SeekFrom::Start(start))?;
     file.by_ref().take(len as u64).read_to_end(room)?;
-    let is_null = room.len() == len && read::is_null(room);
+    let is_null = room.len() == len && trailer::checksum(kind, room).is_none();
     room.clear();
     file.seek(SeekFrom::Start(0))?;
     Ok(is_null)

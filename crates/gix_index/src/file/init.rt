@@ -6,15 +6,14 @@ ghost use Rattle.index_format.specs.Storable.{IsStorable};
 ghost use Rattle.index_format.specs.Contents.{ExtensionIdsAreOf};
 ghost use Rattle.index_state.specs.State.{PathsInStorage, contents, entries_of};
 ghost use Rattle.index_entries.specs.Record.{IdsAreOf};
-ghost use Rattle.gix_index.specs.Checked.{needs_check, digest_id, digest_fault, IsIntact, IsBroken, IsFileAnswer, error_of, SaysFile};
+ghost use Rattle.gix_index.specs.Checked.{digest_id, digest_fault, IsIntact, IsBroken, IsFileAnswer, error_of, SaysFile};
 ghost use Rattle.gix_index.specs.File.{state_of, path_of};
 
 use super::File;
 use super::disk::PathError;
-use index_format::decode;
+use index_format::{decode, trailer};
 use index_metadata::entry::FileTime;
 use index_parts::hash::{Kind, ObjectId, digest};
-use index_parts::read;
 use index_split::link;
 use index_state::State;
 use std::alloc::Global;
@@ -59,18 +58,8 @@ pub(super) struct ReadOptions {
     pub options: decode::Options,
 }
 
-/// Whether the trailer is to be compared with the digest: the caller wants it, and there is a trailer that isn't null.
-fn is_to_be_checked(data: &[u8], object_hash: Kind, skip_hash: bool) -> bool
-    ensures { result ≡ needs_check skip_hash object_hash «data».now }
-{
-    let len = object_hash.len_in_bytes();
-    if skip_hash || data.len() < len {
-        return false;
-    }
-    !read::is_null(&data[data.len() - len..])
-}
-
-/// Compares the trailer with the digest of all bytes before it, which is taken where it isn't known yet.
+/// Compares the trailer with the digest of all bytes before it, which is taken where it isn't known yet. There is
+/// nothing to compare where the caller doesn't want it, and where there is no trailer or a null one.
 fn check(
     data: &[u8],
     known: Option<ObjectId>,
@@ -82,12 +71,15 @@ fn check(
     ensures broken { OnErr result (IsBroken skip_hash object_hash «data».now) }
     ensures err { IfErr result (λ e. e ≡ digest_fault object_hash «data».now) }
 {
-    if !is_to_be_checked(data, object_hash, skip_hash) {
+    let len = object_hash.len_in_bytes();
+    if skip_hash || data.len() < len {
         return Ok(());
     }
-    let (body, trailer) = data.split_at(data.len() - object_hash.len_in_bytes());
+    let (body, trailer) = data.split_at(data.len() - len);
+    let Some(expected) = trailer::checksum(object_hash, trailer) else {
+        return Ok(());
+    };
     let actual = known.unwrap_or_else(|| digest(object_hash, body));
-    let expected = ObjectId::of_kind(object_hash, trailer);
     if actual != expected {
         return Err(decode::Error::Verify { actual, expected });
     }

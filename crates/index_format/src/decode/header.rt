@@ -4,25 +4,14 @@ ghost use Rattle.std.specs.Prelude.{◌≡◌, drop, MatchResult, Ok, Err};
 ghost use Rattle.index_entries.specs.Header.{header_of, count_of};
 ghost use Rattle.index_format.specs.HeaderErrors.{header_fault};
 
+pub use crate::error::Header as Error;
 use index_entries::Version;
 use index_entries::sizes::HEADER_LEN;
 use index_parts::hash::Kind;
 use index_parts::util::from_be_u32;
-use thiserror::Error;
 
 /// The first four bytes.
 pub const SIGNATURE: [u8; 4] = *b"DIRC";
-
-/// What is wrong with a header.
-#[derive(Debug, Drop, Error)]
-pub enum Error {
-    /// What is wrong, in words.
-    #[error("{0}")]
-    Corrupt(&'static str),
-    /// The version's number, which is none that can be read.
-    #[error("index version {0} isn't supported, but 2, 3 and 4 are")]
-    UnsupportedVersion(u32),
-}
 
 /// The version, the count of entries, and the bytes behind the header.
 pub fn decode(bytes: &[u8], kind: Kind) -> Result<(Version, u32, &[u8]), Error>
