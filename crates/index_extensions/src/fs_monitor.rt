@@ -150,7 +150,7 @@ fn own(alloc: Global, token: LentToken<'_>) -> Result<Token, AllocError>
 /// the bitmap has another size than the declared one or bytes stand behind it. All memory is bounded by the bytes, and
 /// an error is the want of it for bytes that encode a value.
 pub fn decode(alloc: Global, data: &[u8]) -> Result<Option<FsMonitor>, AllocError>
-    ensures read { IfOk result (λ found. IsRead IsMonitor «data».now (option_map monitor_of found)) }
+    ensures read { IfOk result (λ read. IsRead IsMonitor «data».now (option_map monitor_of read)) }
     ensures memory { IfErr result (λ _. HasMonitor «data».now) }
 {
     let Some(parts) = parts_of(data) else {

@@ -59,7 +59,8 @@ impl<'a> Iter<'a> {
 impl<'a> Iterator for Iter<'a> {
     type Item = (Signature, &'a [u8]);
 
-    ghost next_gives = { λ s r t. Steps (cursor s) (option_map (λ x. (x.0, x.1.now)) r) (cursor t) };
+    ghost next_gives = { λ s r t. Steps (cursor s)
+        (option_map (λ x. (x.0, x.1.now)) r) (cursor t) };
 
     ghost remaining = { λ s. at_most (length (unread s)) };
 

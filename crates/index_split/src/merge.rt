@@ -165,10 +165,8 @@ fn replace_entries(
         let Ok(place) = position else {
             return Err(Error::Corrupt("replace bitmap is malformed"));
         };
-        match replace_at(shared, storage, split, split_storage, taken, place) {
-            Ok(()) => taken += 1,
-            Err(e) => return Err(e),
-        }
+        replace_at(shared, storage, split, split_storage, taken, place)?;
+        taken += 1;
     }
     Ok(taken)
 }
@@ -208,7 +206,8 @@ fn append_entries(
     requires placed { All (IsPlaced (length storage.old.items)) entries.old.items }
     requires split_placed { All (IsPlaced (length split_storage.now)) split.now }
     ensures appended { OnOk result (records_in storage.new.items entries.new.items
-        ≡ records_in storage.old.items entries.old.items ++ records_in split_storage.now split.now) }
+        ≡ records_in storage.old.items entries.old.items
+        ++ records_in split_storage.now split.now) }
     ensures placed { OnOk result (All (IsPlaced (length storage.new.items)) entries.new.items) }
 {
     for entry in split {
@@ -266,9 +265,7 @@ fn keep_others(entries: &mut Vec<Entry>, storage: &[u8], delete: &ewah::Vec) -> 
     ensures fault { IfErr result (λ e. SaysMerge e (IsDeleteFault (bitmap delete.now).words
         (length (records_in storage.now entries.old.items)))) }
 {
-    if let Err(e) = mark_deleted(entries, delete) {
-        return Err(e);
-    }
+    mark_deleted(entries, delete)?;
     drop_removed(entries);
     Ok(())
 }
@@ -300,17 +297,13 @@ pub fn merge(
     ensures placed { OnOk result (All (IsPlaced (length storage.new.items)) entries.new.items) }
     ensures fault { IfErr result
         (λ e. SaysMerge e (IsMergeFault (bitmap delete.now).words (bitmap replace.now).words
-        (records_in storage.old.items entries.old.items) (records_in split_storage.now split.now))) }
+        (records_in storage.old.items entries.old.items)
+        (records_in split_storage.now split.now))) }
 {
-    let taken = match replace_entries(entries, storage, split, split_storage, replace) {
-        Ok(taken) => taken,
-        Err(e) => return Err(e),
-    };
+    let taken = replace_entries(entries, storage, split, split_storage, replace)?;
     let (_, others) = split.split_at(taken);
     append_entries(entries, storage, others, split_storage)?;
-    if let Err(e) = keep_others(entries, storage, delete) {
-        return Err(e);
-    }
+    keep_others(entries, storage, delete)?;
     sort(entries, storage)?;
     Ok(())
 }

@@ -9,24 +9,22 @@ mod storage;
 
 ghost use Rattle.std.specs.Borrow.{sem};
 ghost use Rattle.std.specs.Option.{ok_or, option_copied};
-ghost use Rattle.std.specs.Prelude.{◌≡◌, ◌≢◌, ℕ, ◌+◌, ◌^◌, ◌<◌, ◌≤◌, All, Contains, List, length, option_and_then, slice_get, IfOk, IfErr, IfSome, OnOk, OnErr};
+ghost use Rattle.std.specs.Prelude.{◌≡◌, ◌≢◌, ◌+◌, ◌<◌, ◌≤◌, All, Contains, length, option_and_then, slice_get, IfOk, IfErr, IfSome, OnOk, OnErr};
 ghost use Rattle.index_metadata.specs.Flags.{stage_code};
 ghost use Rattle.index_parts.specs.Id.{id_kind};
 ghost use Rattle.index_lookups.specs.Digits.{digits};
 ghost use Rattle.index_state.specs.Edits.{AddsEntry, IsUnchanged, LendsEntries, with_record};
 ghost use Rattle.index_lookups.specs.Lookup.{HasKey, IsKeyAt, IsPathAt, IsPathGap, insertion_of, place_of};
 ghost use Rattle.index_entries.specs.Order.{IsOrderedByPath, IsStrictlyOrdered};
-ghost use Rattle.index_entries.specs.Record.{IdsAreOf, IsSized, record_in};
+ghost use Rattle.index_entries.specs.Record.{IdsAreOf, record_in};
 ghost use Rattle.index_state.specs.State.{PathsInStorage, contents, entries_of, records, storage_of};
 ghost use Rattle.index_format.specs.Storable.{IsStorable};
 ghost use Rattle.index_parts.specs.declared.hash.Kind.{Kind};
 
 use crate::State;
-use bitflags::Flags as _;
 use index_entries::list::append;
 use index_entries::{Entry, Pathless};
 use index_lookups::search;
-use index_metadata::entry::stat::Time;
 use index_metadata::entry::{Flags, Mode, Stage, Stat};
 use index_parts::hash::ObjectId;
 use std::alloc::AllocError;
@@ -110,32 +108,6 @@ impl State {
     }
 }
 
-/// The numbers of a time have at most 32 bits: they are read for this to be known.
-fn is_small(time: &Time)
-    ensures { (time.now.secs < 2 ^ 32) × (time.now.nsecs < 2 ^ 32) }
-{
-    let _secs = time.secs;
-    let _nsecs = time.nsecs;
-}
-
-/// The numbers of an entry have at most 32 bits, and its id has as many bytes as its kind: they are read for this to be
-/// known.
-fn have_room(stat: &Stat, id: &ObjectId, mode: Mode)
-    ensures { (path : List ℕ) (flags : ℕ)
-        → IsSized (record
-        { path = path; stat = stat.now; id = id.now; flags = flags; mode = mode.0 }) }
-{
-    is_small(&stat.ctime);
-    is_small(&stat.mtime);
-    let _dev = stat.dev;
-    let _ino = stat.ino;
-    let _uid = stat.uid;
-    let _gid = stat.gid;
-    let _size = stat.size;
-    let _mode = mode.bits();
-    let _id = id.as_bytes().len();
-}
-
 impl State {
     /// The entries, lent for writing; what was last written through the slice is what the state has then. All
     /// else stays.
@@ -178,7 +150,6 @@ impl State {
             → IsStorable (contents self.new)) }
         ensures err { OnErr result (IsUnchanged self.old self.new) }
     {
-        have_room(&stat, &id, mode);
         let entry = Pathless {
             stat,
             id,

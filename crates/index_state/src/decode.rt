@@ -42,9 +42,7 @@ impl State {
         ensures extension_ids { IfOk result
             (λ x. ExtensionIdsAreOf object_hash (contents x.0).extensions) }
     {
-        match Parts::from_bytes(alloc, data, timestamp, object_hash, options) {
-            Ok((parts, checksum)) => Ok((State { parts }, checksum)),
-            Err(e) => Err(e),
-        }
+        let (parts, checksum) = Parts::from_bytes(alloc, data, timestamp, object_hash, options)?;
+        Ok((State { parts }, checksum))
     }
 }

@@ -14,7 +14,7 @@ pub trait ComponentCheck {
     /// own number of what is wrong with it.
     fn check(&self, name: &[u8], symlink: bool) -> Result<(), u32>
         ensures passes { IfOk result (λ _. refusal self.now name.now symlink ≡ None) }
-        ensures refuses { IfErr result (λ number. refusal self.now name.now symlink ≡ Some number) };
+        ensures refuses { IfErr result (λ n. refusal self.now name.now symlink ≡ Some n) };
 }
 
 /// The number by which a name in a tree is refused, if it is. A link's name is asked for as such too.

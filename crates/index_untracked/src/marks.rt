@@ -33,7 +33,7 @@ fn places_in(
 ) -> Result<Option<Vec<usize>>, AllocError>
     ensures listed { IfOk result
         (λ found. IfSome found (λ v. ListPlaces (map Ok v.items) (bitmap marks.now).words)) }
-    ensures below { IfOk result (λ found. IfSome found (λ v. All (λ place. place < count) v.items)) }
+    ensures below { IfOk result (λ found. IfSome found (λ v. All (λ p. p < count) v.items)) }
     ensures none { IfOk result
         (λ found. IfNone found ((places : List ℕ)
         → ListPlaces (map Ok places) (bitmap marks.now).words → All (λ place. place < count) places
@@ -127,7 +127,8 @@ fn set_stat(directories: &mut Vec<Directory>, place: usize, piece: &[u8])
     requires place { place < length directories.old.items }
     requires size { length piece.now ≡ 36 }
     ensures value { map directory_value directories.new.items
-        ≡ changed_directory (with_stat piece.now) place (map directory_value directories.old.items) }
+        ≡ changed_directory (with_stat piece.now) place
+        (map directory_value directories.old.items) }
     ensures len { length directories.new.items ≡ length directories.old.items }
 {
     let directory = &mut directories[place];

@@ -1,4 +1,5 @@
 use Rattle.std.proofs.Common.{rules, arith, ◌∷◌, [], refl, sym, ap, ◌∙◌, Result, ℕ}
+use Rattle.std.proofs.lemmas.Result.{err_from_is_err_and}
 use Rattle.index_parts.specs.UnpackingSteps.{items_left}
 use Rattle.index_parts.specs.declared.ewah.iter.Malformed.{Malformed}
 use Rattle.index_split.proofs.MergeLoops.{IsReplacing}
@@ -17,7 +18,7 @@ loop-position-preserved c =
     let rest = items_left c.next.new.self in
     let inv = c.loop-position.invariant in
     let step = c.in-Some.ensures.steps ∙ ap (λ (x : Result ℕ Malformed). x ∷ rest) c.in-Ok.is in
-    let done = c.in-Ok-replace_at.ensures in (
+    let done = c.in_ok-replace_at.ensures in (
       search rules,
       search rules,
       replacing_step _ _ _ _ rest _ _ inv.2 c.in-Ok.place _ step done.sound done.replaced,
@@ -34,8 +35,9 @@ returns-in_default-position-clause-fault c =
     let step = c.in-Some.ensures.steps ∙ ap (λ (x : Result ℕ Malformed). x ∷ rest) c.in_default-position.is in
     replacing_broken _ _ _ _ rest _ _ c.loop-position.invariant.2 _ step
 
-pub returns-in-Err-clause-fault : goal.returns-in-Err-clause-fault
-returns-in-Err-clause-fault c =
+pub returns-in_err-replace_at-clause-fault : goal.returns-in_err-replace_at-clause-fault
+returns-in_err-replace_at-clause-fault c =
     let rest = items_left c.next.new.self in
     let step = c.in-Some.ensures.steps ∙ ap (λ (x : Result ℕ Malformed). x ∷ rest) c.in-Ok.is in
-    says_weaker c.in-Err.e _ _ (λ fault h. replacing_fault _ _ _ _ rest _ _ c.loop-position.invariant.2 c.in-Ok.place fault step h) c.in-Err.ensures.fault
+    let p = err_from_is_err_and c.from_residual.result c.from_residual.ensures.1 in
+    rw (p.1, p.2) (says_weaker c.in_err-replace_at.field-0.0 _ _ (λ fault h. replacing_fault _ _ _ _ rest _ _ c.loop-position.invariant.2 c.in-Ok.place fault step h) c.in_err-replace_at.ensures.fault)

@@ -1,9 +1,17 @@
-use Rattle.std.proofs.Common.{refl, ap}
-use Rattle.index_entries.specs.Record.{Record}
+use Rattle.std.proofs.Common.{refl, ap, ◌≡◌, ◌⊎◌, inl, inr, List, ℕ, length}
+use Rattle.index_entries.specs.Record.{Record, IsSized}
+use Rattle.index_parts.specs.Id.{id_bytes, id_kind, id_len}
+use Rattle.index_parts.specs.declared.hash.ObjectId.{ObjectId}
+use Rattle.index_parts.specs.declared.hash.ObjectId.TheVariants as ids
 use Rattle.index_state.specs.State.{contents, entries_of, storage_of}
 use Rattle.index_entries.proofs.Appended.{appended_records}
 use Rattle.index_state.proofs.Storables.{push_storable}
 use Rattle.index_state.proofs.State.dangerously_push_entry.Goals as goal
+
+-- an id is of the one kind or of the other
+variant_of : (id : ObjectId) → ((bytes : List ℕ) × (id ≡ ids.Sha1 bytes)) ⊎ ((bytes : List ℕ) × (id ≡ ids.Sha256 bytes))
+variant_of (ids.Sha1 bytes) = inl (bytes, refl)
+variant_of (ids.Sha256 bytes) = inr (bytes, refl)
 
 pub returns-clause-added : goal.returns-clause-added
 returns-clause-added c =
@@ -15,6 +23,29 @@ returns-clause-pushed c = λ placed.
     let old = c.args.self.now in
     ap (λ rs. record (contents old) { records = rs }) (appended_records (storage_of old) (entries_of old) _ _ _ placed c.in_ok-append.ensures.appended)
 
+-- The types of the arguments say how many bits a number has and how many bytes an id: `given` is what they say, one
+-- argument after the other, and so is each part of it for the fields of a struct.
 pub returns-clause-storable : goal.returns-clause-storable
 returns-clause-storable c = λ placed h kind path.
-    rw (returns-clause-pushed c placed) (push_storable (contents c.args.self.now) (record { path = c.args.path.now; stat = c.args.stat; id = c.args.id; flags = c.args.flags.0; mode = c.args.mode.0 }) h kind path (c.have_room.ensures c.args.path.now c.args.flags.0))
+    let given = c.well_formed.1 in
+    let stat = given.0.1.1 in
+    let mtime = stat.0.1.1 in
+    let ctime = stat.1.0.1.1 in
+    let id : length (id_bytes c.args.id) ≡ id_len (id_kind c.args.id) = elim (variant_of c.args.id) [
+      | inl v ↦ let bytes = rw v.1 at given.1.0 in rw v.1 bytes.1.1.1.1.0.1.0.1
+      | inr v ↦ let bytes = rw v.1 at given.1.0 in rw v.1 bytes.1.1.1.1.0.1.0.1
+    ] in
+    let sized : IsSized (record { path = c.args.path.now; stat = c.args.stat; id = c.args.id; flags = c.args.flags.0; mode = c.args.mode.0 }) = record {
+      ctime_secs = ctime.0.1;
+      ctime_nsecs = ctime.1.0.1;
+      mtime_secs = mtime.0.1;
+      mtime_nsecs = mtime.1.0.1;
+      dev = stat.1.1.0.1;
+      ino = stat.1.1.1.0.1;
+      uid = stat.1.1.1.1.0.1;
+      gid = stat.1.1.1.1.1.0.1;
+      size = stat.1.1.1.1.1.1.0.1;
+      mode = given.1.1.1.0.1.1.0.1;
+      id = id;
+    } in
+    rw (returns-clause-pushed c placed) (push_storable (contents c.args.self.now) _ h kind path sized)
