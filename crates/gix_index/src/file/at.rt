@@ -62,9 +62,7 @@ fn shared_at<R: Files>(
     ensures ids { IfOk result (λ state. IdsAreOf reading.object_hash (entries_of state)) }
     ensures storable { IfOk result (λ state. IsStorable (contents state)) }
 {
-    let Ok(shared) = shared_path(alloc, path, &id) else {
-        return Err(Error::Memory);
-    };
+    let shared = shared_path(alloc, path, &id)?;
     let (bytes, digest) = match bytes_at(
         rt,
         alloc,
@@ -77,16 +75,14 @@ fn shared_at<R: Files>(
     };
     let mut options = reading.options;
     options.expected_checksum = Some(id);
-    match decoded(
+    let file = decoded(
         alloc,
         &bytes,
         digest,
         shared,
         ReadOptions { options, ..reading },
-    ) {
-        Ok(file) => Ok(file.into_parts().0),
-        Err(e) => Err(e),
-    }
+    )?;
+    Ok(file.into_parts().0)
 }
 
 /// Takes the file's link out, and merges what it links to.
@@ -118,10 +114,7 @@ fn follow<R: Files>(
     if id.is_null() {
         return Ok(file);
     }
-    let shared = match shared_at(rt, alloc, file.path.as_path(), id, reading) {
-        Ok(shared) => shared,
-        Err(e) => return Err(e),
-    };
+    let shared = shared_at(rt, alloc, file.path.as_path(), id, reading)?;
     match link.dissolve_into(alloc, &mut file.state, shared) {
         Ok(()) => Ok(file),
         Err(e) => Err(link_fault(e)),

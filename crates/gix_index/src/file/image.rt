@@ -35,10 +35,8 @@ fn put_hashed<W: Out>(
     let Write { inner, hash } = hashing;
     // No effect at run time. The proof reads what `out` holds from this use of `inner`.
     let _ = &*inner;
-    match result {
-        Ok(version) => Ok((version, hash.finalize())),
-        Err(e) => Err(e),
-    }
+    let version = result?;
+    Ok((version, hash.finalize()))
 }
 
 /// Writes all but the trailer, and gives the null id.
@@ -57,10 +55,8 @@ fn put_unhashed<W: Out>(
         (Hashes W.hashed out.old out.new (body (contents state.now) options)) }
     ensures loan { W.loan out.new ≡ W.loan out.old }
 {
-    match state.write_to(out, options) {
-        Ok(version) => Ok((version, state.object_hash().null())),
-        Err(e) => Err(e),
-    }
+    let version = state.write_to(out, options)?;
+    Ok((version, state.object_hash().null()))
 }
 
 /// Writes all but the trailer, and gives the id that is to stand behind it.
@@ -107,13 +103,8 @@ impl File {
             (Hashes W.hashed out.old out.new (image (contents (state_of self.now)) options)) }
         ensures loan { W.loan out.new ≡ W.loan out.old }
     {
-        let (version, id) = match put_body(&self.state, out, options) {
-            Ok(answer) => answer,
-            Err(e) => return Err(e),
-        };
-        match out.put(id.as_bytes()) {
-            Ok(()) => Ok((version, id)),
-            Err(e) => Err(Error::Io(e)),
-        }
+        let (version, id) = put_body(&self.state, out, options)?;
+        out.put(id.as_bytes())?;
+        Ok((version, id))
     }
 }

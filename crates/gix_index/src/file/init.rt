@@ -7,6 +7,7 @@ ghost use Rattle.index_format.specs.Contents.{ExtensionIdsAreOf};
 ghost use Rattle.index_state.specs.State.{PathsInStorage, contents, entries_of};
 ghost use Rattle.index_entries.specs.Record.{IdsAreOf};
 ghost use Rattle.gix_index.specs.Checked.{digest_id, digest_fault, IsIntact, IsBroken, IsFileAnswer, error_of, SaysFile};
+ghost use Rattle.gix_index.specs.declared.file.init.Error.TheVariants.{Memory};
 ghost use Rattle.gix_index.specs.File.{state_of, path_of};
 
 use super::File;
@@ -16,7 +17,7 @@ use index_metadata::entry::FileTime;
 use index_parts::hash::{Kind, ObjectId, digest};
 use index_split::link;
 use index_state::State;
-use std::alloc::Global;
+use std::alloc::{AllocError, Global};
 use std::path::PathBuf;
 use thiserror::Error;
 
@@ -46,6 +47,14 @@ impl From<decode::Error> for Error {
             decode::Error::Memory => Error::Memory,
             e => Error::Decode(e),
         }
+    }
+}
+
+impl From<AllocError> for Error {
+    ghost from_gives = { λ _e error. error ≡ Memory };
+
+    fn from(_e: AllocError) -> Error {
+        Error::Memory
     }
 }
 

@@ -6,11 +6,12 @@ ghost use Rattle.index_parts.specs.declared.hash.ObjectId.{ObjectId};
 ghost use Rattle.gix_index.specs.Checked.{digest_id};
 ghost use Rattle.gix_index.specs.File.{checksum_of};
 ghost use Rattle.gix_index.specs.VerifiedFile.{FitsSomeBytes, SaysOfBytes, SaysOfSomeBytes};
+ghost use Rattle.gix_index.specs.declared.file.verify.Error.TheVariants.{Memory, Verify};
 
 use super::File;
 use super::disk::{PathError, hashed_at};
 use index_parts::hash::{self, ObjectId, digest};
-use std::alloc::Global;
+use std::alloc::{AllocError, Global};
 use std::io::ErrorKind;
 use std::rt::Files;
 use thiserror::Error;
@@ -32,6 +33,22 @@ pub enum Error {
     Memory,
 }
 
+impl From<hash::verify::Error> for Error {
+    ghost from_gives = { λ e error. error ≡ Verify e };
+
+    fn from(e: hash::verify::Error) -> Error {
+        Error::Verify(e)
+    }
+}
+
+impl From<AllocError> for Error {
+    ghost from_gives = { λ _e error. error ≡ Memory };
+
+    fn from(_e: AllocError) -> Error {
+        Error::Memory
+    }
+}
+
 /// The same as [`bytes`], where the digest was taken already.
 fn compare(data: &[u8], digest: ObjectId, checksum: ObjectId) -> Result<(), Error>
     requires digest { digest ≡ digest_id (id_kind checksum) «data».now }
@@ -44,10 +61,8 @@ fn compare(data: &[u8], digest: ObjectId, checksum: ObjectId) -> Result<(), Erro
     if data.len() < checksum.kind().len_in_bytes() {
         return Err(Error::TooShort);
     }
-    match digest.verify(&checksum) {
-        Ok(()) => Ok(()),
-        Err(e) => Err(Error::Verify(e)),
-    }
+    digest.verify(&checksum)?;
+    Ok(())
 }
 
 /// Compares the digest of all bytes but the last, of which the checksum has as many, with the checksum
@@ -89,10 +104,8 @@ impl File {
                 if error.kind() == ErrorKind::OutOfMemory {
                     return Err(Error::Memory);
                 }
-                match self.path.clone() {
-                    Ok(path) => Err(Error::Io(PathError { path, error })),
-                    Err(_) => Err(Error::Memory),
-                }
+                let path = self.path.clone()?;
+                Err(Error::Io(PathError { path, error }))
             }
         }
     }

@@ -23,11 +23,11 @@ returns-then-is_null-clause-read g c =
     let some = sym t.given ∙ ap (option_map link_of) c.in-Some.is in
     own (record { bytes = c.requires.read.0; split = contents (state_of c.args.file); read = c.requires.read.1; unfollowed = subst IsUnfollowed (sym some) (sym c.is_null.ensures ∙ c.if-is_null.true); is = t.removed })
 
-pub returns-in-Ok-dissolve_into-clause-read : goal.returns-in-Ok-dissolve_into-clause-read
-returns-in-Ok-dissolve_into-clause-read g c =
+pub returns-in-Ok-clause-read : goal.returns-in-Ok-clause-read
+returns-in-Ok-clause-read g c =
     let t = c.take_link.ensures in
-    let s = c.in-Ok.ensures.read in
-    let d = c.in-Ok-dissolve_into.ensures.dissolved in
+    let s = c.in_ok-shared.ensures.read in
+    let d = c.in-Ok.ensures.dissolved in
     joined (record {
       bytes = c.requires.read.0;
       split = contents (state_of c.args.file);
@@ -36,21 +36,21 @@ returns-in-Ok-dissolve_into-clause-read g c =
       has_link = sym t.given ∙ ap (option_map link_of) c.in-Some.is;
       followed = sym c.is_null.ensures ∙ c.if-is_null.false;
       shared_bytes = s.0;
-      shared = contents c.in-Ok.shared;
+      shared = contents c.in_ok-shared.shared;
       shared_checksum = s.1;
       read_shared = s.2;
-      dissolved = subst (λ (v : Contents). IsDissolved (link_of c.in-Some.link) (contents c.in-Ok.shared) v (contents c.dissolve_into.new.split)) t.removed d;
+      dissolved = subst (λ (v : Contents). IsDissolved (link_of c.in-Some.link) (contents c.in_ok-shared.shared) v (contents c.dissolve_into.new.split)) t.removed d;
     })
 
-pub returns-in-Ok-dissolve_into-clause-ids : goal.returns-in-Ok-dissolve_into-clause-ids
-returns-in-Ok-dissolve_into-clause-ids g c =
-    c.dissolve_into.ensures.ids c.args.reading.object_hash (rw c.take_link.ensures.entries c.requires.ids) c.in-Ok.ensures.ids
+pub returns-in-Ok-clause-ids : goal.returns-in-Ok-clause-ids
+returns-in-Ok-clause-ids g c =
+    c.dissolve_into.ensures.ids c.args.reading.object_hash (rw c.take_link.ensures.entries c.requires.ids) c.in_ok-shared.ensures.ids
 
-pub returns-in-Ok-dissolve_into-clause-storable : goal.returns-in-Ok-dissolve_into-clause-storable
-returns-in-Ok-dissolve_into-clause-storable g c =
+pub returns-in-Ok-clause-storable : goal.returns-in-Ok-clause-storable
+returns-in-Ok-clause-storable g c =
     let t = c.take_link.ensures in
-    let s = c.in-Ok.ensures.read in
+    let s = c.in_ok-shared.ensures.read in
     let mine = read_kind _ _ _ _ c.requires.read.0 (contents (state_of c.args.file)) _ c.requires.read.1 in
-    let theirs = read_kind _ _ _ _ s.0 (contents c.in-Ok.shared) s.1 s.2 in
+    let theirs = read_kind _ _ _ _ s.0 (contents c.in_ok-shared.shared) s.1 s.2 in
     let same = theirs ∙ sym mine ∙ sym (ap (λ (v : Contents). v.kind) t.removed) in
-    c.dissolve_into.ensures.storable (subst IsStorable (sym t.removed) (unlinked_storable (contents (state_of c.args.file)) c.requires.storable)) c.in-Ok.ensures.storable same
+    c.dissolve_into.ensures.storable (subst IsStorable (sym t.removed) (unlinked_storable (contents (state_of c.args.file)) c.requires.storable)) c.in_ok-shared.ensures.storable same

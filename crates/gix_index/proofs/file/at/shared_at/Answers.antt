@@ -4,7 +4,7 @@ use Rattle.index_state.specs.declared.State.{State}
 use Rattle.gix_index.specs.File.{state_of, checksum_of}
 use Rattle.gix_index.proofs.file.at.shared_at.Goals as goal
 
-pub returns-in-Ok-decoded-clause-read : goal.returns-in-Ok-decoded-clause-read
-returns-in-Ok-decoded-clause-read g c =
-    let h = rw c.deref.ensures.value at c.in-Ok-decoded.ensures.answer in
-    (c.in-Ok-bytes_at.read.0.items, checksum_of c.in-Ok-decoded.file, rw c.into_parts.ensures.state h)
+pub returns-clause-read : goal.returns-clause-read
+returns-clause-read g c =
+    let h = rw c.deref.ensures.value at c.in_ok-file.ensures.answer in
+    (c.in-Ok.read.0.items, checksum_of c.in_ok-file.file, rw c.into_parts.ensures.state h)

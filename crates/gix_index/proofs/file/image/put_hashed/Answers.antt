@@ -7,10 +7,10 @@ use Rattle.index_state.specs.State.{contents}
 use Rattle.gix_index.proofs.Files.{hashed_id}
 use Rattle.gix_index.proofs.file.image.put_hashed.Goals as goal
 
-pub returns-in-Ok-clause-answer : goal.returns-in-Ok-clause-answer
-returns-in-Ok-clause-answer g c =
+pub returns-clause-answer : goal.returns-clause-answer
+returns-clause-answer g c =
     let v = contents c.args.state.now in
-    let h = c.in-Ok.ensures.hashed 0 c.object_hash.result [] (c.new-hashing.ensures.kind, c.new-hashing.ensures.empty) in
+    let h = c.in_ok-version.ensures.hashed 0 c.object_hash.result [] (c.new-hashing.ensures.kind, c.new-hashing.ensures.empty) in
     record {
       version = search rules;
       id = hashed_id v c.args.options _ c.requires.digest (c.finalize.ensures _ h.1 ∙ ap (λ (k : Kind). make_id k (digest k (body v c.args.options))) (h.0 ∙ c.object_hash.ensures));
@@ -20,7 +20,7 @@ returns-in-Ok-clause-answer g c =
       too_large = search rules;
     }
 
-pub returns-in-Ok-clause-hashed : goal.returns-in-Ok-clause-hashed
-returns-in-Ok-clause-hashed g c = λ depth k m held.
-    let grown = c.in-Ok.ensures.hashed (suc depth) k m (rw c.new-hashing.ensures.inner held) in
+pub returns-clause-hashed : goal.returns-clause-hashed
+returns-clause-hashed g c = λ depth k m held.
+    let grown = c.in_ok-version.ensures.hashed (suc depth) k m (rw c.new-hashing.ensures.inner held) in
     search (rules, grown)
