@@ -72,7 +72,8 @@ impl Parts {
         ensures some { IfSome result
             (λ l. IsLayout l.entries.version l.entries.count l.entries.end l.tree
             (parts_contents self.now) options) }
-        ensures none { IfNone result (2 ^ 32 ≤ length (unmarked (parts_contents self.now) options)) }
+        ensures none { IfNone result
+            (2 ^ 32 ≤ length (unmarked (parts_contents self.now) options)) }
     {
         let choice = options.version;
         let Some(entries) = write::totals_of(choice, &self.entries, &self.path_backing) else {
