@@ -74,7 +74,9 @@ struct Refuses {
 
 impl ComponentCheck for Refuses {
     ghost refusal = { λ check name symlink.
-        if slice_index_or name 0 0 == check.name && (if symlink then check.symlink else not check.symlink) then Some check.number else None };
+        if slice_index_or name 0 0 == check.name
+        && (if symlink then check.symlink else not check.symlink)
+        then Some check.number else None };
 
     fn check(&self, name: &[u8], symlink: bool) -> Result<(), u32> {
         let byte = match name.first() {

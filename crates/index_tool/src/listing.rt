@@ -113,7 +113,8 @@ fn append_parts(
 fn append_line(lines: &mut Vec<u8>, state: &State, entry: &Entry) -> Result<(), AllocError>
     requires { IsPlaced (length (storage_of state.now)) entry.now }
     ensures { OnOk result
-        (lines.new.items ≡ lines.old.items ++ line_of (record_in (storage_of state.now) entry.now)) }
+        (lines.new.items ≡ lines.old.items
+        ++ line_of (record_in (storage_of state.now) entry.now)) }
 {
     let path = entry.path(state);
     append_parts(lines, entry.mode.bits(), &entry.id, entry.stage_raw(), path)

@@ -81,7 +81,8 @@ struct Trees<'a> {
 
 impl Find for Trees<'_> {
     ghost found = { λ s id. unwrap_or
-        (option_map (λ bytes. object Tree bytes.now) (get (id_order.ghosts).cmp s.by_id id)) absent };
+        (option_map (λ bytes. object Tree bytes.now)
+        (get (id_order.ghosts).cmp s.by_id id)) absent };
 
     fn find(&self, id: &ObjectId, buf: &mut Vec<u8>) -> Result<Option<object::Kind>, find::Error> {
         let Some(bytes) = self.by_id.get(id) else {
