@@ -5,7 +5,7 @@ use Rattle.std.proofs.lemmas.Bool.{eqb-true, eqb-false}
 use Rattle.index_parts.specs.Bitmap.{Bitmap, IsBitmap}
 use Rattle.index_parts.specs.declared.hash.Kind.{Kind}
 use Rattle.index_parts.specs.declared.hash.ObjectId.{ObjectId}
-use Rattle.index_split.specs.Link.{Corrupt, BitmapDecode, StartsWithId, no_delete, no_replace, SaysLink, SaysBitmap}
+use Rattle.index_split.specs.Link.{BitmapDecode, StartsWithId, no_delete, no_replace, SaysLink, SaysBitmap}
 use Rattle.index_split.specs.declared.link.decode.Error.{Error}
 use Rattle.index_split.specs.declared.link.decode.Error.TheVariants as errors
 

@@ -1,20 +1,18 @@
 -- Bytes are one link or have one first fault.
-use Rattle.std.proofs.Common.{◌≡◌, ℕ, ◌<◌, ◌≤◌, ◌⊎◌, inl, inr, List, [], ◌∷◌, ◌++◌, length, take, drop, Some, None, refl, sym, ap, subst, ◌∙◌, arith}
-use Rattle.std.specs.Prelude.{◌≢◌, codes}
-use Rattle.std.proofs.lemmas.List.{length-append, append-nil, take-append-drop, length-take}
+use Rattle.std.proofs.Common.{◌≡◌, ℕ, ◌<◌, List, [], length, Some, sym, ap, subst, ◌∙◌, arith}
+use Rattle.std.proofs.lemmas.List.{length-append}
 use Rattle.std.proofs.lemmas.Option.{same_Some}
-use Rattle.std.proofs.lemmas.Bool.{cases_lt}
-use Rattle.index_parts.specs.Bitmap.{Bitmap, IsBitmap, HasBitmap, Lacks}
+use Rattle.index_parts.specs.Bitmap.{Bitmap, IsBitmap, Lacks}
 use Rattle.index_parts.specs.Id.{id_len, make_id}
 use Rattle.index_parts.specs.ReadingSteps.{piece_at}
 use Rattle.index_parts.specs.declared.ewah.decode.Error.{Error as BitmapError}
 use Rattle.index_parts.specs.declared.ewah.decode.Error.TheVariants as bitmaps
 use Rattle.index_parts.specs.declared.hash.Kind.{Kind}
 use Rattle.index_parts.specs.declared.hash.ObjectId.{ObjectId}
-use Rattle.index_parts.proofs.BitmapFaults.{bitmap_or_fault, one_fault, no_fault}
+use Rattle.index_parts.proofs.BitmapFaults.{no_fault}
 use Rattle.index_parts.proofs.Bitmaps.{one_bitmap}
 use Rattle.index_parts.proofs.Splits.{piece_again}
-use Rattle.index_split.specs.Link.{LinkFault, Corrupt, BitmapDecode, BitmapPair, LinkValue, StartsWithId, IsLink, alone, split, IsLinkFault, short, no_delete, no_replace, garbage}
+use Rattle.index_split.specs.Link.{LinkFault, LinkValue, StartsWithId, IsLink, alone, split, IsLinkFault, short, no_delete, no_replace, garbage}
 
 -- ---- the id at the front
 

@@ -1,5 +1,5 @@
 -- Bytes that are no link have one first fault.
-use Rattle.std.proofs.Common.{◌≡◌, ℕ, List, [], refl, sym, ap, ◌∙◌}
+use Rattle.std.proofs.Common.{◌≡◌, ℕ, List, sym, ap, ◌∙◌}
 use Rattle.std.specs.Prelude.{codes}
 use Rattle.index_parts.specs.Bitmap.{Lacks}
 use Rattle.index_parts.specs.declared.ewah.decode.Error.{Error as BitmapError}

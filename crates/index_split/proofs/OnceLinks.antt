@@ -8,11 +8,11 @@ use Rattle.index_parts.specs.Id.{id_len, make_id}
 use Rattle.index_parts.specs.declared.ewah.decode.Error.{Error as BitmapError}
 use Rattle.index_parts.specs.declared.hash.Kind.{Kind}
 use Rattle.index_parts.specs.declared.hash.ObjectId.{ObjectId}
-use Rattle.index_parts.proofs.BitmapFaults.{bitmap_or_fault, one_fault}
+use Rattle.index_parts.proofs.BitmapFaults.{bitmap_or_fault}
 use Rattle.index_parts.proofs.Bitmaps.{one_bitmap}
 use Rattle.index_extensions.specs.ExtensionValue.{IsRead}
 use Rattle.index_split.specs.Link.{LinkFault, Corrupt, BitmapDecode, BitmapPair, LinkValue, StartsWithId, IsLink, alone, split, IsLinkFault, short, no_delete, no_replace, garbage, HasLink}
-use Rattle.index_split.proofs.Links.{one_id, long_enough, no_bitmap, moved, lacking, no_link_fault}
+use Rattle.index_split.proofs.Links.{one_id, no_bitmap, moved, no_link_fault}
 
 -- ---- there is one
 

@@ -1,7 +1,6 @@
 -- What is kept where a shared index is merged into a split one.
-use Rattle.std.proofs.Common.{◌≡◌, ℕ, ◌≤◌, List, [], ◌∷◌, length, All, Some, None, refl, sym, ap, subst, ◌∙◌, arith}
+use Rattle.std.proofs.Common.{◌≡◌, ℕ, ◌≤◌, List, length, All, Some, None, refl, sym, ap, subst}
 use Rattle.std.specs.Prelude.{◌≢◌, IfSome}
-use Rattle.std.proofs.lemmas.List.Elements.{All-head, All-tail, All-cons, All-map}
 use Rattle.index_parts.specs.Id.{id_kind}
 use Rattle.index_parts.specs.declared.hash.Kind.{Kind}
 use Rattle.index_cached_tree.specs.StoredTree.{IsStorableTree}
@@ -10,10 +9,10 @@ use Rattle.index_split.specs.declared.merge.Error.{Error as MergeError}
 use Rattle.index_split.specs.declared.merge.Error.TheVariants as merges
 use Rattle.index_split.specs.Merge.{replaced, IsMerge, IsMergeFault}
 use Rattle.index_split.specs.MergeSteps.{SaysMerge, merge_error}
-use Rattle.index_entries.specs.Record.{Record, IsSized, IdsAreOf, record_in, records_in}
+use Rattle.index_entries.specs.Record.{Record, IsSized, IdsAreOf, records_in}
 use Rattle.index_split.proofs.Merged.{all_merged}
-use Rattle.index_split.specs.Link.{BitmapPair, LinkFault, Corrupt, LinkValue, link_fault}
-use Rattle.index_state.specs.Dissolve.{IsMerged, IsDissolveFault, broken, SaysDissolve}
+use Rattle.index_split.specs.Link.{BitmapPair, LinkValue}
+use Rattle.index_state.specs.Dissolve.{IsMerged, broken, SaysDissolve}
 use Rattle.index_format.proofs.Ids.{entries_have, records_of}
 use Rattle.index_format.specs.Contents.{Contents}
 use Rattle.index_format.specs.Storable.{IsStorable}

@@ -1,6 +1,6 @@
 -- What a state stands for: an index as a value (the library's own).
-use Rattle.std.specs.Prelude.{ℕ, List, All, length}
-use Rattle.index_entries.specs.Record.{Record, IsPlaced, records_in}
+use Rattle.std.specs.Prelude.{ℕ, List}
+use Rattle.index_entries.specs.Record.{Record}
 use Rattle.index_entries.specs.declared.Entry.{Entry}
 use Rattle.index_format.specs.Contents.{Contents, PartsInStorage, parts_contents, parts_entries, parts_records, parts_storage}
 use Rattle.index_state.specs.declared.State.{State}

@@ -1,5 +1,5 @@
 use Rattle.std.proofs.Common.{refl, ap, ◌≡◌, ◌⊎◌, inl, inr, List, ℕ, length}
-use Rattle.index_entries.specs.Record.{Record, IsSized}
+use Rattle.index_entries.specs.Record.{IsSized}
 use Rattle.index_parts.specs.Id.{id_bytes, id_kind, id_len}
 use Rattle.index_parts.specs.declared.hash.ObjectId.{ObjectId}
 use Rattle.index_parts.specs.declared.hash.ObjectId.TheVariants as ids

@@ -1,8 +1,7 @@
-use Rattle.std.proofs.Common.{rules, ◌≡◌, None, Some, refl, ap}
+use Rattle.std.proofs.Common.{rules, ◌≡◌, None, refl, ap}
 use Rattle.std.specs.Option.{option_map}
-use Rattle.index_split.specs.Merge.{IsMerge}
 use Rattle.index_split.specs.Link.{link_of, pair_of}
-use Rattle.index_state.specs.State.{contents, entries_of, records, storage_of}
+use Rattle.index_state.specs.State.{contents, entries_of, storage_of}
 use Rattle.index_state.proofs.Merges.{merged_ids, merged_storable, says_dissolve}
 use Rattle.index_state.proofs.dissolve.merge_shared.Goals as goal
 
