@@ -8,8 +8,8 @@ use Rattle.gix_index.specs.DecodeOptions.{Options}
 use Rattle.gix_index.specs.Linked.{IsOnDisk}
 use Rattle.index_tool.specs.Listing.{default_options, IsBeginOf1970, IsInFile}
 
-pub in_file : (kind : Kind) (time : FileTime) (options : Options) (v : Contents) (checksum : Option ObjectId) → IsBeginOf1970 time → options ≡ default_options → IsOnDisk false kind time options v checksum → IsInFile kind v
-in_file kind time options v checksum begin e is = record { time = time; begin = begin; checksum = checksum; is = subst (λ (o : Options). IsOnDisk false kind time o v checksum) e is }
+pub in_file : (kind : Kind) (time : FileTime) (options : Options) (v : Contents) (checksum : Option ObjectId) → IsBeginOf1970 time → options ≡ default_options → IsOnDisk false kind time options v checksum → IsInFile kind v checksum
+in_file kind time options v checksum begin e is = record { time = time; begin = begin; is = subst (λ (o : Options). IsOnDisk false kind time o v checksum) e is }
 
 pub options_are : (options : Options) → options.thread_limit ≡ None → options.min_extension_block_in_bytes_for_threading ≡ 0 → options.expected_checksum ≡ None → options.alloc_limit_bytes ≡ None
     → options ≡ default_options

@@ -11,6 +11,7 @@ use Rattle.index_tool.specs.declared.command.Command.{Command}
 use Rattle.index_tool.specs.declared.command.Command.TheVariants as commands
 use Rattle.index_tool.specs.Checking.{Checks, ChecksFront}
 use Rattle.index_tool.specs.Listing.{ListsIndex, ListsFront}
+use Rattle.index_tool.specs.Rewriting.{Rewrites}
 
 -- a command as a value, with the kind of the ids and the file: `list`, `check`, and `rewrite` and `rewrite4` with the file that is
 -- written and its version
@@ -57,11 +58,11 @@ command_named (name ∷ words) =
 command_named [] = None
 
 -- what a command that succeeded did to known bytes of the output: they grew by the listing of an index, or by the line of one
--- that passed all checks, or stayed
+-- that passed all checks, or stayed, and an index was written
 abbrev pub Succeeds : CommandValue → Option (List ℕ) → Option (List ℕ) → Type 0
 Succeeds (Listing kind file) old new = ListsIndex kind old new
 Succeeds (Checking kind file) old new = Checks kind old new
-Succeeds (Rewriting version kind file to) old new = Keeps old new
+Succeeds (Rewriting version kind file to) old new = Rewrites version kind to × Keeps old new
 
 -- what a command that was refused did to them: nothing, or they grew by a prefix of that
 pub data GivesUp (command : CommandValue) (old new : Option (List ℕ)) : Type 0 where

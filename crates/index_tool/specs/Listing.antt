@@ -20,24 +20,25 @@ default_options = record { thread_limit = None; min_extension_block_in_bytes_for
 abbrev pub IsBeginOf1970 : FileTime → Type 0
 IsBeginOf1970 time = (seconds_of time ≡ pos 0) × (nanoseconds_of time ≡ 0)
 
--- The value is what a file's bytes are read as, with the shared index that they link to: their digest is compared, and the time
--- is the begin of 1970.
-pub record IsInFile (kind : Kind) (value : Contents) : Type 0 where
+-- The value is what a file's bytes are read as, with the shared index that they link to, and the checksum is that of the file:
+-- their digest is compared, and the time is the begin of 1970.
+pub record IsInFile (kind : Kind) (value : Contents) (checksum : Option ObjectId) : Type 0 where
   pub time : FileTime
   pub begin : IsBeginOf1970 time
-  pub checksum : Option ObjectId
   pub is : IsOnDisk false kind time default_options value checksum
 
 -- known bytes grew by the lines of the index in a file
 pub record ListsIndex (kind : Kind) (old new : Option (List ℕ)) : Type 0 where
   pub value : Contents
-  pub read : IsInFile kind value
+  pub checksum : Option ObjectId
+  pub read : IsInFile kind value checksum
   pub grew : Appends old new (listing value.records)
 
 -- known bytes grew by a prefix of them
 pub record ListsFront (kind : Kind) (old new : Option (List ℕ)) : Type 0 where
   pub value : Contents
-  pub read : IsInFile kind value
+  pub checksum : Option ObjectId
+  pub read : IsInFile kind value checksum
   pub grew : AppendsPrefix old new (listing value.records)
 
 -- a failure of reading, which names the file that it concerns, or the one that the words name

@@ -1,7 +1,7 @@
 //! The index in a file that a command's words name.
 
 ghost use Rattle.std.specs.Prelude.{IfErr, IfOk};
-ghost use Rattle.gix_index.specs.File.{state_of};
+ghost use Rattle.gix_index.specs.File.{checksum_of, state_of};
 ghost use Rattle.gix_index.specs.State.{PathsInStorage, contents};
 ghost use Rattle.index_tool.specs.Listing.{FailsToRead, IsInFile};
 
@@ -33,7 +33,8 @@ pub fn index_at<'a, R: Files>(
     kind: Kind,
     path: &'a str,
 ) -> Result<File, Failure<'a>>
-    ensures read { IfOk result (λ index. IsInFile kind (contents (state_of index))) }
+    ensures read { IfOk result
+        (λ index. IsInFile kind (contents (state_of index)) (checksum_of index)) }
     ensures placed { IfOk result (λ index. PathsInStorage (state_of index)) }
     ensures fault { IfErr result (FailsToRead path.now) }
 {

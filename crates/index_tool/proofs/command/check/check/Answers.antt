@@ -1,7 +1,7 @@
 use Rattle.std.proofs.Common.{refl}
 use Rattle.std.proofs.KnownBytes.{Keeps-refl}
 use Rattle.gix_index.specs.State.{contents}
-use Rattle.gix_index.specs.File.{state_of}
+use Rattle.gix_index.specs.File.{checksum_of, state_of}
 use Rattle.index_tool.proofs.Endings.{sound_counted}
 use Rattle.index_tool.proofs.command.check.check.Goals as goal
 
@@ -17,13 +17,15 @@ returns-in-Err-verify_integrity-clause-refused g c = (refl, Keeps-refl (g.W.Writ
 pub returns-in-Ok-put_all-clause-checked : goal.returns-in-Ok-put_all-clause-checked
 returns-in-Ok-put_all-clause-checked g c = record {
   value = contents (state_of c.in-Ok.index);
-  sound = record { read = c.in-Ok.ensures.read; ordered = rw c.deref.ensures at (c.in_default.ensures.ok.0 refl); tree = sound_counted (state_of c.in-Ok.index) (rw c.deref-2.ensures at ((c.in_default-verify_extensions.ensures.sound refl).0 refl)) };
+  checksum = checksum_of c.in-Ok.index;
+  sound = record { read = c.in-Ok.ensures.read; ordered = rw c.deref.ensures at (c.in_default.ensures.ok.0 refl); tree = sound_counted (state_of c.in-Ok.index) (rw c.deref-2.ensures at ((c.in_default-verify_extensions.ensures.sound refl).0 refl)); intact = c.in_default-verify_integrity.ensures.ok };
   grew = c.in-Ok-put_all.ensures.ok;
 }
 
 pub returns-clause-refused : goal.returns-clause-refused
 returns-clause-refused g c = record {
   value = contents (state_of c.in-Ok.index);
-  sound = record { read = c.in-Ok.ensures.read; ordered = rw c.deref.ensures at (c.in_default.ensures.ok.0 refl); tree = sound_counted (state_of c.in-Ok.index) (rw c.deref-2.ensures at ((c.in_default-verify_extensions.ensures.sound refl).0 refl)) };
+  checksum = checksum_of c.in-Ok.index;
+  sound = record { read = c.in-Ok.ensures.read; ordered = rw c.deref.ensures at (c.in_default.ensures.ok.0 refl); tree = sound_counted (state_of c.in-Ok.index) (rw c.deref-2.ensures at ((c.in_default-verify_extensions.ensures.sound refl).0 refl)); intact = c.in_default-verify_integrity.ensures.ok };
   grew = c.in-Err-put_all.ensures.err;
 }
