@@ -2,15 +2,21 @@
 
 use super::*;
 use crate::command::{DONE, REFUSED, WRONG_WORDS};
-use std::alloc::AllocError;
-use std::fs;
+use std::alloc::{AllocError, Global};
+use std::env::FillError;
 use std::io::{ErrorKind, Write};
+use std::rt::Env;
 use std::test::Fail;
+use std::{fs, io};
 
 /// An index of version 2 with the one entry `a`, and a null trailer.
 const ONE: &[u8] =
     b"DIRC\0\0\0\x02\0\0\0\x01\0\0\0\0\0\0\0\0\0\0\0\0\0\0\0\0\0\0\0\0\0\0\0\0\0\0\x81\xa4\0\0\0\0\0\0\0\0\0\0\0\0\
 \x11\x11\x11\x11\x11\x11\x11\x11\x11\x11\x11\x11\x11\x11\x11\x11\x11\x11\x11\x11\0\x01a\0\0\0\0\0\0\0\0\0\0\0\0\0\0\0\0\0\0\0\0\0";
+
+/// The SHA-1 of its first 76 bytes, as `sha1sum` gives it.
+const DIGEST: &[u8] =
+    b"\x8a\xd3\x44\xe4\x4b\x15\x14\xb6\x9c\x3d\x31\x88\xa2\x48\x33\x12\xdc\x74\x33\x6d";
 
 /// A split index without entries, whose link has an id of ones and two bitmaps without places, and a null trailer.
 const SPLIT: &[u8] =
@@ -125,6 +131,7 @@ fn statuses(rt: HostRuntime) -> Result<(), Fail> {
             "",
         ),
         (&["list", "sha1", "again.index"], DONE, LISTED, ""),
+        (&["check", "sha1", "again.index"], DONE, b"ok\n", ""),
         (
             &["rewrite4", "sha1", "whole.index", "four.index"],
             DONE,
@@ -132,6 +139,13 @@ fn statuses(rt: HostRuntime) -> Result<(), Fail> {
             "",
         ),
         (&["list", "sha1", "four.index"], DONE, LISTED, ""),
+        (&["check", "sha1", "four.index"], DONE, b"ok\n", ""),
+        (
+            &["rewrite", "sha1", "four.index", "back.index"],
+            DONE,
+            b"",
+            "",
+        ),
         (
             &["rewrite", "sha1", "whole.index", "held.index"],
             REFUSED,
@@ -172,6 +186,88 @@ fn statuses(rt: HostRuntime) -> Result<(), Fail> {
         assert!(rt; faults.starts_with(begin.as_bytes()), "{words:?}");
         let lines = faults.iter().filter(|byte| **byte == b'\n').count();
         assert_eq!(rt; lines, usize::from(status != DONE), "{words:?}");
+    }
+    // What was written, byte for byte, and from version 4 the same again.
+    for name in ["again.index", "back.index"] {
+        let written = fs::read(&rt, name)?;
+        assert_eq!(rt; written.len(), 96, "{name}");
+        assert!(rt; written.starts_with(&ONE[..76]), "{name}");
+        assert!(rt; written.ends_with(DIGEST), "{name}");
+    }
+    assert!(rt; fs::read(&rt, "four.index")?.starts_with(b"DIRC\0\0\0\x04"));
+    Ok(())
+}
+
+/// The words of a call.
+#[derive(Drop)]
+struct Call<'a>(&'a [&'a [u8]]);
+
+impl<'a> Env for Call<'a> {
+    fn arg(&self, i: usize, buf: &mut [u8]) -> Result<usize, FillError> {
+        let Some(word) = self.0.get(i) else {
+            return Err(FillError::NotPresent);
+        };
+        let Some(room) = buf.get_mut(..word.len()) else {
+            return Err(FillError::TooLong);
+        };
+        room.copy_from_slice(word);
+        Ok(word.len())
+    }
+
+    fn var(&self, _name: &str, _buf: &mut [u8]) -> Result<usize, FillError> {
+        Err(FillError::NotPresent)
+    }
+
+    fn var_at(&self, _i: usize, _buf: &mut [u8]) -> Result<usize, FillError> {
+        Err(FillError::NotPresent)
+    }
+}
+
+/// Each status of the program, by the words of a call, of which one may not be UTF-8, and without memory for them.
+#[test]
+fn calls(rt: HostRuntime) -> Result<(), Fail> {
+    let alloc = rt.alloc();
+    fs::write(&rt, "call.index", ONE)?;
+    let whole = [b"index-tool".as_slice(), b"list", b"sha1", b"call.index"];
+    let missing = [b"index-tool".as_slice(), b"list", b"sha1", b"no.index"];
+    let foreign = [b"index-tool".as_slice(), b"list", b"sha1", b"\xff.index"];
+    for (words, status, listed, said) in [
+        (words(&(Call(&whole), alloc)), DONE, LISTED, ""),
+        (
+            words(&(Call(&missing), alloc)),
+            REFUSED,
+            b"",
+            "index-tool: no.index: No such file or directory",
+        ),
+        (
+            words(&(Call(&foreign), alloc)),
+            WRONG_WORDS,
+            b"",
+            "index-tool: a word of the command isn't UTF-8\n",
+        ),
+        (
+            words(&(Call(&foreign[..1]), alloc)),
+            WRONG_WORDS,
+            b"",
+            "index-tool: usage: ",
+        ),
+        (
+            Err(ErrorKind::OutOfMemory),
+            REFUSED,
+            b"",
+            "index-tool: out of memory\n",
+        ),
+    ] {
+        let mut out = Vec::new(alloc);
+        let mut faults = Vec::new(alloc);
+        let got = answer(&rt, alloc, words, &mut out, &mut faults);
+        assert_eq!(rt;
+            (got, out.as_slice()),
+            (ExitCode::from(status), listed),
+            "{said}"
+        );
+        assert!(rt; faults.starts_with(said.as_bytes()), "{said}");
+        assert_eq!(rt; faults.is_empty(), said.is_empty(), "{said}");
     }
     Ok(())
 }
