@@ -16,7 +16,8 @@ abbrev pub ok_line : List ℕ
 ok_line = codes "ok\n"
 
 -- An index in a file, whose entries strictly increase by path, then stage, and whose cached tree, if it has one, is sound and
--- counts no more than these entries. The file was read again, and the checksum, unless it is null, fits its bytes.
+-- counts no more than these entries. The checksum, unless it is null, fits some bytes: those that the file has when it is read
+-- again.
 pub record IsSoundInFile (kind : Kind) (value : Contents) (checksum : Option ObjectId) : Type 0 where
   pub read : IsInFile kind value checksum
   pub ordered : IsStrictlyOrdered value.records
