@@ -1,5 +1,7 @@
 //! Every status of `run`, over files and writers of the tests.
 
+mod changing;
+
 use super::*;
 use crate::command::{DONE, REFUSED, WRONG_WORDS};
 use std::alloc::{AllocError, Global};
