@@ -17,7 +17,7 @@ use Rattle.index_entries.specs.Order.{path_cmp}
 use Rattle.index_entries.specs.Record.{Record}
 use Rattle.index_entries.proofs.Orders.{paths_total, same_path}
 use Rattle.index_lookups.specs.Folded.{folded, stands_in_folded, IsNamed}
-use Rattle.index_lookups.specs.NameSteps.{NamedValue, named_value, named_cmp, IsTableOf, IsFirstOfEach}
+use Rattle.index_lookups.specs.NameSteps.{NamedValue, named_value, named_cmp, IsTableOf, IsDirectoryTable, IsFirstOfEach}
 use Rattle.index_lookups.proofs.TableMade.{contains_one, contains_map, contains_map_in}
 use Rattle.index_lookups.proofs.RunsFound.{pairs_map}
 
@@ -200,3 +200,10 @@ named_of ignore_case rs ks t once =
             subst (λ (x : List ℕ). Contains (map (λ (k : NamedValue). folded ignore_case k.name) ks) x) c.2 (contains_map_in f ks c.0 c.1),
       );
     }
+
+-- what is so of the number of names of a table is so of the number of directories
+pub directories_named : (P : ℕ → Type 0) (ignore_case : Bool) (rs : List Record) (table : List Named) → IsDirectoryTable ignore_case rs table → P (length table) → (names : List (List ℕ)) × IsNamed ignore_case rs names × P (length names)
+directories_named P ignore_case rs table t h =
+    let ks = map named_value table in
+    let f : NamedValue → List ℕ = λ k. folded ignore_case k.name in
+    (map f ks, named_of ignore_case rs ks t.0 t.1, subst P (sym (length-map ks f ∙ length-map table named_value)) h)

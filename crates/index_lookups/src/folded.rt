@@ -1,6 +1,6 @@
 //! Lookups with the case of ASCII letters ignored where asked, over entries in any order.
 
-ghost use Rattle.std.specs.Prelude.{◌≡◌, ◌≤◌, ◌+◌, ℕ, List, All, length, IfOk, is_some, option_and_then, slice_get, false, true};
+ghost use Rattle.std.specs.Prelude.{◌≡◌, ◌<◌, ◌≤◌, ◌+◌, ℕ, List, All, length, IfOk, is_some, option_and_then, slice_get, false, true};
 ghost use Rattle.std.specs.Option.{option_copied};
 ghost use Rattle.index_lookups.specs.Digits.{digits};
 ghost use Rattle.index_entries.specs.Record.{Record, IsPlaced, records_in};
@@ -71,10 +71,11 @@ impl<'a> AccelerateLookup<'a> {
     }
 
     /// The index of the first entry at the path, in the order of the entries, or None; and how many paths were
-    /// compared: of n entries at most one more than n has binary digits.
+    /// compared: of n entries at most one more than n has binary digits, and at least one where there are entries.
     pub fn search_path_icase(&self, path: &[u8], ignore_case: bool) -> (Option<usize>, usize)
         ensures answer { result.0 ≡ folded_place ignore_case path.now self.now }
         ensures count { result.1 ≤ digits (length self.now) + 1 }
+        ensures at_least_one { 0 < length self.now → 1 ≤ result.1 }
     {
         if ignore_case {
             find(&self.folded_paths, path, true)
@@ -84,7 +85,8 @@ impl<'a> AccelerateLookup<'a> {
     }
 
     /// The index of the first entry that is the directory or stands below it, in the order of the entries, or None; and
-    /// how many names were compared: of m directories at most one more than m has binary digits.
+    /// how many names were compared: of m directories at most one more than m has binary digits, and at least one where
+    /// there are directories.
     pub fn search_directory_icase(
         &self,
         directory: &[u8],
@@ -93,6 +95,8 @@ impl<'a> AccelerateLookup<'a> {
         ensures answer { result.0 ≡ folded_closest ignore_case directory.now self.now }
         ensures count { (names : List (List ℕ)) × IsNamed ignore_case self.now names
             × (result.1 ≤ digits (length names) + 1) }
+        ensures at_least_one { (names : List (List ℕ)) × IsNamed ignore_case self.now names
+            × (0 < length names → 1 ≤ result.1) }
     {
         if ignore_case {
             find(&self.folded_directories, directory, true)

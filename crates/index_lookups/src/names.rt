@@ -192,6 +192,7 @@ pub(crate) fn find(names: &[Named<'_>], name: &[u8], ignore_case: bool) -> (Opti
         → IsTableOf ignore_case test rs (map named_value names.now)
         → result.0 ≡ position (test name.now) rs }
     ensures count { result.1 ≤ digits (length names.now) + 1 }
+    ensures at_least_one { 0 < length names.now → 1 ≤ result.1 }
 {
     let places = NamedSearch {
         names,

@@ -45,7 +45,8 @@ pub fn entry_range(entries: &EntrySlice<'_>, path: &[u8]) -> Option<Range<usize>
 }
 
 /// Where the range of the prefix begins, that is how many paths are below it; and how many times the prefix was
-/// compared with a path: over n entries, in any order, at most one more than n has binary digits.
+/// compared with a path: over n entries, in any order, at most one more than n has binary digits, and at least once
+/// where there are entries.
 ///
 /// The number is promised over entries whose paths never fall. Over other entries it is at most their number.
 pub fn search_prefix(entries: &EntrySlice<'_>, prefix: &[u8]) -> (usize, usize)
@@ -53,6 +54,7 @@ pub fn search_prefix(entries: &EntrySlice<'_>, prefix: &[u8]) -> (usize, usize)
     ensures place { IsOrderedByPath entries.now
         → result.0 ≡ insertion_of_path prefix.now entries.now }
     ensures count { result.1 ≤ digits (length entries.now) + 1 }
+    ensures at_least_one { 0 < length entries.now → 1 ≤ result.1 }
 {
     let tail = &[];
     part(

@@ -75,6 +75,7 @@ pub(crate) fn part<R: Ordered>(places: &R, after: bool) -> (usize, usize)
     ensures parts { IsRising (R.answers places.now)
         → IsPartedAt after (R.answers places.now) result.0 }
     ensures count { result.1 ≤ digits (length (R.answers places.now)) }
+    ensures at_least_one { 0 < length (R.answers places.now) → 1 ≤ result.1 }
 {
     part_within(places, after, 0, places.len())
 }

@@ -135,6 +135,7 @@ pub(crate) fn range_among(
 fn window(entries: &EntrySlice<'_>, spans: &[Span<'_>], path: &[u8]) -> (Range<usize>, usize)
     requires { AreSpans entries.now spans.now }
     ensures window { IsWindow path.now entries.now result.0 }
+    ensures some { 0 < length entries.now → result.0.start < result.0.end }
     ensures few { result.1 ≤ digits (length (names_of spans.now)) + 1 }
     ensures count { result.1 + digits (result.0.end - result.0.start) + 1
         ≤ search_bound (last_slash path.now) path.now entries.now (length (names_of spans.now)) }
@@ -168,6 +169,7 @@ pub(crate) fn search_among(
         → IfErr result.0 (IsGapAt (asked_cmp path.now stage) entries.now) }
     ensures count { result.1 ≤ search_bound (last_slash path.now) path.now
         entries.now (length (names_of spans.now)) }
+    ensures at_least_one { 0 < length entries.now → 1 ≤ result.1 }
 {
     let (window, count) = window(entries, spans, path);
     let places = Asked {

@@ -1,6 +1,6 @@
 //! Entries in the order of their paths, searched by way of their directories.
 
-ghost use Rattle.std.specs.Prelude.{◌≡◌, ◌↔◌, ◌≤◌, ℕ, ⊤, List, All, length, IfOk, IfErr, IsTrue};
+ghost use Rattle.std.specs.Prelude.{◌≡◌, ◌↔◌, ◌<◌, ◌≤◌, ℕ, ⊤, List, All, length, IfOk, IfErr, IsTrue};
 ghost use Rattle.std.specs.Option.{ok_or};
 ghost use Rattle.index_metadata.specs.Flags.{stage_code};
 ghost use Rattle.index_lookups.specs.Lookup.{IsKeyAt, IsPathAt, IsPathGap, insertion_of, place_of};
@@ -134,11 +134,13 @@ impl<'a> DirectoryTable<'a> {
     ///
     /// With D directories and n entries, of which r are below the directory of the path: at most digits of D and of r
     /// and 2, or, where none is below it, digits of D and of n and 2; and digits of n and 1 for a path without slash.
+    /// It is at least one where there are entries.
     pub fn search_path(&self, path: &[u8]) -> (Result<usize, usize>, usize)
         ensures found { IfOk result.0 (IsPathAt path.now self.now) }
         ensures in_range { IfErr result.0 (λ i. i ≤ length self.now) }
         ensures absent { IfErr result.0 (IsPathGap path.now self.now) }
         ensures count { IsBounded self.now path.now result.1 }
+        ensures at_least_one { 0 < length self.now → 1 ≤ result.1 }
     {
         search_among(&self.entries, &self.spans, path, None)
     }
@@ -156,6 +158,7 @@ impl<'a> DirectoryTable<'a> {
             → result.0 ≡ ok_or (place_of path.now (stage_code stage) self.now)
             (insertion_of path.now (stage_code stage) self.now) }
         ensures count { IsBounded self.now path.now result.1 }
+        ensures at_least_one { 0 < length self.now → 1 ≤ result.1 }
     {
         search_among(&self.entries, &self.spans, path, Some(stage))
     }
@@ -166,11 +169,25 @@ impl PathSearch for DirectoryTable<'_> {
 
     ghost can_search = { λ _. ⊤ };
 
-    fn search_path(&self, path: &[u8]) -> (Result<usize, usize>, usize) {
+    fn search_path(&self, path: &[u8]) -> (Result<usize, usize>, usize)
+        ensures found { IfOk result.0 (IsPathAt path.now self.now) }
+        ensures in_range { IfErr result.0 (λ i. i ≤ length self.now) }
+        ensures absent { IsOrderedByPath self.now → IfErr result.0 (IsPathGap path.now self.now) }
+        ensures count { IsBounded self.now path.now result.1 }
+        ensures at_least_one { 0 < length self.now → 1 ≤ result.1 }
+    {
         DirectoryTable::search_path(self, path)
     }
 
-    fn search_path_and_stage(&self, path: &[u8], stage: Stage) -> (Result<usize, usize>, usize) {
+    fn search_path_and_stage(&self, path: &[u8], stage: Stage) -> (Result<usize, usize>, usize)
+        ensures found { IfOk result.0 (IsKeyAt path.now (stage_code stage) self.now) }
+        ensures in_range { IfErr result.0 (λ i. i ≤ length self.now) }
+        ensures answer { IsStrictlyOrdered self.now
+            → result.0 ≡ ok_or (place_of path.now (stage_code stage) self.now)
+            (insertion_of path.now (stage_code stage) self.now) }
+        ensures count { IsBounded self.now path.now result.1 }
+        ensures at_least_one { 0 < length self.now → 1 ≤ result.1 }
+    {
         DirectoryTable::search_path_and_stage(self, path, stage)
     }
 }

@@ -2,15 +2,15 @@
 
 ghost use Rattle.std.specs.Bool.{OnTrue};
 ghost use Rattle.std.specs.List.{list_any};
-ghost use Rattle.std.specs.Option.{option_copied, option_map};
-ghost use Rattle.std.specs.Prelude.{◌≡◌, ◌↔◌, ℕ, ◌+◌, ◌<◌, ◌≤◌, Contains, List, Option, length, take, is_some, option_and_then, slice_get, true, IfOk, IfSome, IsTrue};
+ghost use Rattle.std.specs.Option.{ok_or, option_copied, option_map};
+ghost use Rattle.std.specs.Prelude.{◌≡◌, ◌↔◌, ℕ, ◌+◌, ◌<◌, ◌≤◌, Contains, List, Option, length, take, is_some, option_and_then, slice_get, true, IfErr, IfOk, IfSome, IsTrue};
 ghost use Rattle.std.specs.declared.ops.Range.{Range};
 ghost use Rattle.index_metadata.specs.Flags.{stage_code};
 ghost use Rattle.index_lookups.specs.Closest.{closest, stands_in};
 ghost use Rattle.index_lookups.specs.Digits.{digits};
 ghost use Rattle.index_lookups.specs.FilterMap.{closure_of, entries_left, storage_left};
 ghost use Rattle.index_lookups.specs.Folded.{IsNamed, folded_closest, folded_place};
-ghost use Rattle.index_lookups.specs.Lookup.{IsKeyAt, insertion_of_path, place_of};
+ghost use Rattle.index_lookups.specs.Lookup.{IsKeyAt, IsPathAt, IsPathGap, insertion_of, insertion_of_path, place_of};
 ghost use Rattle.index_entries.specs.Order.{IsOrderedByPath, IsStrictlyOrdered};
 ghost use Rattle.index_lookups.specs.Range.{HasStageOf, IsPart, IsPrefixRange, IsRange, LiesWithin, is_at, part_at, place_of_path};
 ghost use Rattle.index_entries.specs.Record.{record_in};
@@ -121,7 +121,8 @@ impl State {
     }
 
     /// Where the range of the prefix begins, that is how many paths are below it; and how many times the prefix was
-    /// compared with a path: over n entries, in any order, at most one more than n has binary digits.
+    /// compared with a path: over n entries, in any order, at most one more than n has binary digits, and at least once
+    /// where there are entries.
     ///
     /// The number is promised over entries whose paths never fall. Over other entries it is at most their number.
     pub fn search_prefix(&self, prefix: &[u8]) -> (usize, usize)
@@ -130,6 +131,7 @@ impl State {
         ensures place { IsOrderedByPath (records self.now)
             → result.0 ≡ insertion_of_path prefix.now (records self.now) }
         ensures count { result.1 ≤ digits (length (records self.now)) + 1 }
+        ensures at_least_one { 0 < length (records self.now) → 1 ≤ result.1 }
     {
         range::search_prefix(&self.slice(), prefix)
     }
@@ -193,7 +195,7 @@ impl State {
     }
 
     /// The place of that entry, and how many paths were compared: of n entries at most one more than n has binary
-    /// digits.
+    /// digits, and at least one where there are entries.
     pub fn search_path_icase(
         &self,
         path: &[u8],
@@ -203,6 +205,7 @@ impl State {
         requires { lookup.now ≡ records self.now }
         ensures answer { result.0 ≡ folded_place ignore_case path.now (records self.now) }
         ensures count { result.1 ≤ digits (length (records self.now)) + 1 }
+        ensures at_least_one { 0 < length (records self.now) → 1 ≤ result.1 }
     {
         lookup.search_path_icase(path, ignore_case)
     }
@@ -225,7 +228,7 @@ impl State {
     }
 
     /// The place of that entry, and how many names were compared: of m directories at most one more than m has
-    /// binary digits.
+    /// binary digits, and at least one where there are directories.
     pub fn search_directory_icase(
         &self,
         directory: &[u8],
@@ -236,6 +239,8 @@ impl State {
         ensures answer { result.0 ≡ folded_closest ignore_case directory.now (records self.now) }
         ensures count { (names : List (List ℕ)) × IsNamed ignore_case (records self.now) names
             × (result.1 ≤ digits (length names) + 1) }
+        ensures at_least_one { (names : List (List ℕ))
+            × IsNamed ignore_case (records self.now) names × (0 < length names → 1 ≤ result.1) }
     {
         lookup.search_directory_icase(directory, ignore_case)
     }
@@ -279,11 +284,28 @@ impl PathSearch for State {
 
     ghost can_search = { λ s. PathsInStorage s };
 
-    fn search_path(&self, path: &[u8]) -> (Result<usize, usize>, usize) {
+    fn search_path(&self, path: &[u8]) -> (Result<usize, usize>, usize)
+        requires { PathsInStorage self.now }
+        ensures found { IfOk result.0 (IsPathAt path.now (records self.now)) }
+        ensures in_range { IfErr result.0 (λ i. i ≤ length (records self.now)) }
+        ensures absent { IsOrderedByPath (records self.now)
+            → IfErr result.0 (IsPathGap path.now (records self.now)) }
+        ensures count { result.1 ≤ digits (length (records self.now)) + 1 }
+        ensures at_least_one { 0 < length (records self.now) → 1 ≤ result.1 }
+    {
         State::search_path(self, path)
     }
 
-    fn search_path_and_stage(&self, path: &[u8], stage: Stage) -> (Result<usize, usize>, usize) {
+    fn search_path_and_stage(&self, path: &[u8], stage: Stage) -> (Result<usize, usize>, usize)
+        requires { PathsInStorage self.now }
+        ensures found { IfOk result.0 (IsKeyAt path.now (stage_code stage) (records self.now)) }
+        ensures in_range { IfErr result.0 (λ i. i ≤ length (records self.now)) }
+        ensures answer { IsStrictlyOrdered (records self.now)
+            → result.0 ≡ ok_or (place_of path.now (stage_code stage) (records self.now))
+            (insertion_of path.now (stage_code stage) (records self.now)) }
+        ensures count { result.1 ≤ digits (length (records self.now)) + 1 }
+        ensures at_least_one { 0 < length (records self.now) → 1 ≤ result.1 }
+    {
         State::search_path_and_stage(self, path, stage)
     }
 }

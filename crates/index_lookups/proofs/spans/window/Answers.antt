@@ -23,3 +23,8 @@ pub returns-in-Err-clause-count : goal.returns-in-Err-clause-count
 returns-in-Err-clause-count c =
     let rs = c.args.entries.now in
     window_absent rs c.args.path.now (length (names_of c.args.spans.now)) c.in-Some.slash c.find-place.result.1 c.len.result (sym c.last_slash.ensures ∙ c.in-Some.is) (err_is c.find-place.result.0 _ _ c.in-Err.is (c.find-place.ensures.absent rs c.requires.dirs)) c.len.ensures c.find-place.ensures.count
+
+pub returns-in-Ok-clause-some : goal.returns-in-Ok-clause-some
+returns-in-Ok-clause-some c = λ _.
+    let d = take c.in-Some.slash c.args.path.now in
+    (span_found c.args.entries.now c.args.spans.now d c.in-Ok.place no_span (ok_is c.find-place.result.0 c.in-Ok.place _ c.in-Ok.is c.find-place.ensures.found) c.requires.each).0.some

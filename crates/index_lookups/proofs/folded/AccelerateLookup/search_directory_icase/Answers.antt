@@ -1,11 +1,10 @@
-use Rattle.std.proofs.Common.{◌≡◌, ◌+◌, ◌≤◌, ℕ, Bool, true, false, List, arith, length, map, sym, ap, subst, ◌∙◌}
-use Rattle.std.proofs.lemmas.List.{length-map}
+use Rattle.std.proofs.Common.{◌≡◌, ◌+◌, ◌<◌, ◌≤◌, ℕ, Bool, true, false, List, length, map, sym, subst}
 use Rattle.index_lookups.specs.Digits.{digits}
 use Rattle.index_entries.specs.Record.{Record}
-use Rattle.index_lookups.specs.Folded.{IsNamed, folded, folded_closest, stands_in_folded}
-use Rattle.index_lookups.specs.NameSteps.{IsTableOf, NamedValue, named_value}
+use Rattle.index_lookups.specs.Folded.{IsNamed, folded_closest, stands_in_folded}
+use Rattle.index_lookups.specs.NameSteps.{IsDirectoryTable, IsTableOf, named_value}
 use Rattle.index_lookups.specs.declared.names.Named.{Named}
-use Rattle.index_lookups.proofs.FirstOfEach.{named_of}
+use Rattle.index_lookups.proofs.FirstOfEach.{directories_named}
 use Rattle.index_lookups.proofs.folded.AccelerateLookup.search_directory_icase.Goals as goal
 
 pub returns-then-ignore_case-clause-answer : goal.returns-then-ignore_case-clause-answer
@@ -26,24 +25,32 @@ returns-else-ignore_case-clause-answer c =
 
 pub returns-then-ignore_case-clause-count : goal.returns-then-ignore_case-clause-count
 returns-then-ignore_case-clause-count c =
-    let v = c.self.inside.folded_directories in
-    let rs = c.self.inside.entries in
-    let f : NamedValue → List ℕ = λ k. folded true k.name in
-    let made = c.self.invariant.folded_directories_is in
-    let len : length (map f (map named_value v.items)) ≡ length c.deref.result.now = length-map (map named_value v.items) f ∙ length-map v.items named_value ∙ ap length (sym c.deref.ensures.value) in
-    let same : digits (length (map f (map named_value v.items))) ≡ digits (length c.deref.result.now) = ap digits len in
-    let few : c.find.result.1 ≤ digits (length (map f (map named_value v.items))) + 1 = omega (arith, same, c.find.ensures.count) in
-    let P : Bool → List Record → Type 0 = λ b xs. (names : List (List ℕ)) × IsNamed b xs names × (c.find.result.1 ≤ digits (length names) + 1) in
-    subst (λ (b : Bool). P b c.args.self.now) (sym c.if-ignore_case.true) (subst (P true) c.self.view_is (map f (map named_value v.items), named_of true rs (map named_value v.items) made.0 made.1, few))
+    let P : ℕ → Type 0 = λ n. c.find.result.1 ≤ digits n + 1 in
+    let T : List Named → Type 0 = λ names. IsDirectoryTable true c.self.inside.entries names in
+    let named = directories_named P true c.self.inside.entries c.deref.result.now (subst T (sym c.deref.ensures.value) c.self.invariant.folded_directories_is) c.find.ensures.count in
+    let Q : Bool → List Record → Type 0 = λ b rs. (names : List (List ℕ)) × IsNamed b rs names × P (length names) in
+    subst (λ (b : Bool). Q b c.args.self.now) (sym c.if-ignore_case.true) (subst (Q true) c.self.view_is named)
+
+pub returns-then-ignore_case-clause-at_least_one : goal.returns-then-ignore_case-clause-at_least_one
+returns-then-ignore_case-clause-at_least_one c =
+    let P : ℕ → Type 0 = λ n. 0 < n → 1 ≤ c.find.result.1 in
+    let T : List Named → Type 0 = λ names. IsDirectoryTable true c.self.inside.entries names in
+    let named = directories_named P true c.self.inside.entries c.deref.result.now (subst T (sym c.deref.ensures.value) c.self.invariant.folded_directories_is) c.find.ensures.at_least_one in
+    let Q : Bool → List Record → Type 0 = λ b rs. (names : List (List ℕ)) × IsNamed b rs names × P (length names) in
+    subst (λ (b : Bool). Q b c.args.self.now) (sym c.if-ignore_case.true) (subst (Q true) c.self.view_is named)
 
 pub returns-else-ignore_case-clause-count : goal.returns-else-ignore_case-clause-count
 returns-else-ignore_case-clause-count c =
-    let v = c.self.inside.directories in
-    let rs = c.self.inside.entries in
-    let f : NamedValue → List ℕ = λ k. folded false k.name in
-    let made = c.self.invariant.directories_is in
-    let len : length (map f (map named_value v.items)) ≡ length c.deref-else-ignore_case.result.now = length-map (map named_value v.items) f ∙ length-map v.items named_value ∙ ap length (sym c.deref-else-ignore_case.ensures.value) in
-    let same : digits (length (map f (map named_value v.items))) ≡ digits (length c.deref-else-ignore_case.result.now) = ap digits len in
-    let few : c.find-else-ignore_case.result.1 ≤ digits (length (map f (map named_value v.items))) + 1 = omega (arith, same, c.find-else-ignore_case.ensures.count) in
-    let P : Bool → List Record → Type 0 = λ b xs. (names : List (List ℕ)) × IsNamed b xs names × (c.find-else-ignore_case.result.1 ≤ digits (length names) + 1) in
-    subst (λ (b : Bool). P b c.args.self.now) (sym c.if-ignore_case.false) (subst (P false) c.self.view_is (map f (map named_value v.items), named_of false rs (map named_value v.items) made.0 made.1, few))
+    let P : ℕ → Type 0 = λ n. c.find-else-ignore_case.result.1 ≤ digits n + 1 in
+    let T : List Named → Type 0 = λ names. IsDirectoryTable false c.self.inside.entries names in
+    let named = directories_named P false c.self.inside.entries c.deref-else-ignore_case.result.now (subst T (sym c.deref-else-ignore_case.ensures.value) c.self.invariant.directories_is) c.find-else-ignore_case.ensures.count in
+    let Q : Bool → List Record → Type 0 = λ b rs. (names : List (List ℕ)) × IsNamed b rs names × P (length names) in
+    subst (λ (b : Bool). Q b c.args.self.now) (sym c.if-ignore_case.false) (subst (Q false) c.self.view_is named)
+
+pub returns-else-ignore_case-clause-at_least_one : goal.returns-else-ignore_case-clause-at_least_one
+returns-else-ignore_case-clause-at_least_one c =
+    let P : ℕ → Type 0 = λ n. 0 < n → 1 ≤ c.find-else-ignore_case.result.1 in
+    let T : List Named → Type 0 = λ names. IsDirectoryTable false c.self.inside.entries names in
+    let named = directories_named P false c.self.inside.entries c.deref-else-ignore_case.result.now (subst T (sym c.deref-else-ignore_case.ensures.value) c.self.invariant.directories_is) c.find-else-ignore_case.ensures.at_least_one in
+    let Q : Bool → List Record → Type 0 = λ b rs. (names : List (List ℕ)) × IsNamed b rs names × P (length names) in
+    subst (λ (b : Bool). Q b c.args.self.now) (sym c.if-ignore_case.false) (subst (Q false) c.self.view_is named)
