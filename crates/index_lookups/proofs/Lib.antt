@@ -13,6 +13,7 @@ pub mod PathOrder
 pub mod Places
 pub mod PresentCount
 pub mod OrderedAnswers
+pub mod RunFilters
 pub mod RunsFound
 pub mod SpanOrder
 pub mod SpanStarts

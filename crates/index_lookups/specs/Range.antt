@@ -1,6 +1,6 @@
 -- Which places of a list of records have a path, or begin with a prefix (the library's own). Each definition speaks of
 -- any list; over records ordered by path such places stand together.
-use Rattle.std.specs.Prelude.{◌≡◌, ℕ, ◌<◌, ◌≤◌, ◌⊎◌, Bool, true, false, List, [], ◌∷◌, length, All, Option, MatchOption, nat_eq, slice_range}
+use Rattle.std.specs.Prelude.{◌≡◌, ℕ, ◌<◌, ◌≤◌, ◌⊎◌, Bool, true, false, List, [], ◌∷◌, length, All, Option, Some, None, MatchOption, nat_eq, slice_range}
 use Rattle.std.specs.List.{AllWithin, starts_with}
 use Rattle.std.specs.Option.{option_or}
 use Rattle.std.specs.Str.{bytes_eq}
@@ -44,6 +44,11 @@ IsPrefixRange (b ∷ bs) rs r = IsRange (begins_with (b ∷ bs)) rs r
 -- what stands at the places of a range
 abbrev pub part_at : {X : Type 0} → List X → Range ℕ → List X
 part_at xs p = slice_range xs p.start p.end
+
+-- the same of places that there may be, and nothing without them
+abbrev pub part_of : {X : Type 0} → List X → Option (Range ℕ) → List X
+part_of xs None = []
+part_of xs (Some p) = part_at xs p
 
 -- where the record at a path stands: at stage 0, or else at stage 2
 abbrev pub place_of_path : List ℕ → List Record → Option ℕ
