@@ -10,7 +10,7 @@ ghost use Rattle.index_format.specs.declared.write.Error.TheVariants.{Io};
 ghost use Rattle.index_format.specs.Image.{asks_for, image_version, unmarked, body};
 ghost use Rattle.index_format.specs.LayoutSteps.{header_and_entries, IsLayout};
 ghost use Rattle.index_format.specs.Contents.{PartsInStorage, parts_contents};
-ghost use Rattle.index_format.specs.Storable.{CanEncode};
+ghost use Rattle.index_format.specs.Storable.{CanEncode, IsWritable};
 ghost use Rattle.index_format.specs.Writing.{RefusedWith, Writes};
 
 use crate::Parts;
@@ -169,6 +169,7 @@ impl Parts {
             ↔ RefusedWith (parts_contents self.now) options Error.NulInPath }
         ensures too_large { (result ≡ Err Error.TooLarge)
             ↔ RefusedWith (parts_contents self.now) options Error.TooLarge }
+        ensures writable { OnOk result (IsWritable (parts_contents self.now) options) }
     {
         if self.entries.len() > u32::MAX as usize {
             return Err(Error::TooManyEntries);

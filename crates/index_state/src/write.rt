@@ -3,6 +3,7 @@
 ghost use Rattle.std.specs.Prelude.{◌≡◌, ◌↔◌, false, IfOk, OnOk};
 ghost use Rattle.index_parts.specs.Taking.{Hashes};
 ghost use Rattle.index_format.specs.Image.{body, image_version};
+ghost use Rattle.index_format.specs.Storable.{IsWritable};
 ghost use Rattle.index_format.specs.Writing.{RefusedWith, Writes};
 ghost use Rattle.index_state.specs.State.{PathsInStorage, contents};
 
@@ -43,6 +44,7 @@ impl State {
             ↔ RefusedWith (contents self.now) options Error.NulInPath }
         ensures too_large { (result ≡ Err Error.TooLarge)
             ↔ RefusedWith (contents self.now) options Error.TooLarge }
+        ensures writable { OnOk result (IsWritable (contents self.now) options) }
     {
         self.parts.write_to(out, options)
     }

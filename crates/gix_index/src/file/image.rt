@@ -3,6 +3,7 @@
 ghost use Rattle.std.specs.Prelude.{◌≡◌, true, false, OnOk};
 ghost use Rattle.index_parts.specs.Taking.{Hashes};
 ghost use Rattle.index_format.specs.Image.{body, image};
+ghost use Rattle.index_format.specs.Storable.{IsWritable};
 ghost use Rattle.index_state.specs.State.{PathsInStorage, contents};
 ghost use Rattle.gix_index.specs.File.{state_of};
 ghost use Rattle.gix_index.specs.WrittenFile.{WritesIndex};
@@ -29,6 +30,7 @@ fn put_hashed<W: Out>(
     ensures hashed { OnOk result
         (Hashes W.hashed out.old out.new (body (contents state.now) options)) }
     ensures loan { W.loan out.new ≡ W.loan out.old }
+    ensures writable { OnOk result (IsWritable (contents state.now) options) }
 {
     let mut hashing = Write::new(out, state.object_hash());
     let result = state.write_to(&mut hashing, options);
@@ -54,6 +56,7 @@ fn put_unhashed<W: Out>(
     ensures hashed { OnOk result
         (Hashes W.hashed out.old out.new (body (contents state.now) options)) }
     ensures loan { W.loan out.new ≡ W.loan out.old }
+    ensures writable { OnOk result (IsWritable (contents state.now) options) }
 {
     let version = state.write_to(out, options)?;
     Ok((version, state.object_hash().null()))
@@ -73,6 +76,7 @@ fn put_body<W: Out>(
     ensures hashed { OnOk result
         (Hashes W.hashed out.old out.new (body (contents state.now) options)) }
     ensures loan { W.loan out.new ≡ W.loan out.old }
+    ensures writable { OnOk result (IsWritable (contents state.now) options) }
 {
     if options.skip_hash {
         put_unhashed(state, out, options)
@@ -102,6 +106,7 @@ impl File {
         ensures hashed { OnOk result
             (Hashes W.hashed out.old out.new (image (contents (state_of self.now)) options)) }
         ensures loan { W.loan out.new ≡ W.loan out.old }
+        ensures writable { OnOk result (IsWritable (contents (state_of self.now)) options) }
     {
         let (version, id) = put_body(&self.state, out, options)?;
         out.put(id.as_bytes())?;

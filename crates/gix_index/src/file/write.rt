@@ -3,6 +3,7 @@
 ghost use Rattle.std.specs.Prelude.{◌≡◌, IfOk, OnErr, OnOk};
 ghost use Rattle.index_parts.specs.Id.{make_id};
 ghost use Rattle.index_format.specs.Image.{image_version, trailer};
+ghost use Rattle.index_format.specs.Storable.{IsWritable};
 ghost use Rattle.index_state.specs.State.{PathsInStorage, contents};
 ghost use Rattle.gix_index.specs.File.{state_of};
 ghost use Rattle.gix_index.specs.WrittenFile.{IsWritten};
@@ -106,6 +107,7 @@ impl File {
             (λ x. x.0 ≡ image_version (contents (state_of self.now)) options) }
         ensures id { IfOk result (λ x. x.1 ≡ make_id (contents (state_of self.now)).kind
             (trailer (contents (state_of self.now)) options)) }
+        ensures writable { OnOk result (IsWritable (contents (state_of self.now)) options) }
     {
         let buffer = BufWriter::with_capacity(alloc, BUFFER_LEN, Retrying { inner: file })?;
         let mut out = Plain::new(buffer);
@@ -127,6 +129,7 @@ impl File {
             (λ x. x.0 ≡ image_version (contents (state_of self.now)) options) }
         ensures id { IfOk result (λ x. x.1 ≡ make_id (contents (state_of self.now)).kind
             (trailer (contents (state_of self.now)) options)) }
+        ensures writable { OnOk result (IsWritable (contents (state_of self.now)) options) }
     {
         let lock = lock_path(alloc, &self.path)?;
         let path = self.path.clone()?;
@@ -163,6 +166,7 @@ impl File {
         requires { PathsInStorage (state_of self.old) }
         ensures ok { OnOk result (IsWritten self.old self.new options) }
         ensures err { OnErr result (self.new ≡ self.old) }
+        ensures writable { OnOk result (IsWritable (contents (state_of self.old)) options) }
     {
         let (version, id) = self.replace(rt, alloc, options)?;
         self.state.set_version(version);
