@@ -2,8 +2,8 @@
 
 pub mod entries;
 
-ghost use Rattle.std.specs.Prelude.{◌≡◌, ◌↔◌, false, IfErr, IfOk, IsOk, IsTrue, None, Some, length};
-ghost use Rattle.index_entries.specs.Order.{IsStrictlyOrdered};
+ghost use Rattle.std.specs.Prelude.{◌≡◌, ◌↔◌, ℕ, false, IfErr, IfOk, IsOk, IsTrue, OnOk, None, Some, length, take};
+ghost use Rattle.index_entries.specs.Order.{IsOrderedByPath, IsStrictlyOrdered};
 ghost use Rattle.index_entries.specs.Sorted.{IsFirstFall};
 ghost use Rattle.index_cached_tree.specs.Agreement.{Trees, AreTrees};
 ghost use Rattle.index_cached_tree.specs.TreeFaults.{SaysTree};
@@ -36,11 +36,14 @@ fn out_of_order(
 }
 
 impl State {
-    /// Whether the entries strictly increase by path, then by stage, as a file has them and as searches ask. The error
-    /// names the first entry that isn't above the one before it; memory is asked for to name it alone.
+    /// Whether the entries strictly increase by path, then by stage, as a file has them and as searches ask. So their
+    /// paths never fall, as lookups by path, prefix and directory ask, and the same holds of the first entries, however
+    /// many. The error names the first entry that isn't above the one before it; memory is asked for to name it alone.
     pub fn verify_entries(&self) -> Result<(), entries::Error>
         requires { PathsInStorage self.now }
         ensures ok { IsOk result ↔ IsStrictlyOrdered (records self.now) }
+        ensures by_path { OnOk result (IsOrderedByPath (records self.now)) }
+        ensures fronts { OnOk result ((n : ℕ) → IsStrictlyOrdered (take n (records self.now))) }
         ensures fault { IfErr result (SaysFall (records self.now)) }
     {
         let entries = self.slice();
