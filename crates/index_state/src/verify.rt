@@ -43,7 +43,7 @@ impl State {
         requires { PathsInStorage self.now }
         ensures ok { IsOk result ↔ IsStrictlyOrdered (records self.now) }
         ensures by_path { OnOk result (IsOrderedByPath (records self.now)) }
-        ensures fronts { OnOk result ((n : ℕ) → IsStrictlyOrdered (take n (records self.now))) }
+        ensures prefixes { OnOk result ((n : ℕ) → IsStrictlyOrdered (take n (records self.now))) }
         ensures fault { IfErr result (SaysFall (records self.now)) }
     {
         let entries = self.slice();
