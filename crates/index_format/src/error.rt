@@ -92,8 +92,8 @@ pub enum Error {
         /// How many bytes there are.
         actual: usize,
     },
-    /// The trailer differs from `expected_checksum` of the options. Where a whole file is checked before it is read, the
-    /// digest of its bytes differs from its trailer: there `actual` is the digest, and `expected` the trailer.
+    /// The trailer differs from `expected_checksum` of the options. Where a whole file is checked before it is read,
+    /// the digest of its bytes differs from its trailer: there `actual` is the digest, and `expected` the trailer.
     #[error("the index's digest is {actual} and not {expected}: the file may be damaged, have ids of the other kind, or be no index")]
     Verify {
         /// The trailer, or the digest.
