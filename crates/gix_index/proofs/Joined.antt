@@ -1,5 +1,5 @@
 -- What is read of a split index and of its shared index.
-use Rattle.std.proofs.Common.{◌≡◌, ℕ, Bool, true, false, List, inl, inr, Option, Some, None, Ok, Err, refl, sym, ap, subst, ◌∙◌}
+use Rattle.std.proofs.Common.{◌≡◌, ℕ, Bool, true, false, List, inl, inr, Option, Some, None, Ok, Err, refl, sym, ap, ◌∙◌}
 use Rattle.std.specs.Prelude.{◌⊎◌, MatchBool}
 use Rattle.index_parts.specs.declared.hash.Kind.{Kind}
 use Rattle.index_parts.specs.declared.hash.ObjectId.{ObjectId}
@@ -13,7 +13,6 @@ use Rattle.index_format.specs.Contents.{Contents}
 use Rattle.index_format.specs.Storable.{IsStorable}
 use Rattle.index_format.proofs.ReadValues.{value_is}
 use Rattle.gix_index.specs.Checked.{needs_check, digest_id, trailer_id, IsFileAnswer}
-use Rattle.gix_index.specs.Linked.{IsOnDisk, own, joined}
 
 answer_by : (t : Bool) (E N : Type 0) (P : Type 0) (a f : Answer) (v : Contents) (c : Option ObjectId) (x y : ObjectId) → a ≡ Ok (v, c) → f ≡ Err (Verify x y) → MatchBool t ((E × P) ⊎ (N × (a ≡ f))) P → P
 answer_by true E N P a f v c x y e g (inl h) = h.1

@@ -6,6 +6,8 @@ use Rattle.index_parts.specs.Id.{id_len, is_null, make_id}
 use Rattle.index_parts.specs.declared.hash.Kind.{Kind}
 use Rattle.index_parts.specs.declared.hash.ObjectId.{ObjectId}
 use Rattle.index_metadata.specs.declared.entry.stat.FileTime.{FileTime}
+use Rattle.index_split.specs.declared.link.decode.Error.{Error as LinkError}
+use Rattle.index_split.specs.declared.link.decode.Error.TheVariants as links
 use Rattle.index_format.specs.declared.decode.Options.{Options}
 use Rattle.index_format.specs.declared.error.Error.{Error as Decoding}
 use Rattle.index_format.specs.declared.error.Error.TheVariants as decoding
@@ -59,6 +61,11 @@ IsFileAnswer skip kind time options bytes a =
 abbrev pub error_of : Decoding → Error
 error_of decoding.Memory = errors.Memory
 error_of e = errors.Decode e
+
+-- the same of a link's error
+abbrev pub link_error_of : LinkError → Error
+link_error_of links.Memory = errors.Memory
+link_error_of e = errors.LinkExtension e
 
 -- What a result says of the answer that P holds of. Want of memory has a variant of its own, and says that no early fault is the answer.
 abbrev pub SaysFile : Result File Error → (Answer → Type 0) → Type 0

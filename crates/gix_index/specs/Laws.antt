@@ -11,7 +11,7 @@ use Rattle.index_format.specs.Storable.{IsStorable, IsWritable, IsUnmistakable}
 use Rattle.index_format.specs.declared.decode.Options.{Options}
 use Rattle.index_format.specs.declared.write.Options.{Options as WriteOptions}
 use Rattle.index_parts.specs.Bitmap.{Bitmap, IsBitmap, HasBitmap, Lacks}
-use Rattle.index_parts.specs.declared.ewah.decode.Error.{Error}
+use Rattle.index_parts.specs.declared.ewah.reading.Error.{Error}
 use Rattle.index_extensions.specs.ExtensionValue.{IsRead}
 use Rattle.index_extensions.specs.Walk.{Item, IsWalk}
 

@@ -2,6 +2,7 @@
 -- definition's file has its name already.
 pub mod Checked
 pub mod File
+pub mod FileFaults
 pub mod Laws
 pub mod Linked
 pub mod VerifiedFile
@@ -84,12 +85,15 @@ pub use Rattle.index_state.specs.State
 pub use Rattle.index_parts.specs.declared.hash.Kind
 pub use Rattle.index_parts.specs.declared.hash.ObjectId
 pub use Rattle.index_parts.specs.declared.hash.Hasher
+pub use Rattle.index_parts.specs.declared.hash.io.Plain
+pub use Rattle.index_parts.specs.declared.hash.io.Retrying
+pub use Rattle.index_parts.specs.declared.hash.io.Write as DigestWriter
 pub use Rattle.index_parts.specs.declared.hash.verify.Error as DigestError
 pub use Rattle.index_parts.specs.contracts.hash.ObjectIdOrd
 pub use Rattle.index_parts.specs.declared.ewah.Vec as BitmapType
 pub use Rattle.index_parts.specs.declared.ewah.iter.Malformed as BitmapMalformed
 pub use Rattle.index_parts.specs.declared.ewah.iter.Positions
-pub use Rattle.index_parts.specs.declared.ewah.decode.Error as BitmapError
+pub use Rattle.index_parts.specs.declared.ewah.reading.Error as BitmapError
 pub use Rattle.index_metadata.specs.declared.entry.flags.Flags as FlagsType
 pub use Rattle.index_metadata.specs.declared.entry.flags.Stage
 pub use Rattle.index_metadata.specs.declared.entry.mode.Mode as ModeType
@@ -99,16 +103,28 @@ pub use Rattle.index_metadata.specs.declared.entry.stat.Stat as StatType
 pub use Rattle.index_metadata.specs.declared.entry.stat.Time
 pub use Rattle.index_metadata.specs.declared.entry.stat.OutOfRange
 pub use Rattle.index_metadata.specs.declared.entry.stat.Options as StatOptions
+pub use Rattle.index_metadata.specs.declared.entry.at_rest.Flags as FlagsAtRest
+pub use Rattle.index_metadata.specs.declared.entry.at_rest.FlagsExtended as ExtendedFlagsAtRest
 pub use Rattle.index_metadata.specs.declared.fs.FileKind
 pub use Rattle.index_metadata.specs.declared.fs.Metadata
 pub use Rattle.index_metadata.specs.declared.object.Kind as ObjectKind
 pub use Rattle.index_metadata.specs.declared.object.find.Error as FindError
 pub use Rattle.index_metadata.specs.declared.object.tree.EntryKind
+pub use Rattle.index_metadata.specs.declared.object.tree.EntryMode
+pub use Rattle.index_metadata.specs.declared.object.tree.EntryRef
+pub use Rattle.index_metadata.specs.declared.object.tree.Entries as TreeEntries
+pub use Rattle.index_metadata.specs.declared.object.tree.Malformed as MalformedTree
+pub use Rattle.index_metadata.specs.declared.object.NoObjects
 pub use Rattle.index_entries.specs.declared.Entry as EntryType
 pub use Rattle.index_entries.specs.declared.Version
 pub use Rattle.index_format.specs.declared.error.Header as HeaderError
 pub use Rattle.index_entries.specs.declared.write.VersionChoice
+pub use Rattle.index_lookups.specs.declared.folded.AccelerateLookup
+pub use Rattle.index_lookups.specs.declared.paths.FilterMapPaths
+pub use Rattle.index_lookups.specs.declared.tables.DirectoryTable
 pub use Rattle.index_trees.specs.declared.error.Error as FromTreeError
+pub use Rattle.index_trees.specs.declared.error.Traversal
+pub use Rattle.index_extensions.specs.declared.iter.Iter as ExtensionIter
 pub use Rattle.index_extensions.specs.declared.fs_monitor.FsMonitor as FsMonitorType
 pub use Rattle.index_extensions.specs.declared.fs_monitor.Token
 pub use Rattle.index_extensions.specs.declared.index_entry_offset_table.Offset as OffsetType
@@ -119,6 +135,7 @@ pub use Rattle.index_cached_tree.specs.declared.verify.Error as TreeError
 pub use Rattle.index_cached_tree.specs.declared.write.Error as TreeWriteError
 pub use Rattle.index_untracked.specs.declared.UntrackedCache
 pub use Rattle.index_untracked.specs.declared.Directory
+pub use Rattle.index_untracked.specs.declared.OidStat
 pub use Rattle.index_split.specs.declared.link.Link as LinkType
 pub use Rattle.index_split.specs.declared.link.Bitmaps
 pub use Rattle.index_split.specs.declared.link.decode.Error as LinkError

@@ -29,15 +29,19 @@ pub record IsOwn (skip : Bool) (kind : Kind) (time : FileTime) (options : Option
   pub unfollowed : IsUnfollowed split.extensions.link
   pub is : v ≡ without_link split
 
--- the same where a link is followed: some other bytes are read as the shared index, whose trailer has to be the link's id, and
--- the link is dissolved
-pub record IsJoined (skip : Bool) (kind : Kind) (time : FileTime) (options : Options) (v : Contents) (checksum : Option ObjectId) : Type 0 where
+-- some bytes are read as a split index with this trailer and this link, whose id isn't null
+pub record IsSplit (skip : Bool) (kind : Kind) (time : FileTime) (options : Options) (split : Contents) (checksum : Option ObjectId) (link : LinkValue) : Type 0 where
   pub bytes : List ℕ
-  pub split : Contents
   pub read : IsFileAnswer skip kind time options bytes (Ok (split, checksum))
-  pub link : LinkValue
   pub has_link : split.extensions.link ≡ Some link
   pub followed : is_null (id_bytes link.shared) ≡ false
+
+-- the value and the trailer's id, where a link is followed: some other bytes are read as the shared index, whose trailer has to
+-- be the link's id, and the link is dissolved
+pub record IsJoined (skip : Bool) (kind : Kind) (time : FileTime) (options : Options) (v : Contents) (checksum : Option ObjectId) : Type 0 where
+  pub split : Contents
+  pub link : LinkValue
+  pub is_split : IsSplit skip kind time options split checksum link
   pub shared_bytes : List ℕ
   pub shared : Contents
   pub shared_checksum : Option ObjectId

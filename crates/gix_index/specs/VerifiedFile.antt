@@ -3,6 +3,7 @@ use Rattle.std.specs.Prelude.{◌≡◌, ◌≢◌, ℕ, ◌<◌, ◌≤◌, Lis
 use Rattle.index_parts.specs.Id.{id_kind, id_len}
 use Rattle.index_parts.specs.declared.hash.ObjectId.{ObjectId}
 use Rattle.gix_index.specs.Checked.{digest_id}
+use Rattle.gix_index.specs.FileFaults.{IsOfDisk}
 use Rattle.gix_index.specs.declared.file.verify.Error.{Error}
 use Rattle.gix_index.specs.declared.file.verify.Error.TheVariants as errors
 
@@ -20,9 +21,9 @@ abbrev pub FitsSomeBytes : ObjectId → Type 0
 FitsSomeBytes checksum =
     (bytes : List ℕ) × (id_len (id_kind checksum) ≤ length bytes) × (digest_id (id_kind checksum) bytes ≡ checksum)
 
--- A fault of some bytes; where none were read, for a fault of the disk or want of memory, nothing is said of them.
+-- A fault of some bytes; where none were read, one of the disk, or want of memory, which says nothing.
 abbrev pub SaysOfSomeBytes : ObjectId → Error → Type 0
 SaysOfSomeBytes checksum errors.TooShort = (bytes : List ℕ) × SaysOfBytes bytes checksum errors.TooShort
 SaysOfSomeBytes checksum (errors.Verify e) = (bytes : List ℕ) × SaysOfBytes bytes checksum (errors.Verify e)
-SaysOfSomeBytes checksum (errors.Io e) = Unit {0}
+SaysOfSomeBytes checksum (errors.Io fault) = IsOfDisk fault
 SaysOfSomeBytes checksum errors.Memory = Unit {0}

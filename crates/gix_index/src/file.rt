@@ -17,6 +17,7 @@ use index_entries::{PathBacking, PathStorageRef};
 use index_parts::hash::ObjectId;
 use index_state::State;
 use std::alloc::AllocError;
+use std::fmt;
 use std::ops::{Deref, DerefMut};
 use std::path::{Path, PathBuf};
 
@@ -39,6 +40,18 @@ impl Clone for File {
             path: self.path.clone()?,
             checksum: self.checksum,
         })
+    }
+}
+
+/// A line with the path and the checksum, and the lines of the state.
+impl fmt::Debug for File {
+    fn fmt<W: fmt::Write>(&self, f: &mut fmt::Formatter<W>) -> fmt::Result {
+        let path = self.path.as_path();
+        match self.checksum {
+            Some(id) => writeln!(f, "{:?}, checksum {id}", path.as_str())?,
+            None => writeln!(f, "{:?}, no checksum", path.as_str())?,
+        }
+        write!(f, "{:?}", self.state)
     }
 }
 

@@ -1,7 +1,9 @@
 //! The git index: the file that lists a repository's staged paths, read into memory, searched and written again.
 //!
 //! All that is public stands here under the paths of the Rust crate `gix-index`, but for `laws`, which it lacks; a user
-//! names this crate alone.
+//! names this crate alone. The operations of sets on [`entry::Flags`] and [`entry::Mode`] are those of the trait
+//! [`bitflags::Flags`]; the texts that errors and caches own are [`bstr::BString`], and a cached tree's name is a
+//! [`smallvec::SmallVec`]: those three crates are passed on.
 #![tactic(auto)]
 
 pub mod decode;
@@ -10,6 +12,8 @@ pub mod file;
 pub mod init;
 pub mod laws;
 
+pub use bitflags;
+pub use bstr;
 pub use file::File;
 pub use index_entries::{Entry, PathBacking, PathStorage, PathStorageRef, Version};
 pub use index_format::write;
@@ -19,3 +23,4 @@ pub use index_lookups::tables::{DirectoryTable, PathSearch, count_present};
 pub use index_metadata::{entry, fs, object};
 pub use index_parts::{ewah, hash, util};
 pub use index_state::{State, verify};
+pub use smallvec;

@@ -11,6 +11,7 @@ pub mod OnceEntries
 pub mod Orders
 pub mod Pieces
 pub mod ReadRecords
+pub mod RemovedFilters
 pub mod Removing
 pub mod SharedFronts
 pub mod SomeEntries

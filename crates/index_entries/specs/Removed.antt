@@ -1,9 +1,11 @@
 -- What is left of entries after a closure looked at each of them once (the library's own).
-use Rattle.std.specs.Prelude.{◌≡◌, ℕ, ◌<◌, Bool, not, List, length, map, filter, slice_index_or}
-use Rattle.std.specs.List.{FoldsTo}
+use Rattle.std.specs.Prelude.{◌≡◌, ℕ, ◌<◌, Bool, not, List, length, map, filter, zip, slice_index_or}
+use Rattle.std.specs.Fn.{AlwaysReturns}
+use Rattle.std.specs.List.{FoldsTo, range_with_len}
+use denote.Param.Members.{Mut}
 use denote.Ref.{Bor, MutBor}
 use Rattle.index_entries.specs.declared.Entry.{Entry}
-use Rattle.index_entries.specs.Record.{record_in}
+use Rattle.index_entries.specs.Record.{Record, record_in}
 
 -- one call: the place, the entry before and after it, and whether the entry is to go
 pub record Call : Type 0 where
@@ -28,3 +30,40 @@ pub record RemovesWith {F : Type 0} (step : F → ℕ → Bor (List ℕ) → Mut
   pub calls : List Call
   pub ran : FoldsTo (λ f c g. IsCalled step storage f c g) first calls last
   pub left : RemovesBy calls old new
+
+-- ---- closures of which more is known
+
+-- what a call is shown, a place, a path and an entry, and what it gives back, an answer and the entry as it left it
+abbrev pub Shown : Type 0
+Shown = ℕ × (Bor (List ℕ) × (MutBor Entry × Unit {0}))
+
+abbrev pub Answered : Type 0
+Answered = Bool × (MutBor Entry × Unit {0})
+
+-- the record of the entry and the path that a call is shown
+abbrev pub shown_record : Shown → Record
+shown_record a = record { path = a.1.0.now; stat = a.1.1.0.now.stat; id = a.1.1.0.now.id; flags = a.1.1.0.now.flags.0; mode = a.1.1.0.now.mode.0 }
+
+-- the entries are the same, but for their flags
+abbrev pub IsSameButFlags : Entry → Entry → Type 0
+IsSameButFlags d e = (e.path ≡ d.path) × (e.stat ≡ d.stat) × (e.id ≡ d.id) × (e.mode ≡ d.mode)
+
+-- each call, from this state of the closure on, leaves the entry's range of the storage as it is
+abbrev pub LeavesPaths : {F : Type 0} → Mut F Shown Answered → F → Type 0
+LeavesPaths g f = AlwaysReturns g (λ a r. r.1.0.now.path ≡ a.1.1.0.now.path) f
+
+-- each call leaves the entry as it is, but for its flags
+abbrev pub ChangesFlagsAlone : {F : Type 0} → Mut F Shown Answered → F → Type 0
+ChangesFlagsAlone g f = AlwaysReturns g (λ a r. IsSameButFlags a.1.1.0.now r.1.0.now) f
+
+-- each call answers what a test gives of the place and the record, and leaves the entry as it is
+abbrev pub AnswersByPlace : {F : Type 0} → Mut F Shown Answered → (ℕ → Record → Bool) → F → Type 0
+AnswersByPlace g test f = AlwaysReturns g (λ a r. (r.0 ≡ test a.0 (shown_record a)) × (r.1.0.now ≡ a.1.1.0.now)) f
+
+-- the same, where the test asks of the record alone
+abbrev pub AnswersBy : {F : Type 0} → Mut F Shown Answered → (Record → Bool) → F → Type 0
+AnswersBy g test f = AnswersByPlace g (λ place r. test r) f
+
+-- what is left of a list without the elements of which a test of places and elements is true
+abbrev pub left_by : {A : Type 0} → (ℕ → A → Bool) → List A → List A
+left_by test xs = map (λ p. p.1) (filter (λ p. not (test p.0 p.1)) (zip (range_with_len 0 (length xs)) xs))

@@ -10,8 +10,8 @@ use Rattle.index_parts.proofs.Steps.{bind_some}
 use Rattle.index_parts.specs.Bitmap.{Bitmap, IsBitmap, HasBitmap, Lacks, SaysBitmapFault}
 use Rattle.index_parts.specs.Numbers.{be, number}
 use Rattle.index_parts.specs.ReadingSteps.{◌>>=◌, split_at_byte, number_at}
-use Rattle.index_parts.specs.declared.ewah.decode.Error.{Error}
-use Rattle.index_parts.specs.declared.ewah.decode.Error.TheVariants as errors
+use Rattle.index_parts.specs.declared.ewah.reading.Error.{Error}
+use Rattle.index_parts.specs.declared.ewah.reading.Error.TheVariants as errors
 use Rattle.index_extensions.specs.ExtensionValue.{IsRead}
 use Rattle.index_extensions.specs.FsMonitor.{TokenValue, nanoseconds, opaque, Monitor, IsToken, version_1, version_2, IsMonitor, HasMonitor}
 use Rattle.index_extensions.specs.MonitorSteps.{token_at, parts_at, has_bitmap_len, IsSizedBitmap}

@@ -3,14 +3,14 @@
 ghost use Rattle.std.specs.Prelude.{◌≡◌, IfOk, IfErr};
 ghost use Rattle.std.specs.Option.{option_map};
 ghost use Rattle.index_parts.specs.Bitmap.{Bitmap, bitmap};
-ghost use Rattle.index_parts.specs.declared.ewah.decode.Error.TheVariants.{Memory};
+ghost use Rattle.index_parts.specs.declared.ewah.reading.Error.TheVariants.{Memory};
 ghost use Rattle.index_extensions.specs.ExtensionValue.{IsRead};
 ghost use Rattle.index_extensions.specs.FsMonitor.{token_value, monitor_of, IsMonitor, HasMonitor};
 ghost use Rattle.index_extensions.specs.MonitorSteps.{lent_token, has_bitmap_len, IsSizedBitmap};
 
 use super::Signature;
 use bstr::BString;
-use index_parts::ewah::decode::Error;
+use index_parts::ewah::Error;
 use index_parts::{ewah, read};
 use parts::{LentToken, parts_of};
 use std::alloc::{AllocError, Global};
@@ -124,7 +124,7 @@ fn sized_bitmap_of(alloc: Global, size: u32, bytes: &[u8]) -> Result<Option<ewah
     if !has_bitmap_len(bytes) {
         return Ok(None);
     }
-    match ewah::decode::decode(alloc, bytes) {
+    match ewah::decode(alloc, bytes) {
         Ok((bitmap, _)) => Ok(Some(bitmap)),
         Err(error) => {
             check_memory(error)?;

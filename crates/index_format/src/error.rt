@@ -2,11 +2,12 @@
 
 ghost use Rattle.std.specs.Prelude.{◌≡◌};
 ghost use Rattle.index_format.specs.DecodeErrors.{entries_error, link_error};
-ghost use Rattle.index_format.specs.declared.error.Error.TheVariants.{Header, Memory};
+ghost use Rattle.index_format.specs.declared.error.Error.TheVariants.{Extension, Header, Memory, Verify};
+ghost use Rattle.index_format.specs.declared.error.Extension.TheVariants.{Link};
 
 use index_entries::decode::entries::Error as EntriesError;
 use index_extensions::{Signature, sparse};
-use index_parts::hash::ObjectId;
+use index_parts::hash::{ObjectId, verify};
 use index_split::link;
 use std::alloc::{AllocError, AllocFailed};
 use std::fmt;
@@ -35,6 +36,14 @@ pub enum Extension {
     /// The link to a shared index is at fault.
     #[error("{0}")]
     Link(link::decode::Error),
+}
+
+impl From<link::decode::Error> for Extension {
+    ghost from_gives = { λ link e. e ≡ Link link };
+
+    fn from(e: link::decode::Error) -> Extension {
+        Extension::Link(e)
+    }
 }
 
 /// A mandatory extension that isn't understood, in words: its signature as text where it is text, else in base 16.
@@ -111,6 +120,25 @@ impl From<Header> for Error {
 
     fn from(e: Header) -> Error {
         Error::Header(e)
+    }
+}
+
+impl From<Extension> for Error {
+    ghost from_gives = { λ x e. e ≡ Extension x };
+
+    fn from(e: Extension) -> Error {
+        Error::Extension(e)
+    }
+}
+
+impl From<verify::Error> for Error {
+    ghost from_gives = { λ v e. e ≡ Verify v.actual v.expected };
+
+    fn from(e: verify::Error) -> Error {
+        Error::Verify {
+            actual: e.actual,
+            expected: e.expected,
+        }
     }
 }
 

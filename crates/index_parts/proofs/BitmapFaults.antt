@@ -3,8 +3,8 @@ use Rattle.std.proofs.Common.{◌≡◌, ℕ, ◌+◌, ◌*◌, ◌<◌, ◌≤�
 use Rattle.std.proofs.lemmas.List.{take_at, drop_at, take-append-drop, length-append, length-take, length-drop}
 use Rattle.index_parts.specs.Numbers.{be}
 use Rattle.index_parts.specs.Bitmap.{HasBitmap, Lacks, SaysBitmapFault}
-use Rattle.index_parts.specs.declared.ewah.decode.Error.{Error}
-use Rattle.index_parts.specs.declared.ewah.decode.Error.TheVariants as errors
+use Rattle.index_parts.specs.declared.ewah.reading.Error.{Error}
+use Rattle.index_parts.specs.declared.ewah.reading.Error.TheVariants as errors
 use Rattle.index_parts.proofs.Bitmaps.{some_words}
 use Rattle.index_parts.proofs.Unpackings.{le_or_lt}
 

@@ -3,8 +3,8 @@ use Rattle.std.specs.Prelude.{◌≡◌, ℕ, ◌*◌, ◌<◌, ◌≤◌, List,
 use Rattle.std.specs.List.{concat}
 use Rattle.index_parts.specs.Numbers.{be}
 use Rattle.index_parts.specs.declared.ewah.Vec.{Vec}
-use Rattle.index_parts.specs.declared.ewah.decode.Error.{Error}
-use Rattle.index_parts.specs.declared.ewah.decode.Error.TheVariants as errors
+use Rattle.index_parts.specs.declared.ewah.reading.Error.{Error}
+use Rattle.index_parts.specs.declared.ewah.reading.Error.TheVariants as errors
 
 -- the number of bits when uncompressed, and the compressed words
 pub record Bitmap : Type 0 where

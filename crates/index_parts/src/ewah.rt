@@ -9,12 +9,13 @@ ghost use Rattle.index_parts.specs.UnpackingSteps.{items_left};
 use std::alloc::AllocError;
 use std::vec::Vec as Words;
 
-pub mod decode;
 mod iter;
+mod reading;
 
 pub use iter::{Malformed, Positions};
+pub use reading::{Error, decode};
 
-/// A bitmap in its compressed form. [`decode::decode`] makes one.
+/// A bitmap in its compressed form. [`decode`] makes one.
 #[derive(Debug, Drop)]
 pub struct Vec {
     num_bits: u32,

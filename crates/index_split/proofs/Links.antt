@@ -5,8 +5,8 @@ use Rattle.std.proofs.lemmas.Option.{same_Some}
 use Rattle.index_parts.specs.Bitmap.{Bitmap, IsBitmap, Lacks}
 use Rattle.index_parts.specs.Id.{id_len, make_id}
 use Rattle.index_parts.specs.ReadingSteps.{piece_at}
-use Rattle.index_parts.specs.declared.ewah.decode.Error.{Error as BitmapError}
-use Rattle.index_parts.specs.declared.ewah.decode.Error.TheVariants as bitmaps
+use Rattle.index_parts.specs.declared.ewah.reading.Error.{Error as BitmapError}
+use Rattle.index_parts.specs.declared.ewah.reading.Error.TheVariants as bitmaps
 use Rattle.index_parts.specs.declared.hash.Kind.{Kind}
 use Rattle.index_parts.specs.declared.hash.ObjectId.{ObjectId}
 use Rattle.index_parts.proofs.BitmapFaults.{no_fault}

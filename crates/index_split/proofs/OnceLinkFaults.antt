@@ -2,7 +2,7 @@
 use Rattle.std.proofs.Common.{◌≡◌, ℕ, List, sym, ap, ◌∙◌}
 use Rattle.std.specs.Prelude.{codes}
 use Rattle.index_parts.specs.Bitmap.{Lacks}
-use Rattle.index_parts.specs.declared.ewah.decode.Error.{Error as BitmapError}
+use Rattle.index_parts.specs.declared.ewah.reading.Error.{Error as BitmapError}
 use Rattle.index_parts.specs.declared.hash.Kind.{Kind}
 use Rattle.index_parts.proofs.BitmapFaults.{one_fault}
 use Rattle.index_parts.proofs.Bitmaps.{one_bitmap}

@@ -3,7 +3,7 @@ use Rattle.std.specs.Prelude.{◌≡◌, ◌≢◌, ℕ, ◌<◌, List, [], ◌+
 use Rattle.std.specs.Option.{option_map}
 use Rattle.index_parts.specs.Bitmap.{Bitmap, bitmap, IsBitmap, HasBitmap, Lacks}
 use Rattle.index_parts.specs.Id.{id_len, make_id}
-use Rattle.index_parts.specs.declared.ewah.decode.Error.{Error as BitmapError}
+use Rattle.index_parts.specs.declared.ewah.reading.Error.{Error as BitmapError}
 use Rattle.index_parts.specs.declared.hash.Kind.{Kind}
 use Rattle.index_parts.specs.declared.hash.ObjectId.{ObjectId}
 use Rattle.index_split.specs.declared.link.Bitmaps.{Bitmaps}

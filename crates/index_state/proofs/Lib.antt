@@ -1,4 +1,5 @@
 pub mod Edits
+pub mod FewerEntries
 pub mod Given
 pub mod Merges
 pub mod Storables

@@ -12,6 +12,7 @@ use index_parts::hash::Kind;
 use std::alloc::AllocError;
 
 mod access;
+mod debug;
 mod decode;
 mod dissolve;
 mod init;

@@ -9,7 +9,7 @@ ghost use Rattle.gix_index.specs.State.{PathsInStorage, contents, storage_of};
 ghost use Rattle.gix_index.specs.Record.{IsPlaced, record_in};
 ghost use Rattle.index_tool.specs.Line.{digit, octal_six, line_of_parts, line_of, listing};
 
-use bitflags::Flags as _;
+use gix_index::bitflags::Flags as _;
 use gix_index::hash::ObjectId;
 use gix_index::hash::io::put_all;
 use gix_index::{Entry, State};

@@ -86,6 +86,12 @@ fn statuses(rt: HostRuntime) -> Result<(), Fail> {
         }
     }
     fs::write(&rt, "twice.index", twice.as_slice())?;
+    for (at, byte) in [(74, b'b'), (138, b'a')] {
+        if let Some(place) = twice.get_mut(at) {
+            *place = byte;
+        }
+    }
+    fs::write(&rt, "falling.index", twice.as_slice())?;
     fs::write(&rt, "held.index.lock", "another's")?;
     for (words, status, listed, begin) in [
         (["list", "sha1", "whole.index"].as_slice(), DONE, LISTED, ""),
@@ -127,6 +133,12 @@ fn statuses(rt: HostRuntime) -> Result<(), Fail> {
             "index-tool: twice.index: entry 1, \"\\n\" of stage ",
         ),
         (
+            &["check", "sha1", "falling.index"],
+            REFUSED,
+            b"",
+            "index-tool: falling.index: entry 1, \"a\" of stage ",
+        ),
+        (
             &["rewrite", "sha1", "whole.index", "again.index"],
             DONE,
             b"",
@@ -153,6 +165,7 @@ fn statuses(rt: HostRuntime) -> Result<(), Fail> {
             "index-tool: usage: ",
         ),
         (&[], WRONG_WORDS, b"", "index-tool: usage: "),
+        (&["list"], WRONG_WORDS, b"", "index-tool: usage: "),
         (&["list", "sha1"], WRONG_WORDS, b"", "index-tool: usage: "),
         (
             &["list", "sha1", "a", "b"],

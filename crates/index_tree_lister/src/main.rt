@@ -14,8 +14,8 @@ ghost use Rattle.gix_index.specs.ObjectIdOrd.TheImpl as id_order;
 ghost use Rattle.gix_index.specs.ObjectKind.TheVariants.{Tree};
 ghost use Rattle.gix_index.specs.State.{PathsInStorage};
 
-use bitflags::Flags as _;
 use gix_index::State;
+use gix_index::bitflags::Flags as _;
 use gix_index::entry::FileTime;
 use gix_index::hash::ObjectId;
 use gix_index::init::{ComponentCheck, from_tree};

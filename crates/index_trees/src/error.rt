@@ -61,6 +61,16 @@ pub enum Error {
     Memory,
 }
 
+impl From<Traversal> for Error {
+    ghost use Rattle.index_trees.specs.declared.error.Error.TheVariants.{Traversal};
+
+    ghost from_gives = { λ t e. e ≡ Traversal t };
+
+    fn from(e: Traversal) -> Error {
+        Error::Traversal(e)
+    }
+}
+
 impl From<AllocError> for Error {
     ghost from_gives = { λ _ error. error ≡ Memory };
 

@@ -3,8 +3,8 @@ use Rattle.std.proofs.Common.{◌≡◌, ℕ, ◌<◌, ◌≤◌, List, [], ◌�
 use Rattle.std.proofs.lemmas.List.Elements.{All-head, All-tail}
 use Rattle.index_parts.specs.Bitmap.{Bitmap, IsBitmap, SaysBitmapFault}
 use Rattle.index_parts.specs.Bits.{ListPlaces}
-use Rattle.index_parts.specs.declared.ewah.decode.Error.{Error}
-use Rattle.index_parts.specs.declared.ewah.decode.Error.TheVariants as errors
+use Rattle.index_parts.specs.declared.ewah.reading.Error.{Error}
+use Rattle.index_parts.specs.declared.ewah.reading.Error.TheVariants as errors
 use Rattle.index_parts.specs.declared.ewah.iter.Malformed.{Malformed}
 use Rattle.index_parts.proofs.BitmapFaults.{no_fault}
 use Rattle.index_parts.proofs.Bitmaps.{one_bitmap}

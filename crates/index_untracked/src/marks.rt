@@ -12,7 +12,7 @@ ghost use Rattle.index_untracked.specs.CacheSteps.{own_marks};
 
 use super::Directory;
 use super::stat::{SIZE, cached_stat};
-use index_parts::ewah::decode::{Error, decode};
+use index_parts::ewah::{Error, decode};
 use index_parts::hash::{Kind, ObjectId};
 use index_parts::{ewah, read};
 use std::alloc::{AllocError, Global};

@@ -1,43 +1,42 @@
 //! Reading an index from the disk, with the shared index that it links to.
 
-ghost use Rattle.std.specs.Prelude.{◌≡◌, ◌⊎◌, true, List, ℕ, Option, IfOk, IfSome, None, Ok};
+ghost use Rattle.std.specs.Prelude.{◌≡◌, ◌⊎◌, Bool, List, ℕ, Option, IfErr, IfOk, IfSome, IsErrAnd, IsTrue, None, Ok};
+ghost use Rattle.std.specs.IoError.{error_kind};
 ghost use Rattle.std.specs.Path.{path_buf_bytes};
 ghost use Rattle.index_entries.specs.Record.{IdsAreOf};
+ghost use Rattle.index_format.specs.declared.decode.Options.{Options};
+ghost use Rattle.index_metadata.specs.declared.entry.stat.FileTime.{FileTime as Timestamp};
+ghost use Rattle.index_parts.specs.declared.hash.Kind.{Kind as IdKind};
 ghost use Rattle.index_parts.specs.declared.hash.ObjectId.{ObjectId};
 ghost use Rattle.index_state.specs.State.{PathsInStorage, contents, entries_of};
 ghost use Rattle.index_format.specs.Storable.{IsStorable};
 ghost use Rattle.gix_index.specs.Checked.{IsFileAnswer, digest_id};
 ghost use Rattle.gix_index.specs.File.{IsEmptyFile, checksum_of, path_of, state_of};
+ghost use Rattle.gix_index.specs.FileFaults.{SaysOfFile, SaysOfFiles};
 ghost use Rattle.gix_index.specs.Linked.{IsOnDisk, expecting};
 
 use super::File;
-use super::disk::{PathError, bytes_at};
+use super::disk::{PathError, bytes_of};
 use super::init::{Error, ReadOptions, decoded};
 use index_format::decode;
 use index_metadata::entry::FileTime;
 use index_parts::hash::{Kind, ObjectId};
-use index_split::link;
 use index_state::State;
 use std::alloc::{AllocError, Global};
-use std::io;
 use std::io::ErrorKind;
 use std::path::{Path, PathBuf};
 use std::rt::Files;
+use std::{fs, io};
 
 /// What it says that a file can't be opened or read.
-fn read_fault(path: PathBuf, error: io::Error) -> Error {
+fn read_fault(path: PathBuf, error: io::Error) -> Error
+    ensures { (skip : Bool) (kind : IdKind) (time : Timestamp) (options : Options)
+        → SaysOfFile skip kind time options result }
+{
     if error.kind() == ErrorKind::OutOfMemory {
         return Error::Memory;
     }
     Error::Io(PathError { path, error })
-}
-
-/// What it says that a link can't be followed.
-fn link_fault(e: link::decode::Error) -> Error {
-    match e {
-        link::decode::Error::Memory => Error::Memory,
-        e => Error::LinkExtension(e),
-    }
 }
 
 /// The shared index's path: in the folder of the split one, by its id.
@@ -61,15 +60,15 @@ fn shared_at<R: Files>(
     ensures placed { IfOk result PathsInStorage }
     ensures ids { IfOk result (λ state. IdsAreOf reading.object_hash (entries_of state)) }
     ensures storable { IfOk result (λ state. IsStorable (contents state)) }
+    ensures fault { IfErr result (SaysOfFile reading.skip_hash reading.object_hash
+        reading.timestamp (expecting reading.options id)) }
 {
     let shared = shared_path(alloc, path, &id)?;
-    let (bytes, digest) = match bytes_at(
-        rt,
-        alloc,
-        shared.as_path(),
-        reading.object_hash,
-        reading.skip_hash,
-    ) {
+    let file = match fs::open(rt, shared.as_path()) {
+        Ok(file) => file,
+        Err(e) => return Err(read_fault(shared, e)),
+    };
+    let (bytes, digest) = match bytes_of(alloc, file, reading.object_hash, reading.skip_hash) {
         Ok(read) => read,
         Err(e) => return Err(read_fault(shared, e)),
     };
@@ -106,6 +105,8 @@ fn follow<R: Files>(
     ensures storable { IfOk result (λ read. IsStorable (contents (state_of read))) }
     ensures path { IfOk result (λ read. path_of read ≡ path_of file) }
     ensures unlinked { IfOk result (λ read. (contents (state_of read)).extensions.link ≡ None) }
+    ensures fault { IfErr result (SaysOfFiles reading.skip_hash reading.object_hash
+        reading.timestamp reading.options) }
 {
     let Some(link) = file.state.take_link() else {
         return Ok(file);
@@ -115,10 +116,8 @@ fn follow<R: Files>(
         return Ok(file);
     }
     let shared = shared_at(rt, alloc, file.path.as_path(), id, reading)?;
-    match link.dissolve_into(alloc, &mut file.state, shared) {
-        Ok(()) => Ok(file),
-        Err(e) => Err(link_fault(e)),
-    }
+    link.dissolve_into(alloc, &mut file.state, shared)?;
+    Ok(file)
 }
 
 /// The index in a file's bytes, with its link followed.
@@ -139,6 +138,8 @@ fn followed<R: Files>(
     ensures storable { IfOk result (λ file. IsStorable (contents (state_of file))) }
     ensures path { IfOk result (λ file. path_of file ≡ path_buf_bytes path) }
     ensures unlinked { IfOk result (λ file. (contents (state_of file)).extensions.link ≡ None) }
+    ensures fault { IfErr result (SaysOfFiles reading.skip_hash reading.object_hash
+        reading.timestamp reading.options) }
 {
     let file = match decoded(alloc, &bytes, digest, path, reading) {
         Ok(file) => file,
@@ -148,11 +149,12 @@ fn followed<R: Files>(
     follow(rt, alloc, file, reading)
 }
 
-/// The index in the file at a path, with its link followed. Where there is no file, and `or_default`, it is an empty
-/// one.
-fn read_at<R: Files>(
+/// The index in the file at a path, which was opened so, with its link followed. Where opening it said that there is
+/// no file, and `or_default`, it is an empty one.
+fn read_opened<R: Files>(
     rt: &R,
     alloc: Global,
+    opened: io::Result<R::File>,
     path: PathBuf,
     reading: ReadOptions,
     or_default: bool,
@@ -160,22 +162,27 @@ fn read_at<R: Files>(
     ensures read { IfOk result
         (λ file. IsOnDisk reading.skip_hash reading.object_hash reading.timestamp
         reading.options (contents (state_of file)) (checksum_of file)
-        ⊎ ((or_default ≡ true) × IsEmptyFile reading.object_hash reading.timestamp file)) }
+        ⊎ (IsTrue or_default × IsErrAnd opened (λ e. error_kind e ≡ ErrorKind.NotFound)
+        × IsEmptyFile reading.object_hash reading.timestamp file)) }
     ensures path { IfOk result (λ file. path_of file ≡ path_buf_bytes path) }
     ensures placed { IfOk result (λ file. PathsInStorage (state_of file)) }
     ensures ids { IfOk result (λ file. IdsAreOf reading.object_hash (entries_of (state_of file))) }
     ensures storable { IfOk result (λ file. IsStorable (contents (state_of file))) }
     ensures unlinked { IfOk result (λ file. (contents (state_of file)).extensions.link ≡ None) }
+    ensures fault { IfErr result (SaysOfFiles reading.skip_hash reading.object_hash
+        reading.timestamp reading.options) }
 {
     let kind = reading.object_hash;
-    match bytes_at(rt, alloc, path.as_path(), kind, reading.skip_hash) {
-        Ok((bytes, digest)) => followed(rt, alloc, bytes, digest, path, reading),
-        Err(e) => {
-            if or_default && e.kind() == ErrorKind::NotFound {
-                return Ok(File::from_state(State::new(alloc, kind, reading.timestamp), path));
-            }
-            Err(read_fault(path, e))
+    let file = match opened {
+        Ok(file) => file,
+        Err(e) if or_default && e.kind() == ErrorKind::NotFound => {
+            return Ok(File::from_state(State::new(alloc, kind, reading.timestamp), path));
         }
+        Err(e) => return Err(read_fault(path, e)),
+    };
+    match bytes_of(alloc, file, kind, reading.skip_hash) {
+        Ok((bytes, digest)) => followed(rt, alloc, bytes, digest, path, reading),
+        Err(e) => Err(read_fault(path, e)),
     }
 }
 
@@ -208,6 +215,7 @@ impl File {
         ensures ids { IfOk result (λ file. IdsAreOf object_hash (entries_of (state_of file))) }
         ensures storable { IfOk result (λ file. IsStorable (contents (state_of file))) }
         ensures unlinked { IfOk result (λ file. (contents (state_of file)).extensions.link ≡ None) }
+        ensures fault { IfErr result (SaysOfFiles skip_hash object_hash timestamp options) }
     {
         let reading = ReadOptions {
             object_hash,
@@ -215,11 +223,13 @@ impl File {
             timestamp,
             options,
         };
-        read_at(rt, alloc, path, reading, false)
+        let opened = fs::open(rt, path.as_path());
+        read_opened(rt, alloc, opened, path, reading, false)
     }
 
-    /// The same, but an empty index with the timestamp where there is no file at the path. It is of version 2, and has
-    /// no checksum.
+    /// The same, but an empty index with the timestamp where there is no file at the path: where opening it says so.
+    /// It is of version 2, and has no checksum. A file that a later call doesn't find, the shared one too, is
+    /// [`Error::Io`].
     pub fn at_or_default<R: Files>(
         rt: &R,
         alloc: Global,
@@ -237,6 +247,7 @@ impl File {
         ensures ids { IfOk result (λ file. IdsAreOf object_hash (entries_of (state_of file))) }
         ensures storable { IfOk result (λ file. IsStorable (contents (state_of file))) }
         ensures unlinked { IfOk result (λ file. (contents (state_of file)).extensions.link ≡ None) }
+        ensures fault { IfErr result (SaysOfFiles skip_hash object_hash timestamp options) }
     {
         let reading = ReadOptions {
             object_hash,
@@ -244,6 +255,7 @@ impl File {
             timestamp,
             options,
         };
-        read_at(rt, alloc, path, reading, true)
+        let opened = fs::open(rt, path.as_path());
+        read_opened(rt, alloc, opened, path, reading, true)
     }
 }

@@ -1,14 +1,16 @@
 //! Files on the disk: what went wrong with one, and all bytes of one with their digest.
 
-ghost use Rattle.std.specs.Prelude.{◌≡◌, [], IfOk, IfSome, OnOk};
+ghost use Rattle.std.specs.Prelude.{◌≡◌, ◌+◌, [], vec_len, IfOk, IfSome, IsTrue, OnOk};
+ghost use Rattle.std.specs.Io.{ReadsAtMost, StartsWith, appended_bytes};
+ghost use Rattle.std.specs.Io.KnownBytes.{Consumes, IsAtEnd, ReadConsumes};
 ghost use Rattle.gix_index.specs.Checked.{digest_id};
 
 use index_format::trailer;
 use index_parts::hash::{Hasher, Kind, ObjectId};
-use std::alloc::Global;
+use std::alloc::{AllocError, Global};
 use std::fmt::Write as _;
 use std::fs::OpenFile;
-use std::io::{Read, Seek, SeekFrom};
+use std::io::{ErrorKind, Read, Seek, SeekFrom};
 use std::path::{Path, PathBuf};
 use std::rt::Files;
 use std::{fmt, fs, io};
@@ -37,16 +39,17 @@ impl fmt::Display for PathError {
 
 /// How many bytes are read before they are hashed: so few that they are still in a processor's cache, and so many that
 /// readying the room of a piece costs little beside them.
-const PIECE_LEN: u64 = 1_048_576;
+const PIECE_LEN: usize = 1_048_576;
 
-/// A file that was opened, and room for as many bytes as its metadata says.
-fn opened<R: Files>(rt: &R, alloc: Global, path: Path<'_>) -> io::Result<(R::File, Vec<u8>)>
-    ensures { IfOk result (λ opened. opened.1.items ≡ []) }
+/// How often a read is tried that signals interrupt.
+const MAX_TRIES: u32 = u32::MAX;
+
+/// Room for as many bytes as a file's metadata says.
+fn room_for<F: OpenFile>(alloc: Global, file: &F) -> io::Result<Vec<u8>>
+    ensures { IfOk result (λ room. room.items ≡ []) }
 {
-    let file = fs::open(rt, path)?;
     let len = file.metadata()?.len() as usize;
-    let room = Vec::with_capacity(alloc, len.saturating_add(1))?;
-    Ok((file, room))
+    Ok(Vec::with_capacity(alloc, len.saturating_add(1))?)
 }
 
 /// Whether a file's last bytes, of which an id has as many, are all zero. It says no of what is no plain file, as a
@@ -73,16 +76,55 @@ fn ends_in_null<F: OpenFile + Read + Seek>(
     Ok(is_null)
 }
 
-/// Reads the rest of a reader in pieces, and hashes each while it is at hand. The digest is that of all bytes but the
+/// One read into a room, tried again where a signal interrupted it. It gives up with [`ErrorKind::TimedOut`] where
+/// signals interrupt 2^32 - 1 reads in a row.
+fn read_once<R: Read>(reader: &mut R, room: &mut [u8]) -> io::Result<usize>
+    ensures bound { ReadsAtMost result room.new }
+    ensures bytes { ReadConsumes (R.remaining reader.old) (R.remaining reader.new) result room.new }
+{
+    for _ in 0..MAX_TRIES {
+        match reader.read(room) {
+            Err(e) if e.kind() == ErrorKind::Interrupted => {}
+            answer => return answer,
+        }
+    }
+    Err(io::Error::new(ErrorKind::TimedOut, "signals interrupted each try to read"))
+}
+
+/// Appends what a reader gives at once, at most a piece, and no more than there is room for, if there is room. None
+/// comes only at its end.
+fn append_piece<R: Read>(reader: &mut R, bytes: &mut Vec<u8>) -> io::Result<usize>
+    ensures appends { OnOk result (StartsWith bytes.new.items bytes.old.items) }
+    ensures len { IfOk result (λ count. vec_len bytes.new ≡ vec_len bytes.old + count) }
+    ensures consumes { OnOk result (Consumes (R.remaining reader.old) (R.remaining reader.new)
+        (appended_bytes bytes.old.items bytes.new.items)) }
+    ensures end { IfOk result (λ count. count ≡ 0 → IsAtEnd (R.remaining reader.new)) }
+{
+    let filled = bytes.len();
+    let spare = bytes.capacity() - filled;
+    let room = if spare == 0 {
+        PIECE_LEN
+    } else {
+        spare.min(PIECE_LEN)
+    };
+    let end = filled.checked_add(room).ok_or(AllocError)?;
+    bytes.resize(end, 0)?;
+    let count = read_once(reader, &mut bytes[filled..])?;
+    bytes.truncate(filled + count);
+    Ok(count)
+}
+
+/// Reads a reader to its end in pieces, and hashes each while it is at hand. The digest is that of all bytes but the
 /// last, of which an id of the kind has as many.
 fn read_hashed<R: Read>(reader: &mut R, kind: Kind, bytes: &mut Vec<u8>) -> io::Result<ObjectId>
     requires { bytes.old.items ≡ [] }
-    ensures { IfOk result (λ id. id ≡ digest_id kind bytes.new.items) }
+    ensures digest { IfOk result (λ id. id ≡ digest_id kind bytes.new.items) }
+    ensures whole { OnOk result (IfSome (R.remaining reader.old) (λ left. bytes.new.items ≡ left)) }
 {
     let mut hasher = Hasher::new(kind);
     let mut hashed = 0;
     'pieces: loop {
-        let count = reader.by_ref().take(PIECE_LEN).read_to_end(bytes)?;
+        let count = append_piece(reader, bytes)?;
         let end = bytes.len().saturating_sub(kind.len_in_bytes());
         hasher.update(&bytes[hashed..end]);
         hashed = end;
@@ -92,8 +134,27 @@ fn read_hashed<R: Read>(reader: &mut R, kind: Kind, bytes: &mut Vec<u8>) -> io::
     }
 }
 
-/// All bytes of a file, read into room for as many as its metadata says, and the digest of all but the last, of which
-/// an id of the kind has as many.
+/// Reads a reader to its end. The digest is taken as it is wanted.
+fn read_whole<R: Read>(
+    reader: &mut R,
+    kind: Kind,
+    is_hashed: bool,
+    bytes: &mut Vec<u8>,
+) -> io::Result<Option<ObjectId>>
+    requires { bytes.old.items ≡ [] }
+    ensures digest { IfOk result
+        (λ digest. IfSome digest (λ id. id ≡ digest_id kind bytes.new.items)) }
+    ensures whole { OnOk result (IfSome (R.remaining reader.old) (λ left. bytes.new.items ≡ left)) }
+{
+    if is_hashed {
+        return Ok(Some(read_hashed(reader, kind, bytes)?));
+    }
+    reader.read_to_end(bytes)?;
+    Ok(None)
+}
+
+/// All bytes of the file at a path, read into room for as many as its metadata says, and the digest of all but the
+/// last, of which an id of the kind has as many.
 pub(super) fn hashed_at<R: Files>(
     rt: &R,
     alloc: Global,
@@ -102,26 +163,27 @@ pub(super) fn hashed_at<R: Files>(
 ) -> io::Result<(Vec<u8>, ObjectId)>
     ensures { IfOk result (λ read. read.1 ≡ digest_id kind read.0.items) }
 {
-    let (mut file, mut bytes) = opened(rt, alloc, path)?;
+    let mut file = fs::open(rt, path)?;
+    let mut bytes = room_for(alloc, &file)?;
     let digest = read_hashed(&mut file, kind, &mut bytes)?;
     Ok((bytes, digest))
 }
 
-/// The same, but without the digest where it isn't wanted, or where the last bytes are null.
-pub(super) fn bytes_at<R: Files>(
-    rt: &R,
+/// The same of a file that was opened, but without the digest where it isn't wanted, or where the last bytes are null.
+pub(super) fn bytes_of<F: OpenFile + Read + Seek + Drop>(
     alloc: Global,
-    path: Path<'_>,
+    mut file: F,
     kind: Kind,
     skip_hash: bool,
 ) -> io::Result<(Vec<u8>, Option<ObjectId>)>
-    ensures { IfOk result (λ read. IfSome read.1 (λ id. id ≡ digest_id kind read.0.items)) }
+    ensures digest { IfOk result
+        (λ read. IfSome read.1 (λ id. id ≡ digest_id kind read.0.items)) }
+    // Of a file that was looked at before, and put back, no clause says what is left.
+    ensures whole { IsTrue skip_hash
+        → IfOk result (λ read. IfSome (F.remaining file) (λ left. read.0.items ≡ left)) }
 {
-    let (mut file, mut bytes) = opened(rt, alloc, path)?;
-    if skip_hash || ends_in_null(&mut file, kind, &mut bytes)? {
-        file.read_to_end(&mut bytes)?;
-        return Ok((bytes, None));
-    }
-    let digest = read_hashed(&mut file, kind, &mut bytes)?;
-    Ok((bytes, Some(digest)))
+    let mut bytes = room_for(alloc, &file)?;
+    let is_hashed = !skip_hash && !ends_in_null(&mut file, kind, &mut bytes)?;
+    let digest = read_whole(&mut file, kind, is_hashed, &mut bytes)?;
+    Ok((bytes, digest))
 }

@@ -6,7 +6,7 @@ ghost use Rattle.index_format.specs.Storable.{IsStorable};
 ghost use Rattle.index_format.specs.Contents.{ExtensionIdsAreOf};
 ghost use Rattle.index_state.specs.State.{PathsInStorage, contents, entries_of};
 ghost use Rattle.index_entries.specs.Record.{IdsAreOf};
-ghost use Rattle.gix_index.specs.Checked.{digest_id, digest_fault, IsIntact, IsBroken, IsFileAnswer, error_of, SaysFile};
+ghost use Rattle.gix_index.specs.Checked.{digest_id, digest_fault, IsIntact, IsBroken, IsFileAnswer, error_of, link_error_of, SaysFile};
 ghost use Rattle.gix_index.specs.declared.file.init.Error.TheVariants.{Memory};
 ghost use Rattle.gix_index.specs.File.{state_of, path_of};
 
@@ -46,6 +46,18 @@ impl From<decode::Error> for Error {
         match e {
             decode::Error::Memory => Error::Memory,
             e => Error::Decode(e),
+        }
+    }
+}
+
+/// Want of memory is told by the variant of its own here too.
+impl From<link::decode::Error> for Error {
+    ghost from_gives = { λ e error. error ≡ link_error_of e };
+
+    fn from(e: link::decode::Error) -> Error {
+        match e {
+            link::decode::Error::Memory => Error::Memory,
+            e => Error::LinkExtension(e),
         }
     }
 }

@@ -1,12 +1,16 @@
 //! Writing a `File` to its path, by way of a lock file.
 
-ghost use Rattle.std.specs.Prelude.{◌≡◌, IfOk, OnErr, OnOk};
+ghost use Rattle.std.specs.Prelude.{◌≡◌, IfErr, IfOk, OnErr, OnOk};
 ghost use Rattle.index_parts.specs.Id.{make_id};
+ghost use Rattle.index_format.specs.Contents.{Contents};
 ghost use Rattle.index_format.specs.Image.{image_version, trailer};
 ghost use Rattle.index_format.specs.Storable.{IsWritable};
+ghost use Rattle.index_format.specs.declared.write.Options.{Options as WriteOptions};
 ghost use Rattle.index_state.specs.State.{PathsInStorage, contents};
 ghost use Rattle.gix_index.specs.File.{state_of};
+ghost use Rattle.gix_index.specs.FileFaults.{SaysOfPut, SaysOfWrite};
 ghost use Rattle.gix_index.specs.WrittenFile.{IsWritten};
+ghost use Rattle.gix_index.specs.declared.file.write.Error.TheVariants.{Memory};
 
 use super::File;
 use super::disk::PathError;
@@ -51,6 +55,8 @@ pub enum Error {
 }
 
 impl From<AllocError> for Error {
+    ghost from_gives = { λ _e error. error ≡ Memory };
+
     fn from(_e: AllocError) -> Error {
         Error::Memory
     }
@@ -65,7 +71,9 @@ enum Step {
 }
 
 /// What it says that a step failed, with the file that it concerns.
-fn fault_of(step: Step, path: PathBuf, error: io::Error) -> Error {
+fn fault_of(step: Step, path: PathBuf, error: io::Error) -> Error
+    ensures { (v : Contents) (options : WriteOptions) → SaysOfWrite v options result }
+{
     if error.kind() == ErrorKind::OutOfMemory {
         return Error::Memory;
     }
@@ -85,7 +93,10 @@ fn lock_path(alloc: Global, path: &PathBuf) -> Result<PathBuf, AllocError> {
 }
 
 /// What it says that the bytes didn't go to the lock file.
-fn put_fault(lock: PathBuf, error: write::Error) -> Error {
+fn put_fault(lock: PathBuf, error: write::Error) -> Error
+    ensures { (v : Contents) (options : WriteOptions) → SaysOfPut v options error
+        → SaysOfWrite v options result }
+{
     match error {
         write::Error::Io(e) => fault_of(Step::Put, lock, e),
         write::Error::TooManyEntries => Error::TooManyEntries,
@@ -108,6 +119,7 @@ impl File {
         ensures id { IfOk result (λ x. x.1 ≡ make_id (contents (state_of self.now)).kind
             (trailer (contents (state_of self.now)) options)) }
         ensures writable { OnOk result (IsWritable (contents (state_of self.now)) options) }
+        ensures fault { IfErr result (SaysOfPut (contents (state_of self.now)) options) }
     {
         let buffer = BufWriter::with_capacity(alloc, BUFFER_LEN, Retrying { inner: file })?;
         let mut out = Plain::new(buffer);
@@ -130,6 +142,7 @@ impl File {
         ensures id { IfOk result (λ x. x.1 ≡ make_id (contents (state_of self.now)).kind
             (trailer (contents (state_of self.now)) options)) }
         ensures writable { OnOk result (IsWritable (contents (state_of self.now)) options) }
+        ensures fault { IfErr result (SaysOfWrite (contents (state_of self.now)) options) }
     {
         let lock = lock_path(alloc, &self.path)?;
         let path = self.path.clone()?;
@@ -167,6 +180,7 @@ impl File {
         ensures ok { OnOk result (IsWritten self.old self.new options) }
         ensures err { OnErr result (self.new ≡ self.old) }
         ensures writable { OnOk result (IsWritable (contents (state_of self.old)) options) }
+        ensures fault { IfErr result (SaysOfWrite (contents (state_of self.old)) options) }
     {
         let (version, id) = self.replace(rt, alloc, options)?;
         self.state.set_version(version);

@@ -21,7 +21,7 @@ pub enum Error {
     #[error("the {kind} bitmap of the link to a shared index can't be read, as {err}")]
     BitmapDecode {
         /// Why.
-        err: ewah::decode::Error,
+        err: ewah::Error,
         /// Which one: `delete` or `replace`.
         kind: &'static str,
     },
@@ -52,9 +52,9 @@ fn bitmap_of<'a>(
     ensures found { IfOk result (λ x. IsBitmap bytes.now (bitmap x.0) x.1.now) }
     ensures fault { IfErr result (SaysBitmap kind.now bytes.now) }
 {
-    match ewah::decode::decode(alloc, bytes) {
+    match ewah::decode(alloc, bytes) {
         Ok(found) => Ok(found),
-        Err(ewah::decode::Error::Memory) => Err(Error::Memory),
+        Err(ewah::Error::Memory) => Err(Error::Memory),
         Err(err) => Err(Error::BitmapDecode { err, kind }),
     }
 }

@@ -1,7 +1,8 @@
 //! Taking entries of a state out.
 
-ghost use Rattle.std.specs.Prelude.{◌≡◌, ◌<◌, length, remove, slice_get, Some};
-ghost use Rattle.index_entries.specs.Removed.{RemovesWith};
+ghost use Rattle.std.specs.Prelude.{◌≡◌, ◌<◌, ℕ, Bool, filter, length, not, remove, slice_get, Some};
+ghost use Rattle.index_entries.specs.Record.{Record};
+ghost use Rattle.index_entries.specs.Removed.{AnswersBy, AnswersByPlace, ChangesFlagsAlone, LeavesPaths, RemovesWith, left_by};
 ghost use Rattle.index_state.specs.Edits.{with_records};
 ghost use Rattle.index_state.specs.State.{PathsInStorage, contents, entries_of, records, storage_of};
 ghost use Rattle.index_format.specs.Storable.{IsStorable};
@@ -13,6 +14,10 @@ impl State {
     /// Shows every entry to the closure, from the first to the last and each one time, with its path and the place that
     /// it has at this call, and takes out those for which the closure answers true. The others keep their order and
     /// what the closure changed. The storage of paths and all else stay. No memory is asked for.
+    ///
+    /// Where the closure answers what a test of the record gives, or one of the place and the record, and leaves entries
+    /// as they are, the records after are the filter of those before. A closure that changes flags alone keeps a
+    /// storable state so, and one that leaves each entry's range keeps the paths in the storage.
     pub fn remove_entries<F: FnMut(usize, &[u8], &mut Entry) -> bool>(
         &mut self,
         mut should_remove: F,
@@ -22,8 +27,16 @@ impl State {
         ensures removed { (last : F)
             × RemovesWith (λ f i p e b o g. F.step f i p e b o g) (storage_of self.old)
             should_remove (entries_of self.old) last (entries_of self.new) }
+        ensures filtered { (test : Record → Bool) → AnswersBy F.FnMut test should_remove
+            → records self.new ≡ filter (λ r. not (test r)) (records self.old) }
+        ensures filtered_by_place { (test : ℕ → Record → Bool)
+            → AnswersByPlace F.FnMut test should_remove
+            → records self.new ≡ left_by test (records self.old) }
         ensures storage { storage_of self.new ≡ storage_of self.old }
         ensures others { contents self.new ≡ with_records (contents self.old) (records self.new) }
+        ensures placed { LeavesPaths F.FnMut should_remove → PathsInStorage self.new }
+        ensures storable { ChangesFlagsAlone F.FnMut should_remove
+            → IsStorable (contents self.old) → IsStorable (contents self.new) }
     {
         remove::remove_entries(
             &mut self.parts.entries,

@@ -1,13 +1,14 @@
-use Rattle.std.proofs.Common.{◌≡◌, Some, None, refl, sym, ap, ◌∙◌, subst}
+use Rattle.std.proofs.Common.{sym, ap, ◌∙◌, subst}
 use Rattle.std.specs.Option.{option_map}
-use Rattle.index_state.specs.Edits.{without_link}
+use Rattle.std.proofs.lemmas.Result.{err_from_is_err_and}
 use Rattle.index_split.specs.Link.{link_of}
-use Rattle.index_state.specs.Dissolve.{IsDissolved}
+use Rattle.index_state.specs.Dissolve.{IsDissolved, SaysDissolve}
 use Rattle.index_format.specs.Contents.{Contents}
-use Rattle.index_state.specs.State.{contents, entries_of}
+use Rattle.index_state.specs.State.{contents}
 use Rattle.index_format.specs.Storable.{IsStorable}
 use Rattle.gix_index.specs.File.{state_of, checksum_of}
 use Rattle.gix_index.specs.Linked.{IsUnfollowed, own, joined}
+use Rattle.gix_index.proofs.FileFaults.{of_link, of_shared}
 use Rattle.gix_index.proofs.Joined.{read_kind, unlinked_storable}
 use Rattle.gix_index.proofs.file.at.follow.Goals as goal
 
@@ -23,18 +24,51 @@ returns-then-is_null-clause-read g c =
     let some = sym t.given ∙ ap (option_map link_of) c.in-Some.is in
     own (record { bytes = c.requires.read.0; split = contents (state_of c.args.file); read = c.requires.read.1; unfollowed = subst IsUnfollowed (sym some) (sym c.is_null.ensures ∙ c.if-is_null.true); is = t.removed })
 
-pub returns-in-Ok-clause-read : goal.returns-in-Ok-clause-read
-returns-in-Ok-clause-read g c =
+pub returns-in_err-shared-clause-fault : goal.returns-in_err-shared-clause-fault
+returns-in_err-shared-clause-fault g c =
     let t = c.take_link.ensures in
-    let s = c.in_ok-shared.ensures.read in
-    let d = c.in-Ok.ensures.dissolved in
-    joined (record {
+    let r = c.args.reading in
+    let p = err_from_is_err_and c.from_residual.result c.from_residual.ensures.1 in
+    rw (p.1, p.2) (of_shared r.skip_hash r.object_hash r.timestamp r.options (contents (state_of c.args.file)) (checksum_of c.args.file) (link_of c.in-Some.link) c.in_err-shared.field-0.0
+    (record {
       bytes = c.requires.read.0;
-      split = contents (state_of c.args.file);
       read = c.requires.read.1;
-      link = link_of c.in-Some.link;
       has_link = sym t.given ∙ ap (option_map link_of) c.in-Some.is;
       followed = sym c.is_null.ensures ∙ c.if-is_null.false;
+    })
+    c.in_err-shared.ensures.fault)
+
+pub returns-in_err-dissolve_into-clause-fault : goal.returns-in_err-dissolve_into-clause-fault
+returns-in_err-dissolve_into-clause-fault g c =
+    let t = c.take_link.ensures in
+    let r = c.args.reading in
+    let s = c.in_ok-shared.ensures.read in
+    let e = c.in_err-dissolve_into.field-0.0 in
+    let p = err_from_is_err_and c.from_residual-in_err-dissolve_into.result c.from_residual-in_err-dissolve_into.ensures.1 in
+    rw (p.1, p.2) (of_link r.skip_hash r.object_hash r.timestamp r.options (contents (state_of c.args.file)) (checksum_of c.args.file) (link_of c.in-Some.link) s.0 (contents c.in_ok-shared.shared) s.1 e
+    (record {
+      bytes = c.requires.read.0;
+      read = c.requires.read.1;
+      has_link = sym t.given ∙ ap (option_map link_of) c.in-Some.is;
+      followed = sym c.is_null.ensures ∙ c.if-is_null.false;
+    })
+    s.2
+    (subst (λ (v : Contents). SaysDissolve e (link_of c.in-Some.link) (contents c.in_ok-shared.shared) v) t.removed c.in_err-dissolve_into.ensures.fault))
+
+pub returns-clause-read : goal.returns-clause-read
+returns-clause-read g c =
+    let t = c.take_link.ensures in
+    let s = c.in_ok-shared.ensures.read in
+    let d = c.in_ok-dissolve_into.ensures.dissolved in
+    joined (record {
+      split = contents (state_of c.args.file);
+      link = link_of c.in-Some.link;
+      is_split = record {
+        bytes = c.requires.read.0;
+        read = c.requires.read.1;
+        has_link = sym t.given ∙ ap (option_map link_of) c.in-Some.is;
+        followed = sym c.is_null.ensures ∙ c.if-is_null.false;
+      };
       shared_bytes = s.0;
       shared = contents c.in_ok-shared.shared;
       shared_checksum = s.1;
@@ -42,12 +76,12 @@ returns-in-Ok-clause-read g c =
       dissolved = subst (λ (v : Contents). IsDissolved (link_of c.in-Some.link) (contents c.in_ok-shared.shared) v (contents c.dissolve_into.new.split)) t.removed d;
     })
 
-pub returns-in-Ok-clause-ids : goal.returns-in-Ok-clause-ids
-returns-in-Ok-clause-ids g c =
+pub returns-clause-ids : goal.returns-clause-ids
+returns-clause-ids g c =
     c.dissolve_into.ensures.ids c.args.reading.object_hash (rw c.take_link.ensures.entries c.requires.ids) c.in_ok-shared.ensures.ids
 
-pub returns-in-Ok-clause-storable : goal.returns-in-Ok-clause-storable
-returns-in-Ok-clause-storable g c =
+pub returns-clause-storable : goal.returns-clause-storable
+returns-clause-storable g c =
     let t = c.take_link.ensures in
     let s = c.in_ok-shared.ensures.read in
     let mine = read_kind _ _ _ _ c.requires.read.0 (contents (state_of c.args.file)) _ c.requires.read.1 in

@@ -1,14 +1,25 @@
-use Rattle.std.proofs.Common.{rules, ◌≡◌, ◌≤◌, ◌-◌, ◌++◌, ℕ, List, length, take, subst, ◌∙◌, arith}
+use Rattle.std.proofs.Common.{rules, ◌≡◌, ◌≤◌, ◌-◌, ◌++◌, ℕ, List, length, take, refl, sym, subst, ◌∙◌, arith}
 use Rattle.std.specs.Prelude.{slice_range}
+use Rattle.std.specs.Io.KnownBytes.{Consumes}
+use Rattle.std.proofs.KnownBytes.{Consumes-nil, Consumes-whole}
 use Rattle.index_parts.specs.Digest.{Holds}
 use Rattle.index_parts.specs.Id.{id_len}
 use Rattle.gix_index.proofs.Pieces.{front_grown}
+use Rattle.gix_index.proofs.Readers.{read_more}
 use Rattle.gix_index.proofs.file.disk.read_hashed.Goals as goal
+
+pub pieces-init : goal.pieces-init
+pieces-init g c = record {
+  kind = search rules;
+  end = search rules;
+  holds = search rules;
+  read = subst (Consumes (g.R.Read.remaining c.args.reader.now) (g.R.Read.remaining c.args.reader.now)) (sym c.requires) (Consumes-nil _);
+}
 
 pub pieces-preserved : goal.pieces-preserved
 pieces-preserved g c =
     let old = c.pieces.bytes.items in
-    let new = c.read_to_end.new.buf.items in
+    let new = c.append_piece.new.bytes.items in
     let hashed = c.pieces.hashed in
     let end = c.saturating_sub-end.result in
     let is_end : end ≡ length new - id_len c.args.kind = search rules in
@@ -21,4 +32,12 @@ pieces-preserved g c =
       end = is_end;
       holds = subst P (front_grown old new hashed end c.in_ok-count.ensures.appends within ordered)
           (subst Q c.deref.ensures.value (c.update.ensures.more (take hashed old) c.pieces.invariant.holds));
+      read = read_more _ _ _ old new c.in_ok-count.ensures.appends c.pieces.invariant.read c.in_ok-count.ensures.consumes;
     }
+
+pub returns-then-count-eq0-clause-whole : goal.returns-then-count-eq0-clause-whole
+returns-then-count-eq0-clause-whole g c =
+    let old = c.pieces.bytes.items in
+    let new = c.append_piece.new.bytes.items in
+    let all = read_more _ _ _ old new c.in_ok-count.ensures.appends c.pieces.invariant.read c.in_ok-count.ensures.consumes in
+    Consumes-whole (g.R.Read.remaining c.args.reader.now) (g.R.Read.remaining c.append_piece.new.reader) new (λ left. new ≡ left) all (c.in_ok-count.ensures.end c.if-count-eq0.true) refl

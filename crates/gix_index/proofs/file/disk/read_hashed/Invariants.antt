@@ -1,4 +1,5 @@
 use Rattle.std.proofs.Common.{◌≡◌, ◌-◌, ◌^◌, length, take}
+use Rattle.std.specs.Io.KnownBytes.{Consumes}
 use Rattle.index_parts.specs.Digest.{hasher_kind, Holds}
 use Rattle.index_parts.specs.Id.{id_len}
 use Rattle.gix_index.proofs.file.disk.read_hashed.Given as goal
@@ -9,6 +10,7 @@ invariant-pieces g l =
       kind : hasher_kind l.hasher ≡ l.kind;
       end : l.hashed ≡ length l.bytes.items - id_len l.kind;
       holds : Holds l.hasher (take l.hashed l.bytes.items);
+      read : Consumes (g.R.Read.remaining l.fn.reader) (g.R.Read.remaining l.reader) l.bytes.items;
     }
 
 abbrev pub decreases-pieces : goal.decreases-pieces

@@ -2,7 +2,7 @@
 
 ghost use Rattle.std.specs.Prelude.{◌≡◌, ◌*◌, ℕ, List, length, IfOk, IfErr, MatchResult};
 ghost use Rattle.index_parts.specs.Bitmap.{bitmap, AreWords, IsBitmap, Lacks, SaysBitmapFault};
-ghost use Rattle.index_parts.specs.declared.ewah.decode.Error.TheVariants.{Memory};
+ghost use Rattle.index_parts.specs.declared.ewah.reading.Error.TheVariants.{Memory};
 
 use super::Vec;
 use crate::util::{read_u32, read_u64};

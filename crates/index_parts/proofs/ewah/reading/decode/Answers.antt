@@ -1,6 +1,6 @@
 use Rattle.std.proofs.lemmas.Result.{err_from_is_err_and}
 use Rattle.index_parts.proofs.Bitmaps.{some_words}
-use Rattle.index_parts.proofs.ewah.decode.decode.Goals as goal
+use Rattle.index_parts.proofs.ewah.reading.decode.Goals as goal
 
 pub returns-in_err-words-clause-fault : goal.returns-in_err-words-clause-fault
 returns-in_err-words-clause-fault c =
