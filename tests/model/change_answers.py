@@ -5,6 +5,7 @@ import extensions
 import faults
 import lookups
 import merging
+import objects
 import show
 import state
 import trees
@@ -43,7 +44,9 @@ def edit(found, word):
     if name == "storage":
         return [f"storage: {show.bytes_word(found.storage)}"]
     lines = []
-    if name == "sort":
+    if name == "push":
+        found.push(words.entry_of(taken, found.kind))
+    elif name == "sort":
         edits.sort(found)
     elif name == "sort-down":
         edits.sort_by_falling_ids(found)
@@ -52,6 +55,9 @@ def edit(found, word):
         lines.append(f"seen: {show.listed(edits.remove_places(found, places))}")
     elif name == "at":
         lines.append(f"removed: {show.entry_fields(edits.remove_at(found, int(taken)))}")
+    elif name == "executable":
+        path, stage = taken.split(":")
+        edits.make_executable(found, words.text_of(path), int(stage))
     else:
         raise ValueError(f"not an edit: {word}")
     return lines + [f"entries: {show.entries(found.entries)}"]
@@ -83,20 +89,41 @@ def first_fault(verify, *taken):
     return ["verify: sound"]
 
 
+def store_named(row):
+    """The store of a row that has one."""
+    word = words.named(row, "objects")
+    return None if word is None else words.store_of(word)
+
+
 def answer_verify_tree(row, _):
-    return first_fault(trees.verify, words.tree_of(row[1], row[0]))
+    return first_fault(trees.verify, words.tree_of(row[1], row[0]), store_named(row))
 
 
 def answer_verify_extensions(row, folder):
     found = words.state_of(row[1], row[0], folder)
     if found.tree is None:
         return ["verify: sound"]
-    return first_fault(trees.verify_in_index, found.tree, len(found.entries))
+    return first_fault(trees.verify_in_index, found.tree, len(found.entries), store_named(row))
+
+
+def answer_from_tree(row, _):
+    kind, most, store = row[0], int(row[2]), words.store_of(row[3])
+    check = words.check_of(row[4]) if row[4:] else None
+    try:
+        found = list(objects.Leaves(store, check, most, kind).of_tree(words.id_of(row[1], kind)))
+    except objects.LeavesFault as fault:
+        return [f"fault: {faults.of_leaves(fault)}"]
+    storage = b"".join(entry.path for entry in found)
+    return [f"entries: {show.entries(found)}", f"storage: {show.bytes_word(storage)}"]
 
 
 def answer_image(row, folder, is_version_4=False):
     kind, choice, trailer, times = row[0], row[2], row[3], int(row[4])
     found = words.state_of(row[1], kind, folder)
+    if "removed" in row:
+        edits.mark_removed(found)
+    if "tree" in row[4:]:
+        found.tree = words.tree_of(row[-1], kind)
     options = writing.Options(*CHOICES[choice], trailer == "digest", is_version_4)
     try:
         for _ in range(times):
@@ -114,6 +141,16 @@ def answer_image4(row, folder):
 
 def answer_end_marker(row, _):
     return [f"write_to: {show.bytes_word(extensions.end_marker_bytes(row[0], int(row[1]), []))}"]
+
+
+def answer_sparse_mark(row, _):
+    return [f"write_to: {show.bytes_word(writing.item_bytes(extensions.SPARSE, b''))}"]
+
+
+def answer_write_tree(row, _):
+    content = trees.to_bytes(words.tree_of(row[1], row[0]))
+    written = writing.item_bytes(extensions.TREE, content)
+    return [f"content_len: {len(content)}", f"write_to: {show.bytes_word(written)}"]
 
 
 def answer_change_mode(row, _):
@@ -157,9 +194,12 @@ CALLS = {
     "merge": answer_merge,
     "verify-tree": answer_verify_tree,
     "verify-extensions": answer_verify_extensions,
+    "from-tree": answer_from_tree,
     "image": answer_image,
     "image4": answer_image4,
     "end-marker": answer_end_marker,
+    "sparse-mark": answer_sparse_mark,
+    "write-tree": answer_write_tree,
     "change-mode": answer_change_mode,
     "racy": answer_racy,
     "stats": answer_stats,

@@ -1,6 +1,6 @@
 """Edits of a state: sorting and taking out. The storage of the paths stays as it is."""
 
-from entries import UP_TO_DATE
+from entries import EXECUTABLE, REMOVE, UP_TO_DATE
 
 
 def sort(state):
@@ -29,3 +29,16 @@ def remove_places(state, places):
 def remove_at(state, place):
     """Takes one entry out and answers it."""
     return state.entries.pop(place)
+
+
+def mark_removed(state):
+    """Marks all entries as ones that a file leaves out."""
+    for entry in state.entries:
+        entry.flags |= REMOVE
+
+
+def make_executable(state, path, stage):
+    """Gives the entry of a path and a stage, where there is one, the mode of a file that can be run."""
+    for entry in state.entries:
+        if entry.key == (path, stage):
+            entry.mode = EXECUTABLE

@@ -38,6 +38,25 @@ def of_tree(fault):
         "out of order": lambda parent, current, previous:
             f"{text(current)} behind {text(previous)} in {parent.hex()}",
         "count past the index": lambda name, actual, expected: f"{text(name)} counts {actual} of {expected}",
+        "no tree": lambda id: f"no tree {id.hex()}",
+        "no child": lambda parent, id, name: f"no child {text(name)} ({id.hex()}) in {parent.hex()}",
+        "other number": lambda id, expected, actual:
+            f"{expected} directories in {id.hex()}, {actual} children",
+        "memory": lambda: "memory",
+    }
+    return spellings[fault.name](**fault.carried)
+
+
+def of_leaves(fault):
+    """Why a tree of a store has no list of leaves."""
+    spellings = {
+        "refused": lambda path, number: f"{text(path)} refused by {number}",
+        "no object": lambda id: f"no object {id.hex()}",
+        "no tree": lambda id: f"no tree {id.hex()}",
+        "store": lambda id, number: f"{number} of the store at {id.hex()}",
+        "malformed": lambda id: f"malformed {id.hex()}",
+        "too many objects": lambda: "too many objects",
+        "memory": lambda: "memory",
     }
     return spellings[fault.name](**fault.carried)
 

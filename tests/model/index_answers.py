@@ -11,7 +11,7 @@ import trees
 import untracked_cache
 import words
 import writing
-from bytes import Unreadable, digest, kind_of_id, null_id, number, offset_number, up_to
+from bytes import Unreadable, digest, kind_of_id, null_id, number, offset_number, offset_number_bytes, up_to
 
 STAGE_NAMES = ("unconflicted", "base", "ours", "theirs")
 
@@ -77,6 +77,18 @@ def answer_file_fronts(row, folder):
     return answer_fronts(row, folder, skip_hash=False)
 
 
+def answer_content_fronts(row, folder):
+    reader, kind, word = row
+    data = words.bytes_of(word, folder)
+    taken = [] if reader in WITHOUT_KIND else [kind]
+    told = []
+    for length in range(len(data) + 1):
+        lines = CALLS[reader](taken + [data[:length].hex() or "-"], folder)
+        told.append(dict(line.split(": ", 1) for line in lines))
+    names = ["fault", "tree", "link", "resolve_undo", "untracked", "fs_monitor", "offsets", "num_bits"]
+    return [line for name in names for line in ranges(name, [it.get(name) for it in told])]
+
+
 def with_state(told):
     """A call on a state; where its bytes can't be read, their fault."""
     def answered(row, folder):
@@ -116,18 +128,34 @@ def answer_order(found, _):
 
 
 def answer_entry(found, row):
-    return [f"write_to: {show.bytes_word(writing.entry_bytes(found.entries[int(row[0])]))}"]
+    place = int(row[0])
+    entry, previous = found.entries[place], found.entries[place - 1].path if place > 0 else b""
+    return [
+        f"write_to: {show.bytes_word(writing.entry_bytes(entry))}",
+        f"write_delta_to: {show.bytes_word(writing.compressed_bytes(entry, previous))}",
+    ]
 
 
 def answer_body(found, _):
     version, data = writing.body(found)
-    return [f"version: {version}", f"bytes: {show.bytes_word(data)}"]
+    lacks_nul = not any(b"\0" in entry.path for entry in found.entries if not entry.is_removed)
+    return [
+        f"version: {version}",
+        f"bytes: {show.bytes_word(data)}",
+        f"paths_without_nul: {show.yes(lacks_nul)}",
+    ]
 
 
 def answer_write(found, row):
     options = writing.Options(with_digest="null" not in row)
     version, checksum, data = writing.image(found, options)
     return [f"version: {version}", f"checksum: {checksum.hex()}", f"bytes: {show.bytes_word(data)}"]
+
+
+def answer_cuts(found, row):
+    options = writing.Options(with_digest="null" not in row, is_version_4="v4" in row)
+    data = (writing.body(found, options)[1] if "body" in row else writing.image(found, options)[2])
+    return ranges("write_to", ["a front, and the writer's fault"] * len(data) + ["whole"])
 
 
 def value_or_none(read_value, *taken):
@@ -303,16 +331,22 @@ def answer_compare(row, _):
     return [f"cmp_filepaths: {show.sign(*(words.text_of(word) for word in row))}"]
 
 
+# The readers whose call takes no kind of hash.
+WITHOUT_KIND = ("monitor", "offsets", "bitmap")
+
 CALLS = {
     "state": answer_state,
     "file": answer_file,
     "fronts": answer_fronts,
     "file-fronts": answer_file_fronts,
+    "content-fronts": answer_content_fronts,
     "search": with_state(answer_search),
     "order": with_state(answer_order),
     "entry": with_state(answer_entry),
     "body": with_state(answer_body),
     "write": with_state(answer_write),
+    "copy": with_state(lambda found, _: show.whole(found, None)),
+    "cuts": with_state(answer_cuts),
     "tree": answer_tree,
     "resolve-undo": answer_resolve_undo,
     "untracked": answer_untracked,
@@ -325,6 +359,7 @@ CALLS = {
     "walk": answer_walk,
     "walk-file": answer_walk_file,
     "offset": front_number(offset_number),
+    "offset-of": lambda row, _: [f"write_var_int: {show.bytes_word(offset_number_bytes(int(row[0])))}"],
     "u32": front_number(lambda data: number(data, 4)),
     "u64": front_number(lambda data: number(data, 8)),
     "whole": answer_whole,

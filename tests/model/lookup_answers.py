@@ -19,6 +19,7 @@ def answer_lookup(found, row):
         f"directories icase: {len(lookups.named_directories(entries, True))}",
         f"is_ordered_by_path: {show.yes(is_ordered)}",
         f"is_strictly_ordered: {show.yes(lookups.is_strictly_ordered(entries))}",
+        f"entries_with_paths_by_filter_map: {show.listed(show.text(entry.path) for entry in entries if entry.stage == 0)}",
     ]
     for path in paths:
         lines += [f"{show.text(path)}: {line}" for line in by_name(entries, path)]
@@ -75,15 +76,20 @@ def by_path(entries, path):
         f"prefixed_entries_range: {show.range_word(prefixed)}",
         f"search_prefix: {place}",
         f"entry_closest_to_directory_or_directory: {show.optional(closest)}",
+        f"path_is_directory: {show.yes(closest is not None)}",
+        f"prefixed_entries: {show.optional(None if prefixed is None else prefixed[1] - prefixed[0])}",
     ]
 
 
 def by_stage(entries, path):
-    places = [place_word(*lookups.place_of_path_and_stage(entries, path, stage)) for stage in lookups.STAGES]
+    found = [lookups.place_of_path_and_stage(entries, path, stage) for stage in lookups.STAGES]
+    places = [place_word(*each) for each in found]
+    half = [show.optional(place if there and place < len(entries) // 2 else None) for there, place in found]
     return [
         f"search_path_and_stage: {', '.join(places)}",
         f"directory_table search_path_and_stage: {', '.join(places)}",
         f"entry_by_path: {show.optional(lookups.entry_of_path(entries, path))}",
+        f"entry_index_by_path_and_stage_bounded: {', '.join(half)}",
     ]
 
 

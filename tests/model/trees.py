@@ -1,9 +1,10 @@
-"""Cached trees: read, written and verified without objects."""
+"""Cached trees: read, written and verified, with objects of a store or without."""
 
 from dataclasses import dataclass, field
 from typing import Optional
 
-from bytes import ID_LENGTH, Unreadable, null_id, take, up_to
+from bytes import ID_LENGTH, Unreadable, kind_of_id, null_id, take, up_to
+from objects import tree_entries
 
 # Levels below the root that can be read.
 DEEPEST = 2048
@@ -115,18 +116,19 @@ class TreeFault(Exception):
         self.name, self.carried = name, carried
 
 
-def verify(root):
-    """Raises the first fault, without a look at objects.
+def verify(root, store=None):
+    """Raises the first fault, and without a store doesn't look at objects.
 
-    A root has no name. At each node, first the names and counts of all children are looked at; then each child is
-    verified, and its own count compared with that of its children. The count of the root comes last.
+    A root has no name. At each node, first the names and counts of all children are looked at, and in a store the tree
+    of a node with children; then each child is verified, and its own count compared with that of its children. The
+    count of the root comes last.
     """
     if root.name:
         raise TreeFault("root with a name", name=root.name)
-    verify_counted(root)
+    verify_counted(root, store)
 
 
-def verify_counted(node):
+def verify_counted(node, store):
     if not node.children:
         return
     total, previous = 0, None
@@ -137,15 +139,33 @@ def verify_counted(node):
         if previous is not None and child.name <= previous:
             raise TreeFault("out of order", parent=node.id, current=child.name, previous=previous)
         previous = child.name
+    if store is not None:
+        verify_listed(node, store)
     for child in node.children:
-        verify_counted(child)
+        verify_counted(child, store)
     if node.count is not None and total > node.count:
         raise TreeFault("count", actual=total, expected=node.count)
 
 
-def verify_in_index(root, entry_count):
+def verify_listed(node, store):
+    """The directories of the node's tree are its children. Of a malformed tree those before its fault count."""
+    found = store.find(node.id)
+    if found is not None and found.what == "memory":
+        raise TreeFault("memory")
+    if found is None or found.what != "tree":
+        raise TreeFault("no tree", id=node.id)
+    listed = [entry for entry in tree_entries(found.data, kind_of_id(node.id))[0] if entry.is_tree]
+    names = {child.name for child in node.children}
+    for entry in listed:
+        if entry.name not in names:
+            raise TreeFault("no child", parent=node.id, id=entry.id, name=entry.name)
+    if len(listed) != len(node.children):
+        raise TreeFault("other number", id=node.id, expected=len(listed), actual=len(node.children))
+
+
+def verify_in_index(root, entry_count, store=None):
     """The same, and then in preorder the first node that counts more entries than there are."""
-    verify(root)
+    verify(root, store)
     for _, node in root.preorder():
         if node.count is not None and node.count > entry_count:
             raise TreeFault("count past the index", name=node.name, actual=node.count, expected=entry_count)

@@ -6,6 +6,7 @@ from pathlib import Path
 import state
 from bytes import ID_LENGTH, digest
 from entries import Entry, Stat, flags_of_stage
+from objects import Check, Found, Store
 from state import State
 from trees import Tree
 
@@ -126,6 +127,24 @@ def tree_of(word, kind):
         root = root or node
         waiting += [node.children] * int(children)
     return root
+
+
+def store_of(word):
+    """The store of a list of objects."""
+    found = {}
+    for item in items_of(word):
+        first, what, field = fields_of(item, 3)
+        if what == "fault":
+            found[int(first, 16)] = Found(what, number=int(field))
+        else:
+            found[int(first, 16)] = Found(what, text_of(field) if field else b"")
+    return Store(found)
+
+
+def check_of(word):
+    """A check of names."""
+    name, what, number = word.split(":")
+    return Check(text_of(name)[0], what == "link", int(number))
 
 
 def named(words, name):

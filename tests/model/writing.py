@@ -73,6 +73,11 @@ def entries_bytes(written, options):
     return b"".join(pieces)
 
 
+def item_bytes(signature, content):
+    """An extension."""
+    return signature + len(content).to_bytes(4, "big") + content
+
+
 def body(state, options=Options()):
     """The version that is written, and all bytes but the trailer."""
     version = version_of(state, options)
@@ -85,7 +90,7 @@ def body(state, options=Options()):
     if state.is_sparse:
         items.append((extensions.SPARSE, b""))
     for signature, content in items:
-        data += signature + len(content).to_bytes(4, "big") + content
+        data += item_bytes(signature, content)
     if state.entries and items and options.with_end_marker:
         data += extensions.end_marker_bytes(state.kind, end_of_entries, items)
     return version, data

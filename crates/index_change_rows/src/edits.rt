@@ -2,14 +2,15 @@
 
 ghost use Rattle.gix_index.specs.State.{PathsInStorage};
 
-use bitflags::Flags as _;
 use gix_index::State;
-use gix_index::entry::Flags;
+use gix_index::bitflags::Flags as _;
+use gix_index::entry::{Flags, Mode, Stage, Stat};
 use gix_index::hash::Kind;
 use gix_index::verify::entries::Error;
 use index_row_kit::show::{Bytes, Fields, Listed, Text, entries};
-use index_row_kit::words::number_of;
+use index_row_kit::words::{id_of, number_of, text_of};
 use index_row_kit::{Fault, Lines, Words};
+use std::alloc::{AllocError, Global};
 
 /// `edits`: what each edit answers, and the entries behind it.
 pub fn edits(out: &mut Lines, kind: Kind, words: &mut Words<'_>) -> Result<(), Fault> {
@@ -38,16 +39,40 @@ fn edit(out: &mut Lines, state: &mut State, word: &str) -> Result<(), Fault> {
             lend_storage(out, word, state);
             return Ok(());
         }
-        "sort" => state.sort_entries()?,
-        "sort-down" => state.sort_entries_by(|a, b| b.id.as_bytes().cmp(a.id.as_bytes()))?,
+        "sort" => done(out, word, state.sort_entries()),
+        "sort-down" => {
+            let sorted = state.sort_entries_by(|a, b| b.id.as_bytes().cmp(a.id.as_bytes()));
+            done(out, word, sorted);
+        }
+        "push" => push(out, word, state, taken)?,
         "remove" => remove(out, word, state, taken),
         "at" => remove_at(out, word, state, number_of(taken)?)?,
+        "executable" => make_executable(out.alloc(), state, taken)?,
         _ => return Err(Fault::Wrong("the name of an edit")),
     }
     write!(out, "{word}: ");
     if state.paths_in_storage() {
         entries(out, state);
     }
+    Ok(())
+}
+
+/// Tells where an edit had no memory. The entries behind it are as before then.
+fn done(out: &mut Lines, word: &str, answer: Result<(), AllocError>) {
+    if answer.is_err() {
+        writeln!(out, "{word}: fault: memory");
+    }
+}
+
+/// Pushes an entry with this path, a plain file with an id of bytes 11.
+fn push(out: &mut Lines, word: &str, state: &mut State, path: &str) -> Result<(), Fault>
+    requires { PathsInStorage state.old }
+{
+    let path = text_of(out.alloc(), path)?;
+    let id = id_of(out.alloc(), state.object_hash(), "11")?;
+    let flags = Flags::from_stage(Stage::Unconflicted);
+    let pushed = state.dangerously_push_entry(Stat::default(), id, flags, Mode::FILE, &path);
+    done(out, word, pushed);
     Ok(())
 }
 
@@ -106,6 +131,26 @@ fn is_among(places: &str, place: usize) -> bool {
         }
     }
     false
+}
+
+/// Gives the entry of a path and a stage, where there is one, the mode of a file that can be run.
+fn make_executable(alloc: Global, state: &mut State, key: &str) -> Result<(), Fault>
+    requires { PathsInStorage state.old }
+{
+    let Some((path, stage)) = key.split_once(':') else {
+        return Err(Fault::Wrong("a path and a stage"));
+    };
+    let stage = match stage {
+        "0" => Stage::Unconflicted,
+        "1" => Stage::Base,
+        "2" => Stage::Ours,
+        "3" => Stage::Theirs,
+        _ => return Err(Fault::Wrong("a stage")),
+    };
+    if let Some(entry) = state.entry_mut_by_path_and_stage(&text_of(alloc, path)?, stage) {
+        entry.mode = Mode::FILE_EXECUTABLE;
+    }
+    Ok(())
 }
 
 /// Takes the entry at a place out, and tells what it is but for its path.

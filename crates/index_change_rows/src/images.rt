@@ -3,13 +3,16 @@
 ghost use Rattle.std.specs.Prelude.{◌≡◌, IfOk};
 ghost use Rattle.gix_index.specs.State.{PathsInStorage};
 
-use gix_index::entry::FileTime;
-use gix_index::extension::end_of_index_entry;
+use crate::trees::tree_of;
+use gix_index::bitflags::Flags as _;
+use gix_index::entry::{FileTime, Flags};
+use gix_index::extension::tree::write::Error;
+use gix_index::extension::{Tree, end_of_index_entry, sparse};
 use gix_index::hash::Kind;
 use gix_index::hash::io::Plain;
 use gix_index::write::{Extensions, Options, VersionChoice};
 use gix_index::{File, State, decode};
-use index_row_kit::show::{Bytes, version_of};
+use index_row_kit::show::{Bytes, OrNone, version_of};
 use index_row_kit::{Fault, Lines, Words, refusal};
 use std::alloc::Global;
 use std::path::PathBuf;
@@ -34,11 +37,34 @@ pub fn image(
         extensions: choice_of(words.next("a choice of extensions")?)?,
         skip_hash: has_null_trailer(words.next("a trailer")?)?,
     };
-    for _ in 0..words.number::<u32>()? {
+    let times = words.number::<u32>()?;
+    if words.has("removed") {
+        mark_removed(&mut state);
+    }
+    if words.has("tree") {
+        set_tree(&mut state, tree_of(kind, words)?)?;
+    }
+    for _ in 0..times {
         state = rewritten(out.alloc(), kind, state, options)?;
     }
     let file = File::from_state(state, PathBuf::new(out.alloc()));
     show(out, &file, options)
+}
+
+/// Marks each entry as one that a file leaves out.
+fn mark_removed(state: &mut State) {
+    for entry in state.entries_mut() {
+        entry.flags = entry.flags.union(Flags::REMOVE);
+    }
+}
+
+/// Puts a cached tree in the place of the state's own.
+fn set_tree(state: &mut State, made: Tree) -> Result<(), Fault> {
+    let Some(tree) = state.tree_mut() else {
+        return Err(Fault::Wrong("a state with a cached tree"));
+    };
+    *tree = made;
+    Ok(())
 }
 
 fn has_null_trailer(word: &str) -> Result<bool, Fault> {
@@ -102,5 +128,26 @@ pub fn end_marker(out: &mut Lines, kind: Kind, words: &mut Words<'_>) -> Result<
     let mut image = Plain::new(Vec::new(out.alloc()));
     end_of_index_entry::write_to(&mut image, kind, words.number()?, &[])?;
     out.put("write_to", Bytes(&image.inner));
+    Ok(())
+}
+
+/// `sparse-mark`: the mark of an index with sparse directories.
+pub fn sparse_mark(out: &mut Lines) -> Result<(), Fault> {
+    let mut image = Plain::new(Vec::new(out.alloc()));
+    sparse::write_to(&mut image)?;
+    out.put("write_to", Bytes(&image.inner));
+    Ok(())
+}
+
+/// `write-tree`: the extension of a cached tree, and how long its content is.
+pub fn tree(out: &mut Lines, kind: Kind, words: &mut Words<'_>) -> Result<(), Fault> {
+    let tree = tree_of(kind, words)?;
+    let mut image = Plain::new(Vec::new(out.alloc()));
+    out.put("content_len", OrNone(tree.content_len()));
+    match tree.write_to(&mut image) {
+        Ok(()) => out.put("write_to", Bytes(&image.inner)),
+        Err(Error::TooLarge) => out.put("fault", "too large"),
+        Err(Error::Io(_)) => out.put("fault", "writer"),
+    }
     Ok(())
 }

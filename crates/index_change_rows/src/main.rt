@@ -7,6 +7,7 @@
 mod edits;
 mod images;
 mod merges;
+mod objects;
 mod trees;
 mod worktree;
 
@@ -26,6 +27,7 @@ impl Answer for Rows {
             "stat" => worktree::stat(out, words),
             "entry-time" => worktree::entry_time(out, words),
             "file-time" => worktree::file_time(out, words),
+            "sparse-mark" => images::sparse_mark(out),
             _ => answer_index(call, words, out),
         }
     }
@@ -38,9 +40,11 @@ fn answer_index(call: &str, words: &mut Words<'_>, out: &mut Lines) -> Result<()
         "edits" => edits::edits(out, kind, words),
         "verify-tree" => trees::tree(out, kind, words),
         "verify-extensions" => trees::extensions(out, kind, words),
+        "from-tree" => trees::leaves(out, kind, words),
         "image" => images::image(out, VersionChoice::Smallest, kind, words),
         "image4" => images::image(out, VersionChoice::V4, kind, words),
         "end-marker" => images::end_marker(out, kind, words),
+        "write-tree" => images::tree(out, kind, words),
         "merge" => merges::merge(out, kind, words),
         _ => Err(Fault::Wrong("the name of a call")),
     }

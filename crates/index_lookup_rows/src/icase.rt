@@ -4,9 +4,10 @@ ghost use Rattle.std.specs.Prelude.{◌≡◌};
 ghost use Rattle.gix_index.specs.State.{PathsInStorage, records};
 
 use crate::place::{Both, compared, most_compared, place_of, put};
+use gix_index::entry::Stage;
 use gix_index::{AccelerateLookup, Entry, State};
 use index_row_kit::Lines;
-use index_row_kit::show::{OrNone, yes};
+use index_row_kit::show::{OrNone, Text, yes};
 use std::alloc::AllocError;
 
 /// Tells what they answer for each path.
@@ -18,11 +19,34 @@ pub fn lookups(out: &mut Lines, state: &State, paths: &[Vec<u8>]) -> Result<(), 
     out.put("directories icase", lookup.directories(true));
     out.put("is_ordered_by_path", yes(state.is_ordered_by_path()));
     out.put("is_strictly_ordered", yes(is_strictly_ordered(state)));
+    unconflicted(out, state);
     for path in paths {
         search_path(out, state, &lookup, path);
         search_directory(out, state, &lookup, path);
     }
     Ok(())
+}
+
+/// The paths of the entries that no merge left.
+fn unconflicted(out: &mut Lines, state: &State)
+    requires { PathsInStorage state.now }
+{
+    write!(out, "entries_with_paths_by_filter_map: [");
+    let mut is_first = true;
+    for (path, _) in state.entries_with_paths_by_filter_map(|_, entry| {
+        if entry.stage() == Stage::Unconflicted {
+            Some(())
+        } else {
+            None
+        }
+    }) {
+        if !is_first {
+            write!(out, ";");
+        }
+        is_first = false;
+        write!(out, "{}", Text(path));
+    }
+    writeln!(out, "]");
 }
 
 /// Whether the entries increase by path, then stage.

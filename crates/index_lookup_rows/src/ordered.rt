@@ -9,7 +9,7 @@ use crate::place::{Places, compared, most_compared, place_of, put};
 use gix_index::entry::Stage;
 use gix_index::{DirectoryTable, PathSearch, State, count_present};
 use index_row_kit::Lines;
-use index_row_kit::show::{OrNone, Text};
+use index_row_kit::show::{OrNone, Text, yes};
 use std::alloc::AllocError;
 use std::ops::Range;
 
@@ -97,6 +97,10 @@ fn ranges(out: &mut Lines, state: &State, table: &DirectoryTable<'_>, path: &[u8
     let closest = state.entry_closest_to_directory_or_directory(path);
     let place = OrNone(place_of(state, closest));
     put(out, path, "entry_closest_to_directory_or_directory", place);
+    let is_directory = yes(state.path_is_directory(path));
+    put(out, path, "path_is_directory", is_directory);
+    let count = state.prefixed_entries(path).map(|entries| entries.len());
+    put(out, path, "prefixed_entries", OrNone(count));
 }
 
 fn range(out: &mut Lines, path: &[u8], name: &str, range: Option<Range<usize>>) {
@@ -123,6 +127,27 @@ fn stages(out: &mut Lines, state: &State, table: &DirectoryTable<'_>, path: &[u8
         "entry_by_path",
         OrNone(place_of(state, state.entry_by_path(path))),
     );
+    bounded(out, state, path);
+}
+
+/// The places among the first half of the entries of the path and each stage.
+fn bounded(out: &mut Lines, state: &State, path: &[u8])
+    requires { PathsInStorage state.now }
+{
+    let half = state.entries().len() / 2;
+    write!(
+        out,
+        "{}: entry_index_by_path_and_stage_bounded:",
+        Text(path)
+    );
+    for (place, stage) in STAGES.iter().enumerate() {
+        if place > 0 {
+            write!(out, ",");
+        }
+        let found = state.entry_index_by_path_and_stage_bounded(path, *stage, half);
+        write!(out, " {}", OrNone(found));
+    }
+    writeln!(out);
 }
 
 fn search_stages<S: PathSearch>(out: &mut Lines, searcher: &S, path: &[u8], name: &str, most: usize)

@@ -53,18 +53,18 @@ pub fn link(out: &mut Lines, refusal: &link::decode::Error) {
 }
 
 /// The refusal of a bitmap.
-pub fn bitmap(out: &mut Lines, refusal: &ewah::decode::Error) {
+pub fn bitmap(out: &mut Lines, refusal: &ewah::Error) {
     writeln!(out, "fault: bitmap: {}", part_of(refusal));
 }
 
 /// What of a bitmap can't be read.
-fn part_of(refusal: &ewah::decode::Error) -> &'static str {
+fn part_of(refusal: &ewah::Error) -> &'static str {
     match refusal {
-        ewah::decode::Error::NumBits => "number of bits",
-        ewah::decode::Error::Length => "number of words",
-        ewah::decode::Error::Words => "words",
-        ewah::decode::Error::LastRun => "last run word",
-        ewah::decode::Error::Memory => "memory",
+        ewah::Error::NumBits => "number of bits",
+        ewah::Error::Length => "number of words",
+        ewah::Error::Words => "words",
+        ewah::Error::LastRun => "last run word",
+        ewah::Error::Memory => "memory",
     }
 }
 

@@ -14,7 +14,8 @@ use gix_index::entry::stat::Time;
 use gix_index::entry::{FileTime, Stage, Stat};
 use gix_index::hash::{Kind, ObjectId};
 use gix_index::{State, Version, decode};
-use std::alloc::Global;
+use hex::FromHexError;
+use std::alloc::{AllocError, Global};
 use std::marker::Model;
 use std::str::FromStr;
 
@@ -150,9 +151,7 @@ impl<'a> Words<'a> {
         if !self.has(name) {
             return Ok(None);
         }
-        let Ok(bytes) = hex::decode(self.alloc(), self.next("an id")?) else {
-            return Err(Fault::Wrong("an id"));
-        };
+        let bytes = digits_of(self.alloc(), self.next("an id")?.as_bytes(), "an id")?;
         Ok(Some(ObjectId::from_bytes(&bytes).ok_or(Fault::Wrong("an id"))?))
     }
 
@@ -279,6 +278,15 @@ pub fn hex_of(word: &str) -> Result<u32, Fault> {
         return Err(Fault::Wrong("digits of base 16"));
     };
     Ok(bits)
+}
+
+/// The bytes that digits of base 16 encode, two each; a word of others isn't what was wanted.
+fn digits_of(alloc: Global, digits: &[u8], wanted: &'static str) -> Result<Vec<u8>, Fault> {
+    match hex::decode(alloc, digits) {
+        Ok(bytes) => Ok(bytes),
+        Err(FromHexError::OutOfMemory) => Err(Fault::from(AllocError)),
+        Err(_) => Err(Fault::Wrong(wanted)),
+    }
 }
 
 /// The byte that digits of base 16 encode.

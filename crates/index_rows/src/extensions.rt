@@ -1,5 +1,6 @@
 //! The rows about the content of one extension.
 
+use crate::fronts::content_fronts;
 use crate::show::{extension, untracked};
 use gix_index::ewah;
 use gix_index::extension::{
@@ -59,18 +60,38 @@ impl Call {
     /// Tells what the call answers with the words behind it.
     pub fn answer(self, words: &mut Words<'_>, out: &mut Lines) -> Result<(), Fault> {
         match self {
-            Call::Monitor => monitor(out, &words.bytes()?)?,
-            Call::Offsets => {
-                let blocks = index_entry_offset_table::decode(out.alloc(), &words.bytes()?)?;
-                extension::offsets(out, blocks.as_deref());
+            Call::Monitor | Call::Offsets | Call::Walk | Call::Bitmap => {
+                self.answer_bytes(&words.bytes()?, out)
             }
-            Call::Walk => walk(out, Iter::new(&words.bytes()?)),
-            Call::Bitmap => bitmap(out, &words.bytes()?),
             _ => {
                 let kind = words.kind()?;
                 let bytes = words.bytes()?;
-                self.answer_kind(kind, &bytes, words, out)?;
+                let limit = words.number_named("limit")?;
+                self.answer_kind(kind, &bytes, limit, out)
             }
+        }
+    }
+
+    /// The same of these bytes, without a limit. A kind of hash that the call takes none of counts for nothing.
+    pub fn answer_content(self, kind: Kind, bytes: &[u8], out: &mut Lines) -> Result<(), Fault> {
+        match self {
+            Call::Monitor | Call::Offsets | Call::Walk | Call::Bitmap => {
+                self.answer_bytes(bytes, out)
+            }
+            _ => self.answer_kind(kind, bytes, None, out),
+        }
+    }
+
+    /// The same of a call that takes bytes alone.
+    fn answer_bytes(self, bytes: &[u8], out: &mut Lines) -> Result<(), Fault> {
+        match self {
+            Call::Monitor => monitor(out, bytes)?,
+            Call::Offsets => {
+                let blocks = index_entry_offset_table::decode(out.alloc(), bytes)?;
+                extension::offsets(out, blocks.as_deref());
+            }
+            Call::Walk => walk(out, Iter::new(bytes)),
+            _ => bitmap(out, bytes),
         }
         Ok(())
     }
@@ -80,13 +101,13 @@ impl Call {
         self,
         kind: Kind,
         bytes: &[u8],
-        words: &mut Words<'_>,
+        limit: Option<usize>,
         out: &mut Lines,
     ) -> Result<(), Fault> {
         let alloc = out.alloc();
         match self {
             Call::Tree => {
-                let tree = tree::decode(alloc, bytes, kind, words.number_named("limit")?)?;
+                let tree = tree::decode(alloc, bytes, kind, limit)?;
                 extension::tree(out, tree.as_ref());
             }
             Call::ResolveUndo => {
@@ -94,7 +115,6 @@ impl Call {
                 extension::resolve_undo(out, paths.as_deref());
             }
             Call::Untracked => {
-                let limit = words.number_named("limit")?;
                 let cache = untracked_cache::decode(alloc, bytes, kind, limit)?;
                 untracked::untracked(out, cache.as_ref());
             }
@@ -125,6 +145,14 @@ impl Call {
     }
 }
 
+/// `content-fronts`: what a reader answers to each front of an extension's content.
+pub fn fronts(words: &mut Words<'_>, out: &mut Lines) -> Result<(), Fault> {
+    let reader = words.next("a reader")?;
+    let reader = Call::named(reader).ok_or(Fault::Wrong("a reader"))?;
+    let kind = words.kind()?;
+    content_fronts(out, reader, kind, &words.bytes()?)
+}
+
 fn monitor(out: &mut Lines, bytes: &[u8]) -> Result<(), Fault> {
     let monitor = fs_monitor::decode(out.alloc(), bytes)?;
     extension::monitor(out, monitor.as_ref());
@@ -132,7 +160,7 @@ fn monitor(out: &mut Lines, bytes: &[u8]) -> Result<(), Fault> {
 }
 
 fn bitmap(out: &mut Lines, bytes: &[u8]) {
-    match ewah::decode::decode(out.alloc(), bytes) {
+    match ewah::decode(out.alloc(), bytes) {
         Ok((bitmap, rest)) => {
             extension::bitmap(out, "", &bitmap);
             out.put("rest", rest.len());

@@ -1,9 +1,10 @@
 //! What is read of each front of bytes: for each name of a line, the lengths at which it has the same value.
 
+use crate::extensions;
 use crate::show::state::heading;
 use crate::states::{Reading, read};
 use gix_index::hash::Kind;
-use index_row_kit::Lines;
+use index_row_kit::{Fault, Lines};
 use std::alloc::{AllocError, Global};
 
 /// The names of the lines that are told.
@@ -35,6 +36,37 @@ pub fn fronts(
     Ok(())
 }
 
+/// The names of the lines that are told of an extension's content.
+const CONTENT_NAMES: [&str; 8] = [
+    "fault",
+    "tree",
+    "link",
+    "resolve_undo",
+    "untracked",
+    "fs_monitor",
+    "offsets",
+    "num_bits",
+];
+
+/// Tells what a reader of an extension's content answers to each front.
+pub fn content_fronts(
+    out: &mut Lines,
+    reader: extensions::Call,
+    kind: Kind,
+    bytes: &[u8],
+) -> Result<(), Fault> {
+    let mut texts = Vec::new(out.alloc());
+    for len in 0..=bytes.len() {
+        let mut lines = Lines::new(out.alloc());
+        reader.answer_content(kind, &bytes[..len], &mut lines)?;
+        texts.push(lines.end()?)?;
+    }
+    for name in &CONTENT_NAMES {
+        ranges(out, &texts, name);
+    }
+    Ok(())
+}
+
 /// The lines of what is read of one front.
 fn front(alloc: Global, kind: Kind, bytes: &[u8], reading: Reading) -> Result<String, AllocError> {
     let mut lines = Lines::new(alloc);
@@ -44,8 +76,8 @@ fn front(alloc: Global, kind: Kind, bytes: &[u8], reading: Reading) -> Result<St
     lines.end()
 }
 
-/// Each longest range of lengths at which the name has one value.
-fn ranges(out: &mut Lines, texts: &[String], name: &str) {
+/// Each longest range of places in the list, counted from 0, at which the name has one value.
+pub fn ranges(out: &mut Lines, texts: &[String], name: &str) {
     let mut first = 0;
     for run in texts.chunk_by(|text, next| value_in(text, name) == value_in(next, name)) {
         let end = usize::saturating_add(first, run.len());

@@ -5,6 +5,7 @@
 //! row that can't be understood ends the program with its number on standard error and status 1.
 #![tactic(auto)]
 
+mod cuts;
 mod entries;
 mod extensions;
 mod fronts;
@@ -22,6 +23,9 @@ impl Answer for Rows {
     fn answer(&self, call: &str, words: &mut Words<'_>, out: &mut Lines) -> Result<(), Fault> {
         if let Some(call) = states::Call::named(call) {
             return call.answer(words, out);
+        }
+        if call == "content-fronts" {
+            return extensions::fronts(words, out);
         }
         if let Some(call) = extensions::Call::named(call) {
             return call.answer(words, out);

@@ -3,9 +3,10 @@
 use gix_index::decode::entries::{
     estimate_path_storage_requirements_in_bytes, max_entries_possible,
 };
+use gix_index::hash::io::Plain;
 use gix_index::hash::{ObjectId, digest};
 use gix_index::util::{
-    from_be_u16, from_be_u32, read_u32, read_u64, split_at_byte_exclusive, var_int,
+    from_be_u16, from_be_u32, read_u32, read_u64, split_at_byte_exclusive, var_int, write_var_int,
 };
 use index_row_kit::show::{Bytes, kind_of, yes};
 use index_row_kit::{Fault, Lines, Words};
@@ -16,6 +17,8 @@ use std::fmt::Display;
 pub enum Call {
     /// `offset`: the offset number at the front.
     Offset,
+    /// `offset-of`: the bytes of an offset number.
+    OffsetOf,
     /// `u32`: the number of four bytes at the front.
     Four,
     /// `u64`: the number of eight bytes at the front.
@@ -41,6 +44,7 @@ impl Call {
     pub fn named(word: &str) -> Option<Call> {
         match word {
             "offset" => Some(Call::Offset),
+            "offset-of" => Some(Call::OffsetOf),
             "u32" => Some(Call::Four),
             "u64" => Some(Call::Eight),
             "whole" => Some(Call::Whole),
@@ -63,6 +67,11 @@ impl Call {
             }
             Call::Entries => entries(out, words)?,
             Call::Paths => paths(out, words)?,
+            Call::OffsetOf => {
+                let mut image = Plain::new(Vec::new(out.alloc()));
+                write_var_int(&mut image, words.number()?)?;
+                out.put("write_var_int", Bytes(&image.inner));
+            }
             _ => {
                 let bytes = words.bytes()?;
                 self.answer_bytes(&bytes, words, out)?;

@@ -3,12 +3,13 @@
 ghost use Rattle.std.specs.Prelude.{◌≡◌};
 ghost use Rattle.gix_index.specs.State.{PathsInStorage};
 
+use crate::cuts::Cuts;
 use crate::{fronts, show};
 use gix_index::entry::{FileTime, Stage};
 use gix_index::hash::io::Plain;
 use gix_index::hash::{Kind, ObjectId};
 use gix_index::{File, State, decode, write};
-use index_row_kit::show::{Bytes, Item, OrNone, sign_of, version_of};
+use index_row_kit::show::{Bytes, Item, OrNone, sign_of, version_of, yes};
 use index_row_kit::{Fault, Lines, Words, refusal};
 use std::alloc::AllocError;
 use std::path::PathBuf;
@@ -34,6 +35,10 @@ pub enum Call {
     Body,
     /// `write`: the file that is written.
     Write,
+    /// `copy`: the state's copy.
+    Copy,
+    /// `cuts`: what is written to a writer that fails.
+    Cuts,
 }
 
 impl Call {
@@ -49,6 +54,8 @@ impl Call {
             "entry" => Some(Call::Entry),
             "body" => Some(Call::Body),
             "write" => Some(Call::Write),
+            "copy" => Some(Call::Copy),
+            "cuts" => Some(Call::Cuts),
             _ => None,
         }
     }
@@ -109,6 +116,8 @@ impl Call {
             Call::Order => order(out, &state),
             Call::Entry => entry(&state, words, out)?,
             Call::Body => body(out, &state),
+            Call::Copy => copy(out, &state),
+            Call::Cuts => Cuts::of_words(words).answer(out, state)?,
             _ => file(out, state, words.has("null")),
         }
         Ok(())
@@ -199,6 +208,14 @@ fn search_stage(out: &mut Lines, state: &State, path: &[u8], stage: Stage)
     out.put("entry_by_path_and_stage", OrNone(item));
 }
 
+/// What the state's copy holds.
+fn copy(out: &mut Lines, state: &State) {
+    match state.clone() {
+        Ok(state) => show::state::state(out, &state, None),
+        Err(_) => out.put("fault", "memory"),
+    }
+}
+
 /// Where a search ended: at a place, or before the place where the path belongs.
 fn place(out: &mut Lines, name: &str, found: Result<usize, usize>) {
     match found {
@@ -238,6 +255,15 @@ fn entry(state: &State, words: &mut Words<'_>, out: &mut Lines) -> Result<(), Fa
     let mut image = Plain::new(Vec::new(out.alloc()));
     state.entry(place).write_to(&mut image, state)?;
     out.put("write_to", Bytes(&image.inner));
+    let previous: &[u8] = match place.checked_sub(1) {
+        Some(place) => state.entry(place).path(state),
+        None => b"",
+    };
+    let mut image = Plain::new(Vec::new(out.alloc()));
+    state
+        .entry(place)
+        .write_delta_to(&mut image, state, previous)?;
+    out.put("write_delta_to", Bytes(&image.inner));
     Ok(())
 }
 
@@ -252,6 +278,7 @@ fn body(out: &mut Lines, state: &State)
         }
         Err(e) => refusal::write(out, &e),
     }
+    out.put("paths_without_nul", yes(state.paths_without_nul()));
 }
 
 fn file(out: &mut Lines, state: State, skip_hash: bool)

@@ -213,7 +213,8 @@ fn write_told(
     if !file.paths_in_storage() {
         return Err("a path outside of the storage".into());
     }
-    let before = (file.version(), file.checksum(), file.entries().len());
+    let entries = entries_told(rt.alloc(), file)?;
+    let before = (file.version(), file.checksum(), entries);
     let options = Options {
         skip_hash,
         ..Options::default()
@@ -224,7 +225,8 @@ fn write_told(
         Err(write::Error::CommitLock(_)) => "no place",
         Err(_) => "another fault",
     };
-    if before == (file.version(), file.checksum(), file.entries().len()) {
+    let entries = entries_told(rt.alloc(), file)?;
+    if before == (file.version(), file.checksum(), entries) {
         Ok(told)
     } else {
         Ok("another index")

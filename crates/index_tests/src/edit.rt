@@ -1,4 +1,4 @@
-//! Entries that are put in order by a closure, and taken out by one.
+//! Entries that are put in order by a closure.
 
 use gix_index::State;
 use gix_index::entry::{FileTime, Flags, Mode, Stage, Stat};
@@ -37,24 +37,5 @@ fn ties_follow_a_lawful_closure(rt: HostRuntime) -> Result<(), Fail> {
     assert_eq!(rt; last, Some(ObjectId::Sha1([1; 20])));
     state.sort_entries_by(|a, b| b.id.as_bytes().cmp(a.id.as_bytes()))?;
     assert_eq!(rt; bytes_of_ids(&rt, &state)?.as_slice(), [3, 2, 1].as_slice());
-    Ok(())
-}
-
-#[test]
-fn places_are_those_before_a_removal(rt: HostRuntime) -> Result<(), Fail> {
-    let mut state = three_entries(&rt)?;
-    if !state.paths_in_storage() {
-        return Err("a path outside of the storage".into());
-    }
-    let mut places = 9usize;
-    state.remove_entries(|place, _path, entry| {
-        places = places.wrapping_mul(10).wrapping_add(place);
-        entry.flags = Flags::UPTODATE;
-        place != 1
-    });
-    assert_eq!(rt; places, 9012);
-    assert_eq!(rt; bytes_of_ids(&rt, &state)?.as_slice(), [2].as_slice());
-    let flags = state.entries().last().map(|entry| entry.flags);
-    assert_eq!(rt; flags, Some(Flags::UPTODATE));
     Ok(())
 }

@@ -1,6 +1,6 @@
 //! The sets of all flags.
 
-use bitflags::Flags as _;
+use gix_index::bitflags::Flags as _;
 use gix_index::entry::{Flags, at_rest};
 
 #[test]

@@ -4,9 +4,7 @@ use gix_index::State;
 use gix_index::decode::Options;
 use gix_index::entry::FileTime;
 use gix_index::extension::tree;
-use gix_index::extension::tree::verify::Error;
-use gix_index::hash::{Kind, ObjectId};
-use gix_index::object::{self, Find, NoObjects, find};
+use gix_index::hash::Kind;
 use std::alloc::{AllocError, Global};
 use std::test::Fail;
 
@@ -75,110 +73,5 @@ fn equals_its_copy(alloc: Global, nodes: usize) -> Result<bool, Fail> {
 #[test]
 fn the_deepest_tree_is_copied(rt: HostRuntime) -> Result<(), Fail> {
     assert!(rt; equals_its_copy(rt.alloc(), 2049)?);
-    Ok(())
-}
-
-/// A store that has this tree for each id.
-#[derive(Clone, Copy, Debug)]
-struct Store<'a> {
-    tree: &'a [u8],
-}
-
-impl<'a> Find for Store<'a> {
-    ghost use Rattle.gix_index.specs.Object.{object};
-    ghost use Rattle.gix_index.specs.ObjectKind.TheVariants.{Tree};
-
-    ghost found = { λ store _. object Tree store.tree.now };
-
-    fn find(&self, _id: &ObjectId, buf: &mut Vec<u8>) -> Result<Option<object::Kind>, find::Error> {
-        buf.clear();
-        match buf.extend_from_slice(self.tree) {
-            Ok(()) => Ok(Some(object::Kind::Tree)),
-            Err(_) => Err(find::Error::Memory),
-        }
-    }
-}
-
-/// A file `a`, and a directory `b`.
-const TREE: &[u8] = b"100644 a\0aaaaaaaaaaaaaaaaaaaa40000 b\0bbbbbbbbbbbbbbbbbbbb";
-
-#[derive(Clone, Copy, Debug, PartialEq, Eq)]
-enum Verdict {
-    Sound,
-    NotFound,
-    MissingB,
-    Children { expected: usize, actual: usize },
-    Other,
-}
-
-fn verdict_of(found: Result<(), Error>) -> Verdict {
-    match found {
-        Ok(()) => Verdict::Sound,
-        Err(e) => named(&e),
-    }
-}
-
-fn named(fault: &Error) -> Verdict {
-    match fault {
-        Error::TreeNodeNotFound { id: _id } => Verdict::NotFound,
-        Error::MissingTreeDirectory { name, .. } => {
-            if name.as_bytes() == b"b".as_slice() {
-                return Verdict::MissingB;
-            }
-            Verdict::Other
-        }
-        Error::TreeNodeChildcountMismatch {
-            expected_childcount,
-            actual_childcount,
-            ..
-        } => Verdict::Children {
-            expected: *expected_childcount,
-            actual: *actual_childcount,
-        },
-        _ => Verdict::Other,
-    }
-}
-
-/// What is said of a cached tree with objects: by itself, and the same of an index that has it.
-fn held_against<F: Find>(alloc: Global, cached: &[u8], objects: &F) -> Result<Verdict, Fail> {
-    let tree = tree::decode(alloc, cached, Kind::Sha1, None)?.ok_or("no tree")?;
-    let alone = verdict_of(tree.verify(alloc, true, objects));
-    let mut state = extended(alloc)?;
-    *state.tree_mut().ok_or("no tree")? = tree;
-    let within = verdict_of(state.verify_extensions(alloc, true, objects));
-    if alone != within {
-        return Err(Fail::from("an index says otherwise"));
-    }
-    Ok(alone)
-}
-
-#[test]
-fn a_cached_tree_is_held_against_objects(rt: HostRuntime) -> Result<(), Fail> {
-    let alloc = rt.alloc();
-    let store = Store { tree: TREE };
-    let more = Verdict::Children {
-        expected: 1,
-        actual: 2,
-    };
-    assert_eq!(rt;
-        held_against(alloc, b"\0-1 1\nb\0-1 0\n", &store)?,
-        Verdict::Sound
-    );
-    assert_eq!(rt;
-        held_against(alloc, b"\0-1 1\nc\0-1 0\n", &store)?,
-        Verdict::MissingB
-    );
-    assert_eq!(rt;
-        held_against(alloc, b"\0-1 2\nb\0-1 0\nc\0-1 0\n", &store)?,
-        more
-    );
-    assert_eq!(rt;
-        held_against(alloc, b"\0-1 1\nb\0-1 0\n", &NoObjects)?,
-        Verdict::NotFound
-    );
-    assert_eq!(rt;
-        held_against(alloc, b"\0-1 0\n", &NoObjects)?,
-        Verdict::Sound
-    );
     Ok(())
 }

@@ -1,5 +1,5 @@
 //! What no row of a table can show, tried as a user of the library does: values that are lent, changed and copied, and
-//! writers and files that fail. What bytes are read as, and what is written and found, stands in the tables of the row
+//! files that fail. What bytes are read as, and what is written and found, stands in the tables of the row
 //! programs.
 #![tactic(auto)]
 
@@ -19,9 +19,5 @@ mod extension;
 mod file;
 #[cfg(test)]
 mod hash;
-#[cfg(test)]
-mod lookup;
-#[cfg(test)]
-mod tree;
 #[cfg(test)]
 mod write;

@@ -5,7 +5,7 @@ ghost use Rattle.gix_index.specs.State.{PathsInStorage};
 
 use super::Text;
 use crate::Lines;
-use bitflags::Flags as _;
+use gix_index::bitflags::Flags as _;
 use gix_index::entry::stat::Time;
 use gix_index::entry::{FileTime, Flags, Stat};
 use gix_index::hash::ObjectId;

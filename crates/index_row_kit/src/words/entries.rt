@@ -1,10 +1,10 @@
 //! A list of entries in a word, and the fields of one entry.
 
 use super::text::text_of;
-use super::{byte_of, hex_of, items_of, number_of, octal_of};
+use super::{byte_of, digits_of, hex_of, items_of, number_of, octal_of};
 use crate::fault::Fault;
-use bitflags::Flags as _;
 use gix_index::State;
+use gix_index::bitflags::Flags as _;
 use gix_index::entry::stat::Time;
 use gix_index::entry::{FileTime, Flags, Mode, Stage, Stat};
 use gix_index::hash::{Kind, ObjectId};
@@ -58,9 +58,7 @@ pub fn stage_of(word: &str) -> Result<Stage, Fault> {
 /// The id of all its digits, or that whose bytes are all the one that two digits encode.
 pub fn id_of(alloc: Global, kind: Kind, word: &str) -> Result<ObjectId, Fault> {
     if word.len() > 2 {
-        let Ok(bytes) = hex::decode(alloc, word) else {
-            return Err(Fault::Wrong("the digits of an id"));
-        };
+        let bytes = digits_of(alloc, word.as_bytes(), "the digits of an id")?;
         return match ObjectId::from_bytes(&bytes) {
             Some(id) if id.kind() == kind => Ok(id),
             _ => Err(Fault::Wrong("an id of the kind")),

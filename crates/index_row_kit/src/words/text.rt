@@ -1,6 +1,6 @@
 //! Text in a word.
 
-use super::number_of;
+use super::{digits_of, number_of};
 use crate::fault::Fault;
 use std::alloc::Global;
 
@@ -49,9 +49,7 @@ fn append_escaped(alloc: Global, bytes: &mut Vec<u8>, part: &[u8]) -> Result<(),
     let Some((digits, plain)) = part.split_at_checked(2) else {
         return Err(Fault::Wrong("two digits behind a backslash"));
     };
-    let Ok(byte) = hex::decode(alloc, digits) else {
-        return Err(Fault::Wrong("two digits behind a backslash"));
-    };
+    let byte = digits_of(alloc, digits, "two digits behind a backslash")?;
     bytes.extend_from_slice(&byte)?;
     bytes.extend_from_slice(plain)?;
     Ok(())
