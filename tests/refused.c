@@ -1,0 +1,125 @@
+/* Put before the C library (LD_PRELOAD): counts a program's requests for memory and its calls of the system, and refuses
+ * one of them, or one and all behind it. tests/refused says what for.
+ *
+ * REFUSED_KIND   request  one of malloc, realloc, aligned_alloc, posix_memalign and mmap
+ *                call     one that opens, looks at, reads, writes, moves in, syncs, renames or removes a file
+ *                move     one that reads or writes more than one byte; it moves one then, and isn't refused
+ *                wait     one that opens, reads or writes; it is interrupted before it did anything
+ * REFUSED_NTH    which one, counted from 1
+ * REFUSED_ON     where it is set, each one behind it as well
+ * REFUSED_ERROR  the number of the error of a call (by default EIO)
+ * REFUSED_COUNTS a file for how many there were of the four kinds
+ */
+#define _GNU_SOURCE
+#include <dlfcn.h>
+#include <errno.h>
+#include <fcntl.h>
+#include <stdarg.h>
+#include <stdio.h>
+#include <stdlib.h>
+#include <string.h>
+#include <sys/mman.h>
+#include <sys/stat.h>
+#include <sys/syscall.h>
+#include <unistd.h>
+
+enum kind { REQUEST, CALL, MOVE, WAIT, KINDS };
+static const char *const names[KINDS] = {"request", "call", "move", "wait"};
+
+static long counts[KINDS], nth;
+static enum kind refused = KINDS;
+static int goes_on, is_begun, error_number = EIO;
+
+/* The C library's function of this name. */
+#define NEXT(name) ((__typeof__(&name))dlsym(RTLD_NEXT, #name))
+
+__attribute__((constructor)) static void begin(void) {
+  const char *kind = getenv("REFUSED_KIND"), *number = getenv("REFUSED_NTH"), *error = getenv("REFUSED_ERROR");
+  for (enum kind at = 0; kind && at < KINDS; at++)
+    if (!strcmp(kind, names[at])) refused = at;
+  if (number) nth = atol(number);
+  if (error) error_number = atoi(error);
+  goes_on = getenv("REFUSED_ON") != NULL;
+  is_begun = 1;
+}
+
+__attribute__((destructor)) static void end(void) {
+  const char *path = getenv("REFUSED_COUNTS");
+  char text[128];
+  if (!path) return;
+  int len = snprintf(text, sizeof text, "%ld %ld %ld %ld\n", counts[REQUEST], counts[CALL], counts[MOVE], counts[WAIT]);
+  int file = syscall(SYS_open, path, O_WRONLY | O_CREAT | O_TRUNC, 0600);
+  if (file >= 0 && syscall(SYS_write, file, text, len) == len) syscall(SYS_close, file);
+}
+
+/* Counts one, and says whether it is refused. */
+static int is_refused(enum kind kind, int error) {
+  if (!is_begun) return 0;
+  long number = ++counts[kind];
+  if (kind != refused || (goes_on ? number < nth : number != nth)) return 0;
+  errno = error;
+  return 1;
+}
+
+static int no_memory(void) { return is_refused(REQUEST, ENOMEM); }
+static int fails(void) { return is_refused(CALL, error_number); }
+static int is_interrupted(void) { return is_refused(WAIT, EINTR); }
+static size_t moved(size_t len) { return len > 1 && is_refused(MOVE, 0) ? 1 : len; }
+
+void *malloc(size_t len) {
+  static __typeof__(&malloc) next;
+  if (!next) next = NEXT(malloc);
+  return no_memory() ? NULL : next(len);
+}
+
+void *realloc(void *old, size_t len) {
+  static __typeof__(&realloc) next;
+  if (!next) next = NEXT(realloc);
+  return no_memory() ? NULL : next(old, len);
+}
+
+void *aligned_alloc(size_t alignment, size_t len) { return no_memory() ? NULL : NEXT(aligned_alloc)(alignment, len); }
+
+int posix_memalign(void **to, size_t alignment, size_t len) {
+  return no_memory() ? ENOMEM : NEXT(posix_memalign)(to, alignment, len);
+}
+
+void *mmap(void *at, size_t len, int rights, int flags, int file, off_t from) {
+  return no_memory() ? MAP_FAILED : NEXT(mmap)(at, len, rights, flags, file, from);
+}
+
+int open(const char *path, int flags, ...) {
+  va_list rest;
+  va_start(rest, flags);
+  mode_t mode = va_arg(rest, mode_t);
+  va_end(rest);
+  return fails() || is_interrupted() ? -1 : NEXT(open)(path, flags, mode);
+}
+
+int openat(int folder, const char *path, int flags, ...) {
+  va_list rest;
+  va_start(rest, flags);
+  mode_t mode = va_arg(rest, mode_t);
+  va_end(rest);
+  return fails() || is_interrupted() ? -1 : NEXT(openat)(folder, path, flags, mode);
+}
+
+int statx(int folder, const char *restrict path, int flags, unsigned mask, struct statx *restrict to) {
+  return fails() ? -1 : NEXT(statx)(folder, path, flags, mask, to);
+}
+
+off_t lseek(int file, off_t to, int from) { return fails() ? -1 : NEXT(lseek)(file, to, from); }
+int rename(const char *from, const char *to) { return fails() ? -1 : NEXT(rename)(from, to); }
+int unlink(const char *path) { return fails() ? -1 : NEXT(unlink)(path); }
+int fsync(int file) { return fails() ? -1 : NEXT(fsync)(file); }
+int ftruncate(int file, off_t len) { return fails() ? -1 : NEXT(ftruncate)(file, len); }
+
+ssize_t read(int file, void *to, size_t len) {
+  return fails() || is_interrupted() ? -1 : NEXT(read)(file, to, moved(len));
+}
+
+ssize_t write(int file, const void *from, size_t len) {
+  return fails() || is_interrupted() ? -1 : NEXT(write)(file, from, moved(len));
+}
+
+ssize_t __write(int file, const void *from, size_t len) { return write(file, from, len); }
