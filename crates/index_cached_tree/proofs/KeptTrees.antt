@@ -109,7 +109,7 @@ record IsKept (kind : Kind) (t : Node) : Type 0 where
 not_above : (t u : Node) → name_cmp t u ≡ Less → is_lt (name_cmp u t) ≡ false
 not_above t u e = ap is_lt (names_total.antisymm u t ∙ ap ordering_reverse e)
 
-names_differ : (t u : Node) → name_cmp t u ≡ Less → name_of t ≢ name_of u
+pub names_differ : (t u : Node) → name_cmp t u ≡ Less → name_of t ≢ name_of u
 names_differ t u e same =
     let tie : name_cmp t t ≡ Equal = tied_itself names_total t in
     let less : name_cmp t t ≡ Less = ap (λ (l : List ℕ). slice_cmp nat_cmp (name_of t) l) same ∙ e in
@@ -139,7 +139,7 @@ id_kept : (kind : Kind) (count : Option ℕ) (piece : List ℕ) (id : ObjectId) 
 id_kept kind None piece id h = (sym h.1, rw h.1 (null_len kind ∙ ap id_len (sym (id_kind-make_id kind _))))
 id_kept kind (Some n) piece id h = (refl, rw h.1 (ap length (id_bytes-make_id kind piece) ∙ h.0 ∙ ap id_len (sym (id_kind-make_id kind piece))))
 
-listed_number : (ts : List Node) → how_many_nodes (nodes_from ts) ≡ length ts
+pub listed_number : (ts : List Node) → how_many_nodes (nodes_from ts) ≡ length ts
 listed_number [] = refl
 listed_number (t ∷ ts) = omega (arith, listed_number ts)
 

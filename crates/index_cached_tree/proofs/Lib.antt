@@ -9,6 +9,7 @@ pub mod Rows
 pub mod Sorted
 pub mod Sounds
 pub mod Spelled
+pub mod Storables
 pub mod TreeChecks
 pub mod TreeLengths
 pub mod TreeReadings

@@ -3,6 +3,7 @@ pub mod Decimal
 pub mod NodeSteps
 pub mod ObjectSteps
 pub mod Sound
+pub mod StorableSteps
 pub mod StoredTree
 pub mod Tree
 pub mod TreeFaults

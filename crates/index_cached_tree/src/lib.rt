@@ -15,6 +15,7 @@ use std::alloc::{AllocError, Global};
 mod decimal;
 mod head;
 mod nodes;
+mod storable;
 pub mod verify;
 pub mod write;
 
