@@ -1,5 +1,5 @@
--- How a tree is looked at, to know whether bytes can hold it (gitformat-index, "Cache tree"): node by node, each with how many
--- levels may lie below it. Public clauses cite none of these.
+-- How a tree is looked at, to know whether bytes can hold it (gitformat-index, "Cache tree"): node by node, each with
+-- how many levels may lie below it. Public clauses cite none of these.
 use Rattle.std.specs.Prelude.{◌≡◌, ◌≢◌, ◌<◌, ◌-◌, ◌^◌, ℕ, All, length, Option, Some, None, IfSome}
 use Rattle.std.specs.declared.cmp.Ordering.TheVariants.{Less}
 use Rattle.index_parts.specs.Id.{id_bytes, id_len, id_kind}
@@ -7,7 +7,8 @@ use Rattle.index_parts.specs.declared.hash.Kind.{Kind}
 use Rattle.index_cached_tree.specs.Tree.{Node, Nodes, node, none, more, how_many_nodes, name_cmp}
 use Rattle.index_cached_tree.specs.StoredTree.{IsApartFrom}
 
--- what a node says of itself: a name without a NUL, a count of 31 bits at most, and an id of the kind, with as many bytes
+-- What a node says of itself: a name without a NUL, a count of 31 bits at most, and an id of the kind, which has
+-- as many bytes as such ids.
 abbrev pub IsPlainHead : Kind → Node → Type 0
 IsPlainHead kind (node name id count children) =
     All (λ b. b ≢ 0) name × IfSome count (λ n. n < 2 ^ 31) × (id_kind id ≡ kind) × (length (id_bytes id) ≡ id_len (id_kind id))

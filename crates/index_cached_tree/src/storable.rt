@@ -113,12 +113,12 @@ fn is_storable_within(tree: &Tree, kind: Kind, levels: u32) -> bool
 }
 
 impl Tree {
-    /// Whether bytes can hold the tree (gitformat-index, "Cache tree"), as an index with ids of this kind has it: no name
-    /// has a NUL, no count has more than 31 bits, siblings have different names, each id is of the kind, and no node lies
+    /// Whether bytes can hold the tree (gitformat-index, "Cache tree") in an index with ids of this kind: no name has a
+    /// NUL, no count has more than 31 bits, siblings have different names, each id is of the kind, and no node lies
     /// more than 2048 levels below the root.
     ///
-    /// So is each tree that was read. No memory is taken; where siblings aren't in the order of their names, each is
-    /// compared with those behind it.
+    /// Each tree that was read with ids of this kind is storable. No memory is taken. Where the names of siblings don't
+    /// rise, each is compared with all behind it.
     pub fn is_storable(&self, object_hash: Kind) -> bool
         ensures { IsTrue result ↔ IsStorableTree object_hash (node_of self.now) }
     {
