@@ -16,6 +16,7 @@ pub mod Removing
 pub mod SharedFronts
 pub mod SomeEntries
 pub mod Sorting
+pub mod StorableEntries
 pub mod Storing
 pub mod Thirdly
 pub mod TreeOrder

@@ -13,4 +13,5 @@ pub mod Removed
 pub mod Shared
 pub mod Slice
 pub mod Sorted
+pub mod Storable
 pub mod TreeOrder

@@ -18,6 +18,7 @@ pub mod remove;
 pub mod sizes;
 pub mod slice;
 pub mod sort;
+pub mod storable;
 pub mod write;
 
 /// The version of a file's format (gitformat-index, "The Git index file has the following format").
