@@ -5,7 +5,7 @@ use Rattle.std.specs.Ordering.{is_lt, is_le, is_eq}
 use Rattle.std.specs.declared.cmp.Ordering.{Ordering}
 use Rattle.std.specs.declared.cmp.Ordering.TheVariants.{Less, Equal, Greater}
 use Rattle.std.proofs.lemmas.Bool.{cases_lt}
-use Rattle.index_lookups.specs.SearchSteps.{is_before, IsRising, IsPartedAt, IsBracket, IsGapAt}
+use Rattle.index_lookups.specs.SearchSteps.{is_before, IsRising, IsPartedAt, IsAround, IsBracket, IsGapAt}
 
 -- what stands in front of one that is before is so too
 pub less_from : (o : Ordering) → is_lt o ≡ true → o ≡ Less
@@ -65,6 +65,12 @@ bracket_before after os start end h k d low high = less_is after (get_or os k d)
 pub bracket_behind : (after : Bool) (os : List Ordering) (start end : ℕ) → IsBracket os start end → AllWithin (λ q. is_before after q ≡ false) os end (length os)
 bracket_behind after os start end h k d low high = greater_is after (get_or os k d) (h.above k d low high)
 
+pub bracket_around : (after : Bool) (os : List Ordering) (start end : ℕ) → IsBracket os start end → IsAround after os start end
+bracket_around after os start end h = record { before = bracket_before after os start end h; behind = bracket_behind after os start end h }
+
+pub around_whole : (after : Bool) (os : List Ordering) (end : ℕ) → end ≡ length os → IsAround after os 0 end
+around_whole after os end e = record { before = λ k d low high. absurd (omega arith); behind = λ k d low high. absurd (omega (arith, e)) }
+
 pub bracket_whole : (os : List Ordering) (end : ℕ) → end ≡ length os → IsBracket os 0 end
 bracket_whole os end e = record { below = λ k d low high. absurd (omega arith); above = λ k d low high. absurd (omega (arith, e)) }
 
@@ -95,9 +101,9 @@ gap_other os low o rising parted within read other = record {
     above : HoldsAt (λ q. is_lt q ≡ false) os low → is_le o ≡ false
     above h = other_above o (sym (ap is_lt (read o)) ∙ h o) other
 
--- where the first that isn't below stands, all before it are below
-pub parted_bracket : (os : List Ordering) (low end : ℕ) → end ≡ length os → IsPartedAt false os low → IsBracket os low end
-parted_bracket os low end e p = record { below = λ k d l u. less_from (get_or os k d) (p.before k d l u); above = λ k d l u. absurd (omega (arith, e)) }
+-- where the first that isn't below stands, none before it is above
+pub parted_before : (os : List Ordering) (low : ℕ) → IsPartedAt false os low → AllWithin (λ q. is_le q ≡ true) os 0 low
+parted_before os low p k d l u = less_is true (get_or os k d) (less_from (get_or os k d) (p.before k d l u))
 
 -- none is equal: where they part, all behind are above
 pub gap_parted : (os : List Ordering) (i : ℕ) → i ≤ length os → IsGapAt (λ o. o) os i → IsPartedAt false os i

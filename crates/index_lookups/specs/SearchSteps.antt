@@ -52,6 +52,11 @@ pub record IsPartedAt (after : Bool) (os : List Ordering) (i : ℕ) : Type 0 whe
   pub before : AllWithin (λ o. is_before after o ≡ true) os 0 i
   pub behind : AllWithin (λ o. is_before after o ≡ false) os i (length os)
 
+-- the answers in front of start are before, and those from end on aren't
+pub record IsAround (after : Bool) (os : List Ordering) (start end : ℕ) : Type 0 where
+  pub before : AllWithin (λ o. is_before after o ≡ true) os 0 start
+  pub behind : AllWithin (λ o. is_before after o ≡ false) os end (length os)
+
 -- what stands in front of start is below, and what stands from end on above
 pub record IsBracket (os : List Ordering) (start end : ℕ) : Type 0 where
   pub below : AllWithin (λ o. o ≡ Less) os 0 start

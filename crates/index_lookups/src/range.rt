@@ -11,7 +11,7 @@ ghost use Rattle.index_lookups.specs.Range.{HasStageOf, IsPart, IsPrefixRange, I
 ghost use Rattle.index_lookups.specs.SearchSteps.{IsPartedAt, IsRising, asked_cmp};
 ghost use Rattle.index_lookups.specs.RangeSteps.{is_wanted, is_wanted_at};
 
-use crate::search::{Asked, Ordered, Prefix, part, part_within, search, search_path_and_stage};
+use crate::search::{Asked, Ordered, Prefix, end_from, part, search, search_path_and_stage};
 use index_entries::Entry;
 use index_entries::slice::EntrySlice;
 use index_metadata::entry::Stage;
@@ -24,7 +24,7 @@ fn run_of<R: Ordered>(places: &R) -> Option<Range<usize>>
         → IsRange is_eq (R.answers places.now) result }
 {
     let low = part(places, false).0;
-    let high = part_within(places, true, low, places.len()).0;
+    let high = end_from(places, low);
     if low < high { Some(low..high) } else { None }
 }
 

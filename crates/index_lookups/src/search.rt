@@ -1,14 +1,14 @@
 //! The one binary search of what stands in order, which counts its comparisons, and the searches by path.
 
-ghost use Rattle.std.specs.Prelude.{◌≡◌, ◌<◌, ◌≤◌, ◌+◌, ◌-◌, ◌++◌, List, length, map, take, drop, IfOk, IfErr, false};
-ghost use Rattle.std.specs.List.{HoldsAt};
+ghost use Rattle.std.specs.Prelude.{◌≡◌, ◌<◌, ◌≤◌, ◌+◌, ◌-◌, ◌++◌, List, length, map, take, drop, IfOk, IfErr, false, true};
+ghost use Rattle.std.specs.List.{AllWithin, HoldsAt};
 ghost use Rattle.std.specs.Option.{ok_or};
 ghost use Rattle.std.specs.declared.cmp.Ordering.{Ordering};
 ghost use Rattle.index_metadata.specs.Flags.{stage_code};
 ghost use Rattle.index_lookups.specs.Digits.{digits};
 ghost use Rattle.index_lookups.specs.Lookup.{IsKeyAt, IsPathAt, IsPathGap, insertion_of, place_of};
 ghost use Rattle.index_entries.specs.Order.{IsOrderedByPath, IsStrictlyOrdered};
-ghost use Rattle.index_lookups.specs.SearchSteps.{IsBracket, IsEqualAt, IsGapAt, IsPartedAt, IsRising, IsSplitBy, asked_cmp, prefix_answers, prefix_cmp, is_before};
+ghost use Rattle.index_lookups.specs.SearchSteps.{IsAround, IsBracket, IsEqualAt, IsGapAt, IsPartedAt, IsRising, IsSplitBy, asked_cmp, prefix_answers, prefix_cmp, is_before};
 
 use index_entries::Entry;
 use index_entries::slice::EntrySlice;
@@ -49,7 +49,7 @@ pub(crate) fn part_within<R: Ordered>(
     requires inside { end ≤ length (R.answers places.now) }
     ensures from { start ≤ result.0 }
     ensures upto { result.0 ≤ end }
-    ensures parts { IsRising (R.answers places.now) → IsBracket (R.answers places.now) start end
+    ensures parts { IsRising (R.answers places.now) → IsAround after (R.answers places.now) start end
         → IsPartedAt after (R.answers places.now) result.0 }
     ensures count { result.1 ≤ digits (end - start) }
     ensures at_least_one { start < end → 1 ≤ result.1 }
@@ -78,6 +78,44 @@ pub(crate) fn part<R: Ordered>(places: &R, after: bool) -> (usize, usize)
     ensures at_least_one { 0 < length (R.answers places.now) → 1 ≤ result.1 }
 {
     part_within(places, after, 0, places.len())
+}
+
+/// Between which places the first behind what is looked for stands, where all in front of `start` are known to stand
+/// before. It looks one place on, then two more, then four: so it goes no further than about twice as far as it must.
+fn gallop<R: Ordered>(places: &R, start: usize) -> (usize, usize)
+    requires { start ≤ length (R.answers places.now) }
+    ensures from { start ≤ result.0 }
+    ensures in_order { result.0 ≤ result.1 }
+    ensures inside { result.1 ≤ length (R.answers places.now) }
+    ensures around { IsRising (R.answers places.now)
+        → AllWithin (λ o. is_before true o ≡ true) (R.answers places.now) 0 start
+        → IsAround true (R.answers places.now) result.0 result.1 }
+{
+    let end = places.len();
+    let mut low = start;
+    while low < end {
+        let step = (low - start).min(end - low - 1);
+        let last = low + step;
+        if !passes(places.compare(last), true) {
+            return (low, last);
+        }
+        low = last + 1;
+    }
+    (low, low)
+}
+
+/// The first place behind what is looked for, where all in front of `start` are known to stand before. It takes few
+/// looks where that place is near.
+pub(crate) fn end_from<R: Ordered>(places: &R, start: usize) -> usize
+    requires { start ≤ length (R.answers places.now) }
+    ensures from { start ≤ result }
+    ensures in_range { result ≤ length (R.answers places.now) }
+    ensures parts { IsRising (R.answers places.now)
+        → AllWithin (λ o. is_before true o ≡ true) (R.answers places.now) 0 start
+        → IsPartedAt true (R.answers places.now) result }
+{
+    let (low, high) = gallop(places, start);
+    part_within(places, true, low, high).0
 }
 
 /// The first place from `start` up to `end` that is what is looked for or, as an error, the first behind it, where

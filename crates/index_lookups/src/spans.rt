@@ -12,7 +12,7 @@ ghost use Rattle.index_lookups.specs.SpanSteps.{AreSpans, IsSpan, IsWindow, name
 ghost use Rattle.index_lookups.specs.Tables.{IsDirs, last_slash, search_bound};
 
 use crate::names::directory_starts;
-use crate::search::{Asked, Ordered, Prefix, part_within, search_within};
+use crate::search::{Asked, Ordered, Prefix, end_from, search_within};
 use index_entries::Entry;
 use index_entries::slice::EntrySlice;
 use index_metadata::entry::Stage;
@@ -57,7 +57,7 @@ fn span_of<'a>(entries: &EntrySlice<'_>, name: &'a [u8], start: usize) -> Span<'
         prefix: name,
         tail,
     };
-    let end = part_within(&places, true, start, places.len()).0;
+    let end = end_from(&places, start);
     Span { name, start, end }
 }
 

@@ -1,7 +1,7 @@
 use Rattle.std.proofs.Common.{arith, ◌≡◌, ℕ, ◌+◌, ◌-◌, ◌/◌, true, false, sym, ◌∙◌}
 use Rattle.index_lookups.proofs.Digits.{digits_left, digits_small}
 use Rattle.index_lookups.specs.SearchSteps.{is_before}
-use Rattle.index_lookups.proofs.Parting.{before_middle, behind_middle, bracket_before, bracket_behind}
+use Rattle.index_lookups.proofs.Parting.{before_middle, behind_middle}
 use Rattle.index_lookups.proofs.search.part_within.Goals as goal
 
 pub loop-low-init : goal.loop-low-init
@@ -11,8 +11,8 @@ loop-low-init g c = record {
   in_range = omega arith;
   cost = omega arith;
   some = λ h. omega arith;
-  before = λ rising bracket. bracket_before c.args.after (g.R.Ordered.answers c.args.places.now) c.args.start c.args.end bracket;
-  behind = λ rising bracket. bracket_behind c.args.after (g.R.Ordered.answers c.args.places.now) c.args.start c.args.end bracket;
+  before = λ rising around. around.before;
+  behind = λ rising around. around.behind;
 }
 
 pub overflow_add-count : goal.overflow_add-count
@@ -28,7 +28,7 @@ loop-low-preserved-then-passes g c =
       in_range = omega arith;
       cost = omega (arith, digits_left (c.loop-low.high - (middle + 1)) (c.loop-low.high - c.loop-low.low) (omega arith) (omega arith));
       some = λ h. omega arith;
-      before = λ rising bracket. before_middle c.args.after (g.R.Ordered.answers c.args.places.now) middle c.compare.result (omega arith) c.compare.ensures told rising;
+      before = λ rising around. before_middle c.args.after (g.R.Ordered.answers c.args.places.now) middle c.compare.result (omega arith) c.compare.ensures told rising;
       behind = c.loop-low.invariant.behind;
     }
 
@@ -43,5 +43,5 @@ loop-low-preserved g c =
       cost = omega (arith, digits_left (middle - c.loop-low.low) (c.loop-low.high - c.loop-low.low) (omega arith) (omega arith));
       some = λ h. omega arith;
       before = c.loop-low.invariant.before;
-      behind = λ rising bracket. behind_middle c.args.after (g.R.Ordered.answers c.args.places.now) middle c.compare.result (omega arith) c.compare.ensures told rising;
+      behind = λ rising around. behind_middle c.args.after (g.R.Ordered.answers c.args.places.now) middle c.compare.result (omega arith) c.compare.ensures told rising;
     }
