@@ -1,6 +1,6 @@
 -- An empty index is storable, so is one of leaves alone; it stays so where an entry is added that is, where entries move, and where one is taken out.
 use Rattle.std.proofs.Common.{◌≡◌, ℕ, ◌<◌, ◌≤◌, List, ◌∷◌, length, get_or, All}
-use Rattle.std.specs.Prelude.{◌≢◌}
+use Rattle.std.specs.Prelude.{◌≢◌, IfSome}
 use Rattle.std.proofs.lemmas.List.Elements.{All-nil, All-push, All-tail, All-weaker}
 use Rattle.std.specs.List.{remove}
 use Rattle.std.specs.List.Sorted.{IsPermutation}
@@ -10,6 +10,8 @@ use Rattle.index_parts.specs.declared.hash.Kind.{Kind}
 use Rattle.index_metadata.specs.declared.entry.stat.FileTime.{FileTime}
 use Rattle.index_entries.specs.declared.Entry.{Entry}
 use Rattle.index_entries.specs.Record.{Record, IsSized, record_in, records_in}
+use Rattle.index_entries.specs.Storable.{IsStorableIn}
+use Rattle.index_cached_tree.specs.StoredTree.{IsStorableTree}
 use Rattle.index_trees.proofs.Fits.{FitsFile}
 use Rattle.index_state.specs.Edits.{empty_contents, with_record, with_records}
 use Rattle.index_format.specs.Contents.{Contents}
@@ -44,3 +46,17 @@ fitting_storable kind time rs h = record {
   fits = All-weaker (FitsFile kind) IsSized (λ r f. f.sized) rs h;
   tree = tt;
 }
+
+-- ---- what is looked at
+
+-- the records are storable one by one, and so is the tree
+pub parts_storable : (v : Contents) → All (IsStorableIn v.kind) v.records → IfSome v.extensions.tree (IsStorableTree v.kind) → IsStorable v
+parts_storable v all tree = record {
+  ids = All-weaker (IsStorableIn v.kind) (λ r. id_kind r.id ≡ v.kind) (λ r h. h.id) v.records all;
+  paths = All-weaker (IsStorableIn v.kind) HasLegalPath (λ r h. h.plain) v.records all;
+  fits = All-weaker (IsStorableIn v.kind) IsSized (λ r h. h.fits) v.records all;
+  tree = tree;
+}
+
+pub each_storable : (v : Contents) → IsStorable v → All (IsStorableIn v.kind) v.records
+each_storable v h = λ i d within. record { id = h.ids i d within; plain = h.paths i d within; fits = h.fits i d within }

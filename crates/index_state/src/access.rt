@@ -5,6 +5,7 @@ mod extensions;
 mod lookup;
 mod remove;
 mod sort;
+mod storable;
 mod storage;
 
 ghost use Rattle.std.specs.Borrow.{sem};

@@ -1,17 +1,11 @@
-use Rattle.std.proofs.Common.{refl, ap, ◌≡◌, ◌⊎◌, inl, inr, List, ℕ, length}
+use Rattle.std.proofs.Common.{refl, ap, ◌≡◌, inl, inr, length}
 use Rattle.index_entries.specs.Record.{IsSized}
 use Rattle.index_parts.specs.Id.{id_bytes, id_kind, id_len}
-use Rattle.index_parts.specs.declared.hash.ObjectId.{ObjectId}
-use Rattle.index_parts.specs.declared.hash.ObjectId.TheVariants as ids
 use Rattle.index_state.specs.State.{contents, entries_of, storage_of}
 use Rattle.index_entries.proofs.Appended.{appended_records}
+use Rattle.index_entries.proofs.StorableEntries.{variant_of}
 use Rattle.index_state.proofs.Storables.{push_storable}
 use Rattle.index_state.proofs.State.dangerously_push_entry.Goals as goal
-
--- an id is of the one kind or of the other
-variant_of : (id : ObjectId) → ((bytes : List ℕ) × (id ≡ ids.Sha1 bytes)) ⊎ ((bytes : List ℕ) × (id ≡ ids.Sha256 bytes))
-variant_of (ids.Sha1 bytes) = inl (bytes, refl)
-variant_of (ids.Sha256 bytes) = inr (bytes, refl)
 
 pub returns-clause-added : goal.returns-clause-added
 returns-clause-added c =
