@@ -1,0 +1,93 @@
+"""What `index-tool` has to answer to a command on a file of a folder: the fault's text only as far as it is defined."""
+
+from dataclasses import dataclass
+from typing import Optional
+
+import lookups
+import merging
+import state
+import trees
+import writing
+from bytes import null_id
+
+# The file that `rewrite` and `rewrite4` write.
+OUT = "out"
+
+
+@dataclass
+class Answer:
+    """The status, the standard output, how the line on standard error begins, and the file that is written."""
+
+    status: int = 0
+    out: bytes = b""
+    fault: bytes = b""
+    written: Optional[bytes] = None
+
+
+class Refused(Exception):
+    """How the line of a fault begins."""
+
+
+def answer(command, kind, name, files):
+    """The answer to a command on the file of this name, beside others that are given by their names."""
+    try:
+        return COMMANDS[command](index_at(kind, name, files), name)
+    except Refused as fault:
+        return Answer(1, fault=f"index-tool: {fault}".encode())
+
+
+def index_at(kind, name, files):
+    """The index in a file, with the shared index that it links to."""
+    try:
+        found, _ = state.read_file(files[name], kind)
+        link, found.link = found.link, None
+        if link is not None and link.shared != null_id(kind):
+            found.entries = merging.merged(link, found, shared_at(kind, link.shared, files))
+        return found
+    except state.Fault:
+        raise Refused(f"{name}: ") from None
+    except merging.MergeFault as fault:
+        raise Refused(f"{name}: the link to a shared index can't be followed: {fault}\n") from None
+
+
+def shared_at(kind, checksum, files):
+    """The shared index of this id, which its trailer has too."""
+    name = f"sharedindex.{checksum.hex()}"
+    if name not in files:
+        raise Refused(f"{name}: ")
+    found, trailer = state.read_file(files[name], kind)
+    if trailer not in (None, checksum):
+        raise state.Fault("digest", actual=trailer, expected=checksum)
+    return found
+
+
+def listed(found, _):
+    """A line for each entry: the mode, the id, the stage, a tab and the path."""
+    lines = [b"%06o %s %d\t%s\n" % (it.mode, it.id.hex().encode(), it.stage, it.path) for it in found.entries]
+    return Answer(out=b"".join(lines))
+
+
+def checked(found, name):
+    """Whether the entries increase and the cached tree holds together and fits them."""
+    place = lookups.first_out_of_order(found.entries)
+    if place is not None:
+        raise Refused(f"{name}: entry {place}, ")
+    try:
+        if found.tree is not None:
+            trees.verify_in_index(found.tree, len(found.entries))
+    except trees.TreeFault:
+        raise Refused(f"{name}: ") from None
+    return Answer(out=b"ok\n")
+
+
+def rewritten(is_version_4):
+    """The command that writes the index in this version, or in the smallest."""
+    def made(found, _):
+        try:
+            return Answer(written=writing.image(found, writing.Options(is_version_4=is_version_4))[2])
+        except writing.NulInPath:
+            raise Refused(f"{OUT}: a path of the index has a NUL byte") from None
+    return made
+
+
+COMMANDS = {"list": listed, "check": checked, "rewrite": rewritten(False), "rewrite4": rewritten(True)}
