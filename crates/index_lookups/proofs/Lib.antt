@@ -1,8 +1,8 @@
 pub mod Closest
 pub mod Digits
 pub mod FirstOfEach
-pub mod FoldedOrder
 pub mod Prefixes
+pub mod Fronts
 pub mod Halving
 pub mod Insertion
 pub mod NamedLists
@@ -21,3 +21,4 @@ pub mod TableFound
 pub mod TableMade
 pub mod TableSearch
 pub mod Wanted
+pub mod Words

@@ -4,7 +4,7 @@ use Rattle.std.specs.Prelude.{◌≡◌, ◌≢◌, ℕ, zero, suc, ◌<◌, ◌
 use Rattle.std.specs.List.{AllPairs}
 use Rattle.std.specs.Ordering.{nat_cmp, ordering_then}
 use Rattle.std.specs.declared.cmp.Ordering.{Ordering}
-use Rattle.std.specs.declared.cmp.Ordering.TheVariants.{Less, Greater}
+use Rattle.std.specs.declared.cmp.Ordering.TheVariants.{Less, Equal, Greater}
 use Rattle.index_entries.specs.Order.{path_cmp}
 use Rattle.index_entries.specs.Record.{Record}
 use Rattle.index_entries.specs.Shared.{shared_len}
@@ -22,6 +22,12 @@ named_value n = record { name = n.name.now; place = n.place }
 
 abbrev pub named_at : ℕ → List ℕ → NamedValue
 named_at place name = record { name = name; place = place }
+
+-- where the first bytes of two names stand to one another, as many as both have
+abbrev pub front_cmp : List ℕ → List ℕ → Ordering
+front_cmp [] ys = Equal
+front_cmp (x ∷ xs) [] = Equal
+front_cmp (x ∷ xs) (y ∷ ys) = ordering_then (nat_cmp x y) (front_cmp xs ys)
 
 -- by name, with case ignored where asked, and then by place
 abbrev pub named_cmp : Bool → NamedValue → NamedValue → Ordering

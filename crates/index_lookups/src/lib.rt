@@ -5,6 +5,7 @@
 #![tactic(auto)]
 
 pub mod directory;
+mod fold;
 pub mod folded;
 mod names;
 pub mod paths;

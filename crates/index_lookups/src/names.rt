@@ -10,6 +10,7 @@ ghost use Rattle.index_lookups.specs.Closest.{is_below};
 ghost use Rattle.index_lookups.specs.Folded.{folded};
 ghost use Rattle.index_lookups.specs.NameSteps.{AreNamedIn, IsDirectoryTable, IsFirstOfEach, IsPathTable, IsSharedPrefix, IsTableOf, directory_names, parents_between, named_at, name_answers, named_cmp, named_value, named_from, path_names};
 
+use crate::fold::compare_fronts;
 use crate::range::{Wanted, is_wanted};
 use crate::search::{Ordered, search_within};
 use index_entries::Entry;
@@ -22,22 +23,7 @@ use std::cmp::Ordering;
 pub(crate) fn compare_folded(a: &[u8], b: &[u8]) -> Ordering
     ensures { result ≡ path_cmp (folded true a.now) (folded true b.now) }
 {
-    let mut rest = b;
-    for byte in a {
-        let Some((other, after)) = rest.split_first() else {
-            return Ordering::Greater;
-        };
-        let order = byte.to_ascii_lowercase().cmp(&other.to_ascii_lowercase());
-        if order.is_ne() {
-            return order;
-        }
-        rest = after;
-    }
-    if rest.is_empty() {
-        Ordering::Equal
-    } else {
-        Ordering::Less
-    }
+    compare_fronts(a, b).then(a.len().cmp(&b.len()))
 }
 
 /// The same, with case ignored where asked.

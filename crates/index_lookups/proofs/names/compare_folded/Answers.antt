@@ -1,6 +1,5 @@
-use Rattle.std.proofs.Common.{◌∙◌}
-use Rattle.index_lookups.proofs.FoldedOrder.{longer}
+use Rattle.index_lookups.proofs.Fronts.{folded_by_front}
 use Rattle.index_lookups.proofs.names.compare_folded.Goals as goal
 
-pub returns-in_default : goal.returns-in_default
-returns-in_default c = longer c.args.a.now c.loop-byte.rest.now c.loop-byte.byte-index c.loop-byte-test.true c.in_default.ensures.cases ∙ c.loop-byte.invariant
+pub returns : goal.returns
+returns c = folded_by_front c.args.a.now c.args.b.now c.compare_fronts.result _ _ c.compare_fronts.ensures c.cmp.ensures c.then.ensures
