@@ -8,7 +8,8 @@
  * REFUSED_NTH    which one, counted from 1
  * REFUSED_ON     where it is set, each one behind it as well
  * REFUSED_ERROR  the number of the error of a call (by default EIO)
- * REFUSED_COUNTS a file for how many there were of the four kinds
+ * REFUSED_COUNTS a file for how many there were of the four kinds, and how many requests were for a block that there was
+ *                none of before, as a vector's first one is
  */
 #define _GNU_SOURCE
 #include <dlfcn.h>
@@ -26,7 +27,7 @@
 enum kind { REQUEST, CALL, MOVE, WAIT, KINDS };
 static const char *const names[KINDS] = {"request", "call", "move", "wait"};
 
-static long counts[KINDS], nth;
+static long counts[KINDS], blocks, nth;
 static enum kind refused = KINDS;
 static int goes_on, is_begun, error_number = EIO;
 
@@ -47,7 +48,8 @@ __attribute__((destructor)) static void end(void) {
   const char *path = getenv("REFUSED_COUNTS");
   char text[128];
   if (!path) return;
-  int len = snprintf(text, sizeof text, "%ld %ld %ld %ld\n", counts[REQUEST], counts[CALL], counts[MOVE], counts[WAIT]);
+  int len = snprintf(text, sizeof text, "%ld %ld %ld %ld %ld\n", counts[REQUEST], counts[CALL], counts[MOVE],
+                     counts[WAIT], blocks);
   int file = syscall(SYS_open, path, O_WRONLY | O_CREAT | O_TRUNC, 0600);
   if (file >= 0 && syscall(SYS_write, file, text, len) == len) syscall(SYS_close, file);
 }
@@ -61,7 +63,10 @@ static int is_refused(enum kind kind, int error) {
   return 1;
 }
 
-static int no_memory(void) { return is_refused(REQUEST, ENOMEM); }
+static int no_memory(const void *old) {
+  blocks += is_begun && !old;
+  return is_refused(REQUEST, ENOMEM);
+}
 static int fails(void) { return is_refused(CALL, error_number); }
 static int is_interrupted(void) { return is_refused(WAIT, EINTR); }
 static size_t moved(size_t len) { return len > 1 && is_refused(MOVE, 0) ? 1 : len; }
@@ -69,23 +74,25 @@ static size_t moved(size_t len) { return len > 1 && is_refused(MOVE, 0) ? 1 : le
 void *malloc(size_t len) {
   static __typeof__(&malloc) next;
   if (!next) next = NEXT(malloc);
-  return no_memory() ? NULL : next(len);
+  return no_memory(NULL) ? NULL : next(len);
 }
 
 void *realloc(void *old, size_t len) {
   static __typeof__(&realloc) next;
   if (!next) next = NEXT(realloc);
-  return no_memory() ? NULL : next(old, len);
+  return no_memory(old) ? NULL : next(old, len);
 }
 
-void *aligned_alloc(size_t alignment, size_t len) { return no_memory() ? NULL : NEXT(aligned_alloc)(alignment, len); }
+void *aligned_alloc(size_t alignment, size_t len) {
+  return no_memory(NULL) ? NULL : NEXT(aligned_alloc)(alignment, len);
+}
 
 int posix_memalign(void **to, size_t alignment, size_t len) {
-  return no_memory() ? ENOMEM : NEXT(posix_memalign)(to, alignment, len);
+  return no_memory(NULL) ? ENOMEM : NEXT(posix_memalign)(to, alignment, len);
 }
 
 void *mmap(void *at, size_t len, int rights, int flags, int file, off_t from) {
-  return no_memory() ? MAP_FAILED : NEXT(mmap)(at, len, rights, flags, file, from);
+  return no_memory(NULL) ? MAP_FAILED : NEXT(mmap)(at, len, rights, flags, file, from);
 }
 
 int open(const char *path, int flags, ...) {

@@ -4,7 +4,9 @@ import bitmaps
 import entries
 import extensions
 import faults
+import files
 import lookups
+import merging
 import show
 import state
 import trees
@@ -44,6 +46,20 @@ def answer_state(row, folder):
 
 def answer_file(row, folder):
     return whole(row[0], words.bytes_of(row[1], folder), skip_hash="unchecked" in row)
+
+
+def answer_at(row, folder):
+    kind, name, here = row[0], row[1], files.Folder(folder)
+    if "or-default" in row and not here.has(name):
+        return show.whole(state.State(kind), None)
+    try:
+        return show.whole(*files.index_at(kind, name, here))
+    except files.Unread as missing:
+        return [f"fault: file {show.text(str(missing).encode())}"]
+    except state.Fault as fault:
+        return [f"fault: {faults.of_index(fault)}"]
+    except merging.MergeFault as fault:
+        return [f"fault: link: {fault}"]
 
 
 def facts(kind, data, skip_hash):
@@ -337,6 +353,7 @@ WITHOUT_KIND = ("monitor", "offsets", "bitmap")
 CALLS = {
     "state": answer_state,
     "file": answer_file,
+    "at": answer_at,
     "fronts": answer_fronts,
     "file-fronts": answer_file_fronts,
     "content-fronts": answer_content_fronts,

@@ -183,7 +183,7 @@ def read(data, kind, options=Options()):
     return state, trailer
 
 
-def read_file(data, kind, skip_hash=False):
+def read_file(data, kind, skip_hash=False, options=Options()):
     """The same of a file, whose digest is compared first, unless it is null, too short or not to be looked at."""
     length = ID_LENGTH[kind]
     trailer = data[-length:]
@@ -191,4 +191,4 @@ def read_file(data, kind, skip_hash=False):
         actual = digest(kind, data[:-length])
         if actual != trailer:
             raise Fault("digest", actual=actual, expected=trailer)
-    return read(data, kind)
+    return read(data, kind, options)

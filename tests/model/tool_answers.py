@@ -8,7 +8,8 @@ import merging
 import state
 import trees
 import writing
-from bytes import null_id
+from files import Unread
+from files import index_at as read_at
 
 # The file that `rewrite` and `rewrite4` write.
 OUT = "out"
@@ -39,26 +40,13 @@ def answer(command, kind, name, files):
 def index_at(kind, name, files):
     """The index in a file, with the shared index that it links to."""
     try:
-        found, _ = state.read_file(files[name], kind)
-        link, found.link = found.link, None
-        if link is not None and link.shared != null_id(kind):
-            found.entries = merging.merged(link, found, shared_at(kind, link.shared, files))
-        return found
+        return read_at(kind, name, files)[0]
+    except Unread as missing:
+        raise Refused(f"{missing}: ") from None
     except state.Fault:
         raise Refused(f"{name}: ") from None
     except merging.MergeFault as fault:
         raise Refused(f"{name}: the link to a shared index can't be followed: {fault}\n") from None
-
-
-def shared_at(kind, checksum, files):
-    """The shared index of this id, which its trailer has too."""
-    name = f"sharedindex.{checksum.hex()}"
-    if name not in files:
-        raise Refused(f"{name}: ")
-    found, trailer = state.read_file(files[name], kind)
-    if trailer not in (None, checksum):
-        raise state.Fault("digest", actual=trailer, expected=checksum)
-    return found
 
 
 def listed(found, _):

@@ -41,6 +41,11 @@ impl<'a> Words<'a> {
         Words { rt, left: words }
     }
 
+    /// What files are opened by.
+    pub fn rt(&self) -> &'a HostRuntime {
+        self.rt
+    }
+
     /// What the memory of values comes from.
     pub fn alloc(&self) -> Global {
         self.rt.alloc()

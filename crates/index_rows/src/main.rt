@@ -8,6 +8,7 @@
 mod cuts;
 mod entries;
 mod extensions;
+mod files;
 mod fronts;
 mod numbers;
 mod show;
@@ -23,6 +24,9 @@ impl Answer for Rows {
     fn answer(&self, call: &str, words: &mut Words<'_>, out: &mut Lines) -> Result<(), Fault> {
         if let Some(call) = states::Call::named(call) {
             return call.answer(words, out);
+        }
+        if call == "at" {
+            return files::at(words, out);
         }
         if call == "content-fronts" {
             return extensions::fronts(words, out);

@@ -5,7 +5,7 @@ use gix_index::decode::Options;
 use gix_index::entry::FileTime;
 use gix_index::extension::tree;
 use gix_index::hash::Kind;
-use std::alloc::{AllocError, Global};
+use std::alloc::Global;
 use std::test::Fail;
 
 /// No entry, a cached tree that is invalid, a path with resolve-undo, a file system monitor, and a null trailer.
@@ -45,17 +45,6 @@ fn resolve_undo_is_removed(rt: HostRuntime) -> Result<(), Fail> {
     let mut state = extended(rt.alloc())?;
     assert!(rt; state.remove_resolve_undo().is_some());
     assert!(rt; found_in(&state) == (Some(None), None, true));
-    Ok(())
-}
-
-fn found_in_clone(state: &State) -> Result<Found, AllocError> {
-    Ok(found_in(&state.clone()?))
-}
-
-#[test]
-fn a_state_is_copied(rt: HostRuntime) -> Result<(), Fail> {
-    let state = extended(rt.alloc())?;
-    assert!(rt; found_in_clone(&state)? == (Some(None), Some(1), true));
     Ok(())
 }
 

@@ -1,12 +1,10 @@
 //! What no row of a table can show, tried as a user of the library does: values that are lent, changed and copied, and
-//! files that fail. What bytes are read as, and what is written and found, stands in the tables of the row
-//! programs.
+//! a file that is looked at again. What bytes and files are read as, and what is written and found, stands in the
+//! tables of the row programs.
 #![tactic(auto)]
 
 #[cfg(test)]
 mod access;
-#[cfg(test)]
-mod device;
 #[cfg(test)]
 mod disk;
 #[cfg(test)]
