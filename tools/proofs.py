@@ -212,7 +212,9 @@ def prove_and_run(program, runs, report):
     crate = TOP / "crates" / program
     words = (crate / "args").read_text().splitlines() if (crate / "args").exists() else []
     words = [f"data/{word}" if (crate / "data" / word).exists() else word for word in words]
-    with open(crate / "stdin" if (crate / "stdin").exists() else os.devnull, "rb") as given:
+    # (a table may name files of data/, which isn't the folder that the program runs in here)
+    is_table = (crate / "stdin").exists() and not (crate / "data").exists()
+    with open(crate / "stdin" if is_table else os.devnull, "rb") as given:
         status, text = runs.call(["rt", "run", "--", *words], crate, given)
     if status:
         raise Unbuilt(program, text)
