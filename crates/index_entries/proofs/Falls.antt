@@ -59,3 +59,15 @@ isnt_ordered (r ∷ rs) i pos lt less s =
     let same : i - 1 + 1 ≡ i = omega arith in
     let not = rw same at (s (i - 1) r (omega arith) (omega arith)) in
     false≢true (sym not ∙ less r)
+
+-- no record is below the one before it from a place on
+abbrev pub RisesFrom : List Record → ℕ → Type 0
+RisesFrom rs i = (k : ℕ) (d : Record) → i ≤ k + 1 → k + 1 < length rs → is_lt (record_cmp (get_or rs (k + 1) d) (get_or rs k d)) ≡ false
+
+-- nor is the one before that place
+pub rises_before : (rs : List Record) (i : ℕ) → 1 < i → RisesFrom rs i → ((d : Record) → is_lt (record_cmp (get_or rs (i - 1) d) (get_or rs (i - 1 - 1) d)) ≡ false) → RisesFrom rs (i - 1)
+rises_before rs i pos h here k d le lt = by (cases_lt (i - 1) (k + 1))
+  where
+    by : (i - 1 < k + 1) ⊎ (k + 1 ≤ i - 1) → is_lt (record_cmp (get_or rs (k + 1) d) (get_or rs k d)) ≡ false
+    by (inl a) = h k d (omega arith) lt
+    by (inr b) = let e : i - 1 ≡ k + 1 = omega arith in let f : k + 1 - 1 ≡ k = omega arith in rw (e, f) at (here d)

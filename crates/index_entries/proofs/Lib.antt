@@ -4,6 +4,7 @@ pub mod Deltas
 pub mod DeltasAgain
 pub mod EntriesAgain
 pub mod Falls
+pub mod Growing
 pub mod Kept
 pub mod LastPath
 pub mod Lengths

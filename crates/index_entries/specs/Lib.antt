@@ -5,6 +5,7 @@ pub mod EntryImage
 pub mod EntrySteps
 pub mod Header
 pub mod Held
+pub mod Lent
 pub mod LentSteps
 pub mod Limits
 pub mod Order

@@ -1,4 +1,4 @@
 //! Reading the header and the entries of a file.
 
 pub mod entries;
-mod entry;
+pub mod entry;

@@ -18,7 +18,6 @@ pub mod remove;
 pub mod sizes;
 pub mod slice;
 pub mod sort;
-pub mod storable;
 pub mod write;
 
 /// The version of a file's format (gitformat-index, "The Git index file has the following format").
@@ -93,6 +92,15 @@ impl Entry {
         ensures { result.now ≡ (record_in backing.now self.now).path }
     {
         &backing[self.path.start..self.path.end]
+    }
+
+    /// Where the path lies in the storage of the state that the entry is from, in bytes from its start: `path_in` gives
+    /// these bytes. So a caller who copies the storage whole has all paths.
+    pub fn path_range(&self) -> Range<usize>
+        ensures start { result.start ≡ self.now.path.start }
+        ensures end { result.end ≡ self.now.path.end }
+    {
+        self.path.start..self.path.end
     }
 
     /// How this entry compares to another of the same state: by path, and at the same path by the number of the

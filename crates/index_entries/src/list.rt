@@ -120,6 +120,13 @@ impl EntryList {
         })
     }
 
+    /// How many entries there are.
+    pub fn len(&self) -> usize
+        ensures { result ≡ length self.now.records }
+    {
+        self.entries.len()
+    }
+
     /// How many bytes the last path has.
     pub fn last_len(&self) -> Option<usize>
         ensures { result ≡ option_map length (last_path None self.now.records) }

@@ -33,11 +33,12 @@ pub(crate) fn compare_entries(a: &Entry, b: &Entry, backing: &[u8]) -> Ordering
 }
 
 impl EntrySlice<'_> {
-    /// Whether no entry is below the one before it.
+    /// Whether no entry is below the one before it. The last ones are looked at first: entries that were put behind
+    /// others are where the order ends.
     pub fn is_ordered(&self) -> bool
         ensures { IsTrue result ↔ IsOrdered self.now }
     {
-        for i in 1..self.len() {
+        for i in (1..self.len()).rev() {
             if self.compare(i, i - 1).is_lt() {
                 return false;
             }

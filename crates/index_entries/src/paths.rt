@@ -59,7 +59,7 @@ pub fn shared_len(a: &[u8], b: &[u8]) -> usize
 }
 
 /// Whether no byte of the path is a NUL.
-pub(crate) fn lacks_nul(path: &[u8]) -> bool
+pub fn lacks_nul(path: &[u8]) -> bool
     ensures { IsTrue result ↔ All (λ b. b ≢ 0) path.now }
 {
     path.iter().all(|byte| *byte != 0)

@@ -3,16 +3,18 @@
 mod delta;
 mod entry;
 
-ghost use Rattle.std.specs.Prelude.{◌≡◌, ◌+◌, ◌<◌, ◌≤◌, ◌^◌, [], length, false, is_err, All, IfSome, IfNone};
+ghost use Rattle.std.specs.Prelude.{◌≡◌, ◌+◌, ◌<◌, ◌≤◌, ◌^◌, ◌++◌, [], length, false, is_err, All, IfSome, IfNone, OnOk, OnErr};
+ghost use Rattle.index_parts.specs.Gathered.{Gathers};
 ghost use Rattle.index_parts.specs.Puts.{Puts};
-ghost use Rattle.index_entries.specs.EntryImage.{chosen_version, entries_in, header_bytes, version_by, written};
+ghost use Rattle.index_entries.specs.EntryImage.{chosen_version, entries_in, entry_in, header_bytes, version_by, written};
 ghost use Rattle.index_entries.specs.Header.{header_len};
-ghost use Rattle.index_entries.specs.Record.{IsPlaced, records_in};
+ghost use Rattle.index_entries.specs.Record.{IsPlaced, record_in, records_in};
 
 use crate::sizes::HEADER_LEN;
 use crate::{Entry, Version};
 use bitflags::Flags as _;
 use index_metadata::entry::Flags;
+use index_parts::block::Block;
 use index_parts::hash::io::Out;
 use std::io;
 
@@ -46,7 +48,37 @@ pub fn header(version: Version, count: u32) -> [u8; HEADER_LEN]
     [b'D', b'I', b'R', b'C', a, b, c, d, e, f, g, h]
 }
 
-/// Writes the entries that are not left out, one after another, as a file of this version has them.
+/// Puts an entry behind the bytes of a block. Where the block has no room for it, its bytes go out first, and the entry
+/// after them.
+fn put_behind<W: Out>(
+    entry: &Entry,
+    version: Version,
+    previous: &[u8],
+    storage: &[u8],
+    block: &mut Block,
+    out: &mut W,
+) -> io::Result<()>
+    requires placed { IsPlaced (length storage.now) entry.now }
+    requires unfailed { W.failed out.old ≡ false }
+    requires room { block.old.is_full ≡ false }
+    ensures gathered { OnOk result (Gathers W.Out out.old out.new block.new.bytes
+        (block.old.bytes ++ entry_in version previous.now (record_in storage.now entry.now))) }
+    ensures room { OnOk result (block.new.is_full ≡ false) }
+    ensures fault { OnErr result (Puts W.Out out.old out.new result
+        (block.old.bytes ++ entry_in version previous.now (record_in storage.now entry.now))) }
+{
+    let len = block.len();
+    if entry.put(version, previous, storage, block).is_ok() {
+        return Ok(());
+    }
+    block.cut_to(len);
+    out.put(block.as_slice())?;
+    block.cut_to(0);
+    entry.put(version, previous, storage, out)
+}
+
+/// Writes the entries that are not left out, one after another, as a file of this version has them. Their bytes go out
+/// in blocks.
 pub fn put_entries<W: Out>(
     version: Version,
     entries: &[Entry],
@@ -58,15 +90,16 @@ pub fn put_entries<W: Out>(
     ensures { Puts W.Out out.old out.new result
         (entries_in version [] (written (records_in storage.now entries.now))) }
 {
+    let mut block = Block::new();
     let mut previous: &[u8] = &[];
     for entry in entries {
         if entry.is_removed() {
             continue;
         }
-        entry.put(version, previous, storage, out)?;
+        put_behind(entry, version, previous, storage, &mut block, out)?;
         previous = entry.path_in(storage);
     }
-    Ok(())
+    out.put(block.as_slice())
 }
 
 /// The version of a file in which an entry has a second word of flags, or none has.

@@ -1,6 +1,7 @@
 pub mod BitmapFaults
 pub mod Bitmaps
 pub mod Digests
+pub mod Gatherings
 pub mod Ids
 pub mod Octals
 pub mod Offsets

@@ -1,8 +1,11 @@
 -- The places of bits that are set.
 use Rattle.std.proofs.Common.{◌≡◌, ℕ, zero, suc, ◌+◌, ◌-◌, ◌*◌, ◌/◌, ◌%◌, ◌^◌, ◌<◌, ◌≤◌, nat_lt, nat_eq, Bool, true, false, cond, List, [], ◌∷◌, ◌++◌, take, drop, Option, Some, None, Result, Ok, Err, refl, sym, ap, subst, ◌∙◌, arith, append_assoc}
 use Rattle.std.specs.Prelude.{replicate}
+use Rattle.std.specs.Int.Count.{count_trailing_zeros, under}
 use Rattle.std.specs.List.{flat_map}
 use Rattle.std.proofs.lemmas.Bool.Decides.{nat_tests}
+use Rattle.std.proofs.lemmas.Nat.{trailing_le, shr-shr}
+use Rattle.std.proofs.Math.Nat.{div-eq_of_lt, pow-le-pow_right}
 use Rattle.index_parts.specs.Ascending.{Ascends}
 use Rattle.index_parts.specs.Bits.{Bit, clear, set, broken, bit_of, low_bits, word_bits, repetitions, places, ListPlaces}
 use Rattle.index_parts.specs.declared.ewah.iter.Malformed.{Malformed}
@@ -95,10 +98,47 @@ run_set p run words h = rw (unpacked-cons run words, bit_set (run % 2) h) refl
 pub run_clear : (p q : Option ℕ) (run : ℕ) (words : List ℕ) → (run % 2 ≡ 1 → ⊥) → IsPlaceAfter p (64 * repetitions run) q → places (next_place q) (behind_run run words) ≡ places (next_place p) (unpacked (run ∷ words))
 run_clear p q run words h a = rw (unpacked-cons run words, bit_clear (run % 2) h) (places_after p (64 * repetitions run) q (behind_run run words) a ∙ sym (places_clear (64 * repetitions run) (next_place p) (behind_run run words)))
 
+-- ---- clear bits of a literal word that are passed at once
+
+-- the lowest digit is clear where some are, and one fewer behind it
+trailing_step : (m k w : ℕ) → suc k ≤ count_trailing_zeros (suc m) w → (w % 2 ≡ 0) × (k ≤ count_trailing_zeros m (w / 2))
+unfolding count_trailing_zeros
+trailing_step m k w h =
+    let P : ℕ → Type 0 = λ d. suc k ≤ under d (count_trailing_zeros m (w / 2)) → (d ≡ 0) × (k ≤ count_trailing_zeros m (w / 2)) in
+    elim (w % 2) as P [ zero ↦ λ l. (refl, omega arith) | suc d ↦ λ l. absurd (omega arith) ] h
+
+-- an even number has a clear digit
+pub trailing_even : (m w : ℕ) → w % 2 ≡ 0 → 0 < count_trailing_zeros (suc m) w
+unfolding count_trailing_zeros
+trailing_even m w h = rw h (omega arith)
+
+-- so many bits of a word are clear
+low_clear : (k n m w : ℕ) → k ≤ n → k ≤ count_trailing_zeros m w → low_bits n w ≡ replicate k clear ++ low_bits (n - k) (w / 2 ^ k)
+low_clear zero n m w le h = let a : n - 0 ≡ n = omega arith in let b : w / 1 ≡ w = omega arith in rw (a, b) refl
+low_clear (suc k) zero m w le h = absurd (omega arith)
+low_clear (suc k) (suc n) zero w le h = absurd (omega (arith, trailing_le 0 w))
+low_clear (suc k) (suc n) (suc m) w le h =
+    let p = trailing_step m k w h in
+    let a : suc n - suc k ≡ n - k = omega arith in
+    let b : 1 + k ≡ suc k = omega arith in
+    let e : w / 2 / 2 ^ k ≡ w / 2 ^ suc k = shr-shr w 1 k ∙ ap (λ j. w / 2 ^ j) b in
+    let tail = subst (λ (v : ℕ). low_bits n (w / 2) ≡ replicate k clear ++ low_bits (n - k) v) e (low_clear k n m (w / 2) (omega arith) p.1) in
+    rw (bit_clear (w % 2) (λ h1. absurd (omega (arith, h1, p.0))), a) (ap (λ (bits : List Bit). clear ∷ bits) tail)
+
+-- a word without its low bits, as a shift by any number gives it
+shifted : (k w : ℕ) → w < 2 ^ 64 → cond (nat_lt k 64) (w / 2 ^ k) 0 ≡ w / 2 ^ k
+shifted k w h = elim (nat_lt k 64) as (λ t. nat_lt k 64 ≡ t → cond t (w / 2 ^ k) 0 ≡ w / 2 ^ k) [
+  | true ↦ λ e. refl
+  | false ↦ λ e. let far : 64 ≤ k = grind (arith, nat_tests) in let room : 2 ^ 64 ≤ 2 ^ k = pow-le-pow_right (omega arith) far in sym (div-eq_of_lt (omega (arith, h, room)))
+] refl
+
 module _ (ones bits literals : ℕ) (no_run : ones ≡ 0) where
-  -- a clear bit of a literal word is passed
-  pub step_clear : (w : ℕ) (p q : Option ℕ) (tail : List Bit) → 0 < bits → (w % 2 ≡ 1 → ⊥) → IsPlaceAfter p 1 q → places (next_place q) (replicate ones set ++ (low_bits (bits - 1) (w / 2) ++ tail)) ≡ places (next_place p) (replicate ones set ++ (low_bits bits w ++ tail))
-  step_clear w p q tail pos h a = rw (no_run, word_step bits w pos, bit_clear (w % 2) h) (places_after p 1 q (low_bits (bits - 1) (w / 2) ++ tail) a)
+  -- clear bits of a literal word are passed
+  pub step_clear : (k w : ℕ) (p q : Option ℕ) (tail : List Bit) → k ≤ bits → k ≤ count_trailing_zeros 64 w → w < 2 ^ 64 → IsPlaceAfter p k q
+      → places (next_place q) (replicate ones set ++ (low_bits (bits - k) (cond (nat_lt k 64) (w / 2 ^ k) 0) ++ tail)) ≡ places (next_place p) (replicate ones set ++ (low_bits bits w ++ tail))
+  step_clear k w p q tail le zeros small a =
+      let behind = low_bits (bits - k) (w / 2 ^ k) in
+      rw (no_run, shifted k w small, low_clear k bits 64 w le zeros) (places_after p k q (behind ++ tail) a ∙ sym (places_clear k (next_place p) (behind ++ tail)) ∙ sym (ap (places (next_place p)) (append_assoc (replicate k clear) behind tail)))
 
   module _ (no_bits : bits ≡ 0) (is_broken : Bool) (whole : is_broken ≡ false) (w p : ℕ) where
     -- the next literal word is begun

@@ -2,6 +2,7 @@ pub mod Ascending
 pub mod Bitmap
 pub mod Bits
 pub mod Digest
+pub mod Gathered
 pub mod Id
 pub mod Limit
 pub mod Numbers

@@ -18,7 +18,7 @@ pub trait ComponentCheck {
 }
 
 /// The number by which a name in a tree is refused, if it is. A link's name is asked for as such too.
-pub(crate) fn refusal_of<C: ComponentCheck>(check: &C, name: &[u8], kind: EntryKind) -> Option<u32>
+pub fn refusal_of<C: ComponentCheck>(check: &C, name: &[u8], kind: EntryKind) -> Option<u32>
     ensures { result ≡ refusal_as (C.refusal check.now) name.now kind }
 {
     if let Err(number) = check.check(name, false) {

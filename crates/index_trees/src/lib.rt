@@ -7,4 +7,4 @@ pub mod from_tree;
 mod read;
 mod walk;
 
-pub use check::ComponentCheck;
+pub use check::{ComponentCheck, refusal_of};

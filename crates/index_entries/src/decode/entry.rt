@@ -1,4 +1,5 @@
-//! One entry at the front of bytes, as lent pieces.
+//! One entry at the front of bytes, as lent pieces: for a reader that walks over a file's entries and keeps none of
+//! them.
 
 ghost use Rattle.std.specs.Prelude.{◌≡◌, ◌+◌, ◌*◌, ◌≤◌, ℕ, List, length, Option, Some, IfSome, IfNone, drop, take, unwrap_or, [], ◌++◌};
 ghost use Rattle.std.specs.Option.{option_map};
@@ -6,7 +7,8 @@ ghost use Rattle.index_metadata.specs.Flags.{stored_flags, joined_words};
 ghost use Rattle.index_parts.specs.Id.{id_kind};
 ghost use Rattle.index_metadata.specs.Stat.{stat_of};
 ghost use Rattle.index_entries.specs.Entry.{IsEntry23, IsEntry4, IsEntry};
-ghost use Rattle.index_entries.specs.LentSteps.{lent_head, lent_record};
+ghost use Rattle.index_entries.specs.Lent.{lent_record};
+ghost use Rattle.index_entries.specs.LentSteps.{lent_head};
 ghost use Rattle.index_entries.specs.EntrySteps.{IsLong, record_from, second_at, head_at, path_at, entry23_at, shared_of, entry4_at};
 ghost use Rattle.index_entries.specs.Record.{Record};
 
@@ -36,10 +38,13 @@ pub(super) struct EntryHead<'a> {
 
 /// An entry whose path is so many bytes of the path before it, and bytes that were read.
 #[derive(Clone, Copy)]
-pub(super) struct Lent<'a> {
-    pub(super) shared: usize,
-    pub(super) path: &'a [u8],
-    pub(super) entry: Pathless,
+pub struct Lent<'a> {
+    /// How many bytes of the path before it stay; 0 in versions 2 and 3.
+    pub shared: usize,
+    /// The path's bytes behind those.
+    pub path: &'a [u8],
+    /// All of the entry but its path.
+    pub entry: Pathless,
 }
 
 /// The second word where the first asks for one, or 0.
@@ -195,8 +200,9 @@ fn entry4_of(kind: Kind, room: Option<usize>, bytes: &[u8]) -> Option<(Lent<'_>,
     Some((lent_of(kind, head, shared, tail), rest))
 }
 
-/// The entry of a version at the front, behind a path of so many bytes or none, and the bytes behind it.
-pub(super) fn entry_of(
+/// The entry of a version at the front, behind a path of so many bytes or none, and the bytes behind it; None where no
+/// entry stands there. Nothing is copied but the numbers.
+pub fn entry_of(
     version: Version,
     kind: Kind,
     room: Option<usize>,

@@ -1,6 +1,6 @@
 //! The positions of a bitmap's set bits, one after another.
 
-ghost use Rattle.std.specs.Prelude.{◌≡◌, ◌≤◌, ◌<◌, ◌^◌, [], ◌∷◌, length, Some};
+ghost use Rattle.std.specs.Prelude.{◌≡◌, ◌≤◌, ◌<◌, ◌^◌, ◌%◌, [], ◌∷◌, length, Some};
 ghost use Rattle.std.specs.Iterator.{YieldsFirst, item_count};
 ghost use Rattle.index_parts.specs.Ascending.{Ascends};
 ghost use Rattle.index_parts.specs.Bits.{set, places, ListPlaces};
@@ -92,6 +92,21 @@ impl<'a> Positions<'a> {
         }
     }
 
+    /// Passes the clear bits of the literal word that was begun, up to the next set one or to the word's end.
+    fn pass_clear(&mut self)
+        requires behind_run { self.old.ones ≡ 0 }
+        requires clear { self.old.word % 2 ≡ 0 }
+        requires begun { 0 < self.old.bits }
+        ensures left { items_left self.new ≡ items_left self.old }
+        ensures fewer { self.new.bits < self.old.bits }
+        ensures words { self.new.words.now ≡ self.old.words.now }
+    {
+        let clear = self.word.trailing_zeros().min(self.bits);
+        self.word = self.word.unbounded_shr(clear);
+        self.bits -= clear;
+        self.place = skip(self.place, u64::from(clear));
+    }
+
     /// Begins the chunk of a run word, which was taken off before. A run of clear bits is passed at once.
     fn begin_chunk(&mut self, run: u64)
         requires { IsBetweenChunks self.old }
@@ -130,13 +145,12 @@ impl<'a> Iterator for Positions<'a> {
                 return Some(self.take_place());
             }
             if self.bits > 0 {
-                let is_set = self.word % 2 == 1;
-                self.word /= 2;
-                self.bits -= 1;
-                if is_set {
+                if self.word % 2 == 1 {
+                    self.word /= 2;
+                    self.bits -= 1;
                     return Some(self.take_place());
                 }
-                self.place = skip(self.place, 1);
+                self.pass_clear();
                 continue;
             }
             if self.is_broken {

@@ -1,36 +1,20 @@
-use Rattle.std.proofs.Common.{◌≡◌, ◌∙◌, sym, ap, refl, Bool, true, false, eqb, List, [], ◌∷◌, ◌++◌, None, length, arith}
-use Rattle.std.specs.Prelude.{◌||◌}
-use Rattle.std.proofs.lemmas.List.{length-append}
-use Rattle.std.proofs.lemmas.List.Elements.{All-push}
-use Rattle.std.proofs.lemmas.List.Folds.{list_any-append}
-use Rattle.index_parts.specs.Id.{id_kind}
-use Rattle.index_entries.specs.Entries.{last_path}
-use Rattle.index_entries.specs.Held.{Held}
-use Rattle.index_entries.specs.LentSteps.{lent_record}
-use Rattle.index_entries.specs.Record.{Record, has_directory}
-use Rattle.index_entries.proofs.Storing.{entries_push}
+use Rattle.std.proofs.Common.{rules, ◌≡◌, ◌<◌, None, length, refl}
+use Rattle.index_entries.specs.Entries.{AreEntries}
 use Rattle.index_entries.proofs.decode.entries.read_entries.Goals as goal
 
-or_false : (b : Bool) → (b || false) ≡ b
-or_false true = refl
-or_false false = refl
-
-folder_push : (rs : List Record) (r : Record) → has_directory (rs ++ r ∷ []) ≡ (has_directory rs || eqb r.mode 0o040000)
-folder_push rs r = list_any-append (λ (x : Record). eqb x.mode 0o040000) rs (r ∷ []) ∙ ap (λ (b : Bool). has_directory rs || b) (or_false (eqb r.mode 0o040000))
-
-ap2or : {a b x y : Bool} → a ≡ b → x ≡ y → (a || x) ≡ (b || y)
-ap2or p q = rw (p, q) refl
-
-pub loop-index-preserved : goal.loop-index-preserved
-loop-index-preserved c =
-    let before = c.loop-index.list.records in
-    let last = last_path None before in
-    let found = c.in-Some.ensures.found last (sym c.last_len.ensures) in
-    let r = lent_record last c.in-Some.lent in
-    let stored : c.push_after.new.self.records ≡ before ++ r ∷ [] = ap (λ (h : Held). h.records) c.in_ok-push_after.ensures.pushed in
-    record {
-      read = rw stored (entries_push c.args.version c.args.kind None c.args.bytes.now before r c.loop-index.rest.now c.in-Some.after.now c.loop-index.invariant.read found);
-      count = ap length stored ∙ omega (arith, length-append before (r ∷ []), c.loop-index.invariant.count);
-      ids = rw stored (All-push (λ (x : Record). id_kind x.id ≡ c.args.kind) before r c.loop-index.invariant.ids c.in-Some.ensures.kind);
-      sparse = ap2or c.loop-index.invariant.sparse c.is_sparse-sparse.ensures ∙ sym (ap has_directory stored ∙ folder_push before r);
-    }
+pub returns-then-len-count-clause-fault : goal.returns-then-len-count-clause-fault
+returns-then-len-count-clause-fault c =
+    let bytes = c.args.bytes.now in
+    let records = c.entries_in.new.first.list.records in
+    let start : AreEntries c.args.version c.args.kind None bytes c.in_ok-list.list.records bytes = rw c.in_ok-list.ensures refl in
+    let few : length records < c.args.count = search rules in
+    let counted : length records ≡ c.len-len.result = search rules in (
+      search rules,
+      record {
+        records = records;
+        rest = c.in_ok-rest.rest.now;
+        read = c.in_ok-rest.ensures.read bytes start;
+        count = counted;
+        none = c.in_ok-rest.ensures.none few;
+      },
+    )

@@ -1,14 +1,8 @@
 use Rattle.std.proofs.Common.{◌≡◌, ◌∙◌, sym, arith, []}
 use Rattle.std.proofs.lemmas.List.{nil_from_length}
-use Rattle.index_parts.specs.UnpackingSteps.{next_place, items_left, bits_behind}
-use Rattle.index_parts.proofs.Places.{step_clear, step_literal, step_end}
+use Rattle.index_parts.specs.UnpackingSteps.{next_place, items_left}
+use Rattle.index_parts.proofs.Places.{step_literal, step_end}
 use Rattle.index_parts.proofs.ewah.iter.PositionsIterator.next.Goals as goal
-
-pub loop-self-preserved-then-self-gt0-2 : goal.loop-self-preserved-then-self-gt0-2
-loop-self-preserved-then-self-gt0-2 c =
-    let s = c.loop-self.self in
-    let no_run : s.ones ≡ 0 = omega arith in
-    step_clear s.ones s.bits 0 no_run s.word s.place c.skip-self.result (bits_behind s) c.if-self-gt0-2.true c.if-is_set.false c.skip-self.ensures ∙ c.loop-self.invariant
 
 pub returns-in_err-word-clause-steps : goal.returns-in_err-word-clause-steps
 returns-in_err-word-clause-steps c =
