@@ -1,5 +1,5 @@
 -- Where the first bytes of two names stand to one another, word by word, and what their lengths add.
-use Rattle.std.proofs.Common.{◌≡◌, ℕ, zero, suc, ◌+◌, ◌-◌, ◌<◌, ◌≤◌, ◌⊎◌, inl, inr, true, false, min, List, [], ◌∷◌, ◌++◌, length, map, take, drop, refl, sym, ap, ◌∙◌, arith, length-drop}
+use Rattle.std.proofs.Common.{◌≡◌, ℕ, zero, suc, ◌+◌, ◌-◌, ◌<◌, ◌≤◌, ◌⊎◌, inl, inr, Bool, true, false, min, List, [], ◌∷◌, ◌++◌, length, map, take, drop, refl, sym, ap, ◌∙◌, arith, length-drop}
 use Rattle.std.specs.Char.{to_ascii_lowercase}
 use Rattle.std.specs.Ordering.{nat_cmp, ordering_then, is_ne}
 use Rattle.std.specs.declared.cmp.Ordering.{Ordering}
@@ -30,7 +30,7 @@ then_equal Less p e = refl
 then_equal Equal p e = e
 then_equal Greater p e = refl
 
-then_assoc : (o p q : Ordering) → ordering_then (ordering_then o p) q ≡ ordering_then o (ordering_then p q)
+pub then_assoc : (o p q : Ordering) → ordering_then (ordering_then o p) q ≡ ordering_then o (ordering_then p q)
 then_assoc Less p q = refl
 then_assoc Equal p q = refl
 then_assoc Greater p q = refl
@@ -48,13 +48,13 @@ front_then (suc k) (x ∷ xs) (y ∷ ys) l u =
 front_behind : (k : ℕ) (xs ys : List ℕ) → k ≤ length xs → k ≤ length ys → take k xs ≡ take k ys → front_cmp xs ys ≡ front_cmp (drop k xs) (drop k ys)
 front_behind k xs ys l u e = front_then k xs ys l u ∙ ap (λ (o : Ordering). ordering_then o (front_cmp (drop k xs) (drop k ys))) ((same_path (take k xs) (take k ys)).1 e)
 
-nat_below : (m n : ℕ) → m < n → nat_cmp m n ≡ Less
+pub nat_below : (m n : ℕ) → m < n → nat_cmp m n ≡ Less
 nat_below m n l = grind (arith, nat_tests, l)
 
-nat_above : (m n : ℕ) → n < m → nat_cmp m n ≡ Greater
+pub nat_above : (m n : ℕ) → n < m → nat_cmp m n ≡ Greater
 nat_above m n l = grind (arith, nat_tests, l)
 
-nat_suc : (m n : ℕ) → nat_cmp (suc m) (suc n) ≡ nat_cmp m n
+pub nat_suc : (m n : ℕ) → nat_cmp (suc m) (suc n) ≡ nat_cmp m n
 nat_suc m n = grind (arith, nat_tests)
 
 -- the lengths decide last
@@ -66,6 +66,14 @@ path_by_front (x ∷ xs) (y ∷ ys) =
     ap (ordering_then (nat_cmp x y)) (path_by_front xs ys)
     ∙ sym (then_assoc (nat_cmp x y) (front_cmp xs ys) (nat_cmp (length xs) (length ys)))
     ∙ ap (ordering_then (ordering_then (nat_cmp x y) (front_cmp xs ys))) (sym (nat_suc (length xs) (length ys)))
+
+-- the front that both have decides as the names' fronts do
+pub front_of_both : (n : ℕ) (xs ys : List ℕ) → n ≡ min (length xs) (length ys) → path_cmp (take n xs) (take n ys) ≡ front_cmp xs ys
+front_of_both n xs ys e = sym (front_then n xs ys (omega arith) (omega arith) ∙ then_equal (path_cmp (take n xs) (take n ys)) (front_cmp (drop n xs) (drop n ys)) (by (cases_lt (length xs) (length ys))))
+  where
+    by : (length xs < length ys) ⊎ (length ys ≤ length xs) → front_cmp (drop n xs) (drop n ys) ≡ Equal
+    by (inl l) = front_first (drop n xs) (drop n ys) (omega (arith, length-drop n xs))
+    by (inr l) = front_none (drop n xs) (drop n ys) (omega (arith, length-drop n ys))
 
 -- ---- a word further
 
@@ -128,10 +136,6 @@ module _ (a b : List ℕ) (at : ℕ) (o : Ordering) (a_long : at + 8 ≤ length 
 pub same_front : (m n : ℕ) (xs ys : List ℕ) → m ≤ n → take n xs ≡ take n ys → take m xs ≡ take m ys
 same_front m n xs ys l e = sym (take-take m n xs l) ∙ ap (take m) e ∙ take-take m n ys l
 
-pub folded_by_front : (a b : List ℕ) (front sizes o : Ordering) → front ≡ front_cmp (folded true a) (folded true b) → sizes ≡ nat_cmp (length a) (length b) → o ≡ ordering_then front sizes → o ≡ path_cmp (folded true a) (folded true b)
-folded_by_front a b front sizes o d e f =
-    f ∙ ap (λ (p : Ordering). ordering_then p sizes) d ∙ ap (ordering_then (front_cmp (folded true a) (folded true b))) (e ∙ lens)
-    ∙ sym (path_by_front (folded true a) (folded true b))
-  where
-    lens : nat_cmp (length a) (length b) ≡ nat_cmp (length (folded true a)) (length (folded true b))
-    lens = let m : length (folded true a) ≡ length a = length-map a to_ascii_lowercase in let n : length (folded true b) ≡ length b = length-map b to_ascii_lowercase in rw (m, n) refl
+pub folded_len : (ignore_case : Bool) (xs : List ℕ) → length (folded ignore_case xs) ≡ length xs
+folded_len true xs = length-map xs to_ascii_lowercase
+folded_len false xs = refl

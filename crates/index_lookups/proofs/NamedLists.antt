@@ -45,24 +45,24 @@ paths_more rs place old new x within pushed name at before =
 
 -- ---- order
 
-pub keys_total : (ignore_case : Bool) → IsTotalOrder (named_cmp ignore_case)
+pub keys_total : (ignore_case : Bool) → IsTotalOrder (named_cmp false ignore_case)
 keys_total ignore_case = then_total (on_total (λ (k : NamedValue). folded ignore_case k.name) nat_list_cmp_total) (on_total (λ (k : NamedValue). k.place) nat_cmp_total)
 
 abbrev lt_named : Bool → Named → Named → Bool
-lt_named ignore_case a b = is_lt (named_cmp ignore_case (named_value a) (named_value b))
+lt_named ignore_case a b = is_lt (named_cmp false ignore_case (named_value a) (named_value b))
 
-not_above : (ignore_case : Bool) (a b : NamedValue) → is_lt (named_cmp ignore_case b a) ≡ false → named_cmp ignore_case a b ≢ Greater
+not_above : (ignore_case : Bool) (a b : NamedValue) → is_lt (named_cmp false ignore_case b a) ≡ false → named_cmp false ignore_case a b ≢ Greater
 not_above ignore_case a b h e =
-    let back : named_cmp ignore_case b a ≡ Less = (keys_total ignore_case).antisymm b a ∙ ap ordering_reverse e in
-    let other : is_lt (named_cmp ignore_case b a) ≡ true = ap is_lt back in cc
+    let back : named_cmp false ignore_case b a ≡ Less = (keys_total ignore_case).antisymm b a ∙ ap ordering_reverse e in
+    let other : is_lt (named_cmp false ignore_case b a) ≡ true = ap is_lt back in cc
 
 pub sorted_named : (ignore_case : Bool) {F : Type 0} (g : Mut F (Bor Named × (Bor Named × Unit {0})) Ordering) (f : F) (xs : List Named) → IsSortedByClosure g f xs
-    → ((a : Bor Named × (Bor Named × Unit {0})) (r : Ordering) (f' : F) → Called g f a r f' → (r ≡ named_cmp ignore_case (named_value a.0.now) (named_value a.1.0.now)) × (f' ≡ f))
-    → AllPairs (λ a b. named_cmp ignore_case a b ≢ Greater) (map named_value xs)
+    → ((a : Bor Named × (Bor Named × Unit {0})) (r : Ordering) (f' : F) → Called g f a r f' → (r ≡ named_cmp false ignore_case (named_value a.0.now) (named_value a.1.0.now)) × (f' ≡ f))
+    → AllPairs (λ a b. named_cmp false ignore_case a b ≢ Greater) (map named_value xs)
 sorted_named ignore_case g f xs s h =
     let weak = ranks_by (keys_total ignore_case) named_value in
     let up = s (lt_named ignore_case) weak (always_returns_same g (λ a r. is_lt r ≡ lt_named ignore_case a.0.now a.1.0.now) f (λ a r f' k. (ap is_lt (h a r f' k).0, (h a r f' k).1))) in
-    pairs_map (λ (a b : NamedValue). named_cmp ignore_case a b ≢ Greater) named_value xs (λ i j d before within. not_above ignore_case (named_value (get_or xs i d)) (named_value (get_or xs j d)) (sorted_far (lt_named ignore_case) weak xs up i j d (omega arith) within))
+    pairs_map (λ (a b : NamedValue). named_cmp false ignore_case a b ≢ Greater) named_value xs (λ i j d before within. not_above ignore_case (named_value (get_or xs i d)) (named_value (get_or xs j d)) (sorted_far (lt_named ignore_case) weak xs up i j d (omega arith) within))
 
 -- ---- the same for whatever is compared by a total order
 

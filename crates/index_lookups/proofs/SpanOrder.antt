@@ -14,7 +14,8 @@ use Rattle.index_entries.specs.Record.{Record}
 use Rattle.index_lookups.specs.SearchSteps.{asked_cmp, IsBracket, prefix_cmp}
 use Rattle.index_lookups.proofs.Halving.{count_by_is}
 use Rattle.index_lookups.specs.Closest.{is_below}
-use Rattle.index_lookups.specs.SpanSteps.{SpanValue, IsSpan}
+use Rattle.index_lookups.specs.SpanSteps.{IsSpan}
+use Rattle.index_lookups.specs.WalkSteps.{SpanValue}
 use Rattle.index_lookups.specs.Range.{IsRun}
 use Rattle.index_lookups.proofs.Parting.{greater_from, less_from}
 use Rattle.index_lookups.proofs.RunsFound.{run_between, run_map, begins_is}

@@ -10,14 +10,13 @@ use Rattle.std.proofs.lemmas.Bool.{cases_lt, false_from_ne_true}
 use Rattle.std.proofs.lemmas.Bool.Decides.{nat_tests}
 use Rattle.std.proofs.lemmas.List.{length-map, get_or_default, get_or-map as at_map}
 use Rattle.index_lookups.specs.Digits.{digits}
-use Rattle.index_entries.specs.Order.{path_cmp}
 use Rattle.index_lookups.proofs.Digits.{digits-half, digits_small}
 use Rattle.index_entries.specs.Record.{Record}
 use Rattle.index_lookups.proofs.Halving.{position_is, position_none, split_by}
-use Rattle.index_entries.proofs.Orders.{paths_total, same_path}
+use Rattle.index_lookups.proofs.Outer.{order_total, same_name}
 use Rattle.index_lookups.specs.Folded.{folded}
 use Rattle.index_lookups.specs.SearchSteps.{IsRising, IsPartedAt, IsGapAt}
-use Rattle.index_lookups.specs.NameSteps.{NamedValue, named_value, named_cmp, IsTableOf}
+use Rattle.index_lookups.specs.NameSteps.{NamedValue, named_value, name_order, named_cmp, IsTableOf}
 use Rattle.index_lookups.specs.declared.names.Named.{Named}
 use Rattle.index_lookups.proofs.RunsFound.{rising_of}
 use Rattle.index_lookups.proofs.Parting.{equal_from as tied_from, rises, gap_parted}
@@ -33,14 +32,14 @@ then_first Less p h e = cc
 then_first Equal p h e = cc
 then_first Greater p h e = h refl
 
-module _ (ignore_case : Bool) (test : List ℕ → Record → Bool) (rs : List Record) (ks : List NamedValue) (table : IsTableOf ignore_case test rs ks) (name : List ℕ) where
+module _ (outer ignore_case : Bool) (test : List ℕ → Record → Bool) (rs : List Record) (ks : List NamedValue) (table : IsTableOf outer ignore_case test rs ks) (name : List ℕ) where
   abbrev cmp : NamedValue → Ordering
-  cmp k = path_cmp (folded ignore_case k.name) (folded ignore_case name)
+  cmp k = name_order outer (folded ignore_case k.name) (folded ignore_case name)
 
-  pub rising_table : IsRising (map (λ k. path_cmp (folded ignore_case k.name) (folded ignore_case name)) ks)
-  rising_table = rising_by paths_total (λ (k : NamedValue). folded ignore_case k.name) (folded ignore_case name) ks (λ i j d before within. then_first _ _ (table.ordered i j d before within))
+  pub rising_table : IsRising (map (λ k. name_order outer (folded ignore_case k.name) (folded ignore_case name)) ks)
+  rising_table = rising_by (order_total outer) (λ (k : NamedValue). folded ignore_case k.name) (folded ignore_case name) ks (λ i j d before within. then_first _ _ (table.ordered i j d before within))
 
-  module _ (low : ℕ) (p : IsPartedAt false (map (λ k. path_cmp (folded ignore_case k.name) (folded ignore_case name)) ks) low) where
+  module _ (low : ℕ) (p : IsPartedAt false (map (λ k. name_order outer (folded ignore_case k.name) (folded ignore_case name)) ks) low) where
     at : (j : ℕ) (k : NamedValue) → get_or ks j k ≡ k → get_or (map cmp ks) j (cmp k) ≡ cmp k
     at j k e = get_or-map cmp ks j k ∙ ap cmp e
 
@@ -53,14 +52,14 @@ module _ (ignore_case : Bool) (test : List ℕ → Record → Bool) (rs : List R
         by (inr back) = back
 
     equal_from : (k : NamedValue) → folded ignore_case k.name ≡ folded ignore_case name → cmp k ≡ Equal
-    equal_from k e = (same_path (folded ignore_case k.name) (folded ignore_case name)).1 e
+    equal_from k e = (same_name outer (folded ignore_case k.name) (folded ignore_case name)).1 e
 
     module _ (x : NamedValue) (inside : low < length ks) (here : get_or ks low x ≡ x) (same : cmp x ≡ Equal) where
       passes : (q : Record) → test name (get_or rs x.place q) ≡ true
       passes q =
           let P : NamedValue → Type 0 = λ k. test k.name (get_or rs k.place q) ≡ true in
           let told : test x.name (get_or rs x.place q) ≡ true = subst P here (table.sound low x q inside) in
-          sym (table.alike x.name name (get_or rs x.place q) ((same_path (folded ignore_case x.name) (folded ignore_case name)).0 same)) ∙ told
+          sym (table.alike x.name name (get_or rs x.place q) ((same_name outer (folded ignore_case x.name) (folded ignore_case name)).0 same)) ∙ told
 
       in_list : x.place < length rs
       in_list = let P : NamedValue → Type 0 = λ k. k.place < length rs in subst P here (table.within low x inside)
@@ -69,16 +68,16 @@ module _ (ignore_case : Bool) (test : List ℕ → Record → Bool) (rs : List R
       no_lesser : (k : NamedValue) (j : ℕ) → j < length ks → get_or ks j k ≡ k → cmp k ≡ Equal → k.place < x.place → ⊥
       no_lesser k j within e eq lesser = by (cases_lt low j)
         where
-          tie : path_cmp (folded ignore_case x.name) (folded ignore_case k.name) ≡ Equal
+          tie : name_order outer (folded ignore_case x.name) (folded ignore_case k.name) ≡ Equal
           tie =
-              let a : folded ignore_case x.name ≡ folded ignore_case name = (same_path (folded ignore_case x.name) (folded ignore_case name)).0 same in
-              let b : folded ignore_case k.name ≡ folded ignore_case name = (same_path (folded ignore_case k.name) (folded ignore_case name)).0 eq in
-              (same_path (folded ignore_case x.name) (folded ignore_case k.name)).1 (a ∙ sym b)
+              let a : folded ignore_case x.name ≡ folded ignore_case name = (same_name outer (folded ignore_case x.name) (folded ignore_case name)).0 same in
+              let b : folded ignore_case k.name ≡ folded ignore_case name = (same_name outer (folded ignore_case k.name) (folded ignore_case name)).0 eq in
+              (same_name outer (folded ignore_case x.name) (folded ignore_case k.name)).1 (a ∙ sym b)
 
           above : nat_cmp x.place k.place ≡ Greater
           above = grind (arith, nat_tests, lesser)
 
-          falls_down : named_cmp ignore_case x k ≡ Greater
+          falls_down : named_cmp outer ignore_case x k ≡ Greater
           falls_down = rw tie above
 
           at_low : get_or ks low k ≡ x
@@ -86,8 +85,8 @@ module _ (ignore_case : Bool) (test : List ℕ → Record → Bool) (rs : List R
 
           by : (low < j) ⊎ (j ≤ low) → ⊥
           by (inl front) =
-              let P : NamedValue → Type 0 = λ y. named_cmp ignore_case y (get_or ks j k) ≢ Greater in
-              let Q : NamedValue → Type 0 = λ y. named_cmp ignore_case x y ≢ Greater in
+              let P : NamedValue → Type 0 = λ y. named_cmp outer ignore_case y (get_or ks j k) ≢ Greater in
+              let Q : NamedValue → Type 0 = λ y. named_cmp outer ignore_case x y ≢ Greater in
               subst Q e (subst P at_low (table.ordered low j k front within)) falls_down
           by (inr back) =
               let low_le : low ≤ j = equal_behind j k e eq in
@@ -150,38 +149,38 @@ name_at f names place z o inside told d =
     get_or-map-shift (x ∷ names) zero z = refl
     get_or-map-shift (x ∷ names) (suc place) z = get_or-map-shift names place z
 
-module _ (ignore_case : Bool) (test : List ℕ → Record → Bool) (rs : List Record) (names : List Named) (table : IsTableOf ignore_case test rs (map named_value names)) (name : List ℕ) (low : ℕ) (p : IsPartedAt false (map (λ k. path_cmp (folded ignore_case k.name) (folded ignore_case name)) (map named_value names)) low) where
+module _ (outer ignore_case : Bool) (test : List ℕ → Record → Bool) (rs : List Record) (names : List Named) (table : IsTableOf outer ignore_case test rs (map named_value names)) (name : List ℕ) (low : ℕ) (p : IsPartedAt false (map (λ k. name_order outer (folded ignore_case k.name) (folded ignore_case name)) (map named_value names)) low) where
   abbrev cmp_to : NamedValue → Ordering
-  cmp_to k = path_cmp (folded ignore_case k.name) (folded ignore_case name)
+  cmp_to k = name_order outer (folded ignore_case k.name) (folded ignore_case name)
 
   len : length (map named_value names) ≡ length names
   len = length-map names named_value
 
-  module _ (o : Ordering) (read : HoldsAt (λ q. q ≡ o) (map (λ k. path_cmp (folded ignore_case k.name) (folded ignore_case name)) (map named_value names)) low) where
+  module _ (o : Ordering) (read : HoldsAt (λ q. q ≡ o) (map (λ k. name_order outer (folded ignore_case k.name) (folded ignore_case name)) (map named_value names)) low) where
     answer_is : (x : NamedValue) → get_or (map named_value names) low x ≡ x → cmp_to x ≡ o
     answer_is x here = sym (ap cmp_to here) ∙ sym (get_or-map cmp_to (map named_value names) low x) ∙ read (cmp_to x)
 
-    pub find_some : (z : Named) → low < length (map (λ k. path_cmp (folded ignore_case k.name) (folded ignore_case name)) (map named_value names)) → is_eq o ≡ true → Some (get_or names low z).place ≡ position (test name) rs
+    pub find_some : (z : Named) → low < length (map (λ k. name_order outer (folded ignore_case k.name) (folded ignore_case name)) (map named_value names)) → is_eq o ≡ true → Some (get_or names low z).place ≡ position (test name) rs
     find_some z told eq =
         let inside : low < length names = omega (arith, told, length-map (map named_value names) cmp_to, len) in
         let x : NamedValue = named_value (get_or names low z) in
         let here : get_or (map named_value names) low (named_value (get_or names low z)) ≡ named_value (get_or names low z) = at_map named_value names low z (named_value (get_or names low z)) inside in
-        found_some ignore_case test rs (map named_value names) table name low p (named_value (get_or names low z)) (omega (arith, len)) here (answer_is (named_value (get_or names low z)) here ∙ tied_from o eq)
+        found_some outer ignore_case test rs (map named_value names) table name low p (named_value (get_or names low z)) (omega (arith, len)) here (answer_is (named_value (get_or names low z)) here ∙ tied_from o eq)
 
 pub keys_length : (f : NamedValue → Ordering) (names : List Named) → length names ≡ length (map f (map named_value names))
 keys_length f names = sym (length-map (map named_value names) f ∙ length-map names named_value)
 
-module _ (ignore_case : Bool) (test : List ℕ → Record → Bool) (rs : List Record) (names : List Named) (table : IsTableOf ignore_case test rs (map named_value names)) (name : List ℕ) where
+module _ (outer ignore_case : Bool) (test : List ℕ → Record → Bool) (rs : List Record) (names : List Named) (table : IsTableOf outer ignore_case test rs (map named_value names)) (name : List ℕ) where
   abbrev answer : NamedValue → Ordering
-  answer k = path_cmp (folded ignore_case k.name) (folded ignore_case name)
+  answer k = name_order outer (folded ignore_case k.name) (folded ignore_case name)
 
-  gap_none : (low : ℕ) → low ≤ length names → IsGapAt (λ o. o) (map (λ k. path_cmp (folded ignore_case k.name) (folded ignore_case name)) (map named_value names)) low → None ≡ position (test name) rs
-  gap_none low fits gap = found_none ignore_case test rs (map named_value names) table name low (gap_parted (map answer (map named_value names)) low (omega (arith, keys_length answer names)) gap)
+  gap_none : (low : ℕ) → low ≤ length names → IsGapAt (λ o. o) (map (λ k. name_order outer (folded ignore_case k.name) (folded ignore_case name)) (map named_value names)) low → None ≡ position (test name) rs
+  gap_none low fits gap = found_none outer ignore_case test rs (map named_value names) table name low (gap_parted (map answer (map named_value names)) low (omega (arith, keys_length answer names)) gap)
       (λ x inside here. let above : get_or (map answer (map named_value names)) low (answer x) ≡ Greater = gap.above low (answer x) (omega arith) (omega (arith, length-map (map named_value names) answer)) in
       ap is_eq (sym (ap answer here) ∙ sym (get_or-map answer (map named_value names) low x) ∙ above))
 
-  pub find_gap : (r : Result ℕ ℕ) → IfErr r (λ i. i ≤ length names) → IfErr r (IsGapAt (λ o. o) (map (λ k. path_cmp (folded ignore_case k.name) (folded ignore_case name)) (map named_value names))) → (low : ℕ) → r ≡ Err low → None ≡ position (test name) rs
-  find_gap r fits gap low e = gap_none low (err_is r low (λ i. i ≤ length names) e fits) (err_is r low (IsGapAt (λ o. o) (map (λ k. path_cmp (folded ignore_case k.name) (folded ignore_case name)) (map named_value names))) e gap)
+  pub find_gap : (r : Result ℕ ℕ) → IfErr r (λ i. i ≤ length names) → IfErr r (IsGapAt (λ o. o) (map (λ k. name_order outer (folded ignore_case k.name) (folded ignore_case name)) (map named_value names))) → (low : ℕ) → r ≡ Err low → None ≡ position (test name) rs
+  find_gap r fits gap low e = gap_none low (err_is r low (λ i. i ≤ length names) e fits) (err_is r low (IsGapAt (λ o. o) (map (λ k. name_order outer (folded ignore_case k.name) (folded ignore_case name)) (map named_value names))) e gap)
 
 pub count_small : (m n count : ℕ) → m ≡ n → 0 < n → count ≤ digits m → count ≤ n / 2 + 1
 count_small m n count e some h = let same : digits m ≡ digits n = ap digits e in omega (arith, same, h, digits-half n some, digits_small (n / 2))

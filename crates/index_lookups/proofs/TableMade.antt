@@ -1,22 +1,21 @@
 -- Names that were gathered and put in order are a table.
-use Rattle.std.proofs.Common.{◌≡◌, ◌≢◌, ℕ, zero, suc, ◌+◌, ◌-◌, ◌<◌, ◌≤◌, ◌⊎◌, inl, inr, Bool, true, false, List, [], ◌∷◌, ◌++◌, length, get_or, take, map, cond, refl, sym, ap, ◌∙◌, subst, arith, nat_eq, length-append, length-take}
+use Rattle.std.proofs.Common.{◌≡◌, ◌≢◌, ℕ, zero, suc, ◌+◌, ◌-◌, ◌<◌, ◌≤◌, ◌⊎◌, inl, inr, Bool, true, false, List, [], ◌∷◌, ◌++◌, length, get_or, take, map, refl, sym, ap, ◌∙◌, subst, arith, nat_eq, length-append, length-take}
 use Rattle.std.proofs.Math.ListN.{get_or-map}
 use Rattle.std.specs.Char.{to_ascii_lowercase}
 use Rattle.std.specs.List.{AllPairs, Contains, starts_with, take-map}
 use Rattle.std.specs.List.Sorted.{IsPermutation}
-use Rattle.std.specs.Prelude.{◌==◌, ◌&&◌, ◌||◌}
+use Rattle.std.specs.Prelude.{◌&&◌, ◌||◌}
 use Rattle.std.specs.Str.{bytes_eq}
 use Rattle.std.specs.Cmp.Lexicographic.{bytes_decides}
 use Rattle.std.specs.declared.cmp.Ordering.TheVariants.{Greater}
-use Rattle.std.proofs.lemmas.Bool.{cases_lt}
 use Rattle.std.proofs.lemmas.Bool.Decides.{nat_tests}
 use Rattle.std.proofs.lemmas.List.{length-map, get_or-take, get_or_push, take-take, take_at}
 use Rattle.std.proofs.lemmas.List.Elements.{Contains-append_left, Contains-append_right, Contains-append_cases, Contains-get_or}
 use Rattle.std.proofs.lemmas.List.Sorted.{Contains-permutation, IsPermutation-sym}
 use Rattle.index_entries.specs.Record.{Record}
-use Rattle.index_lookups.specs.Closest.{is_directory, is_below}
+use Rattle.index_lookups.specs.Closest.{is_directory}
 use Rattle.index_lookups.specs.Folded.{folded, is_same, stands_in_folded}
-use Rattle.index_lookups.specs.NameSteps.{NamedValue, named_at, named_cmp, named_from, path_names, directory_names, parents_upto, AreNamedIn, IsTableOf}
+use Rattle.index_lookups.specs.NameSteps.{NamedValue, named_at, named_cmp, named_from, path_names, AreNamedIn, IsTableOf}
 
 -- ---- elements of what is put together
 
@@ -27,7 +26,7 @@ contains_one x z c = by c.0 c.1 c.2
     by zero h e = e
     by (suc k) h e = absurd (omega arith)
 
-contains_cases : {X : Type 0} (x : X) (xs : List X) (z : X) → Contains (x ∷ xs) z → (x ≡ z) ⊎ Contains xs z
+pub contains_cases : {X : Type 0} (x : X) (xs : List X) (z : X) → Contains (x ∷ xs) z → (x ≡ z) ⊎ Contains xs z
 contains_cases x xs z c = by c.0 c.1 c.2
   where
     by : (k : ℕ) → k < length (x ∷ xs) → get_or (x ∷ xs) k z ≡ z → (x ≡ z) ⊎ Contains xs z
@@ -50,7 +49,7 @@ contains_none z c = absurd (omega (arith, c.1))
 
 -- ---- names with their places
 
-named_sound : (names : Record → List (List ℕ)) (i : ℕ) (rs : List Record) (k : NamedValue) → Contains (named_from names i rs) k → (i ≤ k.place) × (k.place < i + length rs) × ((q : Record) → Contains (names (get_or rs (k.place - i) q)) k.name)
+pub named_sound : (names : Record → List (List ℕ)) (i : ℕ) (rs : List Record) (k : NamedValue) → Contains (named_from names i rs) k → (i ≤ k.place) × (k.place < i + length rs) × ((q : Record) → Contains (names (get_or rs (k.place - i) q)) k.name)
 named_sound names i [] k c = absurd (contains_none k c)
 named_sound names i (r ∷ rs) k c = by (named_sound names (i + 1) rs k) (Contains-append_cases (map (named_at i) (names r)) (named_from names (i + 1) rs) k c)
   where
@@ -66,7 +65,7 @@ named_sound names i (r ∷ rs) k c = by (named_sound names (i + 1) rs k) (Contai
         let next : k.place - i ≡ suc (k.place - (i + 1)) = omega (arith, h.0) in
         (omega (arith, h.0), omega (arith, h.1), λ q. rw next (h.2 q))
 
-named_complete : (names : Record → List (List ℕ)) (b : ℕ) (rs : List Record) (i : ℕ) (q : Record) (n : List ℕ) → i < length rs → Contains (names (get_or rs i q)) n → Contains (named_from names b rs) (named_at (b + i) n)
+pub named_complete : (names : Record → List (List ℕ)) (b : ℕ) (rs : List Record) (i : ℕ) (q : Record) (n : List ℕ) → i < length rs → Contains (names (get_or rs i q)) n → Contains (named_from names b rs) (named_at (b + i) n)
 named_complete names b [] i q n within c = absurd (omega arith)
 named_complete names b (r ∷ rs) zero q n within c =
     let e : b + 0 ≡ b = omega arith in
@@ -85,11 +84,11 @@ keys_are names rs = record {
     told k h = let e : k.place - 0 ≡ k.place = omega arith in (omega (arith, h.1), λ q. rw e at (h.2 q))
 
 pub table_made : (ignore_case : Bool) (names : Record → List (List ℕ)) (test : List ℕ → Record → Bool) (rs : List Record) (made ks : List NamedValue) → AreNamedIn names rs made → IsPermutation made ks
-    → AllPairs (λ a b. named_cmp ignore_case a b ≢ Greater) ks
+    → AllPairs (λ a b. named_cmp false ignore_case a b ≢ Greater) ks
     → ((n : List ℕ) (r : Record) → Contains (names r) n → test n r ≡ true)
     → ((name : List ℕ) (r : Record) → test name r ≡ true → (n : List ℕ) × Contains (names r) n × (folded ignore_case n ≡ folded ignore_case name))
     → ((a b : List ℕ) (r : Record) → folded ignore_case a ≡ folded ignore_case b → test a r ≡ test b r)
-    → IsTableOf ignore_case test rs ks
+    → IsTableOf false ignore_case test rs ks
 table_made ignore_case names test rs made ks is moved ordered passes has alike = record {
   within = λ j d l. (told j d l).0;
   sound = λ j d q l. passes (get_or ks j d).name (get_or rs (get_or ks j d).place q) ((told j d l).1 q);
@@ -106,10 +105,10 @@ table_made ignore_case names test rs made ks is moved ordered passes has alike =
 
 -- ---- paths
 
-same_from : (a b : List ℕ) → bytes_eq a b ≡ true → a ≡ b
+pub same_from : (a b : List ℕ) → bytes_eq a b ≡ true → a ≡ b
 same_from a b e = (bytes_decides a b).0 e
 
-same_to : (a b : List ℕ) → a ≡ b → bytes_eq a b ≡ true
+pub same_to : (a b : List ℕ) → a ≡ b → bytes_eq a b ≡ true
 same_to a b e = (bytes_decides a b).1 e
 
 pub paths_pass : (ignore_case : Bool) (n : List ℕ) (r : Record) → Contains (path_names r) n → is_same ignore_case r.path n ≡ true
@@ -126,23 +125,23 @@ paths_alike ignore_case a b r e = ap (bytes_eq (folded ignore_case r.path)) e
 lower_slash : (x : ℕ) → to_ascii_lowercase x ≡ 47 → x ≡ 47
 lower_slash x h = grind (arith, nat_tests, h)
 
-slash_from : (ignore_case : Bool) (path : List ℕ) (m : ℕ) → get_or (folded ignore_case path) m 0 ≡ 47 → get_or path m 0 ≡ 47
+pub slash_from : (ignore_case : Bool) (path : List ℕ) (m : ℕ) → get_or (folded ignore_case path) m 0 ≡ 47 → get_or path m 0 ≡ 47
 slash_from false path m e = e
 slash_from true path m e = lower_slash (get_or path m 0) (sym (get_or-map to_ascii_lowercase path m 0) ∙ e)
 
-slash_to : (ignore_case : Bool) (path : List ℕ) (m : ℕ) → get_or path m 0 ≡ 47 → get_or (folded ignore_case path) m 0 ≡ 47
+pub slash_to : (ignore_case : Bool) (path : List ℕ) (m : ℕ) → get_or path m 0 ≡ 47 → get_or (folded ignore_case path) m 0 ≡ 47
 slash_to false path m e = e
 slash_to true path m e = get_or-map to_ascii_lowercase path m 0 ∙ ap to_ascii_lowercase e
 
-folded_take : (ignore_case : Bool) (m : ℕ) (path : List ℕ) → folded ignore_case (take m path) ≡ take m (folded ignore_case path)
+pub folded_take : (ignore_case : Bool) (m : ℕ) (path : List ℕ) → folded ignore_case (take m path) ≡ take m (folded ignore_case path)
 folded_take false m path = refl
 folded_take true m path = sym (take-map to_ascii_lowercase m path)
 
-folded_length : (ignore_case : Bool) (path : List ℕ) → length (folded ignore_case path) ≡ length path
+pub folded_length : (ignore_case : Bool) (path : List ℕ) → length (folded ignore_case path) ≡ length path
 folded_length false path = refl
 folded_length true path = length-map path to_ascii_lowercase
 
-begins_at : (p xs : List ℕ) (c : ℕ) → starts_with nat_eq xs (p ++ c ∷ []) ≡ true → (length p < length xs) × (get_or xs (length p) 0 ≡ c) × (take (length p) xs ≡ p)
+pub begins_at : (p xs : List ℕ) (c : ℕ) → starts_with nat_eq xs (p ++ c ∷ []) ≡ true → (length p < length xs) × (get_or xs (length p) 0 ≡ c) × (take (length p) xs ≡ p)
 begins_at p xs c t =
     let n : length (p ++ c ∷ []) ≡ length p + 1 = length-append p (c ∷ []) in
     let e : p ++ c ∷ [] ≡ take (length (p ++ c ∷ [])) xs = same_from (p ++ c ∷ []) (take (length (p ++ c ∷ [])) xs) t in
@@ -152,42 +151,19 @@ begins_at p xs c t =
       sym (take-take (length p) (length (p ++ c ∷ [])) xs (omega arith)) ∙ sym (ap (take (length p)) e) ∙ take_at p (c ∷ []) (length p) refl,
     )
 
-begins_to : (xs : List ℕ) (m c : ℕ) → m < length xs → get_or xs m 0 ≡ c → starts_with nat_eq xs (take m xs ++ c ∷ []) ≡ true
+pub begins_to : (xs : List ℕ) (m c : ℕ) → m < length xs → get_or xs m 0 ≡ c → starts_with nat_eq xs (take m xs ++ c ∷ []) ≡ true
 begins_to [] m c within e = absurd (omega arith)
 begins_to (x ∷ xs) zero c within e = let t : nat_eq c x ≡ true = grind (arith, nat_tests, e) in rw t refl
 begins_to (x ∷ xs) (suc m) c within e = let t : nat_eq x x ≡ true = grind (arith, nat_tests) in rw t (begins_to xs m c (omega arith) e)
-
-pub parent_sound : (n : ℕ) (path f : List ℕ) → Contains (parents_upto n path) f → (m : ℕ) × (m < n) × (get_or path m 0 ≡ 47) × (f ≡ take m path)
-parent_sound zero path f c = absurd (contains_none f c)
-parent_sound (suc n) path f c = by (parent_sound n path f) (Contains-append_cases (parents_upto n path) (cond (get_or path n 0 == 47) (take n path ∷ []) []) f c)
-  where
-    here : (b : Bool) → (get_or path n 0 == 47) ≡ b → Contains (cond b (take n path ∷ []) []) f → (m : ℕ) × (m < suc n) × (get_or path m 0 ≡ 47) × (f ≡ take m path)
-    here true e d = (n, omega arith, grind (arith, nat_tests, e), sym (contains_one (take n path) f d))
-    here false e d = absurd (contains_none f d)
-
-    by : (Contains (parents_upto n path) f → (m : ℕ) × (m < n) × (get_or path m 0 ≡ 47) × (f ≡ take m path)) → Contains (parents_upto n path) f ⊎ Contains (cond (get_or path n 0 == 47) (take n path ∷ []) []) f → (m : ℕ) × (m < suc n) × (get_or path m 0 ≡ 47) × (f ≡ take m path)
-    by earlier (inl d) = let h = earlier d in (h.0, omega (arith, h.1), h.2, h.3)
-    by earlier (inr d) = here (get_or path n 0 == 47) refl d
-
-pub parent_complete : (n : ℕ) (path : List ℕ) (m : ℕ) → m < n → get_or path m 0 ≡ 47 → Contains (parents_upto n path) (take m path)
-parent_complete zero path m l e = absurd (omega arith)
-parent_complete (suc n) path m l e = by (λ a. parent_complete n path m a e) (cases_lt m n)
-  where
-    by : (m < n → Contains (parents_upto n path) (take m path)) → (m < n) ⊎ (n ≤ m) → Contains (parents_upto (suc n) path) (take m path)
-    by earlier (inl a) = Contains-append_left (parents_upto n path) (cond (get_or path n 0 == 47) (take n path ∷ []) []) (take m path) (earlier a)
-    by earlier (inr b) =
-        let same : m ≡ n = omega arith in
-        let t : (get_or path n 0 == 47) ≡ true = grind (arith, nat_tests, e, same) in
-        rw (same, t) (Contains-append_right (parents_upto n path) (take n path ∷ []) (take n path) (0, omega arith, refl))
 
 pub or_cases : (a b : Bool) → (a || b) ≡ true → (a ≡ true) ⊎ (b ≡ true)
 or_cases true b e = inl refl
 or_cases false b e = inr e
 
-or_left : (a b : Bool) → a ≡ true → (a || b) ≡ true
+pub or_left : (a b : Bool) → a ≡ true → (a || b) ≡ true
 or_left a b e = rw e refl
 
-or_right : (a b : Bool) → b ≡ true → (a || b) ≡ true
+pub or_right : (a b : Bool) → b ≡ true → (a || b) ≡ true
 or_right true b e = refl
 or_right false b e = e
 
@@ -195,37 +171,8 @@ pub and_both : (a b : Bool) → (a && b) ≡ true → (a ≡ true) × (b ≡ tru
 and_both true b e = (refl, e)
 and_both false b e = cc
 
-and_to : (a b : Bool) → a ≡ true → b ≡ true → (a && b) ≡ true
+pub and_to : (a b : Bool) → a ≡ true → b ≡ true → (a && b) ≡ true
 and_to a b e f = rw (e, f) refl
-
-pub directories_pass : (ignore_case : Bool) (n : List ℕ) (r : Record) → Contains (directory_names true r) n → stands_in_folded ignore_case n r ≡ true
-directories_pass ignore_case n r c = by (Contains-append_cases (parents_upto (length r.path) r.path) (cond (is_directory r) (r.path ∷ []) []) n c)
-  where
-    itself : (b : Bool) → is_directory r ≡ b → Contains (cond b (r.path ∷ []) []) n → stands_in_folded ignore_case n r ≡ true
-    itself true e d = or_left _ _ (and_to _ _ e (same_to (folded ignore_case r.path) (folded ignore_case n) (ap (folded ignore_case) (contains_one r.path n d))))
-    itself false e d = absurd (contains_none n d)
-
-    by : Contains (parents_upto (length r.path) r.path) n ⊎ Contains (cond (is_directory r) (r.path ∷ []) []) n → stands_in_folded ignore_case n r ≡ true
-    by (inl d) =
-        let h = parent_sound (length r.path) r.path n d in
-        let name : folded ignore_case n ≡ take h.0 (folded ignore_case r.path) = ap (folded ignore_case) h.3 ∙ folded_take ignore_case h.0 r.path in
-        let t = begins_to (folded ignore_case r.path) h.0 47 (omega (arith, h.1, folded_length ignore_case r.path)) (slash_to ignore_case r.path h.0 h.2) in
-        or_right _ _ (ap (λ (x : List ℕ). starts_with nat_eq (folded ignore_case r.path) (x ++ 47 ∷ [])) name ∙ t)
-    by (inr d) = itself (is_directory r) refl d
-
-pub directories_have : (ignore_case : Bool) (name : List ℕ) (r : Record) → stands_in_folded ignore_case name r ≡ true → (n : List ℕ) × Contains (directory_names true r) n × (folded ignore_case n ≡ folded ignore_case name)
-directories_have ignore_case name r t = by (or_cases _ _ t)
-  where
-    by : ((is_directory r && is_same ignore_case r.path name) ≡ true) ⊎ (starts_with nat_eq (folded ignore_case r.path) (folded ignore_case name ++ 47 ∷ []) ≡ true) → (n : List ℕ) × Contains (directory_names true r) n × (folded ignore_case n ≡ folded ignore_case name)
-    by (inl e) =
-        let both = and_both (is_directory r) (is_same ignore_case r.path name) e in
-        let there : Contains (cond (is_directory r) (r.path ∷ []) []) r.path = rw both.0 (0, omega arith, refl) in
-        (r.path, Contains-append_right (parents_upto (length r.path) r.path) (cond (is_directory r) (r.path ∷ []) []) r.path there, same_from (folded ignore_case r.path) (folded ignore_case name) both.1)
-    by (inr e) =
-        let m : ℕ = length (folded ignore_case name) in
-        let h = begins_at (folded ignore_case name) (folded ignore_case r.path) 47 e in
-        let there = parent_complete (length r.path) r.path (length (folded ignore_case name)) (omega (arith, h.0, folded_length ignore_case r.path)) (slash_from ignore_case r.path (length (folded ignore_case name)) h.1) in
-        (take (length (folded ignore_case name)) r.path, Contains-append_left (parents_upto (length r.path) r.path) (cond (is_directory r) (r.path ∷ []) []) (take (length (folded ignore_case name)) r.path) there, folded_take ignore_case (length (folded ignore_case name)) r.path ∙ h.2)
 
 pub directories_alike : (ignore_case : Bool) (a b : List ℕ) (r : Record) → folded ignore_case a ≡ folded ignore_case b → stands_in_folded ignore_case a r ≡ stands_in_folded ignore_case b r
 directories_alike ignore_case a b r e = ap (λ (x : List ℕ). (is_directory r && bytes_eq (folded ignore_case r.path) x) || starts_with nat_eq (folded ignore_case r.path) (x ++ 47 ∷ [])) e
@@ -233,27 +180,3 @@ directories_alike ignore_case a b r e = ap (λ (x : List ℕ). (is_directory r &
 pub path_keys_length : (i : ℕ) (rs : List Record) → length (named_from path_names i rs) ≡ length rs
 path_keys_length i [] = refl
 path_keys_length i (r ∷ rs) = ap suc (path_keys_length (i + 1) rs)
-
--- ---- directories that records stand below
-
-below_alone : (r : Record) (n : List ℕ) → Contains (directory_names false r) n → Contains (parents_upto (length r.path) r.path) n
-below_alone r n c = by (Contains-append_cases (parents_upto (length r.path) r.path) [] n c)
-  where
-    by : Contains (parents_upto (length r.path) r.path) n ⊎ Contains [] n → Contains (parents_upto (length r.path) r.path) n
-    by (inl d) = d
-    by (inr d) = absurd (contains_none n d)
-
-pub parents_pass : (n : List ℕ) (r : Record) → Contains (directory_names false r) n → is_below n r ≡ true
-parents_pass n r c =
-    let h = parent_sound (length r.path) r.path n (below_alone r n c) in
-    let t = begins_to r.path h.0 47 h.1 h.2 in
-    ap (λ (x : List ℕ). starts_with nat_eq r.path (x ++ 47 ∷ [])) h.3 ∙ t
-
-pub parents_have : (name : List ℕ) (r : Record) → is_below name r ≡ true → (n : List ℕ) × Contains (directory_names false r) n × (n ≡ name)
-parents_have name r t =
-    let b = begins_at name r.path 47 t in
-    let there = parent_complete (length r.path) r.path (length name) b.0 b.1 in
-    (take (length name) r.path, Contains-append_left (parents_upto (length r.path) r.path) [] (take (length name) r.path) there, b.2)
-
-pub parents_alike : (a b : List ℕ) (r : Record) → a ≡ b → is_below a r ≡ is_below b r
-parents_alike a b r e = ap (λ (x : List ℕ). is_below x r) e

@@ -1,8 +1,8 @@
 -- What stands at a path, from the place on where the paths begin that aren't below it.
-use Rattle.std.proofs.Common.{◌≡◌, ℕ, zero, suc, ◌+◌, ◌<◌, ◌≤◌, ◌⊎◌, inl, inr, Bool, true, false, List, [], ◌∷◌, length, get_or, map, All, Option, Some, None, refl, sym, ap, ◌∙◌, subst, arith}
+use Rattle.std.proofs.Common.{◌≡◌, ◌≢◌, ℕ, zero, suc, min, ◌+◌, ◌-◌, ◌<◌, ◌≤◌, ◌⊎◌, inl, inr, Bool, true, false, List, [], ◌∷◌, length, get_or, map, All, Option, Some, None, refl, sym, ap, ◌∙◌, subst, arith}
 use Rattle.std.proofs.Math.ListN.{get_or-map as shift}
 use Rattle.std.specs.List.{AllWithin, HoldsAt, position}
-use Rattle.std.specs.Ordering.{is_eq, is_lt, is_ne}
+use Rattle.std.specs.Ordering.{is_eq, is_lt, is_ne, nat_cmp, ordering_reverse, ordering_then}
 use Rattle.std.specs.Prelude.{◌==◌, ◌&&◌, ◌||◌, IfSome}
 use Rattle.std.specs.Str.{bytes_eq}
 use Rattle.std.specs.Cmp.Lexicographic.{bytes_decides}
@@ -17,10 +17,10 @@ use Rattle.index_lookups.specs.Lookup.{HasKey, has_key, place_of}
 use Rattle.index_entries.specs.Order.{IsOrderedByPath, IsStrictlyOrdered, path_cmp, record_cmp, record_stage}
 use Rattle.index_entries.specs.Record.{Record}
 use Rattle.index_entries.specs.Slice.{IsRecordOf}
-use Rattle.index_entries.proofs.Orders.{same_path}
+use Rattle.index_entries.proofs.Orders.{paths_total, same_path}
 use Rattle.index_lookups.specs.Range.{HasStageOf, is_at, place_of_path}
-use Rattle.index_lookups.specs.SearchSteps.{IsGapAt, IsPartedAt, asked_cmp}
-use Rattle.index_lookups.specs.RangeSteps.{is_wanted, is_wanted_at}
+use Rattle.index_lookups.specs.SearchSteps.{IsEqualAt, IsGapAt, IsPartedAt, asked_cmp}
+use Rattle.index_lookups.specs.RangeSteps.{IsEnoughUpto, is_wanted, is_wanted_at}
 use Rattle.index_lookups.specs.declared.range.Wanted.{Wanted}
 use Rattle.index_lookups.specs.declared.range.Wanted.TheVariants.{OurSide}
 use Rattle.index_lookups.proofs.Halving.{position_is, position_none}
@@ -86,8 +86,12 @@ module _ (path : List ℕ) (wanted : Wanted) (rs : List Record) (low : ℕ) (par
     pub first_some : place < length rs → HoldsAt (λ r. is_wanted_at path wanted r ≡ true) rs place → Some place ≡ position (is_wanted_at path wanted) rs
     first_some within h = sym (position_is (is_wanted_at path wanted) rs place within (λ k d l u. so_far k d u) h)
 
-    pub first_end : length rs ≤ place → None ≡ position (is_wanted_at path wanted) rs
-    first_end past = sym (position_none (is_wanted_at path wanted) rs (λ k d within. so_far k d (omega arith)))
+    pub first_end : (end : ℕ) → low ≤ place → end ≤ place → IsEnoughUpto (is_wanted_at path wanted) rs low end → None ≡ position (is_wanted_at path wanted) rs
+    first_end end from past enough = sym (position_none (is_wanted_at path wanted) rs (λ k d within. by k d within (cases_lt k place)))
+      where
+        by : (k : ℕ) (d : Record) → k < length rs → (k < place) ⊎ (place ≤ k) → is_wanted_at path wanted (get_or rs k d) ≡ false
+        by k d within (inl f) = so_far k d f
+        by k d within (inr l) = enough (λ i e a b. passed i e a (omega arith)) k d (omega arith) within
 
     pub first_other : IsOrderedByPath rs → low ≤ place → place < length rs → HoldsAt (λ r. is_at path r ≡ false) rs place → None ≡ position (is_wanted_at path wanted) rs
     first_other o from within other = sym (position_none (is_wanted_at path wanted) rs (λ k d inside. by k d inside (cases_lt k place)))
@@ -218,6 +222,49 @@ ours_place path rs o = by (first_or_none (is_wanted_at path OurSide) rs)
         let zeroth : place_of path 0 rs ≡ None = position_none (has_key path 0) rs (λ k d inside. (apart (get_or rs k d) (h k d inside)).0) in
         let second : place_of path 2 rs ≡ None = position_none (has_key path 2) rs (λ k d inside. (apart (get_or rs k d) (h k d inside)).1) in
         position_none (is_wanted_at path OurSide) rs h ∙ sym (rw (zeroth, second) refl)
+
+-- ---- the first two at a path are enough
+
+then_less : (o p : Ordering) → ordering_then o p ≡ Less → o ≢ Greater
+then_less Less p e f = cc
+then_less Equal p e f = cc
+then_less Greater p e f = cc
+
+stages_rise : (r q : Record) → r.path ≡ q.path → record_cmp r q ≡ Less → record_stage r < record_stage q
+stages_rise r q e less =
+    let tie : path_cmp r.path q.path ≡ Equal = (same_path r.path q.path).1 e in
+    let stages : nat_cmp (record_stage r) (record_stage q) ≡ Less = sym (rw tie refl) ∙ less in
+    grind (arith, nat_tests, stages)
+
+-- what stands between two of one path has it too
+between_paths : (a b c : List ℕ) → path_cmp a b ≢ Greater → path_cmp b c ≢ Greater → a ≡ c → b ≡ c
+between_paths a b c up down e = by (path_cmp b c) refl
+  where
+    by : (o : Ordering) → path_cmp b c ≡ o → b ≡ c
+    by Less f = absurd (up (ap (λ (x : List ℕ). path_cmp x b) e ∙ paths_total.antisymm c b ∙ ap ordering_reverse f))
+    by Equal f = (same_path b c).0 f
+    by Greater f = absurd (down f)
+
+pub two_enough : (path : List ℕ) (rs : List Record) (low end : ℕ) → IsStrictlyOrdered rs → IsEqualAt (asked_cmp path None) rs low → end ≡ low + min (length rs - low) 2 → IsEnoughUpto (is_wanted_at path OurSide) rs low end
+two_enough path rs low end o here is none k d l u = false_from_ne_true (is_wanted_at path OurSide (get_or rs k d)) (λ t.
+    let far : low + 2 ≤ k = omega (arith, is, here.in_range) in
+    let both = and_both (is_at path (get_or rs k d)) (is_wanted OurSide (get_or rs k d).mode (record_stage (get_or rs k d))) t in
+    let last : (get_or rs k d).path ≡ path = (bytes_decides (get_or rs k d).path path).0 both.0 in
+    let first : (get_or rs low d).path ≡ path = (same_path (get_or rs low d).path path).0 (here.here d) in
+    let less = o.less low (low + 1) d (omega arith) (omega arith) in
+    let more = o.less (low + 1) k d (omega arith) u in
+    let middle : (get_or rs (low + 1) d).path ≡ (get_or rs k d).path = between_paths (get_or rs low d).path (get_or rs (low + 1) d).path (get_or rs k d).path (then_less _ _ less) (then_less _ _ more) (first ∙ sym last) in
+    let up = stages_rise (get_or rs low d) (get_or rs (low + 1) d) (first ∙ sym (middle ∙ last)) less in
+    let up_more = stages_rise (get_or rs (low + 1) d) (get_or rs k d) middle more in
+    let not_first = not_ours path (get_or rs low d) first (none low d (omega arith) (omega (arith, is, here.in_range))) in
+    let one = stage_cases (record_stage (get_or rs k d)) both.1 in
+    elim one [ inl e ↦ omega arith | inr e ↦ omega (arith, not_first) ])
+  where
+    not_ours : (path : List ℕ) (r : Record) → r.path ≡ path → is_wanted_at path OurSide r ≡ false → record_stage r ≢ 0
+    not_ours path r e f g =
+        let at : is_at path r ≡ true = (bytes_decides r.path path).1 e in
+        let bad : is_wanted_at path OurSide r ≡ true = rw (at, g) refl in
+        cc
 
 -- ---- what is said of the place that is given
 

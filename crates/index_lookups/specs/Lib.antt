@@ -9,3 +9,4 @@ pub mod RangeSteps
 pub mod SearchSteps
 pub mod SpanSteps
 pub mod Tables
+pub mod WalkSteps

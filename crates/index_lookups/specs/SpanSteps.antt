@@ -1,21 +1,16 @@
 -- Which records stand below each directory of a table (the library's own). Public clauses cite none of these.
-use Rattle.std.specs.Prelude.{ℕ, ◌<◌, ◌≤◌, true, false, List, [], ◌∷◌, ◌++◌, length, map, All, Option}
+use Rattle.std.specs.Prelude.{◌≡◌, ◌↔◌, ℕ, ◌<◌, ◌≤◌, true, false, List, [], ◌∷◌, ◌++◌, length, map, All, Contains, Option}
+use Rattle.std.specs.List.{AllPairs, list_any}
+use Rattle.std.specs.declared.cmp.Ordering.TheVariants.{Less}
+use Rattle.index_lookups.specs.Closest.{is_below}
 use Rattle.std.specs.declared.ops.Range.{Range}
 use Rattle.index_metadata.specs.declared.entry.flags.Stage.{Stage}
 use Rattle.index_entries.specs.Order.{IsOrderedByPath}
 use Rattle.index_entries.specs.Record.{Record}
 use Rattle.index_lookups.specs.SearchSteps.{IsBracket, IsPartedAt, asked_cmp, prefix_cmp}
-use Rattle.index_lookups.specs.Tables.{IsDirs}
-use Rattle.index_lookups.specs.declared.spans.Span.{Span}
-
--- a directory and the places of the records below it
-pub record SpanValue : Type 0 where
-  pub name : List ℕ
-  pub start : ℕ
-  pub end : ℕ
-
-abbrev pub span_value : Span → SpanValue
-span_value s = record { name = s.name.now; start = s.start; end = s.end }
+use Rattle.index_lookups.specs.NameSteps.{outer_cmp}
+use Rattle.index_lookups.specs.WalkSteps.{SpanValue, span_value}
+use Rattle.index_lookups.specs.declared.walk.Span.{Span}
 
 abbrev pub names_of : List Span → List (List ℕ)
 names_of spans = map (λ s. s.name) (map span_value spans)
@@ -27,11 +22,16 @@ pub record IsSpan (rs : List Record) (s : SpanValue) : Type 0 where
   pub starts : IsPartedAt false (map (λ r. prefix_cmp (s.name ++ 47 ∷ []) r.path) rs) s.start
   pub ends : IsPartedAt true (map (λ r. prefix_cmp (s.name ++ 47 ∷ []) r.path) rs) s.end
 
+-- the directories that records stand below, each once, behind what goes on after it
+pub record AreDirs (rs : List Record) (names : List (List ℕ)) : Type 0 where
+  pub rises : AllPairs (λ a b. outer_cmp a b ≡ Less) names
+  pub each : (name : List ℕ) → Contains names name ↔ (list_any (is_below name) rs ≡ true)
+
 -- a table's directories are those of its entries, which stand in the order of their paths
 pub record AreSpans (rs : List Record) (spans : List Span) : Type 0 where
   pub ordered : IsOrderedByPath rs
   pub each : All (IsSpan rs) (map span_value spans)
-  pub dirs : IsDirs rs (names_of spans)
+  pub dirs : AreDirs rs (names_of spans)
 
 -- whatever the stage, what stands in front of the window is below what is asked, what stands behind it above
 pub record IsWindow (path : List ℕ) (rs : List Record) (w : Range ℕ) : Type 0 where

@@ -39,7 +39,7 @@ pub fn closest_place(entries: &EntrySlice<'_>, directory: &[u8]) -> Option<usize
         → result ≡ closest directory.now entries.now }
 {
     match search(entries, directory, None).0 {
-        Ok(low) => first_wanted(entries, directory, low, Wanted::Directory),
+        Ok(low) => first_wanted(entries, directory, low, entries.len(), Wanted::Directory),
         Err(_) => first_below(entries, directory),
     }
 }

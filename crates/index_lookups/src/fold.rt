@@ -30,8 +30,8 @@ fn word_at(bytes: &[u8], at: usize) -> u64
 }
 
 /// The word with each of its eight bytes in lower case. To the lower seven bits of a byte a number is added that sets
-/// the highest bit from `A` on, and another that sets it behind `Z`; where just the first does, and the byte is of ASCII,
-/// that bit two places down is the one that tells the cases apart.
+/// the highest bit from `A` on, and another that sets it behind `Z`; where just the first does, and the byte is of
+/// ASCII, that bit two places down is the one that tells the cases apart.
 fn lower_word(word: u64) -> u64
     ensures { to_be_bytes w64 result ≡ map to_ascii_lowercase (to_be_bytes w64 word) }
 {

@@ -7,7 +7,8 @@ ghost use Rattle.index_entries.specs.Record.{Record, IsPlaced, records_in};
 ghost use Rattle.index_lookups.specs.Folded.{IsNamed, folded_closest, folded_place};
 ghost use Rattle.index_lookups.specs.NameSteps.{AreNames};
 
-use crate::names::{Named, directory_table, find, path_table};
+use crate::names::{Named, find, path_table};
+use crate::walk::directory_table;
 use index_entries::Entry;
 use index_entries::slice::EntrySlice;
 use std::alloc::{AllocError, Global};
@@ -47,8 +48,8 @@ impl<'a> AccelerateLookup<'a> {
         let entries = EntrySlice::new(entries, backing);
         let paths = path_table(alloc, &entries, false)?;
         let folded_paths = path_table(alloc, &entries, true)?;
-        let directories = directory_table(alloc, &entries, false)?;
-        let folded_directories = directory_table(alloc, &entries, true)?;
+        let directories = directory_table(alloc, &entries, &paths, false)?;
+        let folded_directories = directory_table(alloc, &entries, &folded_paths, true)?;
         Ok(AccelerateLookup {
             entries,
             paths,
@@ -78,9 +79,9 @@ impl<'a> AccelerateLookup<'a> {
         ensures at_least_one { 0 < length self.now → 1 ≤ result.1 }
     {
         if ignore_case {
-            find(&self.folded_paths, path, true)
+            find(&self.folded_paths, path, true, false)
         } else {
-            find(&self.paths, path, false)
+            find(&self.paths, path, false, false)
         }
     }
 
@@ -99,9 +100,9 @@ impl<'a> AccelerateLookup<'a> {
             × (0 < length names → 1 ≤ result.1) }
     {
         if ignore_case {
-            find(&self.folded_directories, directory, true)
+            find(&self.folded_directories, directory, true, true)
         } else {
-            find(&self.directories, directory, false)
+            find(&self.directories, directory, false, true)
         }
     }
 

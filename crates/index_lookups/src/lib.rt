@@ -13,3 +13,4 @@ pub mod range;
 pub mod search;
 mod spans;
 pub mod tables;
+mod walk;

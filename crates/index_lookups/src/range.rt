@@ -9,7 +9,7 @@ ghost use Rattle.index_lookups.specs.Lookup.{IsKeyAt, insertion_of_path, place_o
 ghost use Rattle.index_entries.specs.Order.{IsOrderedByPath, IsStrictlyOrdered};
 ghost use Rattle.index_lookups.specs.Range.{HasStageOf, IsPart, IsPrefixRange, IsRange, LiesWithin, is_at, part_at, place_of_path};
 ghost use Rattle.index_lookups.specs.SearchSteps.{IsPartedAt, IsRising, asked_cmp};
-ghost use Rattle.index_lookups.specs.RangeSteps.{is_wanted, is_wanted_at};
+ghost use Rattle.index_lookups.specs.RangeSteps.{IsEnoughUpto, is_wanted, is_wanted_at};
 
 use crate::search::{Asked, Ordered, Prefix, end_from, part, search, search_path_and_stage};
 use index_entries::Entry;
@@ -139,20 +139,24 @@ pub(crate) fn is_wanted(entry: &Entry, wanted: Wanted) -> bool
     }
 }
 
-/// The first of the entries at the path that is wanted, where these stand together from a place on.
+/// The first of the entries at the path that is wanted, where these stand together from a place on. It looks no further
+/// than in front of `end`, behind which none is known to be wanted that none stands in front of.
 pub(crate) fn first_wanted(
     entries: &EntrySlice<'_>,
     path: &[u8],
     low: usize,
+    end: usize,
     wanted: Wanted,
 ) -> Option<usize>
+    requires { end ≤ length entries.now }
     ensures found { IfSome result (λ i. (i < length entries.now)
         × HoldsAt (λ r. is_wanted_at path.now wanted r ≡ true) entries.now i) }
     ensures answer { IsOrderedByPath entries.now
         → IsPartedAt false (map (asked_cmp path.now None) entries.now) low
+        → IsEnoughUpto (is_wanted_at path.now wanted) entries.now low end
         → result ≡ position (is_wanted_at path.now wanted) entries.now }
 {
-    for place in low..entries.len() {
+    for place in low..end {
         if Entry::cmp_filepaths(entries.path(place), path).is_ne() {
             return None;
         }
@@ -163,7 +167,8 @@ pub(crate) fn first_wanted(
     None
 }
 
-/// The index of the entry at the path: that at stage 0, or else that at stage 2, our side of a merge, or else None.
+/// The index of the entry at the path: that at stage 0, or else that at stage 2, our side of a merge, or else None. Of
+/// the entries at the path it looks at the first two, behind which neither stage can follow.
 ///
 /// It is promised over entries that strictly increase by path, then stage. Over other entries one that is given still
 /// has that path and one of both stages.
@@ -174,7 +179,10 @@ pub fn place_by_path(entries: &EntrySlice<'_>, path: &[u8]) -> Option<usize>
         → result ≡ place_of_path path.now entries.now }
 {
     match search(entries, path, None).0 {
-        Ok(low) => first_wanted(entries, path, low, Wanted::OurSide),
+        Ok(low) => {
+            let end = low + (entries.len() - low).min(2);
+            first_wanted(entries, path, low, end, Wanted::OurSide)
+        }
         Err(_) => None,
     }
 }

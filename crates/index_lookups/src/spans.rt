@@ -1,32 +1,26 @@
 //! Directories in their order, each with the places of the entries below it.
 
-ghost use Rattle.std.specs.Prelude.{◌≡◌, ◌++◌, ◌∷◌, [], ◌+◌, ◌-◌, ◌<◌, ◌≤◌, ⊤, All, List, length, map, IfOk, IfErr, false, true};
+ghost use Rattle.std.specs.Prelude.{◌≡◌, ◌+◌, ◌-◌, ◌<◌, ◌≤◌, List, length, map, IfOk, IfErr, false};
 ghost use Rattle.std.specs.List.{HoldsAt, list_any};
 ghost use Rattle.index_lookups.specs.Digits.{digits};
-ghost use Rattle.index_entries.specs.Order.{IsOrderedByPath, path_cmp};
+ghost use Rattle.index_entries.specs.Order.{IsOrderedByPath};
 ghost use Rattle.index_entries.specs.Record.{Record};
 ghost use Rattle.index_lookups.specs.Closest.{is_below};
+ghost use Rattle.index_lookups.specs.NameSteps.{outer_cmp};
 ghost use Rattle.index_lookups.specs.Range.{IsRange};
-ghost use Rattle.index_lookups.specs.SearchSteps.{IsEqualAt, IsGapAt, IsPartedAt, IsSplitBy, asked_cmp, prefix_answers};
-ghost use Rattle.index_lookups.specs.SpanSteps.{AreSpans, IsSpan, IsWindow, names_of, span_value};
-ghost use Rattle.index_lookups.specs.Tables.{IsDirs, last_slash, search_bound};
+ghost use Rattle.index_lookups.specs.SearchSteps.{IsEqualAt, IsGapAt, IsSplitBy, asked_cmp};
+ghost use Rattle.index_lookups.specs.SpanSteps.{AreDirs, AreSpans, IsWindow, names_of};
+ghost use Rattle.index_lookups.specs.Tables.{last_slash, search_bound};
+ghost use Rattle.index_lookups.specs.WalkSteps.{span_value};
 
-use crate::names::directory_starts;
-use crate::search::{Asked, Ordered, Prefix, end_from, search_within};
-use index_entries::Entry;
+use crate::names::compare_names;
+use crate::search::{Asked, Ordered, search_within};
+use crate::walk::{Span, directories_of};
 use index_entries::slice::EntrySlice;
 use index_metadata::entry::Stage;
 use std::alloc::{AllocError, Global};
 use std::cmp::Ordering;
 use std::ops::Range;
-
-/// A directory's name, and which entries stand below it.
-#[derive(Clone, Copy)]
-pub(crate) struct Span<'a> {
-    pub(crate) name: &'a [u8],
-    pub(crate) start: usize,
-    pub(crate) end: usize,
-}
 
 /// The place of the last slash.
 pub(crate) fn last_slash(path: &[u8]) -> Option<usize>
@@ -42,25 +36,6 @@ pub(crate) fn last_slash(path: &[u8]) -> Option<usize>
     None
 }
 
-/// Which entries stand below the directory, where the first of them is known.
-fn span_of<'a>(entries: &EntrySlice<'_>, name: &'a [u8], start: usize) -> Span<'a>
-    requires { start ≤ length entries.now }
-    ensures name { result.name.now ≡ name.now }
-    ensures span { IsOrderedByPath entries.now
-        → IsPartedAt false (prefix_answers (name.now ++ 47 ∷ []) entries.now) start
-        → list_any (is_below name.now) entries.now ≡ true
-        → IsSpan entries.now (span_value result) }
-{
-    let tail = b"/";
-    let places = Prefix {
-        entries,
-        prefix: name,
-        tail,
-    };
-    let end = end_from(&places, start);
-    Span { name, start, end }
-}
-
 /// The directories that the entries stand below.
 pub(crate) fn spans_of<'a>(
     alloc: Global,
@@ -69,13 +44,7 @@ pub(crate) fn spans_of<'a>(
     requires { IsOrderedByPath entries.now }
     ensures { IfOk result (λ spans. AreSpans entries.now spans.items) }
 {
-    let names = directory_starts(alloc, entries)?;
-    let mut spans = Vec::new(alloc);
-    for i in 0..names.len() {
-        let first = names[i];
-        spans.push(span_of(entries, first.name, first.place))?;
-    }
-    Ok(spans)
+    directories_of(alloc, entries, None, false, false)
 }
 
 /// Directories by their names, to a name that is looked for.
@@ -86,14 +55,14 @@ pub(crate) struct SpanSearch<'a> {
 }
 
 impl Ordered for SpanSearch<'_> {
-    ghost answers = { λ s. map (λ x. path_cmp x.name s.name.now) (map span_value s.spans.now) };
+    ghost answers = { λ s. map (λ x. outer_cmp x.name s.name.now) (map span_value s.spans.now) };
 
     fn len(&self) -> usize {
         self.spans.len()
     }
 
     fn compare(&self, place: usize) -> Ordering {
-        Entry::cmp_filepaths(self.spans[place].name, self.name)
+        compare_names(self.spans[place].name, self.name, false, true)
     }
 }
 
@@ -101,7 +70,7 @@ impl Ordered for SpanSearch<'_> {
 fn find(spans: &[Span<'_>], directory: &[u8]) -> (Result<usize, usize>, usize)
     ensures found { IfOk result.0 (λ i. (i < length spans.now)
         × HoldsAt (λ x. x.name ≡ directory.now) (map span_value spans.now) i) }
-    ensures absent { (rs : List Record) → IsDirs rs (names_of spans.now)
+    ensures absent { (rs : List Record) → AreDirs rs (names_of spans.now)
         → IfErr result.0 (λ _. list_any (is_below directory.now) rs ≡ false) }
     ensures count { result.1 ≤ digits (length (names_of spans.now)) + 1 }
 {

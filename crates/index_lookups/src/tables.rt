@@ -11,7 +11,8 @@ ghost use Rattle.index_lookups.specs.Range.{IsRange};
 ghost use Rattle.index_lookups.specs.SpanSteps.{AreSpans};
 ghost use Rattle.index_lookups.specs.Tables.{IsBounded, IsDirs, present_count};
 
-use crate::spans::{Span, range_among, search_among, spans_of};
+use crate::spans::{range_among, search_among, spans_of};
+use crate::walk::Span;
 use index_entries::Entry;
 use index_entries::slice::EntrySlice;
 use index_metadata::entry::Stage;

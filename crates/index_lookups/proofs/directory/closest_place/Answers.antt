@@ -1,4 +1,4 @@
-use Rattle.std.proofs.Common.{◌≡◌, ℕ, ◌<◌, length, true}
+use Rattle.std.proofs.Common.{arith, ◌≡◌, ℕ, ◌<◌, length, true}
 use Rattle.std.specs.List.{HoldsAt}
 use Rattle.index_lookups.specs.Closest.{stands_in}
 use Rattle.index_lookups.proofs.Closest.{below_in, closest_at, closest_below, itself_in}
@@ -17,7 +17,7 @@ returns-in-Ok-clause-answer c = λ o.
     let rs = c.args.entries.now in
     let directory = c.args.directory.now in
     closest_at directory rs c.first_wanted.result (there directory rs c.in-Ok.low (ok_is c.search.result.0 c.in-Ok.low _ c.in-Ok.is (path_at directory rs c.search.result.0 c.search.ensures.found)))
-    (c.first_wanted.ensures.answer o (ok_is c.search.result.0 c.in-Ok.low _ c.in-Ok.is (c.search.ensures.first (split_by_path directory rs o))))
+    (c.first_wanted.ensures.answer o (ok_is c.search.result.0 c.in-Ok.low _ c.in-Ok.is (c.search.ensures.first (split_by_path directory rs o))) (λ none k d l u. absurd (omega (arith, c.len.ensures))))
 
 pub returns-in-Err-clause-found : goal.returns-in-Err-clause-found
 returns-in-Err-clause-found c =

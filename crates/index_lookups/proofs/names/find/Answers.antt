@@ -1,9 +1,8 @@
 use Rattle.std.proofs.Common.{length, map, refl}
 use Rattle.std.specs.declared.cmp.Ordering.{Ordering}
 use Rattle.std.specs.declared.cmp.Ordering.TheVariants.{Equal}
-use Rattle.index_entries.specs.Order.{path_cmp}
 use Rattle.index_lookups.specs.Folded.{folded}
-use Rattle.index_lookups.specs.NameSteps.{NamedValue, named_value}
+use Rattle.index_lookups.specs.NameSteps.{NamedValue, name_order, named_value}
 use Rattle.index_lookups.proofs.Parting.{bracket_whole}
 use Rattle.index_lookups.proofs.TableFound.{rising_table, find_some, find_gap, keys_length}
 use Rattle.index_lookups.proofs.Lookup.{ok_is}
@@ -12,14 +11,14 @@ use Rattle.index_lookups.proofs.names.find.Goals as goal
 pub returns-in-Ok-clause-answer : goal.returns-in-Ok-clause-answer
 returns-in-Ok-clause-answer c = λ test rs table.
     let names = c.args.names.now in
-    let cmp : NamedValue → Ordering = λ k. path_cmp (folded c.args.ignore_case k.name) (folded c.args.ignore_case c.args.name.now) in
-    let first = c.search_within-found.ensures.first (rising_table c.args.ignore_case test rs _ table c.args.name.now) (bracket_whole (map cmp (map named_value names)) (length names) (keys_length cmp names)) in
+    let cmp : NamedValue → Ordering = λ k. name_order c.args.outer (folded c.args.ignore_case k.name) (folded c.args.ignore_case c.args.name.now) in
+    let first = c.search_within-found.ensures.first (rising_table c.args.outer c.args.ignore_case test rs _ table c.args.name.now) (bracket_whole (map cmp (map named_value names)) (length names) (keys_length cmp names)) in
     let here = ok_is c.search_within-found.result.0 c.in-Ok.at _ c.in-Ok.is c.search_within-found.ensures.found in
-    find_some c.args.ignore_case test rs names table c.args.name.now c.in-Ok.at (ok_is c.search_within-found.result.0 c.in-Ok.at _ c.in-Ok.is first) Equal here.here _ here.in_range refl
+    find_some c.args.outer c.args.ignore_case test rs names table c.args.name.now c.in-Ok.at (ok_is c.search_within-found.result.0 c.in-Ok.at _ c.in-Ok.is first) Equal here.here _ here.in_range refl
 
 pub returns-in-Err-clause-answer : goal.returns-in-Err-clause-answer
 returns-in-Err-clause-answer c = λ test rs table.
     let names = c.args.names.now in
-    let cmp : NamedValue → Ordering = λ k. path_cmp (folded c.args.ignore_case k.name) (folded c.args.ignore_case c.args.name.now) in
-    find_gap c.args.ignore_case test rs names table c.args.name.now c.search_within-found.result.0 c.search_within-found.ensures.in_range
-    (c.search_within-found.ensures.absent (rising_table c.args.ignore_case test rs _ table c.args.name.now) (bracket_whole (map cmp (map named_value names)) (length names) (keys_length cmp names))) _ c.in-Err.is
+    let cmp : NamedValue → Ordering = λ k. name_order c.args.outer (folded c.args.ignore_case k.name) (folded c.args.ignore_case c.args.name.now) in
+    find_gap c.args.outer c.args.ignore_case test rs names table c.args.name.now c.search_within-found.result.0 c.search_within-found.ensures.in_range
+    (c.search_within-found.ensures.absent (rising_table c.args.outer c.args.ignore_case test rs _ table c.args.name.now) (bracket_whole (map cmp (map named_value names)) (length names) (keys_length cmp names))) _ c.in-Err.is

@@ -1,9 +1,9 @@
-use Rattle.std.proofs.Common.{ℕ, ◌<◌, length, ◌∙◌}
+use Rattle.std.proofs.Common.{arith, ℕ, ◌+◌, ◌<◌, length, ◌∙◌}
 use Rattle.std.specs.List.{HoldsAt}
 use Rattle.index_lookups.specs.declared.range.Wanted.TheVariants.{OurSide}
 use Rattle.index_lookups.specs.Range.{HasStageOf}
 use Rattle.index_lookups.proofs.Lookup.{err_is, ok_is, ordered_by_path, split_by_path}
-use Rattle.index_lookups.proofs.Wanted.{gap_wanted, if_some, ours_has, ours_place}
+use Rattle.index_lookups.proofs.Wanted.{gap_wanted, if_some, ours_has, ours_place, two_enough}
 use Rattle.index_lookups.proofs.range.place_by_path.Goals as goal
 
 pub returns-in-Ok-clause-found : goal.returns-in-Ok-clause-found
@@ -16,6 +16,7 @@ returns-in-Ok-clause-answer c = λ o.
     let rs = c.args.entries.now in
     let path = c.args.path.now in
     c.first_wanted.ensures.answer (ordered_by_path rs o) (ok_is c.search.result.0 c.in-Ok.low _ c.in-Ok.is (c.search.ensures.first (split_by_path path rs (ordered_by_path rs o))))
+    (two_enough path rs c.in-Ok.low (c.in-Ok.low + c.min.result) o (ok_is c.search.result.0 c.in-Ok.low _ c.in-Ok.is c.search.ensures.found) (omega (arith, c.min.ensures, c.len.ensures)))
     ∙ ours_place path rs o
 
 pub returns-in-Err-clause-answer : goal.returns-in-Err-clause-answer
