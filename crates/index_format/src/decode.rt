@@ -3,13 +3,14 @@
 pub mod entries;
 pub mod header;
 
-ghost use Rattle.std.specs.Prelude.{◌≡◌, ◌≤◌, ◌+◌, ◌*◌, ◌||◌, not, length, IfOk, IfErr, OnOk, All};
+ghost use Rattle.std.specs.Prelude.{◌≡◌, ◌≤◌, ◌+◌, ◌*◌, ◌||◌, not, nat_lt, false, length, Ok, IfOk, IfErr, IfSome, OnOk, All};
 ghost use Rattle.index_parts.specs.Id.{id_kind, id_len};
 ghost use Rattle.index_format.specs.Outcome.{outcome_of};
 ghost use Rattle.index_format.specs.Answer.{Answer, IsVerified, IsAnswer, IsBehindHeader, IsEnding};
 ghost use Rattle.index_format.specs.DecodeErrors.{Says, SaysFault};
 ghost use Rattle.index_parts.specs.Limit.{is_within};
-ghost use Rattle.index_entries.specs.Limits.{entry_cost};
+ghost use Rattle.index_entries.specs.Header.{header_of, count_of};
+ghost use Rattle.index_entries.specs.Limits.{entry_cost, is_too_large, most_entries};
 ghost use Rattle.index_format.specs.ExtensionSteps.{IsTaken};
 ghost use Rattle.index_format.specs.Storable.{IsStorable};
 ghost use Rattle.index_format.specs.Contents.{PartsInStorage, ExtensionIdsAreOf, parts_contents, parts_entries};
@@ -64,15 +65,15 @@ fn verify(expected: Option<ObjectId>, actual: Option<ObjectId>) -> Result<(), Er
 
 /// What a file is read as.
 #[derive(Clone, Copy)]
-struct ReadAs {
+pub struct ReadAs {
     /// When the file was changed last.
-    timestamp: FileTime,
+    pub timestamp: FileTime,
     /// The hash of its ids.
-    object_hash: Kind,
+    pub object_hash: Kind,
     /// The version that its header declares.
-    version: Version,
+    pub version: Version,
     /// What the caller asked for.
-    options: Options,
+    pub options: Options,
 }
 
 /// The state of entries and extensions that were read. So many bytes are left before the trailer.
@@ -124,8 +125,9 @@ fn read_parts(
     Ok((state, checksum))
 }
 
-/// The state of entries that were read, with the extensions and the trailer behind them.
-fn read_ending(
+/// The parts of entries that were read, with the extensions and the trailer behind them; and the trailer's id, or None
+/// where it is null.
+pub fn read_ending(
     alloc: Global,
     read: Read<'_>,
     read_as: ReadAs,
@@ -155,6 +157,54 @@ fn is_too_large(limit: Option<usize>, count: u32, paths: usize) -> bool
     ensures { result ≡ (not (is_within limit (entry_cost * count)) || not (is_within limit paths)) }
 {
     !read::is_within(limit, ENTRY_COST * count as usize) || !read::is_within(limit, paths)
+}
+
+/// How many entries a file has, and how they are encoded.
+#[derive(Clone, Copy)]
+pub struct Declared {
+    /// The version that the header declares.
+    pub version: Version,
+    /// The count of entries that it declares.
+    pub count: u32,
+    /// An estimate of the bytes that their paths take.
+    pub paths: usize,
+}
+
+/// What the header at the front of a file of so many bytes declares, whose end marker names this offset, or which has
+/// none. None where the header is at fault, or the count passes what such a file can hold or the limit.
+pub fn declared_by(
+    front: &[u8],
+    len: usize,
+    offset: Option<usize>,
+    object_hash: Kind,
+    options: Options,
+) -> Option<Declared>
+    ensures header { IfSome result (λ x. header_of object_hash front.now ≡ Ok x.version) }
+    ensures count { IfSome result (λ x. x.count ≡ count_of front.now) }
+    ensures fits { IfSome result
+        (λ x. nat_lt (most_entries len offset object_hash x.version) x.count ≡ false) }
+    ensures small { IfSome result (λ x. is_too_large options.alloc_limit_bytes x.count len offset
+        object_hash x.version ≡ false) }
+{
+    let (version, count, _) = header::decode(front, object_hash).ok()?;
+    if count as usize > entries::max_entries_possible(len, offset, object_hash, version) {
+        return None;
+    }
+    let paths = entries::estimate_path_storage_requirements_in_bytes(
+        count,
+        len,
+        offset,
+        object_hash,
+        version,
+    );
+    if is_too_large(options.alloc_limit_bytes, count, paths) {
+        return None;
+    }
+    Some(Declared {
+        version,
+        count,
+        paths,
+    })
 }
 
 /// The state of so many entries at the front of the bytes, and the end behind them.

@@ -70,7 +70,7 @@ fn is_mandatory(signature: Signature) -> bool
 }
 
 /// Whether this reader understands the extension, or may skip it.
-fn is_understood(signature: Signature, content: &[u8]) -> bool
+pub fn is_understood(signature: Signature, content: &[u8]) -> bool
     ensures { result ≡ is_understood signature content.now }
 {
     !is_mandatory(signature)

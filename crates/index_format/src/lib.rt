@@ -11,6 +11,7 @@ pub mod decode;
 mod error;
 pub mod extension;
 mod lend;
+pub mod storable;
 pub mod trailer;
 pub mod write;
 

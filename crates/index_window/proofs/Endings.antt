@@ -1,0 +1,65 @@
+-- What stands at the end of bytes whose front is gone.
+use Rattle.std.proofs.Common.{◌≡◌, ℕ, ◌+◌, ◌-◌, ◌≤◌, List, [], ◌∷◌, ◌++◌, length, take, drop, Bool, true, false, ltb, None, refl, sym, ap, ◌∙◌, arith}
+use Rattle.std.proofs.lemmas.List.{length-append}
+use Rattle.std.proofs.Math.Seq.{drop-append-add, take-append-add}
+use Rattle.std.proofs.lemmas.Bool.{le-ltb}
+use Rattle.std.specs.List.{starts_with}
+use Rattle.std.specs.Prelude.{nat_eq, MatchBool, ◌&&◌, ◌||◌, not}
+use Rattle.index_parts.specs.Id.{id_len, is_null, make_id}
+use Rattle.index_parts.specs.Digest.{digest}
+use Rattle.index_parts.specs.declared.hash.Kind.{Kind}
+use Rattle.index_extensions.specs.EndMarker.{IsMarker}
+use Rattle.index_extensions.specs.WalkSteps.{marker_at, marker_start}
+use Rattle.index_extensions.proofs.EndMarks.{marked_none}
+use Rattle.index_window.specs.Intact.{needs_check, trailer_part, IsIntact}
+
+near_end : (before tail : List ℕ) (n : ℕ) → n ≤ length tail → drop (length (before ++ tail) - n) (before ++ tail) ≡ drop (length tail - n) tail
+near_end before tail n le =
+    let at : length (before ++ tail) - n ≡ length before + (length tail - n) = omega (arith, length-append before tail) in
+    rw at (drop-append-add before tail (length tail - n))
+
+before_end : (before tail : List ℕ) (n : ℕ) → n ≤ length tail → take (length (before ++ tail) - n) (before ++ tail) ≡ before ++ take (length tail - n) tail
+before_end before tail n le =
+    let at : length (before ++ tail) - n ≡ length before + (length tail - n) = omega (arith, length-append before tail) in
+    rw at (take-append-add before tail (length tail - n))
+
+marker_lacks : (before tail : List ℕ) → 52 ≤ length tail → starts_with nat_eq (take 8 (drop (length tail - 52) tail)) marker_start ≡ false → marker_at (before ++ tail) ≡ None
+unfolding marker_at
+marker_lacks before tail long e =
+    let enough : ltb (length (before ++ tail)) 52 ≡ false = le-ltb _ _ (omega (arith, length-append before tail)) in
+    rw (enough, near_end before tail 52 long, e) refl
+
+pub unmarked : (kind : Kind) (before tail : List ℕ) → 52 ≤ length tail → starts_with nat_eq (take 8 (drop (length tail - 52) tail)) marker_start ≡ false → IsMarker kind (before ++ tail) None
+unmarked kind before tail long e = λ place h. marked_none kind (before ++ tail) place (marker_lacks before tail long e) h
+
+-- ---- the trailer
+
+free_by : (s l n : Bool) (E : Type 0) → (s || n) ≡ true → MatchBool (not s && not l && not n) E (Unit {0})
+free_by true true true E e = tt
+free_by true true false E e = tt
+free_by true false true E e = tt
+free_by true false false E e = tt
+free_by false true true E e = tt
+free_by false true false E e = tt
+free_by false false true E e = tt
+free_by false false false E e = absurd cc
+
+same_by : (t : Bool) (E : Type 0) → E → MatchBool t E (Unit {0})
+same_by true E e = e
+same_by false E e = tt
+
+-- no digest is compared
+pub intact_free : (skip : Bool) (kind : Kind) (m tail : List ℕ) → id_len kind ≤ length tail → (skip || is_null (drop (length tail - id_len kind) tail)) ≡ true → IsIntact skip kind (m ++ tail)
+intact_free skip kind m tail le e = free_by skip (ltb (length (m ++ tail)) (id_len kind)) (is_null (trailer_part kind (m ++ tail))) _ (rw (near_end m tail (id_len kind) le) e)
+
+-- the digest is the trailer
+pub intact_same : (skip : Bool) (kind : Kind) (m tail : List ℕ) → id_len kind ≤ length tail → make_id kind (digest kind (m ++ take (length tail - id_len kind) tail)) ≡ make_id kind (drop (length tail - id_len kind) tail) → IsIntact skip kind (m ++ tail)
+intact_same skip kind m tail le e = same_by (needs_check skip kind (m ++ tail)) _ (ap (λ (l : List ℕ). make_id kind (digest kind l)) (before_end m tail (id_len kind) le) ∙ e ∙ ap (λ (l : List ℕ). make_id kind l) (sym (near_end m tail (id_len kind) le)))
+
+pub not_true : (b : Bool) → not b ≡ true → b ≡ false
+not_true true e = absurd cc
+not_true false e = refl
+
+pub or_right : (a b : Bool) → b ≡ true → (a || b) ≡ true
+or_right true b e = refl
+or_right false b e = e

@@ -1,0 +1,4 @@
+mod Endings
+pub mod Readers
+mod Steps
+mod Wholes

@@ -1,0 +1,22 @@
+use Rattle.std.proofs.Common.{◌≡◌, ◌≤◌, ◌+◌, ◌-◌, length, take, ap, subst, sym, ◌∙◌, rules}
+use Rattle.std.specs.Io.{appended_bytes}
+use Rattle.std.specs.Io.KnownBytes.{Consumes}
+use Rattle.std.proofs.lemmas.List.{with_items_is, places}
+use borrow.Rule.Slice.PartMut.{post_of, put_mid}
+use Rattle.index_window.proofs.Readers.{piece_read}
+use Rattle.index_window.proofs.pieces.append_piece.Goals as goal
+
+pub returns-clause-consumes : goal.returns-clause-consumes
+returns-clause-consumes g c =
+    let old = c.args.bytes.now.items in
+    let xs = c.deref_mut.result.now in
+    let room = c.read_once.new.room in
+    let at = c.len-filled.result in
+    let count = c.in_ok-count.count in
+    let is : length old ≡ at = search (rules, places) in
+    let within : at ≤ length xs = search (rules, places) in
+    let items : c.truncate.new.self.items ≡ take (at + count) (put_mid at (length xs - at) xs room) =
+    c.truncate.ensures.items ∙ ap (take (at + count)) (with_items_is c.resize.new.self (put_mid at (length xs - at) xs room) (search (rules, places))) in
+    subst (Consumes (g.R.Read.remaining c.args.reader.now) (g.R.Read.remaining c.read_once.new.reader))
+    (sym (ap (appended_bytes old) items ∙ piece_read old xs room (post_of at (length xs - at) xs) at count is within c.in_ok-count.ensures.bound.0))
+    c.in_ok-count.ensures.bytes.0

@@ -1,0 +1,20 @@
+use Rattle.std.proofs.Common.{◌≡◌, ◌≤◌, ◌+◌, ℕ, length}
+use Rattle.std.specs.Prelude.{All}
+use Rattle.index_parts.specs.Id.{id_kind}
+use Rattle.index_entries.specs.Record.{has_directory}
+use Rattle.index_window.specs.Windowed.{IsReadOn}
+use Rattle.index_window.proofs.windows.read_entries.Given as goal
+
+abbrev pub invariant-windows : goal.invariant-windows
+invariant-windows g l = record {
+  ids : All (λ r. id_kind r.id ≡ l.plan.kind) l.first.list.records;
+  sparse : l.first.sparse ≡ has_directory l.first.list.records;
+  count : length l.first.list.records ≤ l.plan.count;
+  read : (count : ℕ) × (count + l.left ≡ l.fn.left) × IsReadOn l.plan
+      (record { left = g.R.Read.remaining l.fn.reader; hasher = l.fn.hasher; window = l.fn.window.items; decoded = 12; records = l.fn.first.list.records })
+      (record { left = g.R.Read.remaining l.reader; hasher = l.hasher; window = l.window.items; decoded = l.start; records = l.first.list.records })
+      count;
+}
+
+abbrev pub decreases-windows : goal.decreases-windows
+decreases-windows g l = l.left

@@ -1,0 +1,31 @@
+-- A file that is read in windows: from one moment of reading to a later one (the library's own).
+use Rattle.std.specs.Prelude.{◌≡◌, ℕ, ◌≤◌, Bool, true, List, ◌++◌, length, drop, Option, None}
+use Rattle.std.specs.Io.KnownBytes.{Consumes}
+use Rattle.index_parts.specs.Digest.{hasher_kind, Holds}
+use Rattle.index_parts.specs.declared.hash.Hasher.{Hasher}
+use Rattle.index_entries.specs.Entries.{AreEntries}
+use Rattle.index_entries.specs.Record.{Record, AreBytes}
+use Rattle.index_window.specs.declared.windows.Plan.{Plan}
+
+-- where the reading of a file stands: what is left to read, where it is known; the hasher; the bytes at hand; how many of them
+-- were decoded; and the records so far
+pub record Moment : Type 0 where
+  pub left : Option (List ℕ)
+  pub hasher : Hasher
+  pub window : List ℕ
+  pub decoded : ℕ
+  pub records : List Record
+
+-- So many bytes more came to hand. Those that left the window were hashed, if they are to be. What was decoded, up to a place in
+-- the window, was and is the front of whatever bytes end with the window.
+pub record IsReadOn (plan : Plan) (old new : Moment) (count : ℕ) : Type 0 where
+  pub more : List ℕ
+  pub taken : List ℕ
+  pub bytes : old.window ++ more ≡ taken ++ new.window
+  pub len : length more ≡ count
+  pub are_bytes : AreBytes taken
+  pub consumed : Consumes old.left new.left more
+  pub kind_stays : hasher_kind new.hasher ≡ hasher_kind old.hasher
+  pub hashed : plan.is_hashed ≡ true → (message : List ℕ) → Holds old.hasher message → Holds new.hasher (message ++ taken)
+  pub read : (all : List ℕ) → AreEntries plan.version plan.kind None all old.records (drop old.decoded old.window) → AreEntries plan.version plan.kind None (all ++ more) new.records (drop new.decoded new.window)
+  pub inside : new.decoded ≤ length new.window

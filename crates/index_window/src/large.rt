@@ -1,0 +1,73 @@
+//! A large index file on the disk.
+
+ghost use Rattle.std.specs.Prelude.{◌≡◌, ℕ, List, IfOk, IfSome, Ok};
+ghost use Rattle.index_entries.specs.Record.{IdsAreOf};
+ghost use Rattle.index_format.specs.Answer.{IsAnswer};
+ghost use Rattle.index_format.specs.Contents.{ExtensionIdsAreOf, PartsInStorage, parts_contents, parts_entries};
+ghost use Rattle.index_format.specs.Storable.{IsStorable};
+ghost use Rattle.index_window.specs.Intact.{IsIntact};
+
+use crate::ReadOptions;
+use crate::windows::{KEPT_LEN, lacks_marker, windowed};
+use index_format::Parts;
+use index_parts::hash::{Kind, ObjectId};
+use index_parts::read;
+use std::alloc::Global;
+use std::fs::OpenFile;
+use std::io;
+use std::io::{Read, Seek, SeekFrom};
+
+/// A file of fewer bytes is read whole.
+const SMALL_LEN: u64 = 1_048_576;
+
+/// The last bytes of a file of so many, which then stands at its start.
+fn end_of<F: Read + Seek>(alloc: Global, file: &mut F, len: u64) -> io::Result<Vec<u8>> {
+    let mut end = Vec::with_capacity(alloc, KEPT_LEN)?;
+    file.seek(SeekFrom::Start(len.saturating_sub(KEPT_LEN as u64)))?;
+    file.by_ref().take(KEPT_LEN as u64).read_to_end(&mut end)?;
+    file.seek(SeekFrom::Start(0))?;
+    Ok(end)
+}
+
+/// Whether the last bytes, of which an id of the kind has as many, are all zero.
+fn ends_in_null(kind: Kind, end: &[u8]) -> bool {
+    let len = kind.len_in_bytes();
+    end.len() >= len && read::is_null(&end[end.len() - len..])
+}
+
+/// Reads a plain file in windows, and gives the parts of the index in it, and the trailer's id, or None where that is
+/// null. It is None of a small file, of what is no plain file, as a pipe, and where the index isn't sound, has an end
+/// marker, or changes meanwhile: then a plain file stands at its start again, and has to be read whole.
+pub fn in_windows<F: OpenFile + Read + Seek>(
+    alloc: Global,
+    file: &mut F,
+    reading: ReadOptions,
+) -> io::Result<Option<(Parts, Option<ObjectId>)>>
+    // The file's bytes can't be named: the index is what some bytes are read as.
+    ensures read { IfOk result (λ o. IfSome o (λ x. (bytes : List ℕ)
+        × IsIntact reading.skip_hash reading.object_hash bytes
+        × IsAnswer reading.object_hash reading.timestamp reading.options bytes
+        (Ok (parts_contents x.0, x.1)))) }
+    ensures placed { IfOk result (λ o. IfSome o (λ x. PartsInStorage x.0)) }
+    ensures ids { IfOk result
+        (λ o. IfSome o (λ x. IdsAreOf reading.object_hash (parts_entries x.0))) }
+    ensures storable { IfOk result (λ o. IfSome o (λ x. IsStorable (parts_contents x.0))) }
+    ensures extension_ids { IfOk result (λ o. IfSome o
+        (λ x. ExtensionIdsAreOf reading.object_hash (parts_contents x.0).extensions)) }
+{
+    let metadata = file.metadata()?;
+    let len = metadata.len();
+    if !metadata.is_file() || len < SMALL_LEN {
+        return Ok(None);
+    }
+    let end = end_of(alloc, file, len)?;
+    if !lacks_marker(&end) {
+        return Ok(None);
+    }
+    let is_hashed = !reading.skip_hash && !ends_in_null(reading.object_hash, &end);
+    if let Ok(Some(read)) = windowed(alloc, file, len, is_hashed, reading) {
+        return Ok(Some(read));
+    }
+    file.seek(SeekFrom::Start(0))?;
+    Ok(None)
+}

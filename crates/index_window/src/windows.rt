@@ -1,0 +1,288 @@
+//! A large index that is read in windows.
+
+ghost use Rattle.std.specs.Prelude.{◌≡◌, ◌≤◌, ◌+◌, ◌++◌, ℕ, List, Option, All, [], drop, length, vec_len, IfOk, IfSome, OnOk, Ok, None, true};
+ghost use Rattle.index_entries.specs.Record.{AreBytes, IdsAreOf, has_directory};
+ghost use Rattle.index_extensions.specs.EndMarker.{IsMarker};
+ghost use Rattle.index_format.specs.Answer.{IsAnswer, IsEnding};
+ghost use Rattle.index_format.specs.Contents.{ExtensionIdsAreOf, PartsInStorage, parts_contents, parts_entries};
+ghost use Rattle.index_format.specs.Storable.{IsStorable};
+ghost use Rattle.index_parts.specs.Digest.{Holds, hasher_kind};
+ghost use Rattle.index_parts.specs.Id.{id_kind};
+ghost use Rattle.index_parts.specs.declared.hash.Kind.{Kind};
+ghost use Rattle.index_window.specs.Intact.{IsIntact};
+ghost use Rattle.index_window.specs.Windowed.{IsReadOn};
+
+use crate::ReadOptions;
+use crate::pieces::{fill, remove_front};
+use index_entries::Version;
+use index_entries::decode::entries::{FirstEntries, Read as ReadEntries, entries_in};
+use index_entries::list::EntryList;
+use index_entries::sizes::HEADER_LEN;
+use index_format::Parts;
+use index_format::decode::{ReadAs, declared_by, read_ending};
+use index_parts::hash::{Hasher, Kind, ObjectId};
+use index_parts::read;
+use std::alloc::{AllocError, Global};
+use std::io;
+use std::io::Read;
+
+/// How many bytes are read at once.
+const WINDOW_LEN: usize = 262_144;
+
+/// So many of the bytes that were decoded are kept: an end marker and the trailer have room there.
+pub const KEPT_LEN: usize = 52;
+
+/// What is read, and whether it is hashed.
+#[derive(Clone, Copy)]
+struct Plan {
+    version: Version,
+    kind: Kind,
+    count: u32,
+    is_hashed: bool,
+}
+
+/// Hashes these bytes, if they are to be hashed.
+fn hash_piece(plan: Plan, hasher: &mut Hasher, bytes: &[u8])
+    ensures kind { hasher_kind hasher.new ≡ hasher_kind hasher.old }
+    ensures more { plan.is_hashed ≡ true → (message : List ℕ) → Holds hasher.old message
+        → Holds hasher.new (message ++ bytes.now) }
+    ensures are_bytes { AreBytes bytes.now }
+{
+    if plan.is_hashed {
+        hasher.update(bytes);
+    }
+}
+
+/// Decodes the entries that stand whole in the window from a place on, and hashes and takes away most of what was
+/// decoded. Gives the place from which on the window isn't decoded.
+fn take_entries(
+    plan: Plan,
+    hasher: &mut Hasher,
+    window: &mut Vec<u8>,
+    start: usize,
+    first: &mut FirstEntries,
+) -> Result<usize, AllocError>
+    requires ids { All (λ r. id_kind r.id ≡ plan.kind) first.old.list.records }
+    requires sparse { first.old.sparse ≡ has_directory first.old.list.records }
+    requires count { length first.old.list.records ≤ plan.count }
+    requires start { start ≤ vec_len window.old }
+    ensures ids { OnOk result (All (λ r. id_kind r.id ≡ plan.kind) first.new.list.records) }
+    ensures sparse { OnOk result (first.new.sparse ≡ has_directory first.new.list.records) }
+    ensures count { OnOk result (length first.new.list.records ≤ plan.count) }
+    ensures read { IfOk result (λ place. (left : Option (List ℕ)) → IsReadOn plan
+        (record {
+          left = left;
+          hasher = hasher.old;
+          window = window.old.items;
+          decoded = start;
+          records = first.old.list.records;
+        })
+        (record {
+          left = left;
+          hasher = hasher.new;
+          window = window.new.items;
+          decoded = place;
+          records = first.new.list.records;
+        })
+        0) }
+{
+    let rest = entries_in(plan.version, plan.kind, plan.count, first, &window[start..])?;
+    let end = window.len().saturating_sub(rest.len());
+    let done = end.saturating_sub(KEPT_LEN);
+    hash_piece(plan, hasher, &window[..done]);
+    remove_front(window, done);
+    Ok(end - done)
+}
+
+/// Reads all entries behind the header. Gives the place from which on the window isn't decoded, and how many bytes of
+/// the file are left to read; None where an entry lacks, or where the file is longer than it said.
+fn read_entries<R: Read>(
+    reader: &mut R,
+    plan: Plan,
+    hasher: &mut Hasher,
+    window: &mut Vec<u8>,
+    first: &mut FirstEntries,
+    mut left: u64,
+) -> io::Result<Option<(usize, u64)>>
+    requires ids { All (λ r. id_kind r.id ≡ plan.kind) first.old.list.records }
+    requires sparse { first.old.sparse ≡ has_directory first.old.list.records }
+    requires count { length first.old.list.records ≤ plan.count }
+    requires header { 12 ≤ vec_len window.old }
+    ensures ids { OnOk result (All (λ r. id_kind r.id ≡ plan.kind) first.new.list.records) }
+    ensures sparse { OnOk result (first.new.sparse ≡ has_directory first.new.list.records) }
+    ensures whole { IfOk result
+        (λ o. IfSome o (λ _. length first.new.list.records ≡ plan.count)) }
+    ensures read { IfOk result (λ o. IfSome o (λ x. (count : ℕ) × (count + x.1 ≡ left)
+        × IsReadOn plan
+        (record {
+          left = R.remaining reader.old;
+          hasher = hasher.old;
+          window = window.old.items;
+          decoded = 12;
+          records = first.old.list.records;
+        })
+        (record {
+          left = R.remaining reader.new;
+          hasher = hasher.new;
+          window = window.new.items;
+          decoded = x.0;
+          records = first.new.list.records;
+        })
+        count)) }
+{
+    let mut start = HEADER_LEN;
+    'windows: loop {
+        start = take_entries(plan, hasher, window, start, first)?;
+        if first.list.len() == plan.count as usize {
+            return Ok(Some((start, left)));
+        }
+        let wanted = window.len().saturating_mul(2).max(WINDOW_LEN);
+        let came = fill(reader, window, wanted)?;
+        if came == 0 || came as u64 > left {
+            return Ok(None);
+        }
+        left -= came as u64;
+    }
+}
+
+/// Whether no end marker stands where one would. It may say no where none stands.
+pub fn lacks_marker(tail: &[u8]) -> bool
+    ensures { result ≡ true → (kind : Kind) (before : List ℕ) → IsMarker kind (before ++ tail.now) None }
+{
+    if tail.len() < KEPT_LEN {
+        return false;
+    }
+    let (_, end) = tail.split_at(tail.len() - KEPT_LEN);
+    let (start, _) = end.split_at(8);
+    !start.starts_with(b"EOIE\x00\x00\x00\x18")
+}
+
+/// Whether the trailer needn't be compared, or is the digest. The hasher took in all bytes before the tail, if they
+/// were to be hashed.
+fn is_intact(plan: Plan, mut hasher: Hasher, tail: &[u8], skip_hash: bool) -> bool
+    ensures { result ≡ true → hasher_kind hasher ≡ plan.kind → (message : List ℕ)
+        → (plan.is_hashed ≡ true → Holds hasher message)
+        → IsIntact skip_hash plan.kind (message ++ tail.now) }
+{
+    let len = plan.kind.len_in_bytes();
+    if tail.len() < len {
+        return false;
+    }
+    let (body, trailer) = tail.split_at(tail.len() - len);
+    if skip_hash || read::is_null(trailer) {
+        return true;
+    }
+    hash_piece(plan, &mut hasher, body);
+    plan.is_hashed && hasher.finalize() == ObjectId::of_kind(plan.kind, trailer)
+}
+
+/// The parts of entries that were read, and of what follows them in the window from a place on; and the trailer's id,
+/// or None where it is null. None unless all is sound, and no end marker stands there. The hasher took in all bytes
+/// before the window, if they were to be hashed.
+fn ending_of(
+    alloc: Global,
+    plan: Plan,
+    first: FirstEntries,
+    hasher: Hasher,
+    window: &[u8],
+    start: usize,
+    reading: ReadOptions,
+) -> Option<(Parts, Option<ObjectId>)>
+    requires ids { All (λ r. id_kind r.id ≡ plan.kind) first.list.records }
+    requires sparse { first.sparse ≡ has_directory first.list.records }
+    requires start { start ≤ length window.now }
+    ensures ending { IfSome result (λ x. IsEnding plan.kind reading.timestamp reading.options
+        plan.version first.list.records (drop start window.now)
+        (Ok (parts_contents x.0, x.1))) }
+    ensures intact { IfSome result (λ _. hasher_kind hasher ≡ plan.kind → (message : List ℕ)
+        → (plan.is_hashed ≡ true → Holds hasher message)
+        → IsIntact reading.skip_hash plan.kind (message ++ window.now)) }
+    ensures marker { IfSome result
+        (λ _. (before : List ℕ) → IsMarker plan.kind (before ++ window.now) None) }
+    ensures are_bytes { IfSome result (λ _. AreBytes window.now) }
+    ensures placed { IfSome result (λ x. PartsInStorage x.0) }
+    ensures ids { IfSome result (λ x. IdsAreOf plan.kind (parts_entries x.0)) }
+    ensures extension_ids { IfSome result
+        (λ x. ExtensionIdsAreOf plan.kind (parts_contents x.0).extensions) }
+{
+    if !lacks_marker(window) || !is_intact(plan, hasher, window, reading.skip_hash) {
+        return None;
+    }
+    let read = ReadEntries {
+        list: first.list,
+        sparse: first.sparse,
+        rest: &window[start..],
+    };
+    let read_as = ReadAs {
+        timestamp: reading.timestamp,
+        object_hash: plan.kind,
+        version: plan.version,
+        options: reading.options,
+    };
+    match read_ending(alloc, read, read_as) {
+        Ok(whole) => Some(whole),
+        Err(_) => None,
+    }
+}
+
+/// The parts of the index that a reader of so many bytes gives, and the trailer's id, or None where it is null. None
+/// where it isn't a sound index without an end marker. Where its digest will have to be compared, it has to be hashed.
+pub fn windowed<R: Read>(
+    alloc: Global,
+    reader: &mut R,
+    len: u64,
+    is_hashed: bool,
+    reading: ReadOptions,
+) -> io::Result<Option<(Parts, Option<ObjectId>)>>
+    ensures read { IfOk result (λ o. IfSome o (λ x. (bytes : List ℕ)
+        × IfSome (R.remaining reader.old) (λ left. bytes ≡ left) × AreBytes bytes
+        × IsIntact reading.skip_hash reading.object_hash bytes
+        × IsAnswer reading.object_hash reading.timestamp reading.options bytes
+        (Ok (parts_contents x.0, x.1)))) }
+    ensures placed { IfOk result (λ o. IfSome o (λ x. PartsInStorage x.0)) }
+    ensures ids { IfOk result
+        (λ o. IfSome o (λ x. IdsAreOf reading.object_hash (parts_entries x.0))) }
+    ensures storable { IfOk result (λ o. IfSome o (λ x. IsStorable (parts_contents x.0))) }
+    ensures extension_ids { IfOk result (λ o. IfSome o
+        (λ x. ExtensionIdsAreOf reading.object_hash (parts_contents x.0).extensions)) }
+{
+    let kind = reading.object_hash;
+    let mut window = Vec::with_capacity(alloc, WINDOW_LEN)?;
+    let came = fill(reader, &mut window, WINDOW_LEN)?;
+    if came as u64 > len {
+        return Ok(None);
+    }
+    let left = len - came as u64;
+    let Some(declared) = declared_by(&window, len as usize, None, kind, reading.options) else {
+        return Ok(None);
+    };
+    let plan = Plan {
+        version: declared.version,
+        kind,
+        count: declared.count,
+        is_hashed,
+    };
+    let mut hasher = Hasher::new(kind);
+    let list = EntryList::with_capacity(alloc, declared.count as usize, declared.paths)?;
+    let mut first = FirstEntries {
+        list,
+        sparse: false,
+    };
+    let Some((start, left)) = read_entries(
+        reader,
+        plan,
+        &mut hasher,
+        &mut window,
+        &mut first,
+        left,
+    )?
+    else {
+        return Ok(None);
+    };
+    window.reserve(left.saturating_add(1) as usize)?;
+    let more = reader.read_to_end(&mut window)?;
+    if more as u64 != left {
+        return Ok(None);
+    }
+    Ok(ending_of(alloc, plan, first, hasher, &window, start, reading))
+}
