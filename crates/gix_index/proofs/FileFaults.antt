@@ -1,6 +1,6 @@
 -- From what is said of one file to what is said of an index and the shared one.
 use Rattle.std.proofs.Common.{ℕ, Bool, List, Option, inl, inr, refl}
-use Rattle.std.specs.Prelude.{Ok, Err}
+use Rattle.std.specs.Prelude.{Result, Ok, Err, IfOk}
 use Rattle.index_parts.specs.declared.hash.Kind.{Kind}
 use Rattle.index_parts.specs.declared.hash.ObjectId.{ObjectId}
 use Rattle.index_metadata.specs.declared.entry.stat.FileTime.{FileTime}
@@ -11,6 +11,9 @@ use Rattle.index_split.specs.declared.link.decode.Error.{Error as LinkError}
 use Rattle.index_split.specs.declared.link.decode.Error.TheVariants as links
 use Rattle.index_state.specs.Dissolve.{SaysDissolve}
 use Rattle.index_state.specs.Edits.{without_link}
+use Rattle.index_state.specs.State.{contents}
+use Rattle.gix_index.specs.declared.file.File.{File}
+use Rattle.gix_index.specs.File.{state_of, checksum_of}
 use Rattle.gix_index.specs.Checked.{IsFileAnswer, SaysFile, link_error_of}
 use Rattle.gix_index.specs.FileFaults.{SaysOfFile, SaysOfFiles}
 use Rattle.gix_index.specs.Linked.{IsSplit, expecting}
@@ -18,6 +21,11 @@ use Rattle.gix_index.specs.declared.file.init.Error.{Error}
 use Rattle.gix_index.specs.declared.file.init.Error.TheVariants as errors
 
 module _ (skip : Bool) (kind : Kind) (time : FileTime) (options : Options) where
+  -- what is read of these bytes is read of some bytes
+  pub read_some : (bytes : List ℕ) (r : Result File Error) → SaysFile r (IsFileAnswer skip kind time options bytes) → IfOk r (λ f. (b : List ℕ) × IsFileAnswer skip kind time options b (Ok (contents (state_of f), checksum_of f)))
+  read_some bytes (Ok f) h = (bytes, h)
+  read_some bytes (Err e) h = tt
+
   -- what an error says of these bytes is a fault of some bytes
   pub of_bytes : (bytes : List ℕ) (e : Error) → SaysFile (Err e) (IsFileAnswer skip kind time options bytes) → SaysOfFile skip kind time options e
   of_bytes bytes (errors.Io fault) h = absurd h

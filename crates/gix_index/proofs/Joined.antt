@@ -12,7 +12,8 @@ use Rattle.index_state.specs.Dissolve.{IsDissolved, MergesBy}
 use Rattle.index_format.specs.Contents.{Contents}
 use Rattle.index_format.specs.Storable.{IsStorable}
 use Rattle.index_format.proofs.ReadValues.{value_is}
-use Rattle.gix_index.specs.Checked.{needs_check, digest_id, trailer_id, IsFileAnswer}
+use Rattle.gix_index.specs.Checked.{IsFileAnswer}
+use Rattle.index_window.specs.Intact.{needs_check, digest_id, trailer_id}
 
 answer_by : (t : Bool) (E N : Type 0) (P : Type 0) (a f : Answer) (v : Contents) (c : Option ObjectId) (x y : ObjectId) → a ≡ Ok (v, c) → f ≡ Err (Verify x y) → MatchBool t ((E × P) ⊎ (N × (a ≡ f))) P → P
 answer_by true E N P a f v c x y e g (inl h) = h.1

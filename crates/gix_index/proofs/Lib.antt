@@ -4,6 +4,11 @@ mod FileFaults
 pub mod Files
 pub mod Joined
 pub mod Pieces
-mod Readers
+pub use Rattle.index_entries.proofs.Storing
+pub use Rattle.index_extensions.proofs.Walks
+pub use Rattle.index_extensions.proofs.MarkerReadings
+pub use Rattle.index_format.proofs.OnceAnswers
+pub use Rattle.index_format.proofs.Outcomes
 pub use Rattle.index_lookups.proofs.RunFilters
 pub use Rattle.index_parts.proofs.Taking
+pub use Rattle.index_split.proofs.Links

@@ -1,10 +1,7 @@
--- The digest of a file, compared before its bytes are read (gitformat-index, "Hash checksum over the content of the index file
+-- What reading a file gives, whose digest is compared first (gitformat-index, "Hash checksum over the content of the index file
 -- before this checksum").
-use Rattle.std.specs.Prelude.{◌≡◌, ◌≢◌, ℕ, ◌-◌, ◌&&◌, ◌⊎◌, not, nat_lt, Bool, true, List, length, take, drop, Result, Ok, Err, MatchBool}
-use Rattle.index_parts.specs.Digest.{digest}
-use Rattle.index_parts.specs.Id.{id_len, is_null, make_id}
+use Rattle.std.specs.Prelude.{◌≡◌, ◌≢◌, ℕ, ◌⊎◌, Bool, List, Result, Ok, Err, MatchBool}
 use Rattle.index_parts.specs.declared.hash.Kind.{Kind}
-use Rattle.index_parts.specs.declared.hash.ObjectId.{ObjectId}
 use Rattle.index_metadata.specs.declared.entry.stat.FileTime.{FileTime}
 use Rattle.index_split.specs.declared.link.decode.Error.{Error as LinkError}
 use Rattle.index_split.specs.declared.link.decode.Error.TheVariants as links
@@ -14,40 +11,15 @@ use Rattle.index_format.specs.declared.error.Error.TheVariants as decoding
 use Rattle.index_format.specs.Answer.{Answer, Fault, Verify, IsAnswer}
 use Rattle.index_format.specs.DecodeErrors.{IsEarly, SaysFault}
 use Rattle.index_state.specs.State.{contents}
+use Rattle.index_window.specs.Intact.{needs_check, digest_id, trailer_id}
 use Rattle.gix_index.specs.declared.file.File.{File}
 use Rattle.gix_index.specs.declared.file.init.Error.{Error}
 use Rattle.gix_index.specs.declared.file.init.Error.TheVariants as errors
 use Rattle.gix_index.specs.File.{state_of, checksum_of}
 
--- all bytes but the last, of which an id has as many
-abbrev pub checked_part : Kind → List ℕ → List ℕ
-checked_part kind bytes = take (length bytes - id_len kind) bytes
-
-abbrev pub trailer_part : Kind → List ℕ → List ℕ
-trailer_part kind bytes = drop (length bytes - id_len kind) bytes
-
--- the digest is compared: the caller didn't waive it, there is a trailer, and some byte of it isn't zero
-abbrev pub needs_check : Bool → Kind → List ℕ → Bool
-needs_check skip kind bytes = not skip && not (nat_lt (length bytes) (id_len kind)) && not (is_null (trailer_part kind bytes))
-
--- the digest of the bytes, and the trailer, as ids
-abbrev pub digest_id : Kind → List ℕ → ObjectId
-digest_id kind bytes = make_id kind (digest kind (checked_part kind bytes))
-
-abbrev pub trailer_id : Kind → List ℕ → ObjectId
-trailer_id kind bytes = make_id kind (trailer_part kind bytes)
-
 -- the error of a digest that isn't the trailer
 abbrev pub digest_fault : Kind → List ℕ → Decoding
 digest_fault kind bytes = decoding.Verify (digest_id kind bytes) (trailer_id kind bytes)
-
--- where the digest is compared, it is the trailer
-abbrev pub IsIntact : Bool → Kind → List ℕ → Type 0
-IsIntact skip kind bytes = MatchBool (needs_check skip kind bytes) (digest_id kind bytes ≡ trailer_id kind bytes) (Unit {0})
-
--- the digest is compared, and it isn't the trailer
-abbrev pub IsBroken : Bool → Kind → List ℕ → Type 0
-IsBroken skip kind bytes = (needs_check skip kind bytes ≡ true) × (digest_id kind bytes ≢ trailer_id kind bytes)
 
 -- the answer of the bytes where they are intact, else the digest and the trailer
 abbrev pub IsFileAnswer : Bool → Kind → FileTime → Options → List ℕ → Answer → Type 0

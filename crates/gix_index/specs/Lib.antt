@@ -31,6 +31,7 @@ pub use Rattle.index_entries.specs.EntryFaults
 pub use Rattle.index_entries.specs.EntryImage
 pub use Rattle.index_entries.specs.Header
 pub use Rattle.index_entries.specs.Held
+pub use Rattle.index_entries.specs.Lent
 pub use Rattle.index_entries.specs.Limits
 pub use Rattle.index_entries.specs.Order
 pub use Rattle.index_entries.specs.Record
@@ -47,6 +48,13 @@ pub use Rattle.index_lookups.specs.Lookup
 pub use Rattle.index_lookups.specs.Range
 pub use Rattle.index_lookups.specs.Tables
 pub use Rattle.index_trees.specs.Leaves
+pub use Rattle.index_tree_writer.specs.Cached
+pub use Rattle.index_tree_writer.specs.Directory as TreeDirectory
+pub use Rattle.index_tree_writer.specs.Objects
+pub use Rattle.index_tree_writer.specs.Reading
+pub use Rattle.index_tree_writer.specs.Refusals
+pub use Rattle.index_tree_writer.specs.Staged
+pub use Rattle.index_tree_writer.specs.TreeIds
 pub use Rattle.index_extensions.specs.EndMarker
 pub use Rattle.index_extensions.specs.ExtensionValue
 pub use Rattle.index_extensions.specs.FsMonitor
@@ -78,6 +86,7 @@ pub use Rattle.index_format.specs.Outcome
 pub use Rattle.index_format.specs.Storable
 pub use Rattle.index_format.specs.Stored
 pub use Rattle.index_format.specs.Writing
+pub use Rattle.index_window.specs.Intact
 pub use Rattle.index_state.specs.Dissolve
 pub use Rattle.index_state.specs.Edits
 pub use Rattle.index_state.specs.SoundState
@@ -116,7 +125,9 @@ pub use Rattle.index_metadata.specs.declared.object.tree.Entries as TreeEntries
 pub use Rattle.index_metadata.specs.declared.object.tree.Malformed as MalformedTree
 pub use Rattle.index_metadata.specs.declared.object.NoObjects
 pub use Rattle.index_entries.specs.declared.Entry as EntryType
+pub use Rattle.index_entries.specs.declared.Pathless
 pub use Rattle.index_entries.specs.declared.Version
+pub use Rattle.index_entries.specs.declared.decode.entry.Lent as LentEntry
 pub use Rattle.index_format.specs.declared.error.Header as HeaderError
 pub use Rattle.index_entries.specs.declared.write.VersionChoice
 pub use Rattle.index_lookups.specs.declared.folded.AccelerateLookup
@@ -124,6 +135,9 @@ pub use Rattle.index_lookups.specs.declared.paths.FilterMapPaths
 pub use Rattle.index_lookups.specs.declared.tables.DirectoryTable
 pub use Rattle.index_trees.specs.declared.error.Error as FromTreeError
 pub use Rattle.index_trees.specs.declared.error.Traversal
+pub use Rattle.index_tree_writer.specs.declared.error.Error as WriteTreesError
+pub use Rattle.index_tree_writer.specs.declared.error.NameFault
+pub use Rattle.index_tree_writer.specs.declared.tree_ids.Error as TreeIdsError
 pub use Rattle.index_extensions.specs.declared.iter.Iter as ExtensionIter
 pub use Rattle.index_extensions.specs.declared.fs_monitor.FsMonitor as FsMonitorType
 pub use Rattle.index_extensions.specs.declared.fs_monitor.Token

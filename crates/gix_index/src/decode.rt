@@ -1,6 +1,7 @@
 //! Reading an index from the bytes of a file.
 
 pub mod entries;
+pub mod entry;
 pub mod header;
 
 pub use index_format::decode::{Error, Options};

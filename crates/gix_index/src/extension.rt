@@ -8,6 +8,7 @@ pub use index_extensions::{
     FsMonitor, Iter, MIN_SIZE, Signature, end_of_index_entry, fs_monitor, index_entry_offset_table,
     resolve_undo, sparse,
 };
+pub use index_format::extension::is_understood;
 pub use index_split::link;
 pub use index_split::link::Link;
 pub use index_untracked as untracked_cache;

@@ -23,6 +23,8 @@ ghost use Rattle.index_format.specs.Contents.{Contents};
 ghost use Rattle.index_format.specs.Stored.{expected, stored};
 ghost use Rattle.gix_index.specs.Laws.{HasOneReading, HasOneWalk, HasOneBitmap, IsFaithful, IsReread, TakesAll};
 
+pub use index_tree_writer::laws::{one_tree, written_reads_back as written_trees_read_back};
+
 /// All bytes have an answer, for each kind of id, time and options, and no second: an index as a value with the
 /// trailer's id, or a fault.
 pub fn one_answer()

@@ -11,6 +11,7 @@ pub mod extension;
 pub mod file;
 pub mod init;
 pub mod laws;
+pub mod write_trees;
 
 pub use bitflags;
 pub use bstr;

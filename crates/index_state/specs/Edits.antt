@@ -1,5 +1,5 @@
 -- An empty index, and what edits of one leave (the library's own).
-use Rattle.std.specs.Prelude.{◌≡◌, ℕ, List, [], ◌∷◌, ◌++◌, length, Option, None, OnSome}
+use Rattle.std.specs.Prelude.{◌≡◌, ℕ, List, [], ◌∷◌, ◌++◌, length, Option, Some, None, OnSome}
 use Rattle.std.specs.Borrow.{Lends, LendsIf, LendsSo, MutBor, Fml, Array}
 use Rattle.index_parts.specs.declared.hash.Kind.{Kind}
 use Rattle.index_metadata.specs.declared.entry.stat.FileTime.{FileTime}
@@ -7,6 +7,7 @@ use Rattle.index_entries.specs.declared.Version.{Version}
 use Rattle.index_entries.specs.declared.Version.TheVariants.{V2}
 use Rattle.index_entries.specs.declared.Entry.{Entry}
 use Rattle.index_state.specs.declared.State.{State}
+use Rattle.index_cached_tree.specs.Tree.{Node}
 use Rattle.index_cached_tree.specs.declared.Tree.{Tree}
 use Rattle.index_cached_tree.specs.contracts.Tree as tree
 use Rattle.index_entries.specs.contracts.Entry as entry
@@ -37,6 +38,10 @@ with_version c version = record c { version = version }
 
 abbrev pub with_records : Contents → List Record → Contents
 with_records c records = record c { records = records }
+
+-- with this cached tree
+abbrev pub with_cached_tree : Contents → Node → Contents
+with_cached_tree c t = record c { extensions = record c.extensions { tree = Some t } }
 
 -- without its cached tree, without its link, or without its stages of resolved conflicts; all else stays
 abbrev pub without_tree : Contents → Contents

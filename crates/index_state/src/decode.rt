@@ -1,6 +1,6 @@
 //! Reading an index from the bytes of a file.
 
-ghost use Rattle.std.specs.Prelude.{IfOk};
+ghost use Rattle.std.specs.Prelude.{◌≡◌, IfOk};
 ghost use Rattle.index_entries.specs.Record.{IdsAreOf};
 ghost use Rattle.index_format.specs.Answer.{IsAnswer};
 ghost use Rattle.index_format.specs.Contents.{ExtensionIdsAreOf};
@@ -14,6 +14,15 @@ use index_format::decode::{Error, Options};
 use index_metadata::entry::FileTime;
 use index_parts::hash::{Kind, ObjectId};
 use std::alloc::Global;
+
+/// A state of parts that were read.
+impl From<Parts> for State {
+    ghost from_gives = { λ parts state. state.parts ≡ parts };
+
+    fn from(parts: Parts) -> State {
+        State { parts }
+    }
+}
 
 impl State {
     /// Reads an index from all bytes of its file, and gives it with the trailer's id, or None where the trailer

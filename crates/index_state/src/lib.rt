@@ -16,6 +16,7 @@ mod debug;
 mod decode;
 mod dissolve;
 mod init;
+mod trees;
 pub mod verify;
 mod write;
 

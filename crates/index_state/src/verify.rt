@@ -1,6 +1,7 @@
 //! Whether an index holds together.
 
 pub mod entries;
+pub mod tree_ids;
 
 ghost use Rattle.std.specs.Prelude.{◌≡◌, ◌↔◌, ℕ, false, IfErr, IfOk, IsOk, IsTrue, OnOk, None, Some, length, take};
 ghost use Rattle.index_entries.specs.Order.{IsOrderedByPath, IsStrictlyOrdered};

@@ -11,11 +11,17 @@
 //! `write INDEX` prints the nanoseconds of processor time that it takes to read the index without a look at its digest,
 //! to write it with zeros in the place of the digest, and to write it with its digest; and how many bytes it has.
 //!
+//! `whole CALL INDEX` prints the nanoseconds of processor time that a call takes on the whole index, and how many
+//! entries there are behind it: `open` reads the file with its digest, and `open-bare` without a look at it, each with
+//! the index that it shares; `sort`, `remove` (each second entry), `verify` and `copy` work on an index that was read
+//! before.
+//!
 //! INDEX is an index of SHA-1, and NAMES has a name a line. All is done in memory.
 #![tactic(auto)]
 
 mod clock;
 mod lookups;
+mod whole;
 mod writing;
 
 ghost use Rattle.std.specs.Prelude.{IfOk};
@@ -113,6 +119,19 @@ fn write(rt: &HostRuntime, alloc: Global, index: &str) -> io::Result<()> {
     println!(rt; "{reading} {bare} {hashed} {}", bytes.len())
 }
 
+/// Times one call on the whole index.
+fn on_whole(rt: &HostRuntime, alloc: Global, call: &str, index: &str) -> io::Result<()> {
+    let (nanoseconds, count) = match call {
+        "open" => whole::open(rt, alloc, index, false)?,
+        "open-bare" => whole::open(rt, alloc, index, true)?,
+        _ => {
+            let mut file = index_of(alloc, &fs::read(rt, index)?)?;
+            whole::run(Some(rt), call, &mut file)?
+        }
+    };
+    println!(rt; "{nanoseconds} {count}")
+}
+
 fn main(rt: HostRuntime) -> io::Result<()> {
     let alloc = rt.alloc();
     let args: Vec<String> = env::args(&rt)?.skip(1).collect(alloc)?;
@@ -120,6 +139,7 @@ fn main(rt: HostRuntime) -> io::Result<()> {
     match words.as_slice() {
         ["check", index, names] => check(&rt, alloc, index, names),
         ["lookup", call, index, names] => lookup(&rt, alloc, call, index, names),
+        ["whole", call, index] => on_whole(&rt, alloc, call, index),
         ["write", index] => write(&rt, alloc, index),
         _ => Err(io::Error::from(io::ErrorKind::InvalidInput)),
     }

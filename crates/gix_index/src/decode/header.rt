@@ -1,3 +1,3 @@
-//! What can be wrong with the first twelve bytes of a file (gitformat-index, "A 12-byte header").
+//! The first twelve bytes of a file, and what can be wrong with them (gitformat-index, "A 12-byte header").
 
-pub use index_format::decode::header::Error;
+pub use index_format::decode::header::{Error, decode};

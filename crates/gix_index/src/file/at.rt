@@ -1,6 +1,6 @@
 //! Reading an index from the disk, with the shared index that it links to.
 
-ghost use Rattle.std.specs.Prelude.{◌≡◌, ◌⊎◌, Bool, List, ℕ, Option, IfErr, IfOk, IfSome, IsErrAnd, IsTrue, None, Ok};
+ghost use Rattle.std.specs.Prelude.{◌≡◌, ◌⊎◌, Bool, List, ℕ, Option, IfErr, IfOk, IsErrAnd, IsTrue, None, Ok};
 ghost use Rattle.std.specs.IoError.{error_kind};
 ghost use Rattle.std.specs.Path.{path_buf_bytes};
 ghost use Rattle.index_entries.specs.Record.{IdsAreOf};
@@ -10,20 +10,23 @@ ghost use Rattle.index_parts.specs.declared.hash.Kind.{Kind as IdKind};
 ghost use Rattle.index_parts.specs.declared.hash.ObjectId.{ObjectId};
 ghost use Rattle.index_state.specs.State.{PathsInStorage, contents, entries_of};
 ghost use Rattle.index_format.specs.Storable.{IsStorable};
-ghost use Rattle.gix_index.specs.Checked.{IsFileAnswer, digest_id};
+ghost use Rattle.gix_index.specs.Checked.{IsFileAnswer};
 ghost use Rattle.gix_index.specs.File.{IsEmptyFile, checksum_of, path_of, state_of};
 ghost use Rattle.gix_index.specs.FileFaults.{SaysOfFile, SaysOfFiles};
 ghost use Rattle.gix_index.specs.Linked.{IsOnDisk, expecting};
 
 use super::File;
 use super::disk::{PathError, bytes_of};
-use super::init::{Error, ReadOptions, decoded};
+use super::init::{Error, decoded};
 use index_format::decode;
 use index_metadata::entry::FileTime;
 use index_parts::hash::{Kind, ObjectId};
 use index_state::State;
+use index_window::ReadOptions;
+use index_window::large::in_windows;
 use std::alloc::{AllocError, Global};
-use std::io::ErrorKind;
+use std::fs::OpenFile;
+use std::io::{ErrorKind, Read, Seek};
 use std::path::{Path, PathBuf};
 use std::rt::Files;
 use std::{fs, io};
@@ -43,6 +46,40 @@ fn read_fault(path: PathBuf, error: io::Error) -> Error
 fn shared_path(alloc: Global, path: Path<'_>, id: &ObjectId) -> Result<PathBuf, AllocError> {
     let name = format!(in alloc; "sharedindex.{id}")?;
     path.with_file_name(alloc, name.as_str())
+}
+
+/// The index in an opened file, which isn't followed: read in windows, or else whole.
+fn read_file<F: OpenFile + Read + Seek + Drop>(
+    alloc: Global,
+    mut file: F,
+    path: PathBuf,
+    reading: ReadOptions,
+) -> Result<File, Error>
+    ensures read { IfOk result (λ file. (bytes : List ℕ)
+        × IsFileAnswer reading.skip_hash reading.object_hash reading.timestamp reading.options bytes
+        (Ok (contents (state_of file), checksum_of file))) }
+    ensures path { IfOk result (λ file. path_of file ≡ path_buf_bytes path) }
+    ensures placed { IfOk result (λ file. PathsInStorage (state_of file)) }
+    ensures ids { IfOk result (λ file. IdsAreOf reading.object_hash (entries_of (state_of file))) }
+    ensures storable { IfOk result (λ file. IsStorable (contents (state_of file))) }
+    ensures fault { IfErr result (SaysOfFile reading.skip_hash reading.object_hash
+        reading.timestamp reading.options) }
+{
+    match in_windows(alloc, &mut file, reading) {
+        Ok(Some((parts, checksum))) => {
+            return Ok(File {
+                state: State::from(parts),
+                path,
+                checksum,
+            });
+        }
+        Ok(None) => {}
+        Err(e) => return Err(read_fault(path, e)),
+    }
+    match bytes_of(alloc, file, reading.object_hash, reading.skip_hash) {
+        Ok((bytes, digest)) => decoded(alloc, &bytes, digest, path, reading),
+        Err(e) => Err(read_fault(path, e)),
+    }
 }
 
 /// The shared index beside the index at a path, which must have this id as its trailer, or a null one.
@@ -68,20 +105,12 @@ fn shared_at<R: Files>(
         Ok(file) => file,
         Err(e) => return Err(read_fault(shared, e)),
     };
-    let (bytes, digest) = match bytes_of(alloc, file, reading.object_hash, reading.skip_hash) {
-        Ok(read) => read,
-        Err(e) => return Err(read_fault(shared, e)),
-    };
     let mut options = reading.options;
     options.expected_checksum = Some(id);
-    let file = decoded(
-        alloc,
-        &bytes,
-        digest,
-        shared,
-        ReadOptions { options, ..reading },
-    )?;
-    Ok(file.into_parts().0)
+    match read_file(alloc, file, shared, ReadOptions { options, ..reading }) {
+        Ok(index) => Ok(index.into_parts().0),
+        Err(e) => Err(e),
+    }
 }
 
 /// Takes the file's link out, and merges what it links to.
@@ -120,35 +149,6 @@ fn follow<R: Files>(
     Ok(file)
 }
 
-/// The index in a file's bytes, with its link followed.
-fn followed<R: Files>(
-    rt: &R,
-    alloc: Global,
-    bytes: Vec<u8>,
-    digest: Option<ObjectId>,
-    path: PathBuf,
-    reading: ReadOptions,
-) -> Result<File, Error>
-    requires digest { IfSome digest (λ id. id ≡ digest_id reading.object_hash bytes.items) }
-    ensures read { IfOk result
-        (λ file. IsOnDisk reading.skip_hash reading.object_hash reading.timestamp reading.options
-        (contents (state_of file)) (checksum_of file)) }
-    ensures placed { IfOk result (λ file. PathsInStorage (state_of file)) }
-    ensures ids { IfOk result (λ file. IdsAreOf reading.object_hash (entries_of (state_of file))) }
-    ensures storable { IfOk result (λ file. IsStorable (contents (state_of file))) }
-    ensures path { IfOk result (λ file. path_of file ≡ path_buf_bytes path) }
-    ensures unlinked { IfOk result (λ file. (contents (state_of file)).extensions.link ≡ None) }
-    ensures fault { IfErr result (SaysOfFiles reading.skip_hash reading.object_hash
-        reading.timestamp reading.options) }
-{
-    let file = match decoded(alloc, &bytes, digest, path, reading) {
-        Ok(file) => file,
-        Err(e) => return Err(e),
-    };
-    drop(bytes);
-    follow(rt, alloc, file, reading)
-}
-
 /// The index in the file at a path, which was opened so, with its link followed. Where opening it said that there is
 /// no file, and `or_default`, it is an empty one.
 fn read_opened<R: Files>(
@@ -172,17 +172,19 @@ fn read_opened<R: Files>(
     ensures fault { IfErr result (SaysOfFiles reading.skip_hash reading.object_hash
         reading.timestamp reading.options) }
 {
-    let kind = reading.object_hash;
     let file = match opened {
         Ok(file) => file,
         Err(e) if or_default && e.kind() == ErrorKind::NotFound => {
-            return Ok(File::from_state(State::new(alloc, kind, reading.timestamp), path));
+            return Ok(File::from_state(
+                State::new(alloc, reading.object_hash, reading.timestamp),
+                path,
+            ));
         }
         Err(e) => return Err(read_fault(path, e)),
     };
-    match bytes_of(alloc, file, kind, reading.skip_hash) {
-        Ok((bytes, digest)) => followed(rt, alloc, bytes, digest, path, reading),
-        Err(e) => Err(read_fault(path, e)),
+    match read_file(alloc, file, path, reading) {
+        Ok(index) => follow(rt, alloc, index, reading),
+        Err(e) => Err(e),
     }
 }
 

@@ -1,16 +1,15 @@
 //! Files on the disk: what went wrong with one, and all bytes of one with their digest.
 
-ghost use Rattle.std.specs.Prelude.{◌≡◌, ◌+◌, [], vec_len, IfOk, IfSome, IsTrue, OnOk};
-ghost use Rattle.std.specs.Io.{ReadsAtMost, StartsWith, appended_bytes};
-ghost use Rattle.std.specs.Io.KnownBytes.{Consumes, IsAtEnd, ReadConsumes};
-ghost use Rattle.gix_index.specs.Checked.{digest_id};
+ghost use Rattle.std.specs.Prelude.{◌≡◌, [], IfOk, IfSome, IsTrue, OnOk};
+ghost use Rattle.index_window.specs.Intact.{digest_id};
 
 use index_format::trailer;
 use index_parts::hash::{Hasher, Kind, ObjectId};
-use std::alloc::{AllocError, Global};
+use index_window::pieces::append_piece;
+use std::alloc::Global;
 use std::fmt::Write as _;
 use std::fs::OpenFile;
-use std::io::{ErrorKind, Read, Seek, SeekFrom};
+use std::io::{Read, Seek, SeekFrom};
 use std::path::{Path, PathBuf};
 use std::rt::Files;
 use std::{fmt, fs, io};
@@ -36,13 +35,6 @@ impl fmt::Display for PathError {
         write!(f, ": {}", self.error)
     }
 }
-
-/// How many bytes are read before they are hashed: so few that they are still in a processor's cache, and so many that
-/// readying the room of a piece costs little beside them.
-const PIECE_LEN: usize = 1_048_576;
-
-/// How often a read is tried that signals interrupt.
-const MAX_TRIES: u32 = u32::MAX;
 
 /// Room for as many bytes as a file's metadata says.
 fn room_for<F: OpenFile>(alloc: Global, file: &F) -> io::Result<Vec<u8>>
@@ -74,44 +66,6 @@ fn ends_in_null<F: OpenFile + Read + Seek>(
     room.clear();
     file.seek(SeekFrom::Start(0))?;
     Ok(is_null)
-}
-
-/// One read into a room, tried again where a signal interrupted it. It gives up with [`ErrorKind::TimedOut`] where
-/// signals interrupt 2^32 - 1 reads in a row.
-fn read_once<R: Read>(reader: &mut R, room: &mut [u8]) -> io::Result<usize>
-    ensures bound { ReadsAtMost result room.new }
-    ensures bytes { ReadConsumes (R.remaining reader.old) (R.remaining reader.new) result room.new }
-{
-    for _ in 0..MAX_TRIES {
-        match reader.read(room) {
-            Err(e) if e.kind() == ErrorKind::Interrupted => {}
-            answer => return answer,
-        }
-    }
-    Err(io::Error::new(ErrorKind::TimedOut, "signals interrupted each try to read"))
-}
-
-/// Appends what a reader gives at once, at most a piece, and no more than there is room for, if there is room. None
-/// comes only at its end.
-fn append_piece<R: Read>(reader: &mut R, bytes: &mut Vec<u8>) -> io::Result<usize>
-    ensures appends { OnOk result (StartsWith bytes.new.items bytes.old.items) }
-    ensures len { IfOk result (λ count. vec_len bytes.new ≡ vec_len bytes.old + count) }
-    ensures consumes { OnOk result (Consumes (R.remaining reader.old) (R.remaining reader.new)
-        (appended_bytes bytes.old.items bytes.new.items)) }
-    ensures end { IfOk result (λ count. count ≡ 0 → IsAtEnd (R.remaining reader.new)) }
-{
-    let filled = bytes.len();
-    let spare = bytes.capacity() - filled;
-    let room = if spare == 0 {
-        PIECE_LEN
-    } else {
-        spare.min(PIECE_LEN)
-    };
-    let end = filled.checked_add(room).ok_or(AllocError)?;
-    bytes.resize(end, 0)?;
-    let count = read_once(reader, &mut bytes[filled..])?;
-    bytes.truncate(filled + count);
-    Ok(count)
 }
 
 /// Reads a reader to its end in pieces, and hashes each while it is at hand. The digest is that of all bytes but the

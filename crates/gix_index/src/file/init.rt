@@ -6,7 +6,8 @@ ghost use Rattle.index_format.specs.Storable.{IsStorable};
 ghost use Rattle.index_format.specs.Contents.{ExtensionIdsAreOf};
 ghost use Rattle.index_state.specs.State.{PathsInStorage, contents, entries_of};
 ghost use Rattle.index_entries.specs.Record.{IdsAreOf};
-ghost use Rattle.gix_index.specs.Checked.{digest_id, digest_fault, IsIntact, IsBroken, IsFileAnswer, error_of, link_error_of, SaysFile};
+ghost use Rattle.gix_index.specs.Checked.{digest_fault, IsFileAnswer, error_of, link_error_of, SaysFile};
+ghost use Rattle.index_window.specs.Intact.{digest_id, IsIntact, IsBroken};
 ghost use Rattle.gix_index.specs.declared.file.init.Error.TheVariants.{Memory};
 ghost use Rattle.gix_index.specs.File.{state_of, path_of};
 
@@ -17,6 +18,7 @@ use index_metadata::entry::FileTime;
 use index_parts::hash::{Kind, ObjectId, digest};
 use index_split::link;
 use index_state::State;
+use index_window::ReadOptions;
 use std::alloc::{AllocError, Global};
 use std::path::PathBuf;
 use thiserror::Error;
@@ -70,18 +72,9 @@ impl From<AllocError> for Error {
     }
 }
 
-/// How an index file is read.
-#[derive(Clone, Copy)]
-pub(super) struct ReadOptions {
-    pub object_hash: Kind,
-    pub skip_hash: bool,
-    pub timestamp: FileTime,
-    pub options: decode::Options,
-}
-
 /// Compares the trailer with the digest of all bytes before it, which is taken where it isn't known yet. There is
 /// nothing to compare where the caller doesn't want it, and where there is no trailer or a null one.
-fn check(
+pub fn check(
     data: &[u8],
     known: Option<ObjectId>,
     object_hash: Kind,

@@ -3,7 +3,7 @@
 ghost use Rattle.std.specs.Prelude.{◌≡◌, ◌≤◌, ◌<◌, ◌↔◌, length, Err, None, Some, IfErr, IfSome, IsOk, OnOk};
 ghost use Rattle.index_parts.specs.Id.{id_kind, id_len};
 ghost use Rattle.index_parts.specs.declared.hash.ObjectId.{ObjectId};
-ghost use Rattle.gix_index.specs.Checked.{digest_id};
+ghost use Rattle.index_window.specs.Intact.{digest_id};
 ghost use Rattle.gix_index.specs.File.{checksum_of};
 ghost use Rattle.gix_index.specs.VerifiedFile.{FitsSomeBytes, SaysOfBytes, SaysOfSomeBytes};
 ghost use Rattle.gix_index.specs.declared.file.verify.Error.TheVariants.{Memory, Verify};

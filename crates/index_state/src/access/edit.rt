@@ -45,8 +45,8 @@ impl State {
     /// The entries, lent for writing, and beside them the storage of their paths. What was last written through the
     /// slice is what the state has then; all else stays. A loop by index over both meets each entry with its path.
     ///
-    /// `entries[i].path_in(storage)` asks that the path lies in the storage. A loop that writes entries keeps that by the
-    /// invariant `All (IsPlaced (length l.storage)) l.entries`, which is `PathsInStorage` before it and after it.
+    /// `entries[i].path_in(storage)` asks that the path lies in the storage. A loop that writes entries keeps that by
+    /// the invariant `All (IsPlaced (length l.storage)) l.entries`, which is `PathsInStorage` before it and after it.
     pub fn entries_mut_and_pathbacking(&mut self) -> (&mut [Entry], PathStorageRef<'_>)
         ensures* writes_back { sem 𝓛 (LendsEntries self.entry result.0) }
         ensures value { result.0.now ≡ entries_of self.old }

@@ -15,9 +15,9 @@ impl State {
     /// it has at this call, and takes out those for which the closure answers true. The others keep their order and
     /// what the closure changed. The storage of paths and all else stay. No memory is asked for.
     ///
-    /// Where the closure answers what a test of the record gives, or one of the place and the record, and leaves entries
-    /// as they are, the records after are the filter of those before. A closure that changes flags alone keeps a
-    /// storable state so, and one that leaves each entry's range keeps the paths in the storage.
+    /// Where the closure answers what a test of the record gives, or one of the place and the record, and leaves
+    /// entries as they are, the records after are the filter of those before. A closure that changes flags alone keeps
+    /// a storable state so, and one that leaves each entry's range keeps the paths in the storage.
     pub fn remove_entries<F: FnMut(usize, &[u8], &mut Entry) -> bool>(
         &mut self,
         mut should_remove: F,

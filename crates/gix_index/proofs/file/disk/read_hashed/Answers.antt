@@ -5,7 +5,7 @@ use Rattle.std.proofs.KnownBytes.{Consumes-nil, Consumes-whole}
 use Rattle.index_parts.specs.Digest.{Holds}
 use Rattle.index_parts.specs.Id.{id_len}
 use Rattle.gix_index.proofs.Pieces.{front_grown}
-use Rattle.gix_index.proofs.Readers.{read_more}
+use Rattle.index_window.proofs.Readers.{read_more}
 use Rattle.gix_index.proofs.file.disk.read_hashed.Goals as goal
 
 pub pieces-init : goal.pieces-init

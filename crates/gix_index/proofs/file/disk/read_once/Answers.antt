@@ -1,5 +1,0 @@
-use Rattle.std.proofs.KnownBytes.{Keeps-trans}
-use Rattle.gix_index.proofs.file.disk.read_once.Goals as goal
-
-pub returns-in_default-clause-bytes : goal.returns-in_default-clause-bytes
-returns-in_default-clause-bytes g c = Keeps-trans _ _ _ c.loop.invariant c.in-Err.ensures.bytes

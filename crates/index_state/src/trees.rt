@@ -1,0 +1,95 @@
+//! The trees of the entries.
+
+ghost use Rattle.std.specs.Prelude.{◌≡◌, ◌<◌, ◌^◌, ◌++◌, [], Some, IfOk, IfErr, IfSome, MatchOption, length};
+ghost use Rattle.index_cached_tree.specs.Tree.{node_of};
+ghost use Rattle.index_entries.specs.Order.{IsStrictlyOrdered};
+ghost use Rattle.index_tree_writer.specs.Cached.{IsCached};
+ghost use Rattle.index_tree_writer.specs.Directory.{IsTreeOf, Items, objects};
+ghost use Rattle.index_tree_writer.specs.Objects.{with_objects};
+ghost use Rattle.index_tree_writer.specs.Refusals.{AreFit, IsRefused, SaysFault};
+ghost use Rattle.index_tree_writer.specs.Staged.{staged_in};
+ghost use Rattle.index_tree_writer.specs.TreeIds.{AreRight, SaysTreeIds, any_name};
+ghost use Rattle.index_state.specs.Edits.{with_cached_tree};
+ghost use Rattle.index_state.specs.State.{PathsInStorage, contents, entries_of, records, storage_of};
+
+use crate::State;
+use crate::verify::tree_ids;
+use index_cached_tree::Tree;
+use index_tree_writer::tree_ids::verify_tree_ids;
+use index_tree_writer::write::write_trees;
+use index_tree_writer::{Error, Sink};
+use index_trees::ComponentCheck;
+use std::alloc::Global;
+
+impl State {
+    /// Puts the tree objects of the entries into the sink, as `git write-tree` makes them: each directory's once, by
+    /// its id and with its bytes, behind those that it names, the root last. The answer is the cached tree that names
+    /// them, which [`set_tree`](State::set_tree) puts in.
+    ///
+    /// Entries that are marked `REMOVE` are left out. One that is only intended to be added is checked as the others,
+    /// but stands in no tree, and no directory above it has a count. An entry of a sparse index that stands for a
+    /// directory stands for its tree. Each name of a path goes through `check`, a link's also as such.
+    ///
+    /// The first entry that has no place in a tree is the error, before anything goes to the sink; then it may be the
+    /// sink's own, or want of memory. To know whether the entries are in order, use
+    /// [`verify_entries`](State::verify_entries).
+    pub fn write_trees<S: Sink, C: ComponentCheck>(
+        &self,
+        alloc: Global,
+        check: &C,
+        sink: &mut S,
+    ) -> Result<Tree, Error>
+        requires placed { PathsInStorage self.now }
+        requires ordered { IsStrictlyOrdered (records self.now) }
+        ensures written { IfOk result (λ t. (items : Items)
+            × IsTreeOf (contents self.now).kind (staged_in (records self.now)) items
+            × IsCached (contents self.now).kind [] items (node_of t)
+            × (S.stored sink.new
+            ≡ with_objects (S.stored sink.old) (objects (contents self.now).kind items))) }
+        ensures fit { IfOk result
+            (λ _. AreFit (C.refusal check.now) (contents self.now).kind (records self.now)) }
+        ensures few { IfOk result (λ _. length (records self.now) < 2 ^ 31) }
+        ensures fault { IfErr result (λ e. SaysFault e (λ n. S.fault sink.new ≡ Some n)
+            (λ f. IsRefused (C.refusal check.now) (contents self.now).kind (records self.now) f
+            × (sink.new ≡ sink.old))) }
+    {
+        write_trees(alloc, self.parts.object_hash, &self.slice(), check, sink)
+    }
+
+    /// Puts a cached tree in, in place of the one that is there. All else stays, and nothing is compared with the
+    /// entries.
+    pub fn set_tree(&mut self, tree: Tree)
+        ensures set { contents self.new ≡ with_cached_tree (contents self.old) (node_of tree) }
+        ensures entries { entries_of self.new ≡ entries_of self.old }
+        ensures storage { storage_of self.new ≡ storage_of self.old }
+    {
+        self.parts.extensions.tree = Some(tree);
+    }
+
+    /// Whether the cached tree tells what the entries give (gitformat-index, "Cache tree"): each node of it that has a
+    /// count has the id of the tree that `git write-tree` makes of the entries below its directory, and counts as many
+    /// entries as lie there. Nothing is asked of a node without a count, but its children are looked at. Where there is
+    /// no cached tree, there is nothing to ask.
+    ///
+    /// The error is the first node in preorder that tells something else, with what it tells and what the entries
+    /// give. Before any node, it is the first entry that has no place in a tree, as
+    /// [`write_trees`](State::write_trees) tells it, but that any name passes. To know whether the entries are in
+    /// order, use [`verify_entries`](State::verify_entries).
+    pub fn verify_tree_ids(&self, alloc: Global) -> Result<(), tree_ids::Error>
+        requires placed { PathsInStorage self.now }
+        requires ordered { IsStrictlyOrdered (records self.now) }
+        ensures right { IfOk result (λ _. IfSome (contents self.now).extensions.tree
+            (AreRight (contents self.now).kind (staged_in (records self.now)))) }
+        ensures fit { IfOk result (λ _. IfSome (contents self.now).extensions.tree
+            (λ _. AreFit any_name (contents self.now).kind (records self.now))) }
+        ensures few { IfOk result (λ _. IfSome (contents self.now).extensions.tree
+            (λ _. length (records self.now) < 2 ^ 31)) }
+        ensures fault { IfErr result (λ e. MatchOption (contents self.now).extensions.tree ⊥
+            (λ t. SaysTreeIds (contents self.now).kind (records self.now) t e)) }
+    {
+        let Some(tree) = self.tree() else {
+            return Ok(());
+        };
+        verify_tree_ids(alloc, self.parts.object_hash, &self.slice(), tree)
+    }
+}

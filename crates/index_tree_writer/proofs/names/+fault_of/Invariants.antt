@@ -1,0 +1,4 @@
+use Rattle.index_tree_writer.proofs.names.+fault_of.Given as goal
+
+abbrev pub decreases-fault_of : goal.decreases-fault_of
+decreases-fault_of g l = l.levels

@@ -1,0 +1,10 @@
+pub mod ApartSteps
+pub mod Cached
+pub mod Directory
+pub mod Objects
+pub mod Reading
+pub mod Refusals
+pub mod Staged
+pub mod TreeIds
+pub mod TreeIdsSteps
+pub mod WritingSteps

@@ -1,0 +1,43 @@
+-- What of an index stands in its trees (git-write-tree).
+use Rattle.std.specs.Prelude.{ℕ, ◌==◌, List, ◌++◌, drop, Bool, bit_and, Option, None, if◌then◌else◌}
+use Rattle.std.specs.List.{filter_map}
+use Rattle.std.specs.Option.{option_map}
+use Rattle.index_parts.specs.declared.hash.ObjectId.{ObjectId}
+use Rattle.index_metadata.specs.Mode.{named_kind}
+use Rattle.index_metadata.specs.declared.object.tree.EntryKind.{EntryKind}
+use Rattle.index_entries.specs.EntryImage.{is_removed}
+use Rattle.index_entries.specs.Record.{Record}
+use Rattle.index_tree_writer.specs.declared.leaf.Leaf.{Leaf}
+
+-- A record that isn't taken out: its path, with a slash at the end where it stands for a whole directory, what a tree
+-- has for its mode, its id, and whether it is only intended to be added, and so has a place, but stands in no tree.
+pub record Staged : Type 0 where
+  pub path : List ℕ
+  pub kind : EntryKind
+  pub id : ObjectId
+  pub later : Bool
+
+-- only intended to be added: bit 29 of the flags in memory
+abbrev pub is_intended : ℕ → Bool
+is_intended flags = bit_and flags 0x20000000 == 0x20000000
+
+-- nothing where the record is taken out once the index is written, or where no tree has its mode
+abbrev pub staged_entry : Record → Option Staged
+staged_entry r =
+    if is_removed r.flags then None
+    else option_map (λ k. record { path = r.path; kind = k; id = r.id; later = is_intended r.flags }) (named_kind r.mode)
+
+-- what records stage, in their order
+abbrev pub staged_in : List Record → List Staged
+staged_in rs = filter_map staged_entry rs
+
+abbrev pub staged_of : Leaf → Staged
+staged_of l = record { path = l.path.now; kind = l.kind; id = l.id; later = l.later }
+
+-- the same without so many bytes at the front of the path
+abbrev pub cut : ℕ → Staged → Staged
+cut n s = record { path = drop n s.path; kind = s.kind; id = s.id; later = s.later }
+
+-- the same with bytes in front of the path
+abbrev pub under : List ℕ → Staged → Staged
+under front s = record { path = front ++ s.path; kind = s.kind; id = s.id; later = s.later }

@@ -1,0 +1,57 @@
+//! Paths that lie in others.
+
+ghost use Rattle.std.specs.Prelude.{◌≡◌, ◌≤◌, ◌⊎◌, ◌++◌, [], ◌∷◌, None, IfSome, List, true, false, All, take, drop, length};
+ghost use Rattle.index_tree_writer.specs.ApartSteps.{EndsWith};
+ghost use Rattle.index_tree_writer.specs.Refusals.{Begins, LiesIn};
+ghost use Rattle.index_tree_writer.specs.Staged.{staged_of};
+ghost use Rattle.index_tree_writer.specs.declared.leaf.Leaf.{Leaf};
+
+use crate::leaf::{Leaf, is_tree};
+
+/// Whether a path lies in what a leaf has the place of.
+fn lies_in(path: &[u8], leaf: &Leaf<'_>) -> bool
+    ensures yes { result ≡ true → LiesIn path.now (staged_of leaf.now) }
+    ensures no { result ≡ false → LiesIn path.now (staged_of leaf.now) → ⊥ }
+{
+    if !path.starts_with(leaf.path) {
+        return false;
+    }
+    if is_tree(leaf.kind) {
+        return true;
+    }
+    let (_, rest) = path.split_at(leaf.path.len());
+    rest.starts_with(b"/")
+}
+
+/// How many of these are left where those at the end are taken off with which the path doesn't begin.
+pub(crate) fn fronts_of(files: &[Leaf<'_>], path: &[u8]) -> usize
+    ensures within { result ≤ length files.now }
+    ensures taken { All (λ f. Begins path.now f.path.now → ⊥) (drop result files.now) }
+    ensures last { (result ≡ 0)
+        ⊎ EndsWith (take result files.now) (λ f. Begins path.now f.path.now) }
+{
+    let mut kept = files.len();
+    while kept > 0 {
+        if path.starts_with(files[kept - 1].path) {
+            return kept;
+        }
+        kept -= 1;
+    }
+    0
+}
+
+/// The last of these, where the path lies in it.
+pub(crate) fn last_above<'a>(files: &[Leaf<'a>], path: &[u8]) -> Option<Leaf<'a>>
+    ensures some { IfSome result (λ f. EndsWith files.now (λ l. l ≡ f)
+        × LiesIn path.now (staged_of f)) }
+    ensures none { result ≡ None → (init : List Leaf) (last : Leaf)
+        → files.now ≡ init ++ last ∷ [] → LiesIn path.now (staged_of last) → ⊥ }
+{
+    let Some(file) = files.last().copied() else {
+        return None;
+    };
+    if !lies_in(path, &file) {
+        return None;
+    }
+    Some(file)
+}

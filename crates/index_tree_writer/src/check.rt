@@ -1,0 +1,125 @@
+//! Whether entries have trees.
+
+ghost use Rattle.std.specs.Prelude.{◌≡◌, ◌↔◌, ◌<◌, ◌^◌, ◌++◌, [], ◌∷◌, ℕ, List, IsTrue, IfOk, IfErr, OnOk, length, take};
+ghost use Rattle.std.specs.List.{HoldsAt};
+ghost use Rattle.index_parts.specs.Id.{id_bytes, id_kind, id_len};
+ghost use Rattle.index_entries.specs.Order.{IsStrictlyOrdered};
+ghost use Rattle.index_tree_writer.specs.ApartSteps.{Keeps, LiesInOne};
+ghost use Rattle.index_tree_writer.specs.Refusals.{AreFit, HasFault, IsFit, IsRefused, SaysFault};
+ghost use Rattle.index_tree_writer.specs.Staged.{Staged};
+
+use crate::apart::{fronts_of, last_above};
+use crate::error::{Error, NameFault};
+use crate::leaf::{Leaf, is_removed, leaf_at};
+use crate::names::fault_of;
+use bstr::BString;
+use index_entries::slice::EntrySlice;
+use index_parts::hash::{Kind, ObjectId};
+use index_trees::ComponentCheck;
+use std::alloc::Global;
+
+/// How many levels of directories may lie below the root.
+pub(crate) const MAX_LEVELS: u32 = 2048;
+
+/// Whether the id is of the kind.
+fn is_of(id: &ObjectId, kind: Kind) -> bool
+    ensures same { IsTrue result ↔ id_kind id.now ≡ kind }
+    ensures len { length (id_bytes id.now) ≡ id_len (id_kind id.now) }
+{
+    id.as_bytes().len() == kind.len_in_bytes()
+}
+
+/// Fails where what the entry at this index says of itself has no place in a tree.
+fn check_entry<C: ComponentCheck>(
+    alloc: Global,
+    kind: Kind,
+    check: &C,
+    entries: &EntrySlice<'_>,
+    place: usize,
+) -> Result<(), Error>
+    requires { place < length entries.now }
+    ensures fit { IfOk result
+        (λ _. HoldsAt (IsFit (C.refusal check.now) kind) entries.now place) }
+    ensures fault { IfErr result (λ e. SaysFault e (λ n. ⊥)
+        (λ f. HoldsAt (λ r. (before : List Staged)
+        → HasFault (C.refusal check.now) kind before r f) entries.now place)) }
+{
+    let entry = entries.entry(place);
+    if is_removed(entry) {
+        return Ok(());
+    }
+    let path = entries.path(place);
+    if entry.stage_raw() != 0 {
+        return Err(Error::Unmerged {
+            path: BString::from_slice(alloc, path)?,
+        });
+    }
+    let Some(mode) = entry.mode.to_tree_entry_mode() else {
+        return Err(Error::Mode {
+            path: BString::from_slice(alloc, path)?,
+            mode: entry.mode,
+        });
+    };
+    if let Some(fault) = fault_of(check, MAX_LEVELS, mode.kind(), path) {
+        return Err(Error::Path {
+            path: BString::from_slice(alloc, path)?,
+            fault,
+        });
+    }
+    if !is_of(&entry.id, kind) {
+        return Err(Error::OtherKind {
+            path: BString::from_slice(alloc, path)?,
+        });
+    }
+    if entry.id.is_null() {
+        return Err(Error::NullId {
+            path: BString::from_slice(alloc, path)?,
+        });
+    }
+    Ok(())
+}
+
+/// Fails where the path of a leaf lies in another. Those that a later path may begin with are kept.
+fn check_apart<'a>(alloc: Global, files: &mut Vec<Leaf<'a>>, leaf: Leaf<'a>) -> Result<(), Error>
+    ensures kept { OnOk result ((k : ℕ) × Keeps k leaf.entry.path.now files.old.items
+        × (files.new.items ≡ take k files.old.items ++ leaf.entry ∷ [])) }
+    ensures fault { IfErr result (λ e. SaysFault e (λ n. ⊥)
+        (LiesInOne leaf.entry.path.now files.old.items)) }
+{
+    let kept = fronts_of(files, leaf.path);
+    files.truncate(kept);
+    if let Some(file) = last_above(files, leaf.path) {
+        return Err(Error::Both {
+            file: BString::from_slice(alloc, file.path)?,
+            below: BString::from_slice(alloc, leaf.path)?,
+        });
+    }
+    files.push(leaf)?;
+    Ok(())
+}
+
+/// Fails at the first entry that has no place in the trees of those up to it.
+pub(crate) fn check_entries<C: ComponentCheck>(
+    alloc: Global,
+    kind: Kind,
+    check: &C,
+    entries: &EntrySlice<'_>,
+) -> Result<(), Error>
+    requires { IsStrictlyOrdered entries.now }
+    ensures fit { IfOk result (λ _. AreFit (C.refusal check.now) kind entries.now) }
+    ensures few { IfOk result (λ _. length entries.now < 2 ^ 31) }
+    ensures fault { IfErr result (λ e. SaysFault e (λ n. ⊥)
+        (IsRefused (C.refusal check.now) kind entries.now)) }
+{
+    if entries.len() >= 1 << 31 {
+        return Err(Error::TooManyEntries);
+    }
+    let mut files = Vec::new(alloc);
+    for place in 0..entries.len() {
+        check_entry(alloc, kind, check, entries, place)?;
+        if let Some(leaf) = leaf_at(entries, place) {
+            check_apart(alloc, &mut files, leaf)?;
+        }
+    }
+    Ok(())
+}

@@ -1,0 +1,16 @@
+//! The trees of an index: the objects that git writes of its entries, and the cached tree that names them.
+#![tactic(auto)]
+
+mod apart;
+mod check;
+mod error;
+pub mod laws;
+mod leaf;
+mod names;
+mod object;
+mod sink;
+pub mod tree_ids;
+pub mod write;
+
+pub use error::{Error, NameFault};
+pub use sink::{Discard, Sink};

@@ -1,0 +1,52 @@
+//! The object of a tree.
+
+ghost use Rattle.std.specs.Prelude.{◌≡◌, ◌++◌, OnOk, OnErr};
+ghost use Rattle.index_tree_writer.specs.Objects.{mode_text, entry_bytes, tree_id};
+
+use index_metadata::object::tree::EntryKind;
+use index_parts::hash::{Hasher, Kind, ObjectId};
+use itoa::Buffer;
+use std::alloc::AllocError;
+
+/// The mode in octal digits.
+fn mode_text(kind: EntryKind) -> &'static [u8]
+    ensures { result.now ≡ mode_text kind }
+{
+    match kind {
+        EntryKind::Tree => b"40000",
+        EntryKind::Blob => b"100644",
+        EntryKind::BlobExecutable => b"100755",
+        EntryKind::Link => b"120000",
+        EntryKind::Commit => b"160000",
+    }
+}
+
+/// Puts an entry at the end of a tree's bytes.
+pub(crate) fn push_entry(
+    bytes: &mut Vec<u8>,
+    name: &[u8],
+    kind: EntryKind,
+    id: &ObjectId,
+) -> Result<(), AllocError>
+    ensures { OnOk result (bytes.new.items ≡ bytes.old.items ++ entry_bytes name.now kind id.now) }
+{
+    bytes.extend_from_slice(mode_text(kind))?;
+    bytes.extend_from_slice(b" ")?;
+    bytes.extend_from_slice(name)?;
+    bytes.extend_from_slice(b"\0")?;
+    bytes.extend_from_slice(id.as_bytes())
+}
+
+/// The id of the tree with these bytes.
+#[tactic(auto, unfolding(crate::specs::Objects::tree_id))]
+pub(crate) fn tree_id(kind: Kind, bytes: &[u8]) -> ObjectId
+    ensures { result ≡ tree_id kind bytes.now }
+{
+    let mut buffer = Buffer::new();
+    let mut hasher = Hasher::new(kind);
+    hasher.update(b"tree ");
+    hasher.update(buffer.format(bytes.len()).as_bytes());
+    hasher.update(b"\0");
+    hasher.update(bytes);
+    hasher.finalize()
+}

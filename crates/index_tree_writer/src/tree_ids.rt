@@ -1,0 +1,239 @@
+//! Whether a cached tree has the ids and the counts that the entries give.
+
+ghost use Rattle.std.specs.Prelude.{◌≡◌, ◌↔◌, ◌<◌, ◌^◌, [], ℕ, List, All, None, Some, IfOk, IfErr, IsTrue, OnOk, length};
+ghost use Rattle.std.specs.Cmp.Lexicographic.{slice_cmp};
+ghost use Rattle.std.specs.Option.{option_map};
+ghost use Rattle.std.specs.Ordering.{nat_cmp};
+ghost use Rattle.index_entries.specs.Order.{IsStrictlyOrdered};
+ghost use Rattle.index_parts.specs.declared.hash.Kind.{Kind};
+ghost use Rattle.index_parts.specs.declared.hash.ObjectId.{ObjectId};
+ghost use Rattle.index_cached_tree.specs.Tree.{name_of, node_of};
+ghost use Rattle.index_tree_writer.specs.Refusals.{AreFit};
+ghost use Rattle.index_tree_writer.specs.Staged.{Staged, staged_in};
+ghost use Rattle.index_tree_writer.specs.TreeIds.{AreRight, IsRight, SaysTreeIds, any_name, spots};
+ghost use Rattle.index_tree_writer.specs.TreeIdsSteps.{GivesAt, IsChildOf, IsGiving, IsPassedOn, IsSaid, SaysFirst, SaysSpot, fronts, tells};
+ghost use Rattle.index_tree_writer.specs.declared.tree_ids.Error.TheVariants.{Memory};
+
+use crate::Error as WriteError;
+use crate::sink::Discard;
+use crate::write::write_trees;
+use bstr::BString;
+use index_cached_tree::Tree;
+use index_entries::slice::EntrySlice;
+use index_parts::hash::{Kind, ObjectId};
+use index_trees::ComponentCheck;
+use std::alloc::{AllocError, AllocFailed, Global};
+use std::cmp::Ordering;
+use thiserror::Error;
+
+/// How a cached tree and the entries disagree.
+#[derive(Debug, Drop, Error)]
+pub enum Error {
+    /// A node has another id, or another count, than the entries below its directory give.
+    #[error("the cached tree has the tree {id} with {count} entries for the directory {path:?}, but its entries give the tree {given_id} with {given_count}")]
+    Other {
+        /// The directory's path; that of the root is empty.
+        path: BString,
+        /// The node's id.
+        id: ObjectId,
+        /// The node's count.
+        count: u32,
+        /// The id of the tree that the entries give.
+        given_id: ObjectId,
+        /// How many entries lie below the directory.
+        given_count: u32,
+    },
+    /// A node has a count, but nothing stands below its directory, or something there is only intended to be added.
+    #[error("the cached tree has the tree {id} with {count} entries for the directory {path:?}, but no entry is there, or one is only intended to be added")]
+    Ungiven {
+        /// The directory's path.
+        path: BString,
+        /// The node's id.
+        id: ObjectId,
+        /// The node's count.
+        count: u32,
+    },
+    /// An entry has no place in a tree, so that no node is looked at.
+    #[error("the entries have no trees to compare the cached tree with: {0}")]
+    Entries(WriteError),
+    /// There is no memory for the trees.
+    #[error("no memory is left to compare the cached tree with the entries")]
+    Memory,
+}
+
+impl From<AllocError> for Error {
+    ghost from_gives = { λ _ error. error ≡ Memory };
+
+    fn from(_e: AllocError) -> Error {
+        Error::Memory
+    }
+}
+
+impl<T: Drop> From<AllocFailed<T>> for Error {
+    ghost from_gives = { λ _ error. error ≡ Memory };
+
+    fn from(_e: AllocFailed<T>) -> Error {
+        Error::Memory
+    }
+}
+
+/// Lets each name pass.
+#[derive(Clone, Copy)]
+struct AnyName;
+
+impl ComponentCheck for AnyName {
+    ghost refusal = { λ _ _ _. None };
+
+    fn check(&self, _name: &[u8], _symlink: bool) -> Result<(), u32> {
+        Ok(())
+    }
+}
+
+/// Why entries have no trees, or that memory is wanted.
+fn no_trees(fault: WriteError) -> Error
+    ensures { IsPassedOn fault result }
+{
+    match fault {
+        WriteError::Memory => Error::Memory,
+        WriteError::Sink { fault: _number } => Error::Memory,
+        fault => Error::Entries(fault),
+    }
+}
+
+/// How a node's name stands to this one, by their bytes.
+fn compare_to(tree: &Tree, name: &[u8]) -> Ordering
+    ensures { result ≡ slice_cmp nat_cmp (name_of (node_of tree.now)) name.now }
+{
+    tree.name.as_slice().cmp(&name)
+}
+
+/// The child of a node that has this name, if there is one.
+fn child_of<'a>(given: Option<&'a Tree>, name: &[u8]) -> Option<&'a Tree>
+    ensures { IsGiving (option_map (λ t. node_of t.now) given.entry)
+        → IsChildOf (option_map (λ t. node_of t.now) given.entry) name.now
+        (option_map (λ t. node_of t.now) result) }
+{
+    let given = given?;
+    let children = given.children.as_slice();
+    let Ok(at) = children.binary_search_by(|child| compare_to(child, name)) else {
+        return None;
+    };
+    Some(&children[at])
+}
+
+/// What is said of a node in front of which stands a front, and that isn't right.
+fn wrong(
+    alloc: Global,
+    given: Option<&Tree>,
+    front: &[u8],
+    id: ObjectId,
+    count: u32,
+) -> Result<Error, AllocError>
+    ensures { IfOk result
+        (IsSaid (option_map (λ t. node_of t.now) given.entry) front.now id count) }
+{
+    let (path, _) = front.split_at(front.len().saturating_sub(1));
+    let path = BString::from_slice(alloc, path)?;
+    if let Some(given) = given
+        && let Some(given_count) = given.num_entries
+    {
+        return Ok(Error::Other {
+            path,
+            id,
+            count,
+            given_id: given.id,
+            given_count,
+        });
+    }
+    Ok(Error::Ungiven { path, id, count })
+}
+
+/// Whether what is given has this id and count.
+fn is_given(given: Option<&Tree>, id: &ObjectId, count: u32) -> bool
+    ensures { IsTrue result
+        ↔ tells (option_map (λ t. node_of t.now) given.entry) ≡ Some (id.now, count) }
+{
+    let Some(given) = given else {
+        return false;
+    };
+    given.id == *id && given.num_entries == Some(count)
+}
+
+/// Fails where a node has a count, and another id or count than what is given.
+fn check_node(
+    alloc: Global,
+    given: Option<&Tree>,
+    front: &[u8],
+    id: ObjectId,
+    count: Option<u32>,
+) -> Result<(), Error>
+    ensures ok { IfOk result (λ _. (kind : Kind) (staged : List Staged) (names : List (List ℕ))
+        → GivesAt kind staged names (option_map (λ t. node_of t.now) given.entry)
+        → IsRight kind staged (record { names = names; id = id; count = count })) }
+    ensures fault { IfErr result (λ e.
+        (kind : Kind) (staged : List Staged) (names : List (List ℕ))
+        → GivesAt kind staged names (option_map (λ t. node_of t.now) given.entry)
+        → front.now ≡ fronts names
+        → SaysSpot kind staged (record { names = names; id = id; count = count }) e) }
+{
+    let Some(count) = count else {
+        return Ok(());
+    };
+    if is_given(given, &id, count) {
+        return Ok(());
+    }
+    Err(wrong(alloc, given, front, id, count)?)
+}
+
+/// Fails at the first node, each before all below it, that has a count, and another id or count than what is given to
+/// its directory. The names that lead to the node stand in front, each with a slash.
+fn check_nodes(
+    alloc: Global,
+    given: Option<&Tree>,
+    front: &mut Vec<u8>,
+    tree: &Tree,
+) -> Result<(), Error>
+    ensures front { OnOk result (front.new.items ≡ front.old.items) }
+    ensures ok { IfOk result (λ _. (kind : Kind) (staged : List Staged) (names : List (List ℕ))
+        → GivesAt kind staged names (option_map (λ t. node_of t.now) given.entry)
+        → All (IsRight kind staged) (spots names (node_of tree.now))) }
+    ensures fault { IfErr result (λ e.
+        (kind : Kind) (staged : List Staged) (names : List (List ℕ))
+        → GivesAt kind staged names (option_map (λ t. node_of t.now) given.entry)
+        → front.old.items ≡ fronts names
+        → SaysFirst kind staged (spots names (node_of tree.now)) e) }
+{
+    check_node(alloc, given, front, tree.id, tree.num_entries)?;
+    let len = front.len();
+    for child in &tree.children {
+        let name = child.name.as_slice();
+        front.extend_from_slice(name)?;
+        front.extend_from_slice(b"/")?;
+        check_nodes(alloc, child_of(given, name), front, child)?;
+        front.truncate(len);
+    }
+    Ok(())
+}
+
+/// Whether each node of a cached tree that has a count has the id and the count that the entries below its directory
+/// give.
+pub fn verify_tree_ids(
+    alloc: Global,
+    kind: Kind,
+    entries: &EntrySlice<'_>,
+    tree: &Tree,
+) -> Result<(), Error>
+    requires { IsStrictlyOrdered entries.now }
+    ensures right { IfOk result
+        (λ _. AreRight kind (staged_in entries.now) (node_of tree.now)) }
+    ensures fit { IfOk result (λ _. AreFit any_name kind entries.now) }
+    ensures few { IfOk result (λ _. length entries.now < 2 ^ 31) }
+    ensures fault { IfErr result (SaysTreeIds kind entries.now (node_of tree.now)) }
+{
+    let given = match write_trees(alloc, kind, entries, &AnyName, &mut Discard) {
+        Ok(given) => given,
+        Err(fault) => return Err(no_trees(fault)),
+    };
+    let mut front = Vec::new(alloc);
+    check_nodes(alloc, Some(&given), &mut front, tree)
+}

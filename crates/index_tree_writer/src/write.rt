@@ -1,0 +1,289 @@
+//! Writing the trees of entries.
+
+ghost use Rattle.std.specs.Prelude.{◌≡◌, ◌⊎◌, ◌+◌, ◌<◌, ◌≤◌, ◌^◌, ◌++◌, ◌||◌, [], ◌∷◌, ℕ, List, IsTrue, false, length, drop, map, All, IfOk, IfErr, OnOk, Some, slice_range};
+ghost use Rattle.std.specs.List.{HoldsAt};
+ghost use Rattle.std.specs.List.Sorted.{IsPermutation, IsSorted};
+ghost use Rattle.index_metadata.specs.declared.object.tree.EntryKind.TheVariants as kinds;
+ghost use Rattle.index_entries.specs.Order.{IsStrictlyOrdered};
+ghost use Rattle.index_cached_tree.specs.Tree.{Node, name_cmp, node_of};
+ghost use Rattle.index_cached_tree.specs.declared.Tree.TheViews.{out-Tree};
+ghost use Rattle.index_tree_writer.specs.Cached.{IsCached, leaf_nodes};
+ghost use Rattle.index_tree_writer.specs.Directory.{IsTreeOf, Items, directory_bytes, directory_object, leaf_bytes, objects};
+ghost use Rattle.index_tree_writer.specs.Objects.{tree_id, with_objects};
+ghost use Rattle.index_tree_writer.specs.Refusals.{AreFit, Begins, IsRefused, SaysFault};
+ghost use Rattle.index_tree_writer.specs.Staged.{Staged, staged_in};
+ghost use Rattle.index_tree_writer.specs.WritingSteps.{Goes, IsBegun, IsFinished, IsMadeNode, IsReady, StopsAt, staged_below};
+
+use crate::check::{MAX_LEVELS, check_entries};
+use crate::error::Error;
+use crate::leaf::{Leaf, is_tree, leaf_at};
+use crate::names::component_of;
+use crate::object::{push_entry, tree_id};
+use crate::sink::Sink;
+use index_cached_tree::Tree;
+use index_entries::slice::EntrySlice;
+use index_metadata::object::tree::EntryKind;
+use index_parts::hash::{Kind, ObjectId};
+use index_trees::ComponentCheck;
+use smallvec::SmallVec;
+use std::alloc::{AllocError, Global};
+use std::cmp::Ordering;
+
+/// A directory so far: the bytes of its object, the nodes of the directories in it, how many entries lie below it, and
+/// whether one of them is only intended to be added.
+#[derive(Drop)]
+struct Made {
+    bytes: Vec<u8>,
+    children: Vec<Tree>,
+    count: u32,
+    later: bool,
+}
+
+/// The path of a leaf without so many bytes at its front.
+fn tail_of<'a>(leaf: &Leaf<'a>, front: usize) -> &'a [u8]
+    ensures { result.now ≡ drop front leaf.now.path.now }
+{
+    let (_, tail) = leaf.path.split_at(front.min(leaf.path.len()));
+    tail
+}
+
+/// Whether the path of the entry at an index goes on like this behind a front, or the entry stages nothing.
+fn goes_on(entries: &EntrySlice<'_>, place: usize, front: usize, shown: &[u8]) -> bool
+    requires { place < length entries.now }
+    ensures yes { IsTrue result → HoldsAt (λ r. All (Goes front shown.now) (staged_in (r ∷ [])))
+        entries.now place }
+    ensures no { result ≡ false → HoldsAt (StopsAt front shown.now) entries.now place }
+{
+    match leaf_at(entries, place) {
+        Some(leaf) => tail_of(&leaf, front).starts_with(shown),
+        None => true,
+    }
+}
+
+/// Up to where the paths of the entries from an index on go on like this behind a front.
+fn end_of(entries: &EntrySlice<'_>, start: usize, end: usize, front: usize, shown: &[u8]) -> usize
+    requires some { start < end }
+    requires within { end ≤ length entries.now }
+    requires first { HoldsAt (λ r. All (Goes front shown.now) (staged_in (r ∷ [])))
+        entries.now start }
+    ensures more { start < result }
+    ensures within { result ≤ end }
+    ensures run { All (Goes front shown.now) (staged_in (slice_range entries.now start result)) }
+    ensures stops { (result ≡ end) ⊎ HoldsAt (StopsAt front shown.now) entries.now result }
+{
+    for place in start + 1..end {
+        if !goes_on(entries, place, front, shown) {
+            return place;
+        }
+    }
+    end
+}
+
+/// The node of a leaf that stands for a directory.
+fn leaf_node(alloc: Global, name: &[u8], id: ObjectId) -> Result<Tree, AllocError>
+    ensures { IfOk result (λ t. node_of t ∷ [] ≡ leaf_nodes name.now kinds.Tree id false) }
+{
+    Ok(Tree {
+        name: SmallVec::from_slice(alloc, name)?,
+        id,
+        num_entries: Some(1),
+        children: Vec::new(alloc),
+    })
+}
+
+impl Made {
+    /// Nothing so far.
+    fn new(alloc: Global) -> Made
+        ensures bytes { result.bytes.items ≡ [] }
+        ensures children { result.children.items ≡ [] }
+        ensures count { result.count ≡ 0 }
+        ensures later { result.later ≡ false }
+    {
+        Made {
+            bytes: Vec::new(alloc),
+            children: Vec::new(alloc),
+            count: 0,
+            later: false,
+        }
+    }
+
+    /// Puts a leaf of this name at the end.
+    fn push_leaf(&mut self, alloc: Global, name: &[u8], leaf: &Leaf<'_>) -> Result<(), Error>
+        requires { self.old.count < 2 ^ 31 }
+        ensures bytes { OnOk result (self.new.bytes.items ≡ self.old.bytes.items
+            ++ leaf_bytes name.now leaf.now.kind leaf.now.id leaf.now.later) }
+        ensures children { OnOk result (map node_of self.new.children.items
+            ≡ map node_of self.old.children.items
+            ++ leaf_nodes name.now leaf.now.kind leaf.now.id leaf.now.later) }
+        ensures count { OnOk result (self.new.count ≡ self.old.count + 1) }
+        ensures later { OnOk result (self.new.later ≡ self.old.later || leaf.now.later) }
+        ensures fault { IfErr result (λ e. SaysFault e (λ n. ⊥) (λ f. ⊥)) }
+    {
+        self.count += 1;
+        if leaf.later {
+            self.later = true;
+            return Ok(());
+        }
+        push_entry(&mut self.bytes, name, leaf.kind, &leaf.id)?;
+        if is_tree(leaf.kind) {
+            self.children.push(leaf_node(alloc, name, leaf.id)?)?;
+        }
+        Ok(())
+    }
+
+    /// Puts a directory of this name at the end, and its object into the sink. It has none where nothing in it stands
+    /// in a tree.
+    fn push_directory<S: Sink>(
+        &mut self,
+        alloc: Global,
+        kind: Kind,
+        name: &[u8],
+        inner: Made,
+        sink: &mut S,
+    ) -> Result<(), Error>
+        requires { self.old.count + inner.count < 2 ^ 31 }
+        ensures bytes { OnOk result (self.new.bytes.items ≡ self.old.bytes.items
+            ++ directory_bytes kind name.now inner.bytes.items) }
+        ensures children { OnOk result ((ts : List Node)
+            × (map node_of self.new.children.items ≡ map node_of self.old.children.items ++ ts)
+            × IsMadeNode kind name.now inner ts) }
+        ensures count { OnOk result (self.new.count ≡ self.old.count + inner.count) }
+        ensures later { OnOk result (self.new.later ≡ self.old.later || inner.later) }
+        ensures stored { OnOk result (S.stored sink.new
+            ≡ with_objects (S.stored sink.old) (directory_object kind inner.bytes.items)) }
+        ensures fault { IfErr result (λ e. SaysFault e (λ n. S.fault sink.new ≡ Some n) (λ f. ⊥)) }
+    {
+        self.count += inner.count;
+        self.later = self.later || inner.later;
+        if inner.bytes.as_slice().is_empty() {
+            return Ok(());
+        }
+        let tree = inner.finish(alloc, kind, name, sink)?;
+        push_entry(&mut self.bytes, name, EntryKind::Tree, &tree.id)?;
+        self.children.push(tree)?;
+        Ok(())
+    }
+
+    /// Puts the object of the directory into the sink, and makes its node.
+    fn finish<S: Sink>(
+        self,
+        alloc: Global,
+        kind: Kind,
+        name: &[u8],
+        sink: &mut S,
+    ) -> Result<Tree, Error>
+        ensures id { IfOk result (λ t. (out-Tree t).id ≡ tree_id kind self.bytes.items) }
+        ensures node { IfOk result (λ t. IsFinished kind name.now self (node_of t)) }
+        ensures stored { OnOk result (S.stored sink.new ≡ with_objects (S.stored sink.old)
+            ((tree_id kind self.bytes.items, self.bytes.items) ∷ [])) }
+        ensures fault { IfErr result (λ e. SaysFault e (λ n. S.fault sink.new ≡ Some n) (λ f. ⊥)) }
+    {
+        let mut children = self.children;
+        sort_siblings(&mut children);
+        let name = SmallVec::from_slice(alloc, name)?;
+        let id = tree_id(kind, &self.bytes);
+        if let Err(fault) = sink.put(&id, &self.bytes) {
+            return Err(Error::Sink { fault });
+        }
+        let num_entries = if self.later { None } else { Some(self.count) };
+        Ok(Tree {
+            name,
+            id,
+            num_entries,
+            children,
+        })
+    }
+}
+
+/// The order of two nodes by the bytes of their names.
+fn compare_names(a: &Tree, b: &Tree) -> Ordering
+    ensures { result ≡ name_cmp (node_of a.now) (node_of b.now) }
+{
+    a.name.as_slice().cmp(&b.name.as_slice())
+}
+
+/// Sorts siblings by name.
+fn sort_siblings(siblings: &mut Vec<Tree>)
+    ensures same { IsPermutation (map node_of siblings.old.items) (map node_of siblings.new.items) }
+    ensures sorted { IsSorted name_cmp (map node_of siblings.new.items) }
+{
+    siblings.sort_unstable_by(|a, b| compare_names(a, b));
+}
+
+/// The directory of the entries from an index to another, whose paths have a front of so many bytes. The objects of the
+/// directories below it go into the sink.
+///
+/// The call keeps little on the stack, since it is as deep as the directories.
+fn directory_of<S: Sink>(
+    alloc: Global,
+    kind: Kind,
+    entries: &EntrySlice<'_>,
+    start: usize,
+    end: usize,
+    front: usize,
+    levels: u32,
+    sink: &mut S,
+) -> Result<Made, Error>
+    requires order { start ≤ end }
+    requires within { end ≤ length entries.now }
+    requires few { length entries.now < 2 ^ 31 }
+    requires ready { IsReady kind levels (staged_below front (slice_range entries.now start end)) }
+    ensures made { IfOk result (λ m. IsBegun kind
+        (staged_below front (slice_range entries.now start end)) [] m
+        (S.stored sink.old) (S.stored sink.new)) }
+    ensures fault { IfErr result (λ e. SaysFault e (λ n. S.fault sink.new ≡ Some n) (λ f. ⊥)) }
+{
+    let mut made = Made::new(alloc);
+    let mut at = start;
+    while at < end {
+        let Some(leaf) = leaf_at(entries, at) else {
+            at += 1;
+            continue;
+        };
+        let tail = tail_of(&leaf, front);
+        let component = component_of(tail);
+        let shown = component.shown;
+        if shown.len() < tail.len() {
+            let stop = end_of(entries, at, end, front, shown);
+            let inner = directory_of(
+                alloc,
+                kind,
+                entries,
+                at,
+                stop,
+                front + shown.len(),
+                levels - 1,
+                sink,
+            )?;
+            made.push_directory(alloc, kind, component.name, inner, sink)?;
+            at = stop;
+        } else {
+            made.push_leaf(alloc, component.name, &leaf)?;
+            at += 1;
+        }
+    }
+    Ok(made)
+}
+
+/// Puts the tree objects of entries into the sink, each once, behind those that it names, and gives the cached tree.
+pub fn write_trees<S: Sink, C: ComponentCheck>(
+    alloc: Global,
+    kind: Kind,
+    entries: &EntrySlice<'_>,
+    check: &C,
+    sink: &mut S,
+) -> Result<Tree, Error>
+    requires { IsStrictlyOrdered entries.now }
+    ensures written { IfOk result (λ t. (items : Items)
+        × IsTreeOf kind (staged_in entries.now) items × IsCached kind [] items (node_of t)
+        × (S.stored sink.new ≡ with_objects (S.stored sink.old) (objects kind items))) }
+    ensures fit { IfOk result (λ _. AreFit (C.refusal check.now) kind entries.now) }
+    ensures few { IfOk result (λ _. length entries.now < 2 ^ 31) }
+    ensures fault { IfErr result (λ e. SaysFault e (λ n. S.fault sink.new ≡ Some n)
+        (λ f. IsRefused (C.refusal check.now) kind entries.now f × (sink.new ≡ sink.old))) }
+{
+    check_entries(alloc, kind, check, entries)?;
+    let made = directory_of(alloc, kind, entries, 0, entries.len(), 0, MAX_LEVELS, sink)?;
+    let root = made.finish(alloc, kind, b"", sink)?;
+    Ok(root)
+}
