@@ -1,0 +1,14 @@
+mod Covered
+mod Divided
+mod Fronts
+mod Laid
+mod Links
+mod Printed
+mod ReadFronts
+mod Readable
+mod Saved
+mod Saving
+mod Spelled
+mod SpelledFronts
+mod Unreadable
+mod Walked

@@ -1,0 +1,47 @@
+-- What the steps of a division add to parts (gitformat-index, as a whole). Public clauses cite none of these.
+use Rattle.std.specs.Prelude.{◌≡◌, ℕ, List, ◌++◌, length, Option}
+use Rattle.gix_index.specs.Answer.{Fault}
+use Rattle.gix_index.specs.Id.{id_len}
+use Rattle.gix_index.specs.Kind.{Kind}
+use Rattle.gix_index.specs.Outcome.{AreSound}
+use Rattle.gix_index.specs.Version.{Version}
+use Rattle.gix_index.specs.Walk.{Item, AreItems}
+use Rattle.index_inspect.specs.Division.{IsBehindEntries, IsEnd, TellsFault}
+use Rattle.index_inspect.specs.Piece.{Piece, item_pieces, laid}
+use Rattle.index_inspect.specs.Spelling.{Spelling}
+use Rattle.index_inspect.specs.declared.division.Ending.{Ending}
+use Rattle.index_inspect.specs.declared.part.Part.{Part}
+
+-- pieces came behind parts, from a place on, with an error for the fault
+pub record Grows (place : ℕ) (old : List Part) (e : Ending) (pieces : List Piece) (fault : Option Fault) : Type 0 where
+  pub are : e.parts.items ≡ old ++ laid place pieces
+  pub told : TellsFault e.fault fault
+
+-- what stands behind whole extensions came behind parts
+pub record EndsIn (kind : Kind) (bytes tail trailer : List ℕ) (place : ℕ) (old : List Part) (e : Ending) : Type 0 where
+  pub pieces : List Piece
+  pub fault : Option Fault
+  pub is_end : IsEnd kind bytes tail trailer pieces fault
+  pub grows : Grows place old e pieces fault
+
+-- extensions and what stands behind them came behind parts
+pub record WalksOn (kind : Kind) (bytes after : List ℕ) (place : ℕ) (old : List Part) (e : Ending) : Type 0 where
+  pub items : List Item
+  pub tail : List ℕ
+  pub trailer : List ℕ
+  pub extensions : List ℕ
+  pub last : List Piece
+  pub fault : Option Fault
+  pub parted : after ≡ extensions ++ trailer
+  pub trailer_len : length trailer ≡ id_len kind
+  pub items_are : AreItems extensions items tail
+  pub sound : AreSound kind items
+  pub is_end : IsEnd kind bytes tail trailer last fault
+  pub grows : Grows place old e (item_pieces items ++ last) fault
+
+-- what stands behind entries came behind parts
+pub record GoesOn (kind : Kind) (version : Version) (bytes : List ℕ) (spellings : List Spelling) (after : List ℕ) (place : ℕ) (old : List Part) (e : Ending) : Type 0 where
+  pub pieces : List Piece
+  pub fault : Option Fault
+  pub is : IsBehindEntries kind version bytes spellings after pieces fault
+  pub grows : Grows place old e pieces fault

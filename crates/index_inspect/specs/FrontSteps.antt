@@ -1,0 +1,32 @@
+-- What the reading of entries with their places has found (gitformat-index, "Index entry"). Public clauses cite none of these.
+use Rattle.std.specs.Prelude.{◌≡◌, ℕ, ◌+◌, ◌<◌, ◌⊎◌, min, List, ◌++◌, length, take, drop, None, if◌then◌else◌}
+use Rattle.gix_index.specs.Flags.{is_extended}
+use Rattle.gix_index.specs.Header.{header_len}
+use Rattle.gix_index.specs.Id.{id_len}
+use Rattle.gix_index.specs.Kind.{Kind}
+use Rattle.gix_index.specs.Record.{Record}
+use Rattle.gix_index.specs.Version.{Version}
+use Rattle.gix_index.specs.Version.TheVariants.{V2, V3, V4}
+use Rattle.index_inspect.specs.Division.{NoEntryBehind}
+use Rattle.index_inspect.specs.Piece.{laid, one_piece}
+use Rattle.index_inspect.specs.Spelling.{Spelling, AreSpelled, entries_spelled, entry_pieces}
+use Rattle.index_inspect.specs.declared.part.Part.{Part}
+use Rattle.index_inspect.specs.declared.part.What.TheVariants as whats
+
+-- the bytes before an entry's path: numbers and the first word, the id, and a second word where the flags ask for it
+abbrev pub head_len : Kind → ℕ → ℕ
+head_len kind flags = 42 + id_len kind + (if is_extended flags then 2 else 0)
+
+-- how many of so many bytes of an entry are no padding, where its path has so many
+abbrev pub own_len : Version → Kind → ℕ → ℕ → ℕ → ℕ
+own_len V2 kind flags path total = min (head_len kind flags + path) total
+own_len V3 kind flags path total = min (head_len kind flags + path) total
+own_len V4 kind flags path total = total
+
+-- so many entries at most were read behind the header, with the parts up to their end
+pub record IsFront (version : Version) (kind : Kind) (count : ℕ) (bytes : List ℕ) (rs : List Record) (parts : List Part) (rest : List ℕ) : Type 0 where
+  pub spellings : List Spelling
+  pub are_spelled : AreSpelled version kind None (drop header_len bytes) spellings rest
+  pub records : rs ≡ entries_spelled spellings
+  pub are : parts ≡ laid 0 (one_piece whats.Header (take header_len bytes) ++ entry_pieces 0 spellings)
+  pub ended : (length spellings ≡ count) ⊎ ((length spellings < count) × NoEntryBehind version kind spellings rest)

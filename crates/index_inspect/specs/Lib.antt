@@ -1,0 +1,11 @@
+pub mod Division
+pub mod DivisionSteps
+pub mod Escaped
+pub mod FrontSteps
+pub mod ItemSteps
+pub mod Laws
+pub mod Lines
+pub mod Piece
+pub mod Salvage
+pub mod SalvageSteps
+pub mod Spelling

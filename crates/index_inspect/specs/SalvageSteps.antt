@@ -1,0 +1,28 @@
+-- What the steps of saving entries have made (the library's own). Public clauses cite none of these.
+use Rattle.std.specs.Prelude.{◌≡◌, ◌≢◌, ◌≤◌, ◌+◌, ℕ, List, [], ◌∷◌, ◌++◌, All, Bool, length, take, slice_index_or, if◌then◌else◌}
+use Rattle.gix_index.specs.Edits.{empty_contents, with_records}
+use Rattle.gix_index.specs.FileTime.{FileTime}
+use Rattle.gix_index.specs.Id.{id_kind}
+use Rattle.gix_index.specs.Kind.{Kind}
+use Rattle.gix_index.specs.Record.{Record}
+use Rattle.gix_index.specs.State.{PathsInStorage, contents}
+use Rattle.gix_index.specs.StateType.{State}
+use Rattle.gix_index.specs.Storable.{IsStorable}
+use Rattle.index_inspect.specs.Salvage.{IsSavedOf}
+
+-- the id is of the kind, and a path that the length field can't count has no NUL
+pub record IsHeld (kind : Kind) (r : Record) : Type 0 where
+  pub id : id_kind r.id ≡ kind
+  pub path : 4095 ≤ length r.path → All (λ b. b ≢ 0) r.path
+
+-- an index of these entries and nothing else, that a file can hold
+pub record IsIndexOf (kind : Kind) (rs : List Record) (s : State) : Type 0 where
+  pub time : FileTime
+  pub is : contents s ≡ with_records (empty_contents kind time) rs
+  pub placed : PathsInStorage s
+  pub storable : IsStorable (contents s)
+
+-- whether the record at a place is saved too, where those before it are
+abbrev pub TakesNext : List Record → ℕ → Bool → Type 0
+TakesNext rs place taken = (kept : List Record) (d : Record) → IsSavedOf (take place rs) kept
+    → IsSavedOf (take (place + 1) rs) (if taken then kept ++ slice_index_or rs place d ∷ [] else kept)

@@ -1,0 +1,220 @@
+//! A whole file, part by part.
+
+ghost use Rattle.std.specs.Prelude.{◌≡◌, ◌≤◌, ◌<◌, ◌+◌, ◌++◌, List, length, Some, Err, IfOk};
+ghost use Rattle.gix_index.specs.Header.{count_of, header_of};
+ghost use Rattle.gix_index.specs.HeaderErrors.{header_fault};
+ghost use Rattle.gix_index.specs.Id.{id_len};
+ghost use Rattle.gix_index.specs.Kind.{Kind as KindType};
+ghost use Rattle.gix_index.specs.Walk.{NoItem, left_of};
+ghost use Rattle.index_inspect.specs.Division.{Divides, IsCrowded, NoEntryBehind, unread};
+ghost use Rattle.index_inspect.specs.DivisionSteps.{EndsIn, GoesOn, WalksOn};
+ghost use Rattle.index_inspect.specs.Piece.{LieBetween, laid};
+ghost use Rattle.index_inspect.specs.Spelling.{Spelling};
+
+use crate::front::{Front, read_front};
+use crate::items::{Walked, walk_items};
+use crate::part::{Part, What, push_part, push_some};
+use gix_index::Version;
+use gix_index::decode::entries::max_entries_possible;
+use gix_index::decode::entry::EntryList;
+use gix_index::decode::{Error, header};
+use gix_index::extension::end_of_index_entry;
+use gix_index::file::init::check;
+use gix_index::hash::Kind;
+use std::alloc::{AllocError, Global};
+
+/// The parts of a file, the entries that were read, and the first fault.
+#[derive(Drop)]
+pub struct Division {
+    /// The parts, which lie side by side from the first byte to the last. Where there is a fault, the last one begins
+    /// with it.
+    pub parts: Vec<Part>,
+    /// The entries, in the order of the file: as far as they can be read.
+    pub entries: EntryList,
+    /// The first fault by place, if there is one.
+    pub fault: Option<Error>,
+}
+
+/// Parts up to the end of a file, and the first fault.
+#[derive(Drop)]
+struct Ending {
+    parts: Vec<Part>,
+    fault: Option<Error>,
+}
+
+/// The parts with all bytes from an offset on, which are unread by this fault.
+fn refused(
+    mut parts: Vec<Part>,
+    offset: usize,
+    behind: &[u8],
+    fault: Error,
+) -> Result<Ending, AllocError>
+    ensures parts { IfOk result
+        (λ e. e.parts.items ≡ parts.items ++ laid offset (unread behind.now)) }
+    ensures fault { IfOk result (λ e. e.fault ≡ Some fault) }
+{
+    push_part(&mut parts, offset, behind.len(), What::Unread)?;
+    Ok(Ending {
+        parts,
+        fault: Some(fault),
+    })
+}
+
+/// The parts with what is left over behind extensions, which begins at an offset, and the trailer, which is unread
+/// where it isn't the digest.
+fn sealed(
+    kind: Kind,
+    bytes: &[u8],
+    tail: &[u8],
+    trailer: &[u8],
+    offset: usize,
+    mut parts: Vec<Part>,
+) -> Result<Ending, AllocError>
+    requires room { offset + length tail.now ≤ 0xffffffffffffffff }
+    requires ended { NoItem tail.now }
+    requires none_left { left_of tail.now ≡ 0 }
+    ensures { IfOk result (EndsIn kind bytes.now tail.now trailer.now offset parts.items) }
+{
+    push_some(&mut parts, offset, tail.len(), What::LeftOver)?;
+    let start = offset + tail.len();
+    if let Err(fault) = check(bytes, None, kind, false) {
+        return refused(parts, start, trailer, fault);
+    }
+    push_part(&mut parts, start, trailer.len(), What::Trailer)?;
+    Ok(Ending { parts, fault: None })
+}
+
+/// The parts with those of extensions and the trailer behind them, of which the first begins at an offset.
+fn walk_ending(
+    alloc: Global,
+    kind: Kind,
+    bytes: &[u8],
+    after: &[u8],
+    offset: usize,
+    parts: Vec<Part>,
+) -> Result<Ending, AllocError>
+    requires room { offset + length after.now ≤ 0xffffffffffffffff }
+    requires long { id_len kind ≤ length after.now }
+    ensures { IfOk result (WalksOn kind bytes.now after.now offset parts.items) }
+{
+    let expected = kind.len_in_bytes();
+    let (extensions, trailer) = after.split_at(after.len() - expected);
+    let Walked {
+        parts,
+        end,
+        left,
+        fault,
+    } = walk_items(alloc, kind, offset, extensions, parts)?;
+    let (_, unread) = after.split_at(end - offset);
+    if let Some(fault) = fault {
+        return refused(parts, end, unread, Error::Extension(fault));
+    }
+    if left != 0 {
+        let actual = left + expected;
+        let fault = Error::UnexpectedTrailerLength { expected, actual };
+        return refused(parts, end, unread, fault);
+    }
+    let (_, tail) = extensions.split_at(end - offset);
+    sealed(kind, bytes, tail, trailer, end, parts)
+}
+
+/// Whether the header declares more entries than a file of this length can hold.
+fn is_crowded(kind: Kind, version: Version, declared: u32, bytes: &[u8]) -> bool
+    requires { declared ≡ count_of bytes.now }
+    ensures { IsCrowded kind version bytes.now result }
+{
+    let offset = end_of_index_entry::decode(bytes, kind);
+    declared as usize > max_entries_possible(bytes.len(), offset, kind, version)
+}
+
+/// How many entries a file declares, and how many of them were read.
+#[derive(Clone, Copy)]
+struct Counts {
+    declared: u32,
+    read: usize,
+}
+
+/// The parts with those behind the entries, of which the first begins at an offset.
+fn behind_entries(
+    alloc: Global,
+    kind: Kind,
+    version: Version,
+    counts: Counts,
+    bytes: &[u8],
+    after: &[u8],
+    offset: usize,
+    parts: Vec<Part>,
+) -> Result<Ending, AllocError>
+    requires room { offset + length after.now ≤ 0xffffffffffffffff }
+    requires declared { counts.declared ≡ count_of bytes.now }
+    requires read { counts.read ≤ counts.declared }
+    ensures { IfOk result (λ e. (spellings : List Spelling) → length spellings ≡ counts.read
+        → (counts.read < counts.declared → NoEntryBehind version kind spellings after.now)
+        → GoesOn kind version bytes.now spellings after.now offset parts.items e) }
+{
+    let Counts { declared, read } = counts;
+    if read < declared as usize {
+        let index = read as u32;
+        return refused(parts, offset, after, Error::Entry { index });
+    }
+    if is_crowded(kind, version, declared, bytes) {
+        let fault = header::Error::Corrupt(
+            "Declared entry count exceeds possible entries for file size",
+        );
+        return refused(parts, offset, after, Error::Header(fault));
+    }
+    let expected = kind.len_in_bytes();
+    let actual = after.len();
+    if actual < expected {
+        let fault = Error::UnexpectedTrailerLength { expected, actual };
+        return refused(parts, offset, after, fault);
+    }
+    walk_ending(alloc, kind, bytes, after, offset, parts)
+}
+
+/// The parts of a file with this fault of its header.
+fn headless(alloc: Global, bytes: &[u8], fault: header::Error) -> Result<Division, AllocError>
+    ensures { IfOk result (λ d. (kind : KindType) → header_of kind bytes.now ≡ Err (header_fault fault)
+        → Divides kind bytes.now d.entries.records d.parts.items d.fault) }
+{
+    let Ending { parts, fault } = refused(Vec::new(alloc), 0, bytes, Error::Header(fault))?;
+    let entries = EntryList::new(alloc);
+    Ok(Division {
+        parts,
+        entries,
+        fault,
+    })
+}
+
+/// The parts of a file that has ids of this kind: all of them where it can be read as an index, and else those up to
+/// the first fault by place, and the rest as one.
+///
+/// A fault of the header is at the front of the file, and one of the trailer at its begin. A number of entries that
+/// can't be there is found where one is missing. The digest is compared, unless the trailer is null; a link isn't
+/// followed. An error is want of memory.
+pub fn divide(alloc: Global, kind: Kind, bytes: &[u8]) -> Result<Division, AllocError>
+    ensures divided { IfOk result
+        (λ d. Divides kind bytes.now d.entries.records d.parts.items d.fault) }
+    ensures covered { IfOk result (λ d. LieBetween 0 d.parts.items (length bytes.now)) }
+{
+    let (version, declared, _) = match header::decode(bytes, kind) {
+        Ok(found) => found,
+        Err(e) => return headless(alloc, bytes, e),
+    };
+    let Front {
+        parts,
+        entries,
+        rest,
+    } = read_front(alloc, version, kind, declared, bytes)?;
+    let offset = bytes.len() - rest.len();
+    let read = entries.as_slice().len();
+    let counts = Counts { declared, read };
+    let Ending { parts, fault } = behind_entries(
+        alloc, kind, version, counts, bytes, rest, offset, parts,
+    )?;
+    Ok(Division {
+        parts,
+        entries,
+        fault,
+    })
+}

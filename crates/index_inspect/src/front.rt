@@ -1,0 +1,117 @@
+//! The entries that stand at the front of a file, and where.
+
+ghost use Rattle.std.specs.Prelude.{◌≡◌, ◌≤◌, ◌+◌, ℕ, List, length, drop, take, min, IfOk, OnOk, [], ◌++◌};
+ghost use Rattle.gix_index.specs.Header.{header_len};
+ghost use Rattle.index_inspect.specs.FrontSteps.{IsFront, own_len, head_len};
+ghost use Rattle.index_inspect.specs.Piece.{laid, some_piece, one_piece};
+
+use crate::part::{Part, What, push_part, push_some};
+use gix_index::Version;
+use gix_index::bitflags::Flags as _;
+use gix_index::decode::entry::{EntryList, Lent, entry_of};
+use gix_index::entry::Flags;
+use gix_index::hash::Kind;
+use std::alloc::{AllocError, Global};
+
+/// The bytes of a header.
+pub(crate) const HEADER_LEN: usize = 12;
+
+/// An entry's numbers, and its first word of flags.
+const FIXED_LEN: usize = 42;
+
+/// A second word of flags.
+const SECOND_LEN: usize = 2;
+
+/// The entries at the front of a file, its parts up to their end, and the bytes behind them.
+#[derive(Drop)]
+pub(crate) struct Front<'a> {
+    pub(crate) parts: Vec<Part>,
+    pub(crate) entries: EntryList,
+    pub(crate) rest: &'a [u8],
+}
+
+/// The bytes of an entry with these flags that stand before its path, without those that version 4 has there.
+fn head_len(kind: Kind, flags: Flags) -> usize
+    ensures value { result ≡ head_len kind flags.0 }
+    ensures small { result ≤ 76 }
+{
+    let second = if flags.bits() & 0x4000 == 0x4000 {
+        SECOND_LEN
+    } else {
+        0
+    };
+    FIXED_LEN + kind.len_in_bytes() + second
+}
+
+/// How many of the bytes of an entry are its own: all but its padding.
+fn own_len(version: Version, kind: Kind, lent: &Lent<'_>, total: usize) -> usize
+    ensures value { result ≡ own_len version kind lent.now.entry.flags.0
+        (lent.now.shared + length lent.now.path.now) total }
+    ensures bound { result ≤ total }
+{
+    match version {
+        Version::V2 | Version::V3 => {
+            let path = lent.shared.saturating_add(lent.path.len());
+            head_len(kind, lent.entry.flags)
+                .saturating_add(path)
+                .min(total)
+        }
+        Version::V4 => total,
+    }
+}
+
+/// Puts the parts of an entry at the end, which begin at an offset: so many bytes of its own, and so many of padding.
+fn push_entry(
+    parts: &mut Vec<Part>,
+    offset: usize,
+    number: u32,
+    own: usize,
+    padding: usize,
+) -> Result<(), AllocError>
+    requires { offset + own ≤ 0xffffffffffffffff }
+    ensures { OnOk result ((bytes filling : List ℕ) → length bytes ≡ own → length filling ≡ padding
+        → parts.new.items ≡ parts.old.items
+        ++ laid offset (one_piece (What.Entry number) bytes ++ some_piece What.Padding filling)) }
+{
+    push_part(parts, offset, own, What::Entry { number })?;
+    push_some(parts, offset + own, padding, What::Padding)
+}
+
+/// As many entries as stand behind the header, so many at most.
+pub(crate) fn read_front(
+    alloc: Global,
+    version: Version,
+    kind: Kind,
+    count: u32,
+    bytes: &[u8],
+) -> Result<Front<'_>, AllocError>
+    requires { header_len ≤ length bytes.now }
+    ensures { IfOk result (λ f. IsFront version kind count bytes.now f.entries.records f.parts.items
+        f.rest.now) }
+{
+    let mut parts = Vec::new(alloc);
+    let mut entries = EntryList::new(alloc);
+    push_part(&mut parts, 0, HEADER_LEN, What::Header)?;
+    let (_, behind) = bytes.split_at(HEADER_LEN);
+    let mut rest = behind;
+    for number in 0..count {
+        let Some((lent, after)) = entry_of(version, kind, entries.last_len(), rest) else {
+            return Ok(Front {
+                parts,
+                entries,
+                rest,
+            });
+        };
+        let total = rest.len() - after.len();
+        let own = own_len(version, kind, &lent, total);
+        let offset = bytes.len() - rest.len();
+        push_entry(&mut parts, offset, number, own, total - own)?;
+        entries.push_after(lent.entry, lent.shared, lent.path)?;
+        rest = after;
+    }
+    Ok(Front {
+        parts,
+        entries,
+        rest,
+    })
+}

@@ -1,0 +1,116 @@
+//! The extensions behind the entries of a file, and where.
+
+ghost use Rattle.std.specs.Prelude.{◌≡◌, ◌≤◌, ◌+◌, ℕ, List, length, IfOk, MatchOption};
+ghost use Rattle.gix_index.specs.Kind.{Kind as KindType};
+ghost use Rattle.gix_index.specs.Link.{SaysLink};
+ghost use Rattle.index_inspect.specs.ItemSteps.{IsWalked, IsSoundItem, IsSoundLink, TellsItem, TellsLink};
+
+use crate::part::{Part, What, push_part};
+use gix_index::decode::Error;
+use gix_index::extension::decode::Error as ExtensionError;
+use gix_index::extension::{Iter, MIN_SIZE, Signature, is_understood, link};
+use gix_index::hash::Kind;
+use std::alloc::{AllocError, Global};
+
+/// The parts of a file up to the end of its extensions, or to the first at fault.
+#[derive(Drop)]
+pub(crate) struct Walked {
+    pub(crate) parts: Vec<Part>,
+    /// Where they end.
+    pub(crate) end: usize,
+    /// How many bytes behind them are left, so that the trailer is too long; 0 where one is at fault.
+    pub(crate) left: usize,
+    pub(crate) fault: Option<ExtensionError>,
+}
+
+/// What an error of reading a link says of the extension, or want of memory.
+fn told(e: link::decode::Error) -> Result<ExtensionError, AllocError>
+    ensures { IfOk result (λ told. (kind : KindType) (content : List ℕ) → SaysLink kind content e
+        → TellsLink kind content told) }
+{
+    match e {
+        link::decode::Error::Corrupt(text) => {
+            Ok(ExtensionError::Link(link::decode::Error::Corrupt(text)))
+        }
+        link::decode::Error::BitmapDecode { err, kind } => {
+            let fault = link::decode::Error::BitmapDecode { err, kind };
+            Ok(ExtensionError::Link(fault))
+        }
+        link::decode::Error::Memory => Err(AllocError),
+    }
+}
+
+/// What is wrong with the content of a link, if anything.
+fn link_fault(
+    alloc: Global,
+    kind: Kind,
+    content: &[u8],
+) -> Result<Option<ExtensionError>, AllocError>
+    ensures { IfOk result
+        (λ fault. MatchOption fault (IsSoundLink kind content.now) (TellsLink kind content.now)) }
+{
+    let Err(e) = link::decode::decode(alloc, content, kind) else {
+        return Ok(None);
+    };
+    Ok(Some(told(e)?))
+}
+
+/// What is wrong with an extension, if anything.
+fn fault_of(
+    alloc: Global,
+    kind: Kind,
+    signature: Signature,
+    content: &[u8],
+) -> Result<Option<ExtensionError>, AllocError>
+    ensures { IfOk result (λ fault. MatchOption fault
+        (IsSoundItem kind signature content.now) (TellsItem kind signature content.now)) }
+{
+    if !is_understood(signature, content) {
+        return Ok(Some(ExtensionError::MandatoryUnimplemented { signature }));
+    }
+    if signature != link::SIGNATURE {
+        return Ok(None);
+    }
+    link_fault(alloc, kind, content)
+}
+
+/// Puts the parts of extensions at the end, the first of which begins at an offset, up to the first at fault.
+pub(crate) fn walk_items(
+    alloc: Global,
+    kind: Kind,
+    offset: usize,
+    extensions: &[u8],
+    mut parts: Vec<Part>,
+) -> Result<Walked, AllocError>
+    requires { offset + length extensions.now ≤ 0xffffffffffffffff }
+    ensures { IfOk result (λ w. IsWalked kind offset extensions.now parts.items w) }
+{
+    let mut end = offset;
+    let mut items = Iter::new(extensions);
+    while let Some(item) = items.next() {
+        let (signature, content) = item;
+        if let Some(fault) = fault_of(alloc, kind, signature, content)? {
+            return Ok(Walked {
+                parts,
+                end,
+                left: 0,
+                fault: Some(fault),
+            });
+        }
+        push_part(&mut parts, end, MIN_SIZE, What::ExtensionHead { signature })?;
+        let start = end + MIN_SIZE;
+        push_part(
+            &mut parts,
+            start,
+            content.len(),
+            What::ExtensionContent { signature },
+        )?;
+        end = start + content.len();
+    }
+    Ok(Walked {
+        parts,
+        end,
+        left: extensions.len() - items.consumed,
+        fault: None,
+    })
+}
