@@ -5,7 +5,7 @@ import glob
 import os
 import re
 
-HEAD = re.compile(r"(\s*)(?:pub(?:\([\w:]+\))? )?(?:const |unsafe |final )*fn (\w+)")
+HEAD = re.compile(r'(\s*)(?:pub(?:\([\w:]+\))? )?(?:const |unsafe |final |extern "C" )*fn (\w+)')
 BLOCK = re.compile(r"(\s*)(?:pub(?:\([\w:]+\))? )?(?:unsafe )?(?:impl|trait)\b")
 CONSTANT = re.compile(r"\bconst (\w+)\b")
 

@@ -1,0 +1,133 @@
+/* The git index for C: tables of its entries, read from the bytes of an index file.
+ *
+ * Link libindex_c.a, and behind it liblibc_c.a (malloc, realloc and free), as gix_index.pc says.
+ *
+ * Memory. What a call reads and writes is the caller's. A pointer goes with a length, counts elements of its type,
+ * and has to be valid for all of them during the call, and aligned as its type is. No pointer may be null; for a
+ * length of 0 any address that is aligned will do. What a call writes may not overlap anything else that it is
+ * given. Calls take memory by malloc and give all of it back before they return: there is no handle and nothing to
+ * free.
+ *
+ * Threads. Calls share nothing. Any number of them may run at once over memory of their own, and may read the same
+ * memory. None may be made in a signal handler, nor in the child that a process with threads has forked.
+ *
+ * A bool is 0 or 1. Ids are bytes, and not base 16. Paths are bytes without a NUL at their end, and with slashes. The
+ * standard is git's document gitformat-index. */
+#ifndef GIX_INDEX_H
+#define GIX_INDEX_H
+
+#include <stdbool.h>
+#include <stddef.h>
+#include <stdint.h>
+
+#ifdef __cplusplus
+extern "C" {
+#endif
+
+/* ---- Statuses: what a call answers */
+
+#define GIX_INDEX_DONE 0u         /* it did what it says */
+#define GIX_INDEX_REFUSED 1u      /* the bytes are no index of this kind, or damaged: the summary and the text say why */
+#define GIX_INDEX_MEMORY 2u       /* malloc or realloc gave nothing */
+#define GIX_INDEX_NO_ROOM 3u      /* the rows or the bytes for paths don't suffice: the summary says how many it takes */
+#define GIX_INDEX_WRONG_NUMBER 4u /* a number that was passed is none of those that the call takes */
+
+/* ---- Kinds of ids */
+
+#define GIX_INDEX_SHA1 1u   /* 20 bytes */
+#define GIX_INDEX_SHA256 2u /* 32 bytes */
+
+/* ---- Stages, modes and flags of an entry */
+
+#define GIX_INDEX_UNCONFLICTED 0u
+#define GIX_INDEX_BASE 1u   /* the common ancestor's entry */
+#define GIX_INDEX_OURS 2u
+#define GIX_INDEX_THEIRS 3u
+
+#define GIX_INDEX_DIRECTORY 0040000u /* a directory of a sparse index */
+#define GIX_INDEX_FILE 0100644u
+#define GIX_INDEX_EXECUTABLE 0100755u
+#define GIX_INDEX_LINK 0120000u
+#define GIX_INDEX_COMMIT 0160000u /* a submodule */
+
+#define GIX_INDEX_STAGE_MASK 0x3000u
+#define GIX_INDEX_EXTENDED 0x4000u     /* the file has a second word of flags of the entry */
+#define GIX_INDEX_ASSUME_VALID 0x8000u
+#define GIX_INDEX_INTENT_TO_ADD 0x20000000u
+#define GIX_INDEX_SKIP_WORKTREE 0x40000000u
+
+/* ---- Faults: what a summary says with GIX_INDEX_REFUSED */
+
+#define GIX_INDEX_FAULT_HEADER 1u    /* no header of an index, or it declares more entries than the bytes can hold */
+#define GIX_INDEX_FAULT_VERSION 2u   /* the version isn't 2, 3 or 4 */
+#define GIX_INDEX_FAULT_LIMIT 3u     /* a limit on memory is passed: no call of these has one */
+#define GIX_INDEX_FAULT_ENTRY 4u     /* an entry can't be read: the place is its number, from 0 on */
+#define GIX_INDEX_FAULT_EXTENSION 5u /* a mandatory extension isn't understood */
+#define GIX_INDEX_FAULT_LINK 6u      /* the link to a shared index is at fault */
+#define GIX_INDEX_FAULT_TRAILER 7u   /* the bytes behind all entries and extensions aren't as many as the trailer has */
+#define GIX_INDEX_FAULT_DIGEST 8u    /* the digest isn't the trailer: damaged, of the other kind, or no index */
+
+/* ---- Tables */
+
+/* An entry. Its path is the bytes of the table's paths from path_start on, path_len of them; two rows may share some. */
+typedef struct {
+    uint32_t ctime_secs; /* when the file's own data changed last, in seconds since the begin of 1970 */
+    uint32_t ctime_nsecs;
+    uint32_t mtime_secs; /* when its contents changed last */
+    uint32_t mtime_nsecs;
+    uint32_t dev;
+    uint32_t ino;
+    uint32_t uid;
+    uint32_t gid;
+    uint32_t size; /* in bytes, modulo 2 to the 32nd */
+    uint32_t mode;
+    uint32_t flags; /* bits 12 and 13 are the stage */
+    uint32_t stage; /* the same, 0 to 3 */
+    uint32_t kind;  /* of its id */
+    uint8_t id[32]; /* zeros behind the 20 bytes of SHA-1 */
+    size_t path_start;
+    size_t path_len;
+} gix_index_row;
+
+/* What a call that reads says beside its status. It is written with each status; what isn't named there is 0. */
+typedef struct {
+    size_t entries;     /* DONE, NO_ROOM: how many entries the index has, and so how many rows it takes */
+    size_t path_bytes;  /* DONE, NO_ROOM: how many bytes for paths it takes */
+    size_t text_bytes;  /* REFUSED, MEMORY: how many bytes of text were written */
+    size_t fault_place; /* REFUSED: the place that the fault names, or 0 */
+    uint32_t fault;     /* REFUSED: one of the faults above */
+    uint32_t version;   /* DONE, NO_ROOM: 2, 3 or 4 */
+    uint32_t has_link;  /* DONE, NO_ROOM: 1 where the index links to a shared one, which isn't followed; else 0 */
+} gix_index_summary;
+
+/* ---- Calls */
+
+/* Reads an index from all bytes of its file.
+ *
+ * The digest of all bytes but the trailer is compared with the trailer, unless that is zeros or skip_hash is set. Of
+ * a split index only its own entries are read, some of them with an empty path.
+ *
+ * DONE: the first entries of rows and the first path_bytes of paths are the table, in the order of the file.
+ * REFUSED: text has what is wrong, in words, as far as there is room, without a NUL behind it.
+ * NO_ROOM: the same call with the sizes of the summary has room. So a call with both lengths 0 asks for the sizes;
+ * an index without entries is DONE then.
+ * WRONG_NUMBER: kind is none.
+ * With each status but DONE, rows and paths are as they were; with DONE, what lies behind the table is. Of text no
+ * byte is written behind text_bytes. */
+uint32_t gix_index_read(const uint8_t *bytes, size_t bytes_len, uint32_t kind, bool skip_hash, gix_index_row *rows,
+                        size_t rows_len, uint8_t *paths, size_t paths_len, uint8_t *text, size_t text_len,
+                        gix_index_summary *summary);
+
+/* The place of the row with this path and this stage, counted from 0, or rows_len where there is none.
+ *
+ * It takes rows that strictly increase by path, byte by byte, and then by stage, as those of a sound index do
+ * (`index-tool check` says whether a file's do). Among other rows a place that is given still has the path and the
+ * stage. The stages are those of the flags. A path that passes the end of paths is cut there. No memory is taken. */
+size_t gix_index_find(const gix_index_row *rows, size_t rows_len, const uint8_t *paths, size_t paths_len,
+                      const uint8_t *path, size_t path_len, uint32_t stage);
+
+#ifdef __cplusplus
+}
+#endif
+
+#endif

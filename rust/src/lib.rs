@@ -1,0 +1,268 @@
+//! The git index, read by a static library whose functions are proved to meet their contracts.
+//!
+//! [`Index`] is a copy of the entries of an index file, in memory of its own. Names are those of the crate `gix-index` where
+//! they say the same. What is proved is told in `crates/index_c/README.md`; this crate is not proved: it hands slices to the
+//! library's calls and takes their answers. It has no dependencies, so its errors implement
+//! [`std::error::Error`] by hand.
+
+mod error;
+mod raw;
+
+pub use error::{Error, Fault};
+use raw::{Row, Summary};
+use std::path::Path;
+
+/// Which hash function a repository names its objects by.
+#[derive(Clone, Copy, Debug, PartialEq, Eq, Hash)]
+pub enum Kind {
+    /// SHA-1, with ids of 20 bytes.
+    Sha1,
+    /// SHA-256, with ids of 32 bytes.
+    Sha256,
+}
+
+impl Kind {
+    /// How many bytes an id of this kind has: 20 or 32.
+    pub fn len_in_bytes(self) -> usize {
+        match self {
+            Kind::Sha1 => 20,
+            Kind::Sha256 => 32,
+        }
+    }
+
+    fn number(self) -> u32 {
+        match self {
+            Kind::Sha1 => raw::SHA1,
+            Kind::Sha256 => raw::SHA256,
+        }
+    }
+}
+
+/// A time of an entry, in the 32 bits of each part that a file stores, since the begin of 1970.
+#[derive(Clone, Copy, Debug, PartialEq, Eq, PartialOrd, Ord, Hash)]
+pub struct Time {
+    /// Whole seconds.
+    pub secs: u32,
+    /// Nanoseconds on top.
+    pub nsecs: u32,
+}
+
+/// The stat numbers of an entry, each in the 32 bits that a file stores (gitformat-index, "Index entry").
+#[derive(Clone, Copy, Debug, PartialEq, Eq, Hash)]
+pub struct Stat {
+    /// When the contents changed last.
+    pub mtime: Time,
+    /// When the file's own data changed last.
+    pub ctime: Time,
+    /// The device.
+    pub dev: u32,
+    /// The inode.
+    pub ino: u32,
+    /// The owner.
+    pub uid: u32,
+    /// The owner's group.
+    pub gid: u32,
+    /// The size in bytes, modulo 2 to the 32nd.
+    pub size: u32,
+}
+
+/// The mode of an entry's file: the kind, and whether its owner may run it.
+pub mod mode {
+    /// A directory of a sparse index.
+    pub const DIR: u32 = 0o040000;
+    /// A file.
+    pub const FILE: u32 = 0o100644;
+    /// A file that its owner may run.
+    pub const FILE_EXECUTABLE: u32 = 0o100755;
+    /// A symbolic link.
+    pub const SYMLINK: u32 = 0o120000;
+    /// A submodule.
+    pub const COMMIT: u32 = 0o160000;
+}
+
+/// Flags of an entry; bits 12 and 13 are its stage.
+pub mod flags {
+    /// The file has a second word of flags of the entry.
+    pub const EXTENDED: u32 = 0x4000;
+    /// The file is taken for unchanged.
+    pub const ASSUME_VALID: u32 = 0x8000;
+    /// The path is to be added later.
+    pub const INTENT_TO_ADD: u32 = 0x2000_0000;
+    /// The file isn't wanted in the work tree.
+    pub const SKIP_WORKTREE: u32 = 0x4000_0000;
+}
+
+/// An entry of an index, lent.
+#[derive(Clone, Copy)]
+pub struct Entry<'a> {
+    row: &'a Row,
+    paths: &'a [u8],
+}
+
+impl<'a> Entry<'a> {
+    /// The path from the top of the work tree, with slashes.
+    pub fn path(&self) -> &'a [u8] {
+        &self.paths[self.row.path_start..][..self.row.path_len]
+    }
+
+    /// The id of the object that holds the contents: 20 or 32 bytes.
+    pub fn id(&self) -> &'a [u8] {
+        let len = if self.row.kind == raw::SHA256 { 32 } else { 20 };
+        &self.row.id[..len]
+    }
+
+    /// What the file system said of the file.
+    pub fn stat(&self) -> Stat {
+        let row = self.row;
+        Stat {
+            mtime: Time { secs: row.mtime_secs, nsecs: row.mtime_nsecs },
+            ctime: Time { secs: row.ctime_secs, nsecs: row.ctime_nsecs },
+            dev: row.dev,
+            ino: row.ino,
+            uid: row.uid,
+            gid: row.gid,
+            size: row.size,
+        }
+    }
+
+    /// The kind of file: one of those in [`mode`].
+    pub fn mode(&self) -> u32 {
+        self.row.mode
+    }
+
+    /// What else is noted of the entry: those in [`flags`], and others that live in memory alone.
+    pub fn flags(&self) -> u32 {
+        self.row.flags
+    }
+
+    /// The stage: 0, or in a conflict 1 for the common ancestor, 2 for our side, 3 for theirs.
+    pub fn stage(&self) -> u32 {
+        self.row.stage
+    }
+}
+
+/// The entries of an index, in the order of its file.
+#[derive(Clone)]
+pub struct Index {
+    rows: Vec<Row>,
+    paths: Vec<u8>,
+    version: u32,
+    has_link: bool,
+}
+
+/// So many copies of a value, or want of memory.
+fn room<T: Copy>(value: T, len: usize) -> Result<Vec<T>, Error> {
+    let mut values = Vec::new();
+    values.try_reserve_exact(len).map_err(|_| Error::Memory)?;
+    values.resize(len, value);
+    Ok(values)
+}
+
+impl Index {
+    /// Reads an index from all bytes of its file. The digest of all bytes but the trailer is compared with the trailer,
+    /// unless that is null. A link to a shared index isn't followed: [`has_link`](Index::has_link) tells of it.
+    pub fn from_bytes(bytes: &[u8], kind: Kind) -> Result<Index, Error> {
+        // The sizes come first, without the digest, unless there is a fault: a wrong digest is told before all others.
+        let (mut rows, mut paths) = (Vec::new(), Vec::new());
+        let mut said = Index::read(bytes, kind, true, &mut rows, &mut paths)
+            .or_else(|_| Index::read(bytes, kind, false, &mut rows, &mut paths))?;
+        loop {
+            rows = room(Row::default(), said.1.entries)?;
+            paths = room(0, said.1.path_bytes)?;
+            said = Index::read(bytes, kind, false, &mut rows, &mut paths)?;
+            if let (true, summary) = said {
+                return Ok(Index { rows, paths, version: summary.version, has_link: summary.has_link != 0 });
+            }
+        }
+    }
+
+    /// Reads the file at a path as [`from_bytes`](Index::from_bytes) reads bytes. A split index is refused, as it lacks the
+    /// entries that its shared index has.
+    pub fn open(path: impl AsRef<Path>, kind: Kind) -> Result<Index, Error> {
+        let path = path.as_ref();
+        let bytes = std::fs::read(path).map_err(|error| Error::Io { path: path.into(), error })?;
+        let index = Index::from_bytes(&bytes, kind)?;
+        if index.has_link {
+            return Err(Error::Split);
+        }
+        Ok(index)
+    }
+
+    /// Whether the table was filled, which lacks room else, and what was said.
+    fn read(bytes: &[u8], kind: Kind, skip_hash: bool, rows: &mut [Row], paths: &mut [u8]) -> Result<(bool, Summary), Error> {
+        let mut text = [0; 300];
+        let mut summary = Summary::default();
+        // SAFETY: each pointer goes with the length of its slice; those that are written through are distinct.
+        let status = unsafe {
+            raw::gix_index_read(
+                bytes.as_ptr(),
+                bytes.len(),
+                kind.number(),
+                skip_hash,
+                rows.as_mut_ptr(),
+                rows.len(),
+                paths.as_mut_ptr(),
+                paths.len(),
+                text.as_mut_ptr(),
+                text.len(),
+                &mut summary,
+            )
+        };
+        match status {
+            raw::DONE => Ok((true, summary)),
+            raw::NO_ROOM => Ok((false, summary)),
+            raw::MEMORY => Err(Error::Memory),
+            _ => Err(Error::of(&summary, &text)),
+        }
+    }
+
+    /// The version of the file: 2, 3 or 4.
+    pub fn version(&self) -> u32 {
+        self.version
+    }
+
+    /// Whether the bytes link to a shared index, which wasn't followed.
+    pub fn has_link(&self) -> bool {
+        self.has_link
+    }
+
+    fn lend<'a>(&'a self, row: &'a Row) -> Entry<'a> {
+        Entry { row, paths: &self.paths }
+    }
+
+    /// The entries, in the order of the file.
+    pub fn entries(&self) -> impl ExactSizeIterator<Item = Entry<'_>> + DoubleEndedIterator {
+        self.rows.iter().map(|row| self.lend(row))
+    }
+
+    /// The entry at a place, counted from 0.
+    pub fn entry(&self, place: usize) -> Option<Entry<'_>> {
+        self.rows.get(place).map(|row| self.lend(row))
+    }
+
+    /// The entry at the path and the stage, or None.
+    ///
+    /// It is promised over entries that strictly increase by path, then stage. Over other entries an entry that is given still
+    /// has the path and the stage.
+    pub fn entry_by_path_and_stage(&self, path: &[u8], stage: u32) -> Option<Entry<'_>> {
+        // SAFETY: each pointer goes with the length of its slice, and nothing is written.
+        let place = unsafe {
+            raw::gix_index_find(
+                self.rows.as_ptr(),
+                self.rows.len(),
+                self.paths.as_ptr(),
+                self.paths.len(),
+                path.as_ptr(),
+                path.len(),
+                stage,
+            )
+        };
+        self.entry(place)
+    }
+
+    /// The entry at the path: that at stage 0, or else that at stage 2, our side of a merge, or else None; as
+    /// [`entry_by_path_and_stage`](Index::entry_by_path_and_stage) finds them.
+    pub fn entry_by_path(&self, path: &[u8]) -> Option<Entry<'_>> {
+        self.entry_by_path_and_stage(path, 0).or_else(|| self.entry_by_path_and_stage(path, 2))
+    }
+}

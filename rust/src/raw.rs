@@ -1,0 +1,67 @@
+//! The calls of `libindex_c.a`, as `c/gix_index.h` declares them. Nothing compares the two but `tests/linked`.
+
+pub const DONE: u32 = 0;
+pub const MEMORY: u32 = 2;
+pub const NO_ROOM: u32 = 3;
+
+pub const SHA1: u32 = 1;
+pub const SHA256: u32 = 2;
+
+#[repr(C)]
+#[derive(Clone, Copy, Default)]
+pub struct Row {
+    pub ctime_secs: u32,
+    pub ctime_nsecs: u32,
+    pub mtime_secs: u32,
+    pub mtime_nsecs: u32,
+    pub dev: u32,
+    pub ino: u32,
+    pub uid: u32,
+    pub gid: u32,
+    pub size: u32,
+    pub mode: u32,
+    pub flags: u32,
+    pub stage: u32,
+    pub kind: u32,
+    pub id: [u8; 32],
+    pub path_start: usize,
+    pub path_len: usize,
+}
+
+#[repr(C)]
+#[derive(Clone, Copy, Default)]
+pub struct Summary {
+    pub entries: usize,
+    pub path_bytes: usize,
+    pub text_bytes: usize,
+    pub fault_place: usize,
+    pub fault: u32,
+    pub version: u32,
+    pub has_link: u32,
+}
+
+unsafe extern "C" {
+    pub fn gix_index_read(
+        bytes: *const u8,
+        bytes_len: usize,
+        kind: u32,
+        skip_hash: bool,
+        rows: *mut Row,
+        rows_len: usize,
+        paths: *mut u8,
+        paths_len: usize,
+        text: *mut u8,
+        text_len: usize,
+        summary: *mut Summary,
+    ) -> u32;
+
+    pub fn gix_index_find(
+        rows: *const Row,
+        rows_len: usize,
+        paths: *const u8,
+        paths_len: usize,
+        path: *const u8,
+        path_len: usize,
+        stage: u32,
+    ) -> usize;
+}
