@@ -1,5 +1,5 @@
 -- What the program checks of an index, and what it prints then (the program's own).
-use Rattle.std.specs.Prelude.{◌≡◌, ℕ, List, length, Option, IfSome, codes}
+use Rattle.std.specs.Prelude.{◌≡◌, ℕ, Bool, true, List, length, Option, IfSome, codes}
 use Rattle.std.specs.Io.KnownBytes.{Appends, Keeps}
 use Rattle.gix_index.specs.Taking.{AppendsPrefix}
 use Rattle.gix_index.specs.Kind.{Kind}
@@ -7,6 +7,8 @@ use Rattle.gix_index.specs.ObjectId.{ObjectId}
 use Rattle.gix_index.specs.Order.{IsStrictlyOrdered}
 use Rattle.gix_index.specs.Contents.{Contents}
 use Rattle.gix_index.specs.SoundState.{AreSoundExtensions}
+use Rattle.gix_index.specs.Staged.{staged_in}
+use Rattle.gix_index.specs.TreeIds.{AreRight}
 use Rattle.gix_index.specs.VerifiedFile.{FitsSomeBytes}
 use Rattle.index_tool.specs.declared.failure.Failure.{Failure}
 use Rattle.index_tool.specs.declared.failure.Failure.TheVariants as failures
@@ -15,33 +17,44 @@ use Rattle.index_tool.specs.Listing.{IsInFile, FailsToRead}
 abbrev pub ok_line : List ℕ
 ok_line = codes "ok\n"
 
+-- the cached tree, if there is one, tells of each directory what the entries give
+abbrev pub HasRightTrees : Contents → Type 0
+HasRightTrees value = IfSome value.extensions.tree (AreRight value.kind (staged_in value.records))
+
 -- An index in a file, whose entries strictly increase by path, then stage, and whose cached tree, if it has one, is sound and
--- counts no more than these entries. The checksum, unless it is null, fits some bytes: those that the file has when it is read
--- again.
-pub record IsSoundInFile (kind : Kind) (value : Contents) (checksum : Option ObjectId) : Type 0 where
+-- counts no more than these entries; where it is compared with them, it tells what they give. The checksum, unless it is null, fits
+-- some bytes: those that the file has when it is read again.
+pub record IsSoundInFile (ids : Bool) (kind : Kind) (value : Contents) (checksum : Option ObjectId) : Type 0 where
   pub read : IsInFile kind value checksum
   pub ordered : IsStrictlyOrdered value.records
   pub tree : AreSoundExtensions (length value.records) value.extensions.tree
+  pub trees : ids ≡ true → HasRightTrees value
   pub intact : IfSome checksum FitsSomeBytes
 
 -- known bytes grew by the line of an index that passed all checks
-pub record Checks (kind : Kind) (old new : Option (List ℕ)) : Type 0 where
+pub record Checks (ids : Bool) (kind : Kind) (old new : Option (List ℕ)) : Type 0 where
   pub value : Contents
   pub checksum : Option ObjectId
-  pub sound : IsSoundInFile kind value checksum
+  pub sound : IsSoundInFile ids kind value checksum
   pub grew : Appends old new ok_line
 
 -- known bytes grew by a prefix of that line, and all checks had passed
-pub record ChecksFront (kind : Kind) (old new : Option (List ℕ)) : Type 0 where
+pub record ChecksFront (ids : Bool) (kind : Kind) (old new : Option (List ℕ)) : Type 0 where
   pub value : Contents
   pub checksum : Option ObjectId
-  pub sound : IsSoundInFile kind value checksum
+  pub sound : IsSoundInFile ids kind value checksum
   pub grew : AppendsPrefix old new ok_line
 
 -- a failure of a check: only a failed output took some of the line
-abbrev pub FailsToCheck : Kind → List ℕ → Failure → Option (List ℕ) → Option (List ℕ) → Type 0
-FailsToCheck kind path (failures.Output e) old new = ChecksFront kind old new
-FailsToCheck kind path (failures.Entries file e) old new = (file.now ≡ path) × Keeps old new
-FailsToCheck kind path (failures.CachedTree file e) old new = (file.now ≡ path) × Keeps old new
-FailsToCheck kind path (failures.Changed file e) old new = (file.now ≡ path) × Keeps old new
-FailsToCheck kind path failure old new = FailsToRead path failure × Keeps old new
+abbrev pub FailsToCheck : Bool → Kind → List ℕ → Failure → Option (List ℕ) → Option (List ℕ) → Type 0
+FailsToCheck ids kind path (failures.Output e) old new = ChecksFront ids kind old new
+FailsToCheck ids kind path (failures.Entries file e) old new = (file.now ≡ path) × Keeps old new
+FailsToCheck ids kind path (failures.CachedTree file e) old new = (file.now ≡ path) × Keeps old new
+FailsToCheck ids kind path (failures.TreeIds file e) old new = (file.now ≡ path) × Keeps old new
+FailsToCheck ids kind path (failures.Changed file e) old new = (file.now ≡ path) × Keeps old new
+FailsToCheck ids kind path failure old new = FailsToRead path failure × Keeps old new
+
+-- a failure of comparing the cached tree with the entries
+abbrev pub FailsToCompare : List ℕ → Failure → Type 0
+FailsToCompare path (failures.TreeIds file e) = file.now ≡ path
+FailsToCompare path failure = ⊥

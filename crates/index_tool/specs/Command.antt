@@ -1,5 +1,5 @@
 -- The words of each command, and what a command leaves on the output (the program's own).
-use Rattle.std.specs.Prelude.{◌≡◌, ℕ, nat_eq, Bool, List, [], ◌∷◌, codes, Option, Some, None, if◌then◌else◌}
+use Rattle.std.specs.Prelude.{◌≡◌, ℕ, nat_eq, Bool, true, false, List, [], ◌∷◌, codes, Option, Some, None, if◌then◌else◌}
 use Rattle.std.specs.Cmp.Lexicographic.{pointwise}
 use Rattle.std.specs.Io.KnownBytes.{Keeps}
 use Rattle.std.specs.Option.{option_map}
@@ -9,21 +9,25 @@ use Rattle.gix_index.specs.VersionChoice.{VersionChoice}
 use Rattle.gix_index.specs.VersionChoice.TheVariants.{Smallest, V4}
 use Rattle.index_tool.specs.declared.command.Command.{Command}
 use Rattle.index_tool.specs.declared.command.Command.TheVariants as commands
+use Rattle.index_tool.specs.declared.command.Reading.{Reading}
+use Rattle.index_tool.specs.declared.command.Reading.TheVariants as readings
+use Rattle.index_tool.specs.declared.command.Writing.{Writing}
+use Rattle.index_tool.specs.declared.command.Writing.TheVariants as writings
 use Rattle.index_tool.specs.Checking.{Checks, ChecksFront}
 use Rattle.index_tool.specs.Listing.{ListsIndex, ListsFront}
+use Rattle.index_tool.specs.Mapping.{Maps, MapsDamaged, MapsFront}
 use Rattle.index_tool.specs.Rewriting.{Rewrites}
+use Rattle.index_tool.specs.Trees.{Retrees, TreesFront, TreesIndex}
+use Rattle.gix_index.specs.DecodeError.{Error}
 
--- a command as a value, with the kind of the ids and the file: `list`, `check`, and `rewrite` and `rewrite4` with the file that is
--- written and its version
+-- a command as a value: what is told of a file with ids of a kind, or what is written of it to another path
 pub data CommandValue : Type 0 where
-  Listing : Kind → List ℕ → CommandValue
-  Checking : Kind → List ℕ → CommandValue
-  Rewriting : VersionChoice → Kind → List ℕ → List ℕ → CommandValue
+  Reads : Reading → Kind → List ℕ → CommandValue
+  Writes : Writing → Kind → List ℕ → List ℕ → CommandValue
 
 abbrev pub command_value : Command → CommandValue
-command_value (commands.List kind path) = Listing kind path.now
-command_value (commands.Check kind path) = Checking kind path.now
-command_value (commands.Rewrite version kind path to) = Rewriting version kind path.now to.now
+command_value (commands.Read what kind path) = Reads what kind path.now
+command_value (commands.Write what kind path to) = Writes what kind path.now to.now
 
 abbrev pub is_word : List ℕ → List ℕ → Bool
 is_word word text = pointwise nat_eq word text
@@ -32,40 +36,73 @@ is_word word text = pointwise nat_eq word text
 abbrev pub kind_named : List ℕ → Option Kind
 kind_named word = if is_word word (codes "sha1") then Some Sha1 else (if is_word word (codes "sha256") then Some Sha256 else None)
 
--- what the words KIND FILE behind `list` name
-abbrev pub list_named : List (List ℕ) → Option CommandValue
-list_named (kind ∷ file ∷ []) = option_map (λ k. Listing k file) (kind_named kind)
-list_named words = None
+-- what the command with this name tells
+abbrev pub reading_named : List ℕ → Option Reading
+reading_named name =
+    if is_word name (codes "list") then Some readings.List
+    else (if is_word name (codes "check") then Some readings.Check
+    else (if is_word name (codes "check-trees") then Some readings.CheckTrees
+    else (if is_word name (codes "map") then Some readings.Map
+    else (if is_word name (codes "trees") then Some readings.Trees
+    else None))))
 
--- what the words KIND FILE behind `check` name
-abbrev pub check_named : List (List ℕ) → Option CommandValue
-check_named (kind ∷ file ∷ []) = option_map (λ k. Checking k file) (kind_named kind)
-check_named words = None
+-- what the command with this name writes
+abbrev pub writing_named : List ℕ → Option Writing
+writing_named name =
+    if is_word name (codes "rewrite") then Some (writings.Rewrite Smallest)
+    else (if is_word name (codes "rewrite4") then Some (writings.Rewrite V4)
+    else (if is_word name (codes "rewrite-trees") then Some writings.RewriteTrees
+    else None))
 
--- what the words KIND FILE OUT behind `rewrite` or `rewrite4` name
-abbrev pub rewrite_named : VersionChoice → List (List ℕ) → Option CommandValue
-rewrite_named version (kind ∷ file ∷ to ∷ []) = option_map (λ k. Rewriting version k file to) (kind_named kind)
-rewrite_named version words = None
+-- the command of the words KIND FILE
+abbrev pub read_named : Reading → List (List ℕ) → Option CommandValue
+read_named what (kind ∷ file ∷ []) = option_map (λ k. Reads what k file) (kind_named kind)
+read_named what words = None
+
+-- the command of the words KIND FILE OUT
+abbrev pub write_named : Writing → List (List ℕ) → Option CommandValue
+write_named what (kind ∷ file ∷ to ∷ []) = option_map (λ k. Writes what k file to) (kind_named kind)
+write_named what words = None
+
+abbrev pub named_so : Option Reading → Option Writing → List (List ℕ) → Option CommandValue
+named_so (Some what) other words = read_named what words
+named_so None (Some what) words = write_named what words
+named_so None None words = None
 
 -- the command that words name; None where they name none
 abbrev pub command_named : List (List ℕ) → Option CommandValue
-command_named (name ∷ words) =
-    if is_word name (codes "list") then list_named words
-    else (if is_word name (codes "check") then check_named words
-    else (if is_word name (codes "rewrite") then rewrite_named Smallest words
-    else (if is_word name (codes "rewrite4") then rewrite_named V4 words
-    else None)))
+command_named (name ∷ words) = named_so (reading_named name) (writing_named name) words
 command_named [] = None
 
--- what a command that succeeded did to known bytes of the output: they grew by the listing of an index, or by the line of one
--- that passed all checks, or stayed, and an index was written
-abbrev pub Succeeds : CommandValue → Option (List ℕ) → Option (List ℕ) → Type 0
-Succeeds (Listing kind file) old new = ListsIndex kind old new
-Succeeds (Checking kind file) old new = Checks kind old new
-Succeeds (Rewriting version kind file to) old new = Rewrites version kind to × Keeps old new
+-- known bytes of the output grew by what is told of a file: the listing of an index, the line of one that passed all checks, the map
+-- of a file without a fault, or the lines of the trees that an index makes
+abbrev pub Tells : Reading → Kind → Option (List ℕ) → Option (List ℕ) → Type 0
+Tells readings.List kind old new = ListsIndex kind old new
+Tells readings.Check kind old new = Checks false kind old new
+Tells readings.CheckTrees kind old new = Checks true kind old new
+Tells readings.Map kind old new = Maps kind old new
+Tells readings.Trees kind old new = TreesIndex kind old new
 
--- what a command that was refused did to them: nothing, or they grew by a prefix of that
+-- they grew by a prefix of that
+abbrev pub TellsFront : Reading → Kind → Option (List ℕ) → Option (List ℕ) → Type 0
+TellsFront readings.List kind old new = ListsFront kind old new
+TellsFront readings.Check kind old new = ChecksFront false kind old new
+TellsFront readings.CheckTrees kind old new = ChecksFront true kind old new
+TellsFront readings.Map kind old new = MapsFront kind old new
+TellsFront readings.Trees kind old new = TreesFront kind old new
+
+-- an index was written to a path: the one in a file, or that one with a cached tree made anew
+abbrev pub Stores : Writing → Kind → List ℕ → Type 0
+Stores (writings.Rewrite version) kind to = Rewrites version kind to
+Stores writings.RewriteTrees kind to = Retrees kind to
+
+-- what a command that succeeded did: known bytes of the output grew by all that it tells, or stayed, and an index was written
+abbrev pub Succeeds : CommandValue → Option (List ℕ) → Option (List ℕ) → Type 0
+Succeeds (Reads what kind file) old new = Tells what kind old new
+Succeeds (Writes what kind file to) old new = Stores what kind to × Keeps old new
+
+-- what a command that was refused did to them: nothing, or they grew by a prefix of that, or by the map of a damaged file
 pub data GivesUp (command : CommandValue) (old new : Option (List ℕ)) : Type 0 where
   nothing : Keeps old new → GivesUp command old new
-  some_lines : (kind : Kind) (file : List ℕ) → command ≡ Listing kind file → ListsFront kind old new → GivesUp command old new
-  some_of_ok : (kind : Kind) (file : List ℕ) → command ≡ Checking kind file → ChecksFront kind old new → GivesUp command old new
+  some_of : (what : Reading) (kind : Kind) (file : List ℕ) → command ≡ Reads what kind file → TellsFront what kind old new → GivesUp command old new
+  damaged_map : (kind : Kind) (file : List ℕ) (offset : ℕ) (e : Error) → command ≡ Reads readings.Map kind file → MapsDamaged kind offset e old new → GivesUp command old new

@@ -3,23 +3,29 @@
 pub mod check;
 mod index;
 pub mod list;
+pub mod map;
 pub mod rewrite;
+pub mod rewrite_trees;
+pub mod trees;
 
 ghost use Rattle.std.specs.Prelude.{◌≡◌, ◌≤◌, ◌↔◌, map, IfErr, OnOk, OnErr, IsSomeAnd, None, string_bytes};
 ghost use Rattle.std.specs.Io.KnownBytes.{Keeps};
 ghost use Rattle.std.specs.Option.{option_map};
-ghost use Rattle.index_tool.specs.Command.{check_named, command_named, command_value, kind_named, list_named, rewrite_named, GivesUp, Succeeds};
+ghost use Rattle.index_tool.specs.Command.{command_named, command_value, kind_named, read_named, reading_named, write_named, writing_named, GivesUp, Reads, Stores, Succeeds, Tells};
 
 use crate::failure::Failure;
 use check::check;
 use gix_index::hash::Kind;
 use gix_index::write::VersionChoice;
 use list::list;
+use map::map;
 use rewrite::rewrite;
+use rewrite_trees::rewrite_trees;
 use std::alloc::Global;
 use std::io;
 use std::io::Write;
 use std::rt::Files;
+use trees::trees;
 
 /// The status of a command that succeeded.
 pub const DONE: u8 = 0;
@@ -28,22 +34,42 @@ pub const REFUSED: u8 = 1;
 /// The status of words that are no command.
 pub const WRONG_WORDS: u8 = 2;
 
+/// What is told of the index in a file.
+#[derive(Clone, Copy)]
+pub enum Reading {
+    /// A line for each entry.
+    List,
+    /// Whether it is sound.
+    Check,
+    /// The same, and whether its cached tree tells what its entries give.
+    CheckTrees,
+    /// The parts of the file, up to its first fault.
+    Map,
+    /// A line for each directory of the trees that its entries make.
+    Trees,
+}
+
+/// What is written of the index in a file.
+#[derive(Clone, Copy)]
+pub enum Writing {
+    /// The index again.
+    Rewrite(VersionChoice),
+    /// The index with a cached tree made anew.
+    RewriteTrees,
+}
+
 /// A command with its words.
 #[derive(Clone, Copy)]
 enum Command<'a> {
-    /// A line for each entry of the index in the file.
-    List {
+    /// What is told of the file at a path.
+    Read {
+        what: Reading,
         kind: Kind,
         path: &'a str,
     },
-    /// Whether the index in the file is sound.
-    Check {
-        kind: Kind,
-        path: &'a str,
-    },
-    /// The index in the file, written to a path.
-    Rewrite {
-        version: VersionChoice,
+    /// What is written of it to another path.
+    Write {
+        what: Writing,
         kind: Kind,
         path: &'a str,
         to: &'a str,
@@ -62,44 +88,69 @@ fn kind_of(word: &str) -> Option<Kind>
     None
 }
 
-/// What the words behind `list` are.
-fn list_of(words: &[String]) -> Option<Command<'_>>
-    ensures { option_map command_value result ≡ list_named (map string_bytes words.now) }
+/// What a command of this name tells, if it is one that does.
+fn reading_of(name: &str) -> Option<Reading>
+    ensures { result ≡ reading_named name.now }
+{
+    if name == "list" {
+        return Some(Reading::List);
+    }
+    if name == "check" {
+        return Some(Reading::Check);
+    }
+    if name == "check-trees" {
+        return Some(Reading::CheckTrees);
+    }
+    if name == "map" {
+        return Some(Reading::Map);
+    }
+    if name == "trees" {
+        return Some(Reading::Trees);
+    }
+    None
+}
+
+/// What a command of this name writes, if it is one that does.
+fn writing_of(name: &str) -> Option<Writing>
+    ensures { result ≡ writing_named name.now }
+{
+    if name == "rewrite" {
+        return Some(Writing::Rewrite(VersionChoice::Smallest));
+    }
+    if name == "rewrite4" {
+        return Some(Writing::Rewrite(VersionChoice::V4));
+    }
+    if name == "rewrite-trees" {
+        return Some(Writing::RewriteTrees);
+    }
+    None
+}
+
+/// The command of the words KIND FILE.
+fn read_of(what: Reading, words: &[String]) -> Option<Command<'_>>
+    ensures { option_map command_value result ≡ read_named what (map string_bytes words.now) }
 {
     let [kind, path] = words else {
         return None;
     };
     let kind = kind_of(kind.as_str())?;
-    Some(Command::List {
+    Some(Command::Read {
+        what,
         kind,
         path: path.as_str(),
     })
 }
 
-/// What the words behind `check` are.
-fn check_of(words: &[String]) -> Option<Command<'_>>
-    ensures { option_map command_value result ≡ check_named (map string_bytes words.now) }
-{
-    let [kind, file] = words else {
-        return None;
-    };
-    let kind = kind_of(kind.as_str())?;
-    Some(Command::Check {
-        kind,
-        path: file.as_str(),
-    })
-}
-
-/// What the words behind `rewrite` or `rewrite4` are, of which each has its version.
-fn rewrite_of(version: VersionChoice, words: &[String]) -> Option<Command<'_>>
-    ensures { option_map command_value result ≡ rewrite_named version (map string_bytes words.now) }
+/// The command of the words KIND FILE OUT.
+fn write_of(what: Writing, words: &[String]) -> Option<Command<'_>>
+    ensures { option_map command_value result ≡ write_named what (map string_bytes words.now) }
 {
     let [kind, file, to] = words else {
         return None;
     };
     let kind = kind_of(kind.as_str())?;
-    Some(Command::Rewrite {
-        version,
+    Some(Command::Write {
+        what,
         kind,
         path: file.as_str(),
         to: to.as_str(),
@@ -113,19 +164,50 @@ fn command_of(words: &[String]) -> Option<Command<'_>>
     let [name, rest @ ..] = words else {
         return None;
     };
-    if name.as_str() == "list" {
-        return list_of(rest);
+    if let Some(what) = reading_of(name.as_str()) {
+        return read_of(what, rest);
     }
-    if name.as_str() == "check" {
-        return check_of(rest);
+    let what = writing_of(name.as_str())?;
+    write_of(what, rest)
+}
+
+/// Tells what is asked of the index in a file: Ok where all of it went to `out`.
+fn tell<'a, R: Files, W: io::Write>(
+    rt: &R,
+    alloc: Global,
+    what: Reading,
+    kind: Kind,
+    path: &'a str,
+    out: &mut W,
+) -> Result<(), Failure<'a>>
+    ensures told { OnOk result (Tells what kind (W.contents out.old) (W.contents out.new)) }
+    ensures refused { OnErr result
+        (GivesUp (Reads what kind path.now) (W.contents out.old) (W.contents out.new)) }
+{
+    match what {
+        Reading::List => list(rt, alloc, kind, path, out),
+        Reading::Check => check(rt, alloc, false, kind, path, out),
+        Reading::CheckTrees => check(rt, alloc, true, kind, path, out),
+        Reading::Map => map(rt, alloc, kind, path, out),
+        Reading::Trees => trees(rt, alloc, kind, path, out),
     }
-    if name.as_str() == "rewrite" {
-        return rewrite_of(VersionChoice::Smallest, rest);
+}
+
+/// Writes what is asked of the index in a file to another path.
+fn write<'a, R: Files>(
+    rt: &R,
+    alloc: Global,
+    what: Writing,
+    kind: Kind,
+    path: &'a str,
+    to: &'a str,
+) -> Result<(), Failure<'a>>
+    ensures written { OnOk result (Stores what kind to.now) }
+{
+    match what {
+        Writing::Rewrite(version) => rewrite(rt, alloc, version, kind, path, to),
+        Writing::RewriteTrees => rewrite_trees(rt, alloc, kind, path, to),
     }
-    if name.as_str() == "rewrite4" {
-        return rewrite_of(VersionChoice::V4, rest);
-    }
-    None
 }
 
 /// Runs a command: Ok where its whole result went to `out`.
@@ -141,14 +223,13 @@ fn run_command<'a, R: Files, W: io::Write>(
         (GivesUp (command_value command.entry) (W.contents out.old) (W.contents out.new)) }
 {
     match command {
-        Command::List { kind, path } => list(rt, alloc, kind, path, out),
-        Command::Check { kind, path } => check(rt, alloc, kind, path, out),
-        Command::Rewrite {
-            version,
+        Command::Read { what, kind, path } => tell(rt, alloc, what, kind, path, out),
+        Command::Write {
+            what,
             kind,
             path,
             to,
-        } => rewrite(rt, alloc, version, kind, path, to),
+        } => write(rt, alloc, what, kind, path, to),
     }
 }
 
@@ -156,13 +237,16 @@ fn run_command<'a, R: Files, W: io::Write>(
 ///
 /// KIND is `sha1` or `sha256`, and FILE is an index, which is read with the shared index that it links to. `list KIND
 /// FILE` writes a line to `out` for each entry. `check KIND FILE` writes `ok` and a newline where the entries are in
-/// order and the file has its digest still. `rewrite KIND FILE OUT` writes the index to the path OUT, by way of the
-/// lock file OUT.lock, and nothing to `out`. `rewrite4 KIND FILE OUT` does so in version 4.
+/// order and the file has its digest still; `check-trees KIND FILE` does so where the cached tree tells what they give,
+/// too. `map KIND FILE` writes a line to `out` for each part of FILE, whose link isn't followed: up to the first fault,
+/// where it has one. `trees KIND FILE` writes a line to `out` for each directory of the trees that the entries make.
+/// `rewrite KIND FILE OUT` writes the index to the path OUT, by way of the lock file OUT.lock, and nothing to `out`.
+/// `rewrite4 KIND FILE OUT` does so in version 4, and `rewrite-trees KIND FILE OUT` with a cached tree made anew.
 ///
 /// [`DONE`]: the command did all that. [`REFUSED`]: a file can't be read or written, or is no such index, or `out`
-/// failed; nothing goes to `out` before FILE was read whole and all checks have passed. [`WRONG_WORDS`]: the words are
-/// no command; no file is opened. A status other than [`DONE`] comes with one line on `faults`, which names the file
-/// that it concerns.
+/// failed; nothing goes to `out` before FILE was read whole and, but for `map`, all checks have passed; the map of a
+/// damaged file goes there whole. [`WRONG_WORDS`]: the words are no command; no file is opened. A status other than
+/// [`DONE`] comes with one line on `faults`, which names the file that it concerns.
 pub fn run<R: Files + Alloc, O: io::Write, E: io::Write>(
     rt: &R,
     alloc: Global,
@@ -185,7 +269,7 @@ pub fn run<R: Files + Alloc, O: io::Write, E: io::Write>(
     let Some(command) = command_of(words) else {
         let _ = writeln!(
             faults,
-            "index-tool: usage: index-tool list|check sha1|sha256 FILE, or index-tool rewrite|rewrite4 sha1|sha256 FILE OUT"
+            "index-tool: usage: index-tool list|check|check-trees|map|trees sha1|sha256 FILE, or index-tool rewrite|rewrite4|rewrite-trees sha1|sha256 FILE OUT"
         );
         return WRONG_WORDS;
     };

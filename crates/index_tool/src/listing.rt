@@ -80,7 +80,8 @@ fn hex_sixty_four(bytes: &[u8; 32]) -> [u8; 64]
     digits
 }
 
-fn append_hex(lines: &mut Vec<u8>, id: &ObjectId) -> Result<(), AllocError>
+/// Appends an id in base 16.
+pub fn append_hex(lines: &mut Vec<u8>, id: &ObjectId) -> Result<(), AllocError>
     ensures { OnOk result (lines.new.items ≡ lines.old.items ++ encode_lower (id_bytes id.now)) }
 {
     match id {

@@ -4,8 +4,7 @@
 pub mod command;
 pub mod failure;
 pub mod listing;
-#[cfg(test)]
-mod tests;
+pub mod trees;
 pub mod words;
 
 pub use command::run;
