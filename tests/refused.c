@@ -8,6 +8,7 @@
  * REFUSED_NTH    which one, counted from 1
  * REFUSED_ON     where it is set, each one behind it as well
  * REFUSED_ERROR  the number of the error of a call (by default EIO)
+ * REFUSED_SIZE   before the REFUSED_NTH reading the file has so many bytes, whatever REFUSED_KIND is
  * REFUSED_COUNTS a file for how many there were of the four kinds, and how many requests were for a block that there was
  *                none of before, as a vector's first one is
  */
@@ -27,7 +28,7 @@
 enum kind { REQUEST, CALL, MOVE, WAIT, KINDS };
 static const char *const names[KINDS] = {"request", "call", "move", "wait"};
 
-static long counts[KINDS], blocks, nth;
+static long counts[KINDS], blocks, nth, readings, size = -1;
 static enum kind refused = KINDS;
 static int goes_on, is_begun, error_number = EIO;
 
@@ -36,9 +37,11 @@ static int goes_on, is_begun, error_number = EIO;
 
 __attribute__((constructor)) static void begin(void) {
   const char *kind = getenv("REFUSED_KIND"), *number = getenv("REFUSED_NTH"), *error = getenv("REFUSED_ERROR");
+  const char *wanted = getenv("REFUSED_SIZE");
   for (enum kind at = 0; kind && at < KINDS; at++)
     if (!strcmp(kind, names[at])) refused = at;
   if (number) nth = atol(number);
+  if (wanted) size = atol(wanted);
   if (error) error_number = atoi(error);
   goes_on = getenv("REFUSED_ON") != NULL;
   is_begun = 1;
@@ -121,7 +124,16 @@ int unlink(const char *path) { return fails() ? -1 : NEXT(unlink)(path); }
 int fsync(int file) { return fails() ? -1 : NEXT(fsync)(file); }
 int ftruncate(int file, off_t len) { return fails() ? -1 : NEXT(ftruncate)(file, len); }
 
+/* The file is longer or shorter than it was, as where another program writes it meanwhile. */
+static void resize(int file) {
+  char path[32];
+  if (size < 0 || ++readings != nth) return;
+  snprintf(path, sizeof path, "/proc/self/fd/%d", file);
+  syscall(SYS_truncate, path, size);
+}
+
 ssize_t read(int file, void *to, size_t len) {
+  resize(file);
   return fails() || is_interrupted() ? -1 : NEXT(read)(file, to, moved(len));
 }
 

@@ -4,6 +4,7 @@ from dataclasses import dataclass
 from typing import Optional
 
 import lookups
+import made_trees
 import merging
 import state
 import trees
@@ -78,4 +79,46 @@ def rewritten(is_version_4):
     return made
 
 
-COMMANDS = {"list": listed, "check": checked, "rewrite": rewritten(False), "rewrite4": rewritten(True)}
+def made_of(found, name):
+    """The cached tree of an index, made anew."""
+    place = lookups.first_out_of_order(found.entries)
+    if place is not None:
+        raise Refused(f"{name}: entry {place}, ")
+    try:
+        return made_trees.made(found.kind, found.entries)[0]
+    except made_trees.NoTree:
+        raise Refused(f"{name}: ") from None
+
+
+def treed(found, name):
+    """A line for each directory of the trees that the entries make."""
+    return Answer(out=made_trees.lines(made_of(found, name)))
+
+
+def tree_checked(found, name):
+    """What is checked, and whether each node that has a count has the id and the count that the entries give."""
+    answer = checked(found, name)
+    if found.tree is not None:
+        given = dict(made_trees.walked(made_of(found, name)))
+        for path, node in made_trees.walked(found.tree):
+            same = given.get(path)
+            if node.count is not None and (same is None or (node.id, node.count) != (same.id, same.count)):
+                raise Refused(f"{name}: ")
+    return answer
+
+
+def retreed(found, name):
+    """The index with a cached tree made anew."""
+    found.tree = made_of(found, name)
+    return rewritten(False)(found, name)
+
+
+COMMANDS = {
+    "list": listed,
+    "check": checked,
+    "trees": treed,
+    "check-trees": tree_checked,
+    "rewrite": rewritten(False),
+    "rewrite4": rewritten(True),
+    "rewrite-trees": retreed,
+}
