@@ -1,13 +1,13 @@
 //! The end marker, which names the place where the extensions begin (gitformat-index, "End of Index Entry").
 
-ghost use Rattle.std.specs.Prelude.{◌≡◌, ◌+◌, ◌++◌, codes, List, [], ◌∷◌, false, is_err, IfSome, IfNone};
+ghost use Rattle.std.specs.Prelude.{◌≡◌, ◌≤◌, ◌+◌, ◌++◌, ℕ, length, codes, List, [], ◌∷◌, false, is_err, IfSome, IfNone};
 ghost use Rattle.std.specs.List.{flat_map};
 ghost use Rattle.std.specs.Option.{option_map};
 ghost use Rattle.index_parts.specs.Digest.{digest};
 ghost use Rattle.index_parts.specs.Id.{id_bytes, id_len};
 ghost use Rattle.index_parts.specs.Puts.{Puts};
 ghost use Rattle.index_parts.specs.declared.hash.Kind.TheVariants.{Sha1};
-ghost use Rattle.index_extensions.specs.EndMarker.{heads, IsMarker};
+ghost use Rattle.index_extensions.specs.EndMarker.{heads, EndsInMarker, IsMarker};
 ghost use Rattle.index_extensions.specs.WalkSteps.{marker_at};
 ghost use Rattle.index_extensions.specs.Encoding.{heads_bytes, item_bytes, marker_item};
 ghost use Rattle.index_parts.specs.Numbers.{be32};
@@ -52,10 +52,21 @@ struct Marker<'a> {
 pub fn decode(data: &[u8], object_hash: Kind) -> Option<usize>
     ensures { IsMarker object_hash «data».now result }
 {
+    decode_behind(0, data, object_hash)
+}
+
+/// The same of a file of which the last bytes are at hand, behind so many others. None also where the marker names a
+/// place among those.
+pub fn decode_behind(front: usize, rest: &[u8], object_hash: Kind) -> Option<usize>
+    ensures found { IfSome result (λ place. (before : List ℕ) → length before ≡ front
+        → EndsInMarker object_hash (before ++ rest.now) place) }
+    ensures none { IfNone result ((before : List ℕ) (place : ℕ) → length before ≡ front
+        → front ≤ place → EndsInMarker object_hash (before ++ rest.now) place → ⊥) }
+{
     if object_hash != Kind::Sha1 {
         return None;
     }
-    let marker = marker_of(data)?;
+    let marker = marker_of(front, rest)?;
     let id = digest_of_heads(marker.between)?;
     if id.as_bytes() != marker.hash {
         return None;
@@ -63,10 +74,11 @@ pub fn decode(data: &[u8], object_hash: Kind) -> Option<usize>
     Some(marker.offset)
 }
 
-/// The marker before the trailer of a SHA-1 file.
+/// The marker before the trailer of a SHA-1 file, of which so many bytes at the front aren't at hand.
 #[tactic(auto, unfolding(crate::specs::WalkSteps::marker_at))]
-fn marker_of(bytes: &[u8]) -> Option<Marker<'_>>
-    ensures { option_map (λ m. (m.offset, m.between.now, m.hash.now)) result ≡ marker_at bytes.now }
+fn marker_of(front: usize, bytes: &[u8]) -> Option<Marker<'_>>
+    ensures { option_map (λ m. (m.offset, m.between.now, m.hash.now)) result
+        ≡ marker_at front bytes.now }
 {
     if bytes.len() < MARKER_AND_TRAILER {
         return None;
@@ -81,7 +93,10 @@ fn marker_of(bytes: &[u8]) -> Option<Marker<'_>>
     if offset < HEADER_LEN {
         return None;
     }
-    let (_, between) = before.split_at_checked(offset)?;
+    if offset < front {
+        return None;
+    }
+    let (_, between) = before.split_at_checked(offset - front)?;
     let (hash, _) = rest.split_at(20);
     Some(Marker {
         offset,

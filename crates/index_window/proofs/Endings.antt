@@ -23,14 +23,14 @@ before_end before tail n le =
     let at : length (before ++ tail) - n ≡ length before + (length tail - n) = omega (arith, length-append before tail) in
     rw at (take-append-add before tail (length tail - n))
 
-marker_lacks : (before tail : List ℕ) → 52 ≤ length tail → starts_with nat_eq (take 8 (drop (length tail - 52) tail)) marker_start ≡ false → marker_at (before ++ tail) ≡ None
+marker_lacks : (before tail : List ℕ) → 52 ≤ length tail → starts_with nat_eq (take 8 (drop (length tail - 52) tail)) marker_start ≡ false → marker_at 0 (before ++ tail) ≡ None
 unfolding marker_at
 marker_lacks before tail long e =
     let enough : ltb (length (before ++ tail)) 52 ≡ false = le-ltb _ _ (omega (arith, length-append before tail)) in
     rw (enough, near_end before tail 52 long, e) refl
 
 pub unmarked : (kind : Kind) (before tail : List ℕ) → 52 ≤ length tail → starts_with nat_eq (take 8 (drop (length tail - 52) tail)) marker_start ≡ false → IsMarker kind (before ++ tail) None
-unmarked kind before tail long e = λ place h. marked_none kind (before ++ tail) place (marker_lacks before tail long e) h
+unmarked kind before tail long e = λ place h. marked_none [] (before ++ tail) 0 refl kind place (marker_lacks before tail long e) (omega arith) h
 
 -- ---- the trailer
 

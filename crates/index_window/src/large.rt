@@ -8,7 +8,7 @@ ghost use Rattle.index_format.specs.Storable.{IsStorable};
 ghost use Rattle.index_window.specs.Intact.{IsIntact};
 
 use crate::ReadOptions;
-use crate::windows::{KEPT_LEN, lacks_marker, windowed};
+use crate::windows::{KEPT_LEN, lacks_marker, offset_in, windowed};
 use index_format::Parts;
 use index_parts::hash::{Kind, ObjectId};
 use index_parts::read;
@@ -36,8 +36,8 @@ fn ends_in_null(kind: Kind, end: &[u8]) -> bool {
 }
 
 /// Reads a plain file in windows, and gives the parts of the index in it, and the trailer's id, or None where that is
-/// null. It is None of a small file, of what is no plain file, as a pipe, and where the index isn't sound, has an end
-/// marker, or changes meanwhile: then a plain file stands at its start again, and has to be read whole.
+/// null. It is None of a small file, of what is no plain file, as a pipe, and where the index isn't sound, or changes
+/// meanwhile: then a plain file stands at its start again, and has to be read whole.
 pub fn in_windows<F: OpenFile + Read + Seek>(
     alloc: Global,
     file: &mut F,
@@ -61,11 +61,10 @@ pub fn in_windows<F: OpenFile + Read + Seek>(
         return Ok(None);
     }
     let end = end_of(alloc, file, len)?;
-    if !lacks_marker(&end) {
-        return Ok(None);
-    }
+    // (whether a marker that stands there fits is seen once the entries are read)
+    let offset = (!lacks_marker(&end)).then(|| offset_in(&end));
     let is_hashed = !reading.skip_hash && !ends_in_null(reading.object_hash, &end);
-    if let Ok(Some(read)) = windowed(alloc, file, len, is_hashed, reading) {
+    if let Ok(Some(read)) = windowed(alloc, file, len, is_hashed, offset, reading) {
         return Ok(Some(read));
     }
     file.seek(SeekFrom::Start(0))?;

@@ -1,6 +1,6 @@
 //! A large index that is read in windows.
 
-ghost use Rattle.std.specs.Prelude.{◌≡◌, ◌≤◌, ◌+◌, ◌++◌, ℕ, List, Option, All, [], drop, length, vec_len, IfOk, IfSome, OnOk, Ok, None, true};
+ghost use Rattle.std.specs.Prelude.{◌≡◌, ◌≤◌, ◌+◌, ◌++◌, ℕ, List, Option, All, [], drop, length, vec_len, IfOk, IfSome, OnOk, Ok, None, false, true};
 ghost use Rattle.index_entries.specs.Record.{AreBytes, IdsAreOf, has_directory};
 ghost use Rattle.index_extensions.specs.EndMarker.{IsMarker};
 ghost use Rattle.index_format.specs.Answer.{IsAnswer, IsEnding};
@@ -18,10 +18,12 @@ use index_entries::Version;
 use index_entries::decode::entries::{FirstEntries, Read as ReadEntries, entries_in};
 use index_entries::list::EntryList;
 use index_entries::sizes::HEADER_LEN;
+use index_extensions::end_of_index_entry;
 use index_format::Parts;
-use index_format::decode::{ReadAs, declared_by, read_ending};
+use index_format::decode::{Declared, ReadAs, declared_by, read_ending};
 use index_parts::hash::{Hasher, Kind, ObjectId};
 use index_parts::read;
+use index_parts::util::from_be_u32;
 use std::alloc::{AllocError, Global};
 use std::io;
 use std::io::Read;
@@ -39,6 +41,10 @@ struct Plan {
     kind: Kind,
     count: u32,
     is_hashed: bool,
+    /// How many bytes the file has.
+    len: usize,
+    /// Where the extensions begin, if an end marker says so.
+    offset: Option<usize>,
 }
 
 /// Hashes these bytes, if they are to be hashed.
@@ -157,6 +163,30 @@ pub fn lacks_marker(tail: &[u8]) -> bool
     !start.starts_with(b"EOIE\x00\x00\x00\x18")
 }
 
+/// The offset that an end marker names, if these are the last bytes of a file that has one.
+pub fn offset_in(tail: &[u8]) -> usize {
+    if tail.len() < KEPT_LEN {
+        return 0;
+    }
+    from_be_u32(&tail[tail.len() - KEPT_LEN + 8..][..4]) as usize
+}
+
+/// Whether the end marker names the offset of the plan, or where that has none, there is no marker. It may say no where
+/// it is so.
+fn is_marked(plan: Plan, tail: &[u8]) -> bool
+    ensures { result ≡ true → (before : List ℕ) → length before + length tail.now ≡ plan.len
+        → IsMarker plan.kind (before ++ tail.now) plan.offset }
+{
+    let Some(offset) = plan.offset else {
+        return lacks_marker(tail);
+    };
+    let front = plan.len.saturating_sub(tail.len());
+    match end_of_index_entry::decode_behind(front, tail, plan.kind) {
+        Some(found) => found == offset,
+        None => false,
+    }
+}
+
 /// Whether the trailer needn't be compared, or is the digest. The hasher took in all bytes before the tail, if they
 /// were to be hashed.
 fn is_intact(plan: Plan, mut hasher: Hasher, tail: &[u8], skip_hash: bool) -> bool
@@ -177,8 +207,8 @@ fn is_intact(plan: Plan, mut hasher: Hasher, tail: &[u8], skip_hash: bool) -> bo
 }
 
 /// The parts of entries that were read, and of what follows them in the window from a place on; and the trailer's id,
-/// or None where it is null. None unless all is sound, and no end marker stands there. The hasher took in all bytes
-/// before the window, if they were to be hashed.
+/// or None where it is null. None unless all is sound, and the end marker is that of the plan. The hasher took in all
+/// bytes before the window, if they were to be hashed.
 fn ending_of(
     alloc: Global,
     plan: Plan,
@@ -197,15 +227,16 @@ fn ending_of(
     ensures intact { IfSome result (λ _. hasher_kind hasher ≡ plan.kind → (message : List ℕ)
         → (plan.is_hashed ≡ true → Holds hasher message)
         → IsIntact reading.skip_hash plan.kind (message ++ window.now)) }
-    ensures marker { IfSome result
-        (λ _. (before : List ℕ) → IsMarker plan.kind (before ++ window.now) None) }
+    ensures marker { IfSome result (λ _. (before : List ℕ)
+        → length before + length window.now ≡ plan.len
+        → IsMarker plan.kind (before ++ window.now) plan.offset) }
     ensures are_bytes { IfSome result (λ _. AreBytes window.now) }
     ensures placed { IfSome result (λ x. PartsInStorage x.0) }
     ensures ids { IfSome result (λ x. IdsAreOf plan.kind (parts_entries x.0)) }
     ensures extension_ids { IfSome result
         (λ x. ExtensionIdsAreOf plan.kind (parts_contents x.0).extensions) }
 {
-    if !lacks_marker(window) || !is_intact(plan, hasher, window, reading.skip_hash) {
+    if !is_marked(plan, window) || !is_intact(plan, hasher, window, reading.skip_hash) {
         return None;
     }
     let read = ReadEntries {
@@ -225,13 +256,26 @@ fn ending_of(
     }
 }
 
+/// Room for the entries that are declared.
+fn room_for(alloc: Global, declared: Declared) -> Result<FirstEntries, AllocError>
+    ensures { IfOk result (λ first. (first.list.records ≡ []) × (first.sparse ≡ false)) }
+{
+    let list = EntryList::with_capacity(alloc, declared.count as usize, declared.paths)?;
+    Ok(FirstEntries {
+        list,
+        sparse: false,
+    })
+}
+
 /// The parts of the index that a reader of so many bytes gives, and the trailer's id, or None where it is null. None
-/// where it isn't a sound index without an end marker. Where its digest will have to be compared, it has to be hashed.
+/// where it isn't a sound index whose end marker names the offset, or which has none where there is no offset. Where
+/// its digest will have to be compared, it has to be hashed.
 pub fn windowed<R: Read>(
     alloc: Global,
     reader: &mut R,
     len: u64,
     is_hashed: bool,
+    offset: Option<usize>,
     reading: ReadOptions,
 ) -> io::Result<Option<(Parts, Option<ObjectId>)>>
     ensures read { IfOk result (λ o. IfSome o (λ x. (bytes : List ℕ)
@@ -253,7 +297,7 @@ pub fn windowed<R: Read>(
         return Ok(None);
     }
     let left = len - came as u64;
-    let Some(declared) = declared_by(&window, len as usize, None, kind, reading.options) else {
+    let Some(declared) = declared_by(&window, len as usize, offset, kind, reading.options) else {
         return Ok(None);
     };
     let plan = Plan {
@@ -261,13 +305,11 @@ pub fn windowed<R: Read>(
         kind,
         count: declared.count,
         is_hashed,
+        len: len as usize,
+        offset,
     };
     let mut hasher = Hasher::new(kind);
-    let list = EntryList::with_capacity(alloc, declared.count as usize, declared.paths)?;
-    let mut first = FirstEntries {
-        list,
-        sparse: false,
-    };
+    let mut first = room_for(alloc, declared)?;
     let Some((start, left)) = read_entries(
         reader,
         plan,

@@ -21,7 +21,7 @@ returns-clause-read g c =
     let reading = c.args.reading in
     let kind = reading.object_hash in
     let declared = c.in-Some.declared in
-    let plan : Plan = record { version = declared.version; kind = kind; count = declared.count; is_hashed = c.args.is_hashed } in
+    let plan : Plan = record { version = declared.version; kind = kind; count = declared.count; is_hashed = c.args.is_hashed; len = c.args.len; offset = c.args.offset } in
     let first = c.fill.new.bytes.items in
     let w1 = c.read_entries.new.window.items in
     let tail = c.read_to_end.new.buf.items in
@@ -29,7 +29,7 @@ returns-clause-read g c =
     let start = c.in-Some-2.start in
     let r = rw c.in-Some-2.is at c.in_ok-start.ensures.read in
     let whole = rw c.in-Some-2.is at c.in_ok-start.ensures.whole in
-    let a : Moment = record { left = g.R.Read.remaining c.fill.new.reader; hasher = c.new-hasher.result; window = first; decoded = 12; records = c.in_ok-list.list.records } in
+    let a : Moment = record { left = g.R.Read.remaining c.fill.new.reader; hasher = c.new-hasher.result; window = first; decoded = 12; records = c.in_ok-first.first.list.records } in
     let b : Moment = record { left = g.R.Read.remaining c.read_entries.new.reader; hasher = c.read_entries.new.hasher; window = w1; decoded = start; records = c.read_entries.new.first.list.records } in
     let grown : tail ≡ w1 ++ more = starts_with_rest tail w1 (rw c.in_ok-reserve.ensures.items at c.in_ok-more.ensures.appends) in
     let rest : Consumes b.left (g.R.Read.remaining c.read_to_end.new.self) more = rw c.in_ok-reserve.ensures.items at c.in_ok-more.ensures.none_lost in
@@ -41,15 +41,16 @@ returns-clause-read g c =
     let size : length first + r.0 + length more ≡ c.args.len = omega (arith, r.1, got, came, left, within) in
     let header : header_of kind first ≡ Ok declared.version = rw c.deref.ensures.value at c.in-Some.ensures.header in
     let counted : declared.count ≡ count_of first = rw c.deref.ensures.value at c.in-Some.ensures.count in
-    let none : a.records ≡ [] = rw c.in_ok-list.ensures refl in
+    let none : a.records ≡ [] = c.in_ok-first.ensures.0 in
     let step : IsReadOn plan a b r.0 = r.2 in
+    let total : length step.taken + length tail ≡ c.args.len = omega (arith, size, ap length step.bytes, ap length grown, step.len, length-append first step.more, length-append step.taken w1, length-append w1 more) in
     some_with c.ending_of.result _ _ _ _ _ (λ x ending intact marker bytes. (
       step.taken ++ tail,
-      whole_of_windows plan reading.timestamp reading.options None a b r.0 tail more c.args.len x (g.R.Read.remaining c.args.reader.now) (g.R.Read.remaining c.read_to_end.new.self) step grown front rest c.in_ok-more.ensures.end,
+      whole_of_windows plan reading.timestamp reading.options c.args.offset a b r.0 tail more c.args.len x (g.R.Read.remaining c.args.reader.now) (g.R.Read.remaining c.read_to_end.new.self) step grown front rest c.in_ok-more.ensures.end,
       All-append (λ b. b < 256) step.taken tail step.are_bytes (subst AreBytes c.deref-2.ensures.value bytes),
       subst (λ (l : List ℕ). IsIntact reading.skip_hash kind (step.taken ++ l)) c.deref-2.ensures.value (intact (step.kind_stays ∙ c.new-hasher.ensures.kind) step.taken (λ is. step.hashed is [] c.new-hasher.ensures.empty)),
-      answer_of_windows plan reading.timestamp reading.options None a b r.0 tail more c.args.len x header counted c.in-Some.ensures.fits c.in-Some.ensures.small refl none whole step grown size
-          (subst (λ (l : List ℕ). IsMarker kind (step.taken ++ l) None) c.deref-2.ensures.value (marker step.taken))
+      answer_of_windows plan reading.timestamp reading.options c.args.offset a b r.0 tail more c.args.len x header counted c.in-Some.ensures.fits c.in-Some.ensures.small refl none whole step grown size
+          (subst (λ (l : List ℕ). length step.taken + length l ≡ c.args.len → IsMarker kind (step.taken ++ l) c.args.offset) c.deref-2.ensures.value (marker step.taken) total)
           (subst (λ (l : List ℕ). IsEnding kind reading.timestamp reading.options declared.version b.records (drop start l) (Ok (parts_contents x.0, x.1))) c.deref-2.ensures.value ending),
     )) c.ending_of.ensures.ending c.ending_of.ensures.intact c.ending_of.ensures.marker c.ending_of.ensures.are_bytes
 
