@@ -1,4 +1,4 @@
-"""The parts of a file, side by side, up to its first fault by place."""
+"""The parts of a file, side by side, up to its first fault by place, and what can be saved of its entries."""
 
 from dataclasses import dataclass, field
 
@@ -10,16 +10,32 @@ from bytes import ID_LENGTH, Unreadable, digest, null_id
 
 @dataclass
 class Parts:
-    """What each part is, with its length; and whether the last one begins with a fault."""
+    """What each part is, with its length; whether the last one begins with a fault; and the entries before it."""
 
     data: bytes
     found: list = field(default_factory=list)
     is_damaged: bool = False
+    declared: int = 0
+    front: list = field(default_factory=list)
+    has_link: bool = False
 
     @property
     def end(self):
         """How many bytes have a part."""
         return sum(length for length, _ in self.found)
+
+    @property
+    def last(self):
+        """Where the last part begins."""
+        return self.end - self.found[-1][0]
+
+    def saved(self):
+        """The entries before a fault that have a path, of each path and stage the first, in order."""
+        firsts = {}
+        for entry in self.front:
+            if entry.path:
+                firsts.setdefault(entry.key, entry)
+        return [firsts[key] for key in sorted(firsts)]
 
     def put(self, length, what):
         self.found.append((length, what))
@@ -46,7 +62,7 @@ def escaped(data):
 
 
 def put_entry(parts, rest, kind, version, place, previous):
-    """Puts the parts of the next entry, and gives its path and what is left."""
+    """Puts the next entry and its parts, and gives its path and what is left."""
     if version == 4:
         entry, after = entries.read_compressed(rest, kind, previous)
         padding = 0
@@ -57,6 +73,7 @@ def put_entry(parts, rest, kind, version, place, previous):
     parts.put(len(rest) - len(after) - padding, b"entry %d %s" % (place, escaped(entry.path)))
     if padding:
         parts.put(padding, b"padding")
+    parts.front.append(entry)
     return entry.path, after
 
 
@@ -64,6 +81,7 @@ def put_extensions(parts, data, kind):
     """Puts the parts of extensions and of what is left over behind them, and says whether none is at fault."""
     walk = extensions.walk(data)
     for signature, content in walk.items:
+        parts.has_link |= signature == extensions.LINK
         try:
             state.check_mandatory(signature, content, kind)
         except state.Fault:
@@ -86,6 +104,7 @@ def parts_of(data, kind):
     except state.Fault:
         return parts.refuse()
     parts.put(state.HEADER_LENGTH, b"header")
+    parts.declared = count
     rest, previous = data[state.HEADER_LENGTH:], None
     for place in range(count):
         try:

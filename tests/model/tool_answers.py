@@ -6,13 +6,14 @@ from typing import Optional
 import lookups
 import made_trees
 import merging
+import parts
 import state
 import trees
 import writing
 from files import Unread
 from files import index_at as read_at
 
-# The file that `rewrite` and `rewrite4` write.
+# The file that commands which write one write.
 OUT = "out"
 
 
@@ -33,7 +34,9 @@ class Refused(Exception):
 def answer(command, kind, name, files):
     """The answer to a command on the file of this name, beside others that are given by their names."""
     try:
-        return COMMANDS[command](index_at(kind, name, files), name)
+        if command in OF_BYTES:
+            return OF_BYTES[command](parts.parts_of(files[name], kind), kind, name)
+        return OF_INDICES[command](index_at(kind, name, files), name)
     except Refused as fault:
         return Answer(1, fault=f"index-tool: {fault}".encode())
 
@@ -113,7 +116,26 @@ def retreed(found, name):
     return rewritten(False)(found, name)
 
 
-COMMANDS = {
+def mapped(found, kind, name):
+    """A line for each part up to the first fault, and one for the rest."""
+    if found.is_damaged:
+        return Answer(1, found.lines(), f"index-tool: {name}: at byte {found.last}: ".encode())
+    return Answer(out=found.lines())
+
+
+def salvaged(found, kind, name):
+    """What is saved of the entries before the first fault, with a line that tells of them."""
+    if len(found.found) == 1:
+        raise Refused(f"{name}: ")
+    wanted = state.State(kind)
+    for entry in found.saved():
+        wanted.push(entry)
+    counts = f"{found.declared} declared, {len(found.front)} read, {len(wanted.entries)} kept"
+    return Answer(fault=f"index-tool: {name}: {counts}".encode(), written=writing.image(wanted)[2])
+
+
+# The commands that look at an index with its shared one, and those that look at the bytes of a file.
+OF_INDICES = {
     "list": listed,
     "check": checked,
     "trees": treed,
@@ -122,3 +144,5 @@ COMMANDS = {
     "rewrite4": rewritten(True),
     "rewrite-trees": retreed,
 }
+OF_BYTES = {"map": mapped, "salvage": salvaged}
+COMMANDS = OF_INDICES | OF_BYTES

@@ -1,6 +1,6 @@
 -- What is saved of a file that may be damaged: the front of its entries, put in order (gitformat-index, "Index entries are
 -- sorted in ascending order").
-use Rattle.std.specs.Prelude.{◌≡◌, ◌≢◌, ◌↔◌, ℕ, ◌-◌, nat_eq, ◌||◌, Bool, true, false, List, [], ◌∷◌, Contains, length, codes, filter, slice_get, Option, Some, None, IfSome, Err}
+use Rattle.std.specs.Prelude.{◌≡◌, ◌≢◌, ◌↔◌, ℕ, ◌-◌, nat_eq, ◌||◌, Bool, true, false, List, [], ◌∷◌, Contains, length, codes, filter, slice_get, Option, Some, None, IfSome, IsOk, Err}
 use Rattle.std.specs.Cmp.Lexicographic.{pointwise}
 use Rattle.std.specs.List.{list_any}
 use Rattle.std.specs.Option.{option_map}
@@ -65,8 +65,9 @@ has_link parts e = list_any (λ p. is_link_head p.what) parts || is_link_fault e
 
 -- ---- what is given
 
--- the entries that are read of a file up to its first fault, saved, and what is told of that
+-- the entries that are read of a file with a header, up to its first fault, saved, and what is told of that
 pub record Saves (kind : Kind) (bytes : List ℕ) (s : Salvaged) : Type 0 where
+  pub header : IsOk (header_of kind bytes)
   pub front : List Record
   pub parts : List Part
   pub divides : Divides kind bytes front parts (option_map (λ f. f.error) s.fault)

@@ -23,10 +23,10 @@ pub written_by_default : (old new : File) (extensions : Extensions) (version : V
 written_by_default old new extensions version skip_hash a b c h = rw (a, b, c) at h
 
 -- nothing went to the output
-pub stored_done : (r : Result (Unit {0}) Failure) (what : Writing) (kind : Kind) (path to : List ℕ) (known : Option (List ℕ)) → OnOk r (Stores what kind to) → OnOk r (Succeeds (Writes what kind path to) known known)
+pub stored_done : {A : Type 0} (r : Result A Failure) (what : Writing) (kind : Kind) (path to : List ℕ) (known : Option (List ℕ)) → OnOk r (Stores what kind to) → OnOk r (Succeeds (Writes what kind path to) known known)
 stored_done (Ok x) what kind path to known h = (h, Keeps-refl known)
 stored_done (Err f) what kind path to known h = tt
 
-pub stored_not : (r : Result (Unit {0}) Failure) (what : Writing) (kind : Kind) (path to : List ℕ) (known : Option (List ℕ)) → OnErr r (GivesUp (Writes what kind path to) known known)
+pub stored_not : {A : Type 0} (r : Result A Failure) (what : Writing) (kind : Kind) (path to : List ℕ) (known : Option (List ℕ)) → OnErr r (GivesUp (Writes what kind path to) known known)
 stored_not (Ok x) what kind path to known = tt
 stored_not (Err f) what kind path to known = nothing (Keeps-refl known)

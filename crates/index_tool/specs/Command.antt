@@ -17,6 +17,7 @@ use Rattle.index_tool.specs.Checking.{Checks, ChecksFront}
 use Rattle.index_tool.specs.Listing.{ListsIndex, ListsFront}
 use Rattle.index_tool.specs.Mapping.{Maps, MapsDamaged, MapsFront}
 use Rattle.index_tool.specs.Rewriting.{Rewrites}
+use Rattle.index_tool.specs.Salvaging.{Salvages}
 use Rattle.index_tool.specs.Trees.{Retrees, TreesFront, TreesIndex}
 use Rattle.gix_index.specs.DecodeError.{Error}
 
@@ -52,7 +53,8 @@ writing_named name =
     if is_word name (codes "rewrite") then Some (writings.Rewrite Smallest)
     else (if is_word name (codes "rewrite4") then Some (writings.Rewrite V4)
     else (if is_word name (codes "rewrite-trees") then Some writings.RewriteTrees
-    else None))
+    else (if is_word name (codes "salvage") then Some writings.Salvage
+    else None)))
 
 -- the command of the words KIND FILE
 abbrev pub read_named : Reading → List (List ℕ) → Option CommandValue
@@ -91,10 +93,16 @@ TellsFront readings.CheckTrees kind old new = ChecksFront true kind old new
 TellsFront readings.Map kind old new = MapsFront kind old new
 TellsFront readings.Trees kind old new = TreesFront kind old new
 
--- an index was written to a path: the one in a file, or that one with a cached tree made anew
+-- an index was written to a path: the one in a file, that one with a cached tree made anew, or what is saved of a file
 abbrev pub Stores : Writing → Kind → List ℕ → Type 0
 Stores (writings.Rewrite version) kind to = Rewrites version kind to
 Stores writings.RewriteTrees kind to = Retrees kind to
+Stores writings.Salvage kind to = Salvages kind to
+
+-- whether a line tells of what was done, where it was: that of what was saved
+abbrev pub reports : CommandValue → Bool
+reports (Writes writings.Salvage kind file to) = true
+reports command = false
 
 -- what a command that succeeded did: known bytes of the output grew by all that it tells, or stayed, and an index was written
 abbrev pub Succeeds : CommandValue → Option (List ℕ) → Option (List ℕ) → Type 0

@@ -6,12 +6,13 @@ pub mod list;
 pub mod map;
 pub mod rewrite;
 pub mod rewrite_trees;
+pub mod salvage;
 pub mod trees;
 
-ghost use Rattle.std.specs.Prelude.{◌≡◌, ◌≤◌, ◌↔◌, map, IfErr, OnOk, OnErr, IsSomeAnd, None, string_bytes};
+ghost use Rattle.std.specs.Prelude.{◌≡◌, ◌≤◌, ◌↔◌, false, map, IfErr, IfOk, OnOk, OnErr, IsSomeAnd, None, is_some, string_bytes};
 ghost use Rattle.std.specs.Io.KnownBytes.{Keeps};
 ghost use Rattle.std.specs.Option.{option_map};
-ghost use Rattle.index_tool.specs.Command.{command_named, command_value, kind_named, read_named, reading_named, write_named, writing_named, GivesUp, Reads, Stores, Succeeds, Tells};
+ghost use Rattle.index_tool.specs.Command.{command_named, command_value, kind_named, read_named, reading_named, reports, write_named, writing_named, GivesUp, Reads, Stores, Succeeds, Tells, Writes};
 
 use crate::failure::Failure;
 use check::check;
@@ -21,6 +22,7 @@ use list::list;
 use map::map;
 use rewrite::rewrite;
 use rewrite_trees::rewrite_trees;
+use salvage::{Report, save};
 use std::alloc::Global;
 use std::io;
 use std::io::Write;
@@ -56,6 +58,8 @@ pub enum Writing {
     Rewrite(VersionChoice),
     /// The index with a cached tree made anew.
     RewriteTrees,
+    /// What can be saved of it, where it is damaged.
+    Salvage,
 }
 
 /// A command with its words.
@@ -122,6 +126,9 @@ fn writing_of(name: &str) -> Option<Writing>
     }
     if name == "rewrite-trees" {
         return Some(Writing::RewriteTrees);
+    }
+    if name == "salvage" {
+        return Some(Writing::Salvage);
     }
     None
 }
@@ -193,7 +200,7 @@ fn tell<'a, R: Files, W: io::Write>(
     }
 }
 
-/// Writes what is asked of the index in a file to another path.
+/// Writes what is asked of the index in a file to another path. A report comes of what was saved alone.
 fn write<'a, R: Files>(
     rt: &R,
     alloc: Global,
@@ -201,29 +208,37 @@ fn write<'a, R: Files>(
     kind: Kind,
     path: &'a str,
     to: &'a str,
-) -> Result<(), Failure<'a>>
+) -> Result<Option<Report<'a>>, Failure<'a>>
     ensures written { OnOk result (Stores what kind to.now) }
+    ensures report { IfOk result (λ report. is_some report ≡ reports (Writes what kind path.now to.now)) }
 {
     match what {
-        Writing::Rewrite(version) => rewrite(rt, alloc, version, kind, path, to),
-        Writing::RewriteTrees => rewrite_trees(rt, alloc, kind, path, to),
+        Writing::Rewrite(version) => rewrite(rt, alloc, version, kind, path, to)?,
+        Writing::RewriteTrees => rewrite_trees(rt, alloc, kind, path, to)?,
+        Writing::Salvage => return Ok(Some(save(rt, alloc, kind, path, to)?)),
     }
+    Ok(None)
 }
 
-/// Runs a command: Ok where its whole result went to `out`.
+/// Runs a command: Ok where its whole result went to `out`, with what else is to be told.
 fn run_command<'a, R: Files, W: io::Write>(
     rt: &R,
     alloc: Global,
     command: Command<'a>,
     out: &mut W,
-) -> Result<(), Failure<'a>>
+) -> Result<Option<Report<'a>>, Failure<'a>>
     ensures done { OnOk result
         (Succeeds (command_value command.entry) (W.contents out.old) (W.contents out.new)) }
     ensures refused { OnErr result
         (GivesUp (command_value command.entry) (W.contents out.old) (W.contents out.new)) }
+    ensures report { IfOk result
+        (λ report. is_some report ≡ reports (command_value command.entry)) }
 {
     match command {
-        Command::Read { what, kind, path } => tell(rt, alloc, what, kind, path, out),
+        Command::Read { what, kind, path } => {
+            tell(rt, alloc, what, kind, path, out)?;
+            Ok(None)
+        }
         Command::Write {
             what,
             kind,
@@ -242,6 +257,8 @@ fn run_command<'a, R: Files, W: io::Write>(
 /// where it has one. `trees KIND FILE` writes a line to `out` for each directory of the trees that the entries make.
 /// `rewrite KIND FILE OUT` writes the index to the path OUT, by way of the lock file OUT.lock, and nothing to `out`.
 /// `rewrite4 KIND FILE OUT` does so in version 4, and `rewrite-trees KIND FILE OUT` with a cached tree made anew.
+/// `salvage KIND FILE OUT` writes what can be saved of FILE, whose link isn't followed, there, and says on one line on
+/// `faults` how many entries were declared, read and kept, and where the first fault is.
 ///
 /// [`DONE`]: the command did all that. [`REFUSED`]: a file can't be read or written, or is no such index, or `out`
 /// failed; nothing goes to `out` before FILE was read whole and, but for `map`, all checks have passed; the map of a
@@ -264,18 +281,25 @@ pub fn run<R: Files + Alloc, O: io::Write, E: io::Write>(
         (λ command. Succeeds command (O.contents out.old) (O.contents out.new)) }
     ensures refused { result ≡ REFUSED → IsSomeAnd (command_named (map string_bytes words.now))
         (λ command. GivesUp command (O.contents out.old) (O.contents out.new)) }
-    ensures no_fault { result ≡ DONE → Keeps (E.contents faults.old) (E.contents faults.new) }
+    ensures no_fault { result ≡ DONE → IsSomeAnd (command_named (map string_bytes words.now))
+        (λ command. reports command ≡ false → Keeps (E.contents faults.old) (E.contents faults.new)) }
 {
     let Some(command) = command_of(words) else {
         let _ = writeln!(
             faults,
-            "index-tool: usage: index-tool list|check|check-trees|map|trees sha1|sha256 FILE, or index-tool rewrite|rewrite4|rewrite-trees sha1|sha256 FILE OUT"
+            "index-tool: usage: index-tool list|check|check-trees|map|trees sha1|sha256 FILE, or index-tool rewrite|rewrite4|rewrite-trees|salvage sha1|sha256 FILE OUT"
         );
         return WRONG_WORDS;
     };
-    let Err(failure) = run_command(rt, alloc, command, out) else {
-        return DONE;
-    };
-    let _ = writeln!(faults, "index-tool: {failure}");
-    REFUSED
+    match run_command(rt, alloc, command, out) {
+        Ok(None) => DONE,
+        Ok(Some(report)) => {
+            let _ = writeln!(faults, "index-tool: {report}");
+            DONE
+        }
+        Err(failure) => {
+            let _ = writeln!(faults, "index-tool: {failure}");
+            REFUSED
+        }
+    }
 }
