@@ -27,10 +27,12 @@ extern "C" {
 /* ---- Statuses: what a call answers */
 
 #define GIX_INDEX_DONE 0u         /* it did what it says */
-#define GIX_INDEX_REFUSED 1u      /* the bytes are no index of this kind, or damaged: the summary and the text say why */
+#define GIX_INDEX_REFUSED 1u      /* the bytes are no index of this kind, are damaged, or fail the check: the summary
+                                   * and the text say why */
 #define GIX_INDEX_MEMORY 2u       /* malloc or realloc gave nothing */
 #define GIX_INDEX_NO_ROOM 3u      /* the rows or the bytes for paths don't suffice: the summary says how many it takes */
 #define GIX_INDEX_WRONG_NUMBER 4u /* a number that was passed is none of those that the call takes */
+#define GIX_INDEX_NONE 5u         /* nothing in the table is what was asked for */
 
 /* ---- Kinds of ids */
 
@@ -66,6 +68,10 @@ extern "C" {
 #define GIX_INDEX_FAULT_LINK 6u      /* the link to a shared index is at fault */
 #define GIX_INDEX_FAULT_TRAILER 7u   /* the bytes behind all entries and extensions aren't as many as the trailer has */
 #define GIX_INDEX_FAULT_DIGEST 8u    /* the digest isn't the trailer: damaged, of the other kind, or no index */
+/* (9 is a fault of files, which no call of these opens) */
+#define GIX_INDEX_FAULT_ORDER 10u       /* gix_index_check alone: the entry at the place isn't above the one before it */
+#define GIX_INDEX_FAULT_CACHED_TREE 11u /* gix_index_check alone: the cached tree doesn't hold together, or counts more
+                                         * entries than there are */
 
 /* ---- Tables */
 
@@ -89,16 +95,23 @@ typedef struct {
     size_t path_len;
 } gix_index_row;
 
-/* What a call that reads says beside its status. It is written with each status; what isn't named there is 0. */
+/* What a call that reads says beside its status. It is written with each status; what isn't named there is 0. With the
+ * faults ORDER and CACHED_TREE the bytes were read, and entries, version and has_link are as with DONE. */
 typedef struct {
     size_t entries;     /* DONE, NO_ROOM: how many entries the index has, and so how many rows it takes */
-    size_t path_bytes;  /* DONE, NO_ROOM: how many bytes for paths it takes */
+    size_t path_bytes;  /* DONE, NO_ROOM: how many bytes for paths it takes; gix_index_check says 0 */
     size_t text_bytes;  /* REFUSED, MEMORY: how many bytes of text were written */
     size_t fault_place; /* REFUSED: the place that the fault names, or 0 */
     uint32_t fault;     /* REFUSED: one of the faults above */
     uint32_t version;   /* DONE, NO_ROOM: 2, 3 or 4 */
     uint32_t has_link;  /* DONE, NO_ROOM: 1 where the index links to a shared one, which isn't followed; else 0 */
 } gix_index_summary;
+
+/* Rows of a table by their places, counted from 0: those from start up to end, without this one. */
+typedef struct {
+    size_t start;
+    size_t end;
+} gix_index_places;
 
 /* ---- Calls */
 
@@ -118,13 +131,50 @@ uint32_t gix_index_read(const uint8_t *bytes, size_t bytes_len, uint32_t kind, b
                         size_t rows_len, uint8_t *paths, size_t paths_len, uint8_t *text, size_t text_len,
                         gix_index_summary *summary);
 
+/* Checks an index, given as all bytes of its file, as `index-tool check` does: the bytes are read as gix_index_read
+ * reads them; the entries have to increase strictly by path, byte by byte, and then by stage, as the calls below
+ * take them; and the cached tree, where there is one, has to hold together and to count no more entries than there
+ * are. Objects aren't looked at. Of a split index only its own entries are checked; those that have an empty path
+ * are out of order where they are more than one, and has_link tells of it.
+ *
+ * DONE: all of it is so. REFUSED: the fault is one that gix_index_read tells; or ORDER, and the place is the first
+ * entry that isn't above the one before it; or CACHED_TREE, and the entries are in order. The text has it in words,
+ * as there; it is empty where there was no memory for the words. MEMORY: malloc or realloc gave nothing, maybe for
+ * the names of a fault. WRONG_NUMBER: kind is none. Of text no byte is written behind text_bytes. NO_ROOM isn't
+ * answered. */
+uint32_t gix_index_check(const uint8_t *bytes, size_t bytes_len, uint32_t kind, bool skip_hash, uint8_t *text,
+                         size_t text_len, gix_index_summary *summary);
+
 /* The place of the row with this path and this stage, counted from 0, or rows_len where there is none.
  *
  * It takes rows that strictly increase by path, byte by byte, and then by stage, as those of a sound index do
- * (`index-tool check` says whether a file's do). Among other rows a place that is given still has the path and the
+ * (gix_index_check says whether an index's do). Among other rows a place that is given still has the path and the
  * stage. The stages are those of the flags. A path that passes the end of paths is cut there. No memory is taken. */
 size_t gix_index_find(const gix_index_row *rows, size_t rows_len, const uint8_t *paths, size_t paths_len,
                       const uint8_t *path, size_t path_len, uint32_t stage);
+
+/* The places of the rows whose path begins with the bytes of the prefix. The empty prefix has all rows, also of a table
+ * without any: 0 up to 0, and DONE.
+ *
+ * It takes rows whose paths never fall, and so those that gix_index_find takes: there they are all such rows. Among
+ * other rows places that are given still lie in the table, and no more is promised. Paths are cut as there, and no
+ * memory is taken.
+ *
+ * DONE: places is written. NONE: no path begins so, and places is as it was. */
+uint32_t gix_index_find_prefix(const gix_index_row *rows, size_t rows_len, const uint8_t *paths, size_t paths_len,
+                               const uint8_t *prefix, size_t prefix_len, gix_index_places *places);
+
+/* The place of the row that is closest to a directory, counted from 0, or rows_len where there is none. The
+ * directory is a path without a slash at its end.
+ *
+ * Where rows have the directory's path, it is the first of them that is a directory by its mode, one of a sparse
+ * index or a submodule; a file there has none below it. Else it is the first row below: its path goes on behind the
+ * directory and a slash. So there is a row exactly where the path is a directory.
+ *
+ * It takes the same rows as gix_index_find_prefix. Among other rows a place that is given still is the directory or
+ * stands below it. Paths are cut as there, and no memory is taken. */
+size_t gix_index_closest(const gix_index_row *rows, size_t rows_len, const uint8_t *paths, size_t paths_len,
+                         const uint8_t *directory, size_t directory_len);
 
 #ifdef __cplusplus
 }

@@ -2,7 +2,8 @@
  *
  * Usage: list sha1|sha256 FILE
  *
- * The status is 1 where FILE can't be read or is no such index, with a line on standard error, and 2 for wrong words. */
+ * The status is 1 where FILE can't be read or is no such index, with a line on standard error, and 2 for wrong
+ * words. */
 #include "table.h"
 
 static void print_row(const gix_index_row *row, const uint8_t *paths) {

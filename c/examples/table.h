@@ -51,9 +51,9 @@ static inline void drop_table(table *t) {
     free(t->paths);
 }
 
-/* Reads the bytes into a table, and answers the status of the last call: the first one asks for the sizes, and leaves the
- * digest alone; where it refuses, the digest is looked at too, as a wrong one is told before all other faults. What is
- * wrong goes to text, as far as there is room. drop_table gives the memory back, with each status. */
+/* Reads the bytes into a table, and answers the status of the last call: the first one asks for the sizes, and
+ * leaves the digest alone; where it refuses, the digest is looked at too, as a wrong one is told before all other
+ * faults. What is wrong goes to text, as far as there is room. drop_table gives the memory back, with each status. */
 static inline uint32_t table_of(const uint8_t *bytes, size_t len, uint32_t kind, uint8_t *text, size_t text_len,
                                 table *t) {
     gix_index_row no_row;

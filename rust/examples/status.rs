@@ -2,11 +2,11 @@
 //!
 //! Usage: status sha1|sha256 FOLDER
 //!
-//! FOLDER is the top of a work tree, and FOLDER/.git/index its index. For each entry whose file isn't as it was there is a
-//! line: a letter, a tab and the path as it is. D: the file is gone. T: it is of another type. M: it changed, or its bit for
-//! execution. R: its stat is as it was, but it is no older than the index, so that only its contents can tell. A: it is only
-//! meant to be added. U: it is in conflict. Submodules, directories of a sparse index, and entries that are taken for
-//! unchanged or are skipped are left alone.
+//! FOLDER is the top of a work tree, and FOLDER/.git/index its index. For each entry whose file isn't as it was there
+//! is a line: a letter, a tab and the path as it is. D: the file is gone. T: it is of another type. M: it changed, or
+//! its bit for execution. R: its stat is as it was, but it is no older than the index, so that only its contents can
+//! tell. A: it is only meant to be added. U: it is in conflict. Submodules, directories of a sparse index, and entries
+//! that are taken for unchanged or are skipped are left alone.
 //!
 //! The status is 1 where the index can't be read, and 2 for wrong words.
 

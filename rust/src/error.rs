@@ -5,7 +5,7 @@ use std::fmt;
 use std::io;
 use std::path::PathBuf;
 
-/// What is wrong with bytes that are no index, or damaged.
+/// What is wrong with bytes that are no index, or damaged, or don't pass a check.
 #[derive(Clone, Copy, Debug, PartialEq, Eq, Hash)]
 #[non_exhaustive]
 pub enum Fault {
@@ -23,6 +23,12 @@ pub enum Fault {
     Trailer,
     /// The digest isn't the trailer.
     Digest,
+    /// The entry at this place, counted from 0, isn't above the one before it, by path, then stage.
+    /// [`verify`](crate::verify) alone tells so.
+    Order(usize),
+    /// The cached tree doesn't hold together, or counts more entries than there are. [`verify`](crate::verify) alone
+    /// tells so.
+    CachedTree,
     /// A fault of another number.
     Other(u32),
 }
@@ -31,7 +37,7 @@ pub enum Fault {
 #[derive(Debug)]
 #[non_exhaustive]
 pub enum Error {
-    /// The bytes are no index of this kind, or damaged.
+    /// The bytes are no index of this kind, or damaged, or don't pass a check.
     Refused {
         /// What is wrong.
         fault: Fault,
@@ -62,6 +68,8 @@ impl Error {
             6 => Fault::Link,
             7 => Fault::Trailer,
             8 => Fault::Digest,
+            10 => Fault::Order(summary.fault_place),
+            11 => Fault::CachedTree,
             number => Fault::Other(number),
         };
         let text = String::from_utf8_lossy(&text[..summary.text_bytes]).into_owned();

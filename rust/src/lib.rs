@@ -1,15 +1,16 @@
 //! The git index, read by a static library whose functions are proved to meet their contracts.
 //!
-//! [`Index`] is a copy of the entries of an index file, in memory of its own. Names are those of the crate `gix-index` where
-//! they say the same. What is proved is told in `crates/index_c/README.md`; this crate is not proved: it hands slices to the
-//! library's calls and takes their answers. It has no dependencies, so its errors implement
+//! [`Index`] is a copy of the entries of an index file, in memory of its own. Names are those of the crate `gix-index`
+//! where they say the same. What is proved is told in `crates/index_c/README.md`; this crate is not proved: it hands
+//! slices to the library's calls and takes their answers. It has no dependencies, so its errors implement
 //! [`std::error::Error`] by hand.
 
 mod error;
 mod raw;
 
 pub use error::{Error, Fault};
-use raw::{Row, Summary};
+use raw::{Places, Row, Summary};
+use std::ops::Range;
 use std::path::Path;
 
 /// Which hash function a repository names its objects by.
@@ -158,6 +159,26 @@ fn room<T: Copy>(value: T, len: usize) -> Result<Vec<T>, Error> {
     Ok(values)
 }
 
+/// Whether these are all bytes of an index whose entries strictly increase by path, then stage, and whose cached tree,
+/// where there is one, holds together and counts no more entries than there are. Objects aren't looked at.
+///
+/// The bytes are read as [`Index::from_bytes`] reads them, whose faults come first; then comes [`Fault::Order`], and
+/// last [`Fault::CachedTree`]. Of a split index its own entries alone are checked, and those with an empty path are
+/// out of order where they are more than one.
+pub fn verify(bytes: &[u8], kind: Kind) -> Result<(), Error> {
+    let mut text = [0; 8192];
+    let mut summary = Summary::default();
+    // SAFETY: each pointer goes with the length of its slice; those that are written through are distinct.
+    let status = unsafe {
+        raw::gix_index_check(bytes.as_ptr(), bytes.len(), kind.number(), false, text.as_mut_ptr(), text.len(), &mut summary)
+    };
+    match status {
+        raw::DONE => Ok(()),
+        raw::MEMORY => Err(Error::Memory),
+        _ => Err(Error::of(&summary, &text)),
+    }
+}
+
 impl Index {
     /// Reads an index from all bytes of its file. The digest of all bytes but the trailer is compared with the trailer,
     /// unless that is null. A link to a shared index isn't followed: [`has_link`](Index::has_link) tells of it.
@@ -176,8 +197,8 @@ impl Index {
         }
     }
 
-    /// Reads the file at a path as [`from_bytes`](Index::from_bytes) reads bytes. A split index is refused, as it lacks the
-    /// entries that its shared index has.
+    /// Reads the file at a path as [`from_bytes`](Index::from_bytes) reads bytes. A split index is refused, as it
+    /// lacks the entries that its shared index has.
     pub fn open(path: impl AsRef<Path>, kind: Kind) -> Result<Index, Error> {
         let path = path.as_ref();
         let bytes = std::fs::read(path).map_err(|error| Error::Io { path: path.into(), error })?;
@@ -242,8 +263,8 @@ impl Index {
 
     /// The entry at the path and the stage, or None.
     ///
-    /// It is promised over entries that strictly increase by path, then stage. Over other entries an entry that is given still
-    /// has the path and the stage.
+    /// It is promised over entries that strictly increase by path, then stage. Over other entries an entry that is
+    /// given still has the path and the stage.
     pub fn entry_by_path_and_stage(&self, path: &[u8], stage: u32) -> Option<Entry<'_>> {
         // SAFETY: each pointer goes with the length of its slice, and nothing is written.
         let place = unsafe {
@@ -255,6 +276,58 @@ impl Index {
                 path.as_ptr(),
                 path.len(),
                 stage,
+            )
+        };
+        self.entry(place)
+    }
+
+    /// The places of the entries whose path begins with the bytes of the prefix, counted from 0, or None where there
+    /// are none. The empty prefix has all places, also of no entries: `0..0`.
+    ///
+    /// Over entries whose paths never fall they are all such places. Over other entries they are places of the index.
+    pub fn prefixed_entries_range(&self, prefix: &[u8]) -> Option<Range<usize>> {
+        let mut places = Places::default();
+        // SAFETY: each pointer goes with the length of its slice, and what is written is apart from these.
+        let status = unsafe {
+            raw::gix_index_find_prefix(
+                self.rows.as_ptr(),
+                self.rows.len(),
+                self.paths.as_ptr(),
+                self.paths.len(),
+                prefix.as_ptr(),
+                prefix.len(),
+                &mut places,
+            )
+        };
+        (status != raw::NONE).then_some(places.start..places.end)
+    }
+
+    /// The entries whose path begins with the bytes of the prefix, or None where there are none, as
+    /// [`prefixed_entries_range`](Index::prefixed_entries_range) has their places.
+    pub fn prefixed_entries(
+        &self,
+        prefix: &[u8],
+    ) -> Option<impl ExactSizeIterator<Item = Entry<'_>> + DoubleEndedIterator + use<'_>> {
+        let rows = self.rows.get(self.prefixed_entries_range(prefix)?)?;
+        Some(rows.iter().map(|row| self.lend(row)))
+    }
+
+    /// Where entries stand at the directory, the first that stands for a directory itself, a sparse one or a
+    /// submodule, or None. Else the first entry below the directory: its path goes on behind the directory and a
+    /// slash.
+    ///
+    /// It is promised over entries whose paths never fall. Over other entries an entry that is given still is the
+    /// directory or stands below it.
+    pub fn entry_closest_to_directory_or_directory(&self, directory: &[u8]) -> Option<Entry<'_>> {
+        // SAFETY: each pointer goes with the length of its slice, and nothing is written.
+        let place = unsafe {
+            raw::gix_index_closest(
+                self.rows.as_ptr(),
+                self.rows.len(),
+                self.paths.as_ptr(),
+                self.paths.len(),
+                directory.as_ptr(),
+                directory.len(),
             )
         };
         self.entry(place)

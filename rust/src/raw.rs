@@ -3,6 +3,7 @@
 pub const DONE: u32 = 0;
 pub const MEMORY: u32 = 2;
 pub const NO_ROOM: u32 = 3;
+pub const NONE: u32 = 5;
 
 pub const SHA1: u32 = 1;
 pub const SHA256: u32 = 2;
@@ -40,6 +41,13 @@ pub struct Summary {
     pub has_link: u32,
 }
 
+#[repr(C)]
+#[derive(Clone, Copy, Default)]
+pub struct Places {
+    pub start: usize,
+    pub end: usize,
+}
+
 unsafe extern "C" {
     pub fn gix_index_read(
         bytes: *const u8,
@@ -63,5 +71,34 @@ unsafe extern "C" {
         path: *const u8,
         path_len: usize,
         stage: u32,
+    ) -> usize;
+
+    pub fn gix_index_check(
+        bytes: *const u8,
+        bytes_len: usize,
+        kind: u32,
+        skip_hash: bool,
+        text: *mut u8,
+        text_len: usize,
+        summary: *mut Summary,
+    ) -> u32;
+
+    pub fn gix_index_find_prefix(
+        rows: *const Row,
+        rows_len: usize,
+        paths: *const u8,
+        paths_len: usize,
+        prefix: *const u8,
+        prefix_len: usize,
+        places: *mut Places,
+    ) -> u32;
+
+    pub fn gix_index_closest(
+        rows: *const Row,
+        rows_len: usize,
+        paths: *const u8,
+        paths_len: usize,
+        directory: *const u8,
+        directory_len: usize,
     ) -> usize;
 }

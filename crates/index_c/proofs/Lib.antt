@@ -1,3 +1,5 @@
+mod Directories
 mod Finds
+mod Prefixes
 mod Refusals
 mod Tables

@@ -1,13 +1,12 @@
 -- The rows of entries spell the entries' records.
-use Rattle.std.proofs.Common.{◌≡◌, ℕ, ◌+◌, ◌-◌, ◌<◌, ◌≤◌, eqb, true, false, List, [], ◌∷◌, ◌++◌, All, length, map, take, drop, replicate, refl, sym, ap, ◌∙◌, subst, arith}
+use Rattle.std.proofs.Common.{◌≡◌, ℕ, ◌≤◌, eqb, true, List, [], ◌∷◌, ◌++◌, All, length, map, take, drop, replicate, refl, sym, ap, ◌∙◌, arith}
 use Rattle.std.proofs.lemmas.List.{take_at, drop_at, length-map}
 use Rattle.std.proofs.lemmas.List.Elements.{All-cons, All-head, All-tail, All-map, All-same}
 use Rattle.gix_index.specs.Id.{id_bytes, id_kind, id_len}
-use Rattle.gix_index.specs.Flags.{stage_number}
 use Rattle.gix_index.specs.EntryType.{Entry}
 use Rattle.gix_index.specs.ObjectId.{ObjectId}
 use Rattle.gix_index.specs.ObjectId.TheVariants.{Sha1, Sha256}
-use Rattle.gix_index.specs.Record.{IsPlaced, IsSized, Record, record_in, records_in}
+use Rattle.gix_index.specs.Record.{IsPlaced, IsSized, record_in, records_in}
 use Rattle.index_c.specs.Table.{Holds, IsForward, IsWhole, kind_number, padded_id, records_of, row_id, row_of, spelled}
 use Rattle.index_c.specs.declared.row.Row.{Row}
 

@@ -7,11 +7,15 @@ use Rattle.gix_index.specs.DecodeError.TheVariants as errors
 use Rattle.gix_index.specs.DecodeErrors.{extension_fault}
 use Rattle.gix_index.specs.ExtensionError.{Extension as ExtensionError}
 use Rattle.gix_index.specs.ExtensionError.TheVariants as extensions
-use Rattle.gix_index.specs.Header.{HeaderFault, Corrupt, UnsupportedVersion}
+use Rattle.gix_index.specs.Header.{Corrupt, UnsupportedVersion}
 use Rattle.gix_index.specs.HeaderError.{Header as HeaderError}
 use Rattle.gix_index.specs.HeaderError.TheVariants as headers
 use Rattle.gix_index.specs.HeaderErrors.{header_fault}
-use Rattle.gix_index.specs.Outcome.{ExtensionFault, Unimplemented, Link}
+use Rattle.gix_index.specs.OrderError.{Error as OrderError}
+use Rattle.gix_index.specs.OrderError.TheVariants as orders
+use Rattle.gix_index.specs.Outcome.{Unimplemented, Link}
+use Rattle.gix_index.specs.TreeError.{Error as TreeError}
+use Rattle.gix_index.specs.TreeError.TheVariants as trees
 use Rattle.gix_index.specs.declared.file.init.Error.{Error as ReadError}
 use Rattle.gix_index.specs.declared.file.init.Error.TheVariants as reads
 
@@ -82,3 +86,22 @@ IsNumbered (reads.Io e) number place = (number ≡ 9) × (place ≡ 0)
 IsNumbered (reads.Decode e) number place = MatchOption (decode_fault e) (Unit {0}) (λ fault. HasNumber fault number place)
 IsNumbered (reads.LinkExtension e) number place = (number ≡ 6) × (place ≡ 0)
 IsNumbered reads.Memory number place = (number ≡ 0) × (place ≡ 0)
+
+-- ---- errors of a check
+
+-- the place of the entry that is out of order; want of memory names none
+abbrev pub order_place : OrderError → Option ℕ
+order_place (orders.OutOfOrder index path stage previous_path previous_stage) = Some index
+order_place orders.Memory = None
+
+-- a fault of the cached tree names no place, which is told as 0; want of memory names no fault
+abbrev pub tree_place : TreeError → Option ℕ
+tree_place (trees.RootWithName name) = Some 0
+tree_place (trees.EntriesCount actual expected) = Some 0
+tree_place trees.EntriesCountOverflow = Some 0
+tree_place (trees.OutOfOrder parent current previous) = Some 0
+tree_place (trees.TreeNodeNotFound id) = Some 0
+tree_place (trees.MissingTreeDirectory parent id name) = Some 0
+tree_place (trees.TreeNodeChildcountMismatch id expected actual) = Some 0
+tree_place (trees.EntriesCountExceedsIndex name actual expected) = Some 0
+tree_place trees.Memory = None

@@ -1,5 +1,5 @@
 -- What a call that reads an index says of the bytes, and leaves in the caller's table (the library's own).
-use Rattle.std.specs.Prelude.{◌≡◌, ℕ, ◌<◌, ◌≤◌, ◌⊎◌, pos, false, Bool, List, length, drop, Option, Some, None, Ok, Err}
+use Rattle.std.specs.Prelude.{◌≡◌, ℕ, ◌<◌, ◌≤◌, ◌⊎◌, pos, Bool, List, length, drop, Option, Some, None, Ok, Err}
 use Rattle.gix_index.specs.Answer.{Answer, Fault}
 use Rattle.gix_index.specs.Checked.{IsFileAnswer}
 use Rattle.gix_index.specs.Contents.{Contents}

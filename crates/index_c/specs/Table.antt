@@ -1,6 +1,6 @@
 -- A table in a caller's memory: rows, and the bytes in which their paths lie (the library's own; the parts of an entry are those
 -- of gitformat-index, "Index entry").
-use Rattle.std.specs.Prelude.{◌≡◌, ℕ, ◌+◌, ◌-◌, ◌≤◌, ◌==◌, nat_eq, true, List, ◌++◌, All, length, map, take, drop, replicate, Option, Some, None, if◌then◌else◌}
+use Rattle.std.specs.Prelude.{◌≡◌, ℕ, ◌+◌, ◌-◌, ◌≤◌, nat_eq, true, List, ◌++◌, All, length, map, take, drop, replicate, Option, Some, None, if◌then◌else◌}
 use Rattle.gix_index.specs.Id.{id_kind}
 use Rattle.gix_index.specs.Flags.{stage_number}
 use Rattle.gix_index.specs.Kind.{Kind}

@@ -1,10 +1,12 @@
 //! Faults as numbers and texts.
 
 ghost use Rattle.std.specs.Prelude.{◌≡◌, ◌≤◌, IfSome, length};
-ghost use Rattle.index_c.specs.Faults.{HasNumber, IsNumbered, decode_fault, header_number, extension_number, read_status};
+ghost use Rattle.index_c.specs.Faults.{HasNumber, IsNumbered, decode_fault, header_number, extension_number, order_place, read_status, tree_place};
 ghost use Rattle.index_c.specs.Reading.{HasText};
 
 use gix_index::decode::{self, header};
+use gix_index::extension::tree;
+use gix_index::verify::entries;
 use gix_index::{extension, file};
 use std::alloc::Global;
 use std::fmt;
@@ -27,6 +29,10 @@ pub const TRAILER: u32 = 7;
 pub const DIGEST: u32 = 8;
 /// A file can't be opened or read.
 pub const DISK: u32 = 9;
+/// The entry at the place isn't above the one before it, by path, then stage. Only a check tells so.
+pub const ORDER: u32 = 10;
+/// The cached tree doesn't hold together, or a node of it counts more entries than there are. Only a check tells so.
+pub const CACHED_TREE: u32 = 11;
 
 /// The number of a fault, and the place that it names, or 0.
 #[derive(Clone, Copy)]
@@ -87,6 +93,26 @@ pub(crate) fn fault_of(e: &file::init::Error) -> Fault
         file::init::Error::Memory => 0,
     };
     Fault { number, place: 0 }
+}
+
+/// The place of the entry that is out of order, or None where memory lacked to name it.
+pub(crate) fn order_place(e: &entries::Error) -> Option<usize>
+    ensures { result ≡ order_place e.now }
+{
+    match e {
+        entries::Error::OutOfOrder { current_index, .. } => Some(*current_index),
+        entries::Error::Memory => None,
+    }
+}
+
+/// The place 0 for a fault of the cached tree, or None where memory lacked to name it.
+pub(crate) fn tree_place(e: &tree::verify::Error) -> Option<usize>
+    ensures { result ≡ tree_place e.now }
+{
+    match e {
+        tree::verify::Error::Memory => None,
+        _ => Some(0),
+    }
 }
 
 /// Writes the front of a text, as far as there is room, and says how many bytes that is.

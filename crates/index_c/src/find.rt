@@ -12,7 +12,7 @@ use crate::row::Row;
 use std::cmp::Ordering;
 
 /// The row's path: as many of these bytes as it says, from where it says; fewer where they end before.
-fn path_of<'a>(row: &Row, paths: &'a [u8]) -> &'a [u8]
+pub(crate) fn path_of<'a>(row: &Row, paths: &'a [u8]) -> &'a [u8]
     ensures { result.now ≡ row_path paths.now row.now }
 {
     let start = row.path_start.min(paths.len());

@@ -3,8 +3,11 @@
 //! `c/gix_index.h` declares the calls, and tells what a caller in C has to see to; `rust/` wraps them for Rust.
 #![tactic(auto)]
 
+pub mod check;
+pub mod closest;
 mod fault;
 pub mod find;
+pub mod prefix;
 pub mod read;
 pub mod row;
 pub mod status;

@@ -58,7 +58,7 @@ pub(crate) fn kind_of(number: u32) -> Option<Kind>
 }
 
 /// Nothing was read, and there is no fault to tell.
-fn nothing(status: u32) -> Outcome
+pub(crate) fn nothing(status: u32) -> Outcome
     ensures status { result.status ≡ status }
     ensures text { result.summary.text_bytes ≡ 0 }
 {
@@ -98,7 +98,7 @@ fn number_of_link(state: &State) -> u32
 }
 
 /// What is told of a state.
-fn summary_of(state: &State) -> Summary
+pub(crate) fn summary_of(state: &State) -> Summary
     ensures tells { Tells (contents state.now) result }
     ensures path_bytes { result.path_bytes ≡ length (storage_of state.now) }
     ensures text { result.text_bytes ≡ 0 }
@@ -143,7 +143,7 @@ fn table_of(state: &State, rows: &mut [Row], paths: &mut [u8]) -> Outcome
 }
 
 /// Tells of an error.
-fn refused(alloc: Global, e: file::init::Error, text: &mut [u8]) -> Outcome
+pub(crate) fn refused(alloc: Global, e: file::init::Error, text: &mut [u8]) -> Outcome
     ensures status { result.status ≡ read_status e }
     ensures fault { IsNumbered e result.summary.fault result.summary.fault_place }
     ensures text { HasText result.summary.text_bytes text.old text.new }
@@ -160,7 +160,7 @@ fn refused(alloc: Global, e: file::init::Error, text: &mut [u8]) -> Outcome
 }
 
 /// The index of these bytes.
-fn index_of(
+pub(crate) fn index_of(
     alloc: Global,
     bytes: &[u8],
     kind: Kind,

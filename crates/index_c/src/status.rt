@@ -10,6 +10,8 @@ pub const MEMORY: u32 = 2;
 pub const NO_ROOM: u32 = 3;
 /// A number that the caller passed is none of those that the call takes.
 pub const WRONG_NUMBER: u32 = 4;
+/// Nothing in the table is what was asked for.
+pub const NONE: u32 = 5;
 
 /// Ids and digests of SHA-1, of 20 bytes.
 pub const SHA1: u32 = 1;

@@ -1,6 +1,5 @@
-use Rattle.std.proofs.Common.{arith, ℕ, ◌<◌, ◌+◌, ◌-◌, ◌/◌, List, length}
+use Rattle.std.proofs.Common.{arith, ◌<◌, ◌+◌, ◌-◌, ◌/◌, length}
 use Rattle.std.proofs.lemmas.List.{length-map}
-use Rattle.gix_index.specs.Record.{Record}
 use Rattle.index_c.specs.Table.{records_of, spelled}
 use Rattle.index_c.proofs.Finds.{step_behind, step_below}
 use Rattle.index_c.proofs.find.first_from.Goals as goal

@@ -1,4 +1,4 @@
-use Rattle.std.proofs.Common.{ℕ, ◌-◌, ◌≤◌, length}
+use Rattle.std.proofs.Common.{◌-◌, ◌≤◌, length}
 use Rattle.gix_index.specs.Order.{IsStrictlyOrdered}
 use Rattle.index_c.specs.Finding.{IsParted}
 use Rattle.index_c.specs.Table.{records_of}

@@ -1,0 +1,134 @@
+//! Checking that an index is in order and that its cached tree holds together.
+
+ghost use Rattle.std.specs.Prelude.{◌≡◌, ◌↔◌, ◌≤◌, ◌⊎◌, IfSome, IsSomeAnd, None};
+ghost use Rattle.gix_index.specs.Intact.{IsIntact};
+ghost use Rattle.gix_index.specs.State.{PathsInStorage, contents};
+ghost use Rattle.index_c.specs.Checking.{HasFault, IsSound, IsSoundIndex, IsTold, IsUnsoundIndex};
+ghost use Rattle.index_c.specs.Reading.{HasText, IsRefused};
+ghost use Rattle.index_c.specs.Table.{kind_numbered};
+
+use crate::fault::{CACHED_TREE, ORDER, order_place, put_fault, tree_place};
+use crate::read::{Outcome, Summary, index_of, kind_of, nothing, refused, summary_of};
+use crate::status::{DONE, MEMORY, REFUSED, WRONG_NUMBER};
+use gix_index::State;
+use gix_index::hash::Kind;
+use gix_index::object::NoObjects;
+use std::alloc::Global;
+
+/// What is told of a state, but for the bytes of its paths.
+fn told_of(state: &State) -> Summary
+    ensures told { IsTold (contents state.now) result }
+    ensures text { result.text_bytes ≡ 0 }
+{
+    let mut summary = summary_of(state);
+    summary.path_bytes = 0;
+    summary
+}
+
+/// Tells of a state that isn't sound, or, where no place is given, of want of memory to name its fault.
+fn unsound(state: &State, number: u32, place: Option<usize>, text_bytes: usize) -> Outcome
+    ensures memory { place ≡ None → result.status ≡ 2 }
+    ensures refused { IfSome place (λ _. result.status ≡ 1) }
+    ensures told { IfSome place (λ _. IsTold (contents state.now) result.summary) }
+    ensures number { IfSome place (λ _. result.summary.fault ≡ number) }
+    ensures place { IfSome place (λ p. result.summary.fault_place ≡ p) }
+    ensures text { result.summary.text_bytes ≡ text_bytes }
+{
+    match place {
+        Some(fault_place) => Outcome {
+            status: REFUSED,
+            summary: Summary {
+                text_bytes,
+                fault_place,
+                fault: number,
+                ..told_of(state)
+            },
+        },
+        None => Outcome {
+            status: MEMORY,
+            summary: Summary {
+                text_bytes,
+                ..nothing(MEMORY).summary
+            },
+        },
+    }
+}
+
+/// Whether a state is sound, and else why not.
+fn judge(alloc: Global, state: &State, text: &mut [u8]) -> Outcome
+    requires { PathsInStorage state.now }
+    ensures status { result.status ≤ 2 }
+    ensures sound { result.status ≡ 0 → IsSound (contents state.now) }
+    ensures told { result.status ≤ 1 → IsTold (contents state.now) result.summary }
+    ensures fault { result.status ≡ 1
+        → HasFault (contents state.now) result.summary.fault result.summary.fault_place }
+    ensures text { HasText result.summary.text_bytes text.old text.new }
+{
+    if let Err(e) = state.verify_entries() {
+        let text_bytes = put_fault(alloc, &e, text);
+        return unsound(state, ORDER, order_place(&e), text_bytes);
+    }
+    if let Err(e) = state.verify_extensions(alloc, false, &NoObjects) {
+        let text_bytes = put_fault(alloc, &e, text);
+        return unsound(state, CACHED_TREE, tree_place(&e), text_bytes);
+    }
+    Outcome {
+        status: DONE,
+        summary: told_of(state),
+    }
+}
+
+/// Checks the index of these bytes.
+fn checked(alloc: Global, bytes: &[u8], kind: Kind, skip_hash: bool, text: &mut [u8]) -> Outcome
+    ensures status { result.status ≤ 2 }
+    ensures done { result.status ≡ 0 → IsSoundIndex skip_hash kind bytes.now result.summary }
+    ensures refused { result.status ≡ 1 → IsRefused skip_hash kind bytes.now result.summary
+        ⊎ IsUnsoundIndex skip_hash kind bytes.now result.summary }
+    ensures memory { result.status ≡ 2 → IsIntact skip_hash kind bytes.now }
+    ensures text { HasText result.summary.text_bytes text.old text.new }
+{
+    match index_of(alloc, bytes, kind, skip_hash) {
+        Ok(file) => {
+            let outcome = judge(alloc, &file, text);
+            drop(file);
+            outcome
+        }
+        Err(e) => refused(alloc, e, text),
+    }
+}
+
+/// Checks an index, given as all bytes of its file: they are read as `gix_index_read` reads them, the entries have to
+/// increase strictly by path, then stage, and the cached tree, where there is one, has to hold together and to count no
+/// more entries than there are.
+///
+/// A link to a shared index isn't followed. `DONE`: all of it is so. `REFUSED`: the bytes are no index of this kind; or
+/// the fault is `ORDER`, and its place is the first entry that isn't above the one before it; or it is `CACHED_TREE`,
+/// and the entries are in order. `MEMORY`: a growth was refused. `WRONG_NUMBER`: the kind is none. The summary is
+/// always written; what lies behind the text is never touched.
+#[unsafe(no_mangle)]
+pub extern "C" fn gix_index_check(
+    alloc: Global,
+    bytes: &[u8],
+    kind: u32,
+    skip_hash: bool,
+    text: &mut [u8],
+    summary: &mut Summary,
+) -> u32
+    ensures status { (result ≤ 2) ⊎ (result ≡ 4) }
+    ensures done { result ≡ 0 → IsSomeAnd (kind_numbered kind)
+        (λ k. IsSoundIndex skip_hash k bytes.now summary.new) }
+    ensures refused { result ≡ 1 → IsSomeAnd (kind_numbered kind)
+        (λ k. IsRefused skip_hash k bytes.now summary.new
+        ⊎ IsUnsoundIndex skip_hash k bytes.now summary.new) }
+    ensures memory { result ≡ 2 → IsSomeAnd (kind_numbered kind)
+        (λ k. IsIntact skip_hash k bytes.now) }
+    ensures wrong_number { (result ≡ 4) ↔ (kind_numbered kind ≡ None) }
+    ensures text { HasText summary.new.text_bytes text.old text.new }
+{
+    let outcome = match kind_of(kind) {
+        Some(kind) => checked(alloc, bytes, kind, skip_hash, text),
+        None => nothing(WRONG_NUMBER),
+    };
+    *summary = outcome.summary;
+    outcome.status
+}
