@@ -7,6 +7,7 @@ import lookups
 import made_trees
 import merging
 import parts
+import shown
 import state
 import trees
 import writing
@@ -35,7 +36,7 @@ def answer(command, kind, name, files):
     """The answer to a command on the file of this name, beside others that are given by their names."""
     try:
         if command in OF_BYTES:
-            return OF_BYTES[command](parts.parts_of(files[name], kind), kind, name)
+            return OF_BYTES[command](files[name], kind, name)
         return OF_INDICES[command](index_at(kind, name, files), name)
     except Refused as fault:
         return Answer(1, fault=f"index-tool: {fault}".encode())
@@ -116,15 +117,25 @@ def retreed(found, name):
     return rewritten(False)(found, name)
 
 
-def mapped(found, kind, name):
+def mapped(data, kind, name):
     """A line for each part up to the first fault, and one for the rest."""
+    found = parts.parts_of(data, kind)
     if found.is_damaged:
         return Answer(1, found.lines(), f"index-tool: {name}: at byte {found.last}: ".encode())
     return Answer(out=found.lines())
 
 
-def salvaged(found, kind, name):
+def shown_whole(data, kind, name):
+    """A line for each thing that a file holds by itself."""
+    try:
+        return Answer(out=shown.shown(*state.read_file(data, kind)))
+    except state.Fault:
+        raise Refused(f"{name}: ") from None
+
+
+def salvaged(data, kind, name):
     """What is saved of the entries before the first fault, with a line that tells of them."""
+    found = parts.parts_of(data, kind)
     if len(found.found) == 1:
         raise Refused(f"{name}: ")
     wanted = state.State(kind)
@@ -144,5 +155,5 @@ OF_INDICES = {
     "rewrite4": rewritten(True),
     "rewrite-trees": retreed,
 }
-OF_BYTES = {"map": mapped, "salvage": salvaged}
+OF_BYTES = {"map": mapped, "show": shown_whole, "salvage": salvaged}
 COMMANDS = OF_INDICES | OF_BYTES

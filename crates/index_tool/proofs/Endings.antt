@@ -15,6 +15,7 @@ use Rattle.index_tool.specs.Checking.{FailsToCheck, FailsToCompare}
 use Rattle.index_tool.specs.Command.{GivesUp, Reads, damaged_map, nothing, some_of}
 use Rattle.index_tool.specs.Listing.{FailsToList}
 use Rattle.index_tool.specs.Mapping.{FailsToMap}
+use Rattle.index_tool.specs.Showing.{FailsToShow}
 use Rattle.index_tool.specs.Trees.{FailsToTellTrees, FailsToTree}
 
 pub list_gives_up : (f : Failure) (kind : Kind) (path : List ℕ) (old new : Option (List ℕ)) → FailsToList kind path f old new → GivesUp (Reads readings.List kind path) old new
@@ -65,6 +66,18 @@ map_gives_up (failures.Trees file e) kind path old new h = nothing h.1
 map_gives_up (failures.Rewrite file e) kind path old new h = nothing h.1
 map_gives_up (failures.Output e) kind path old new h = some_of readings.Map kind path refl h
 
+pub show_gives_up : (f : Failure) (kind : Kind) (path : List ℕ) (old new : Option (List ℕ)) → FailsToShow kind path f old new → GivesUp (Reads readings.Show kind path) old new
+show_gives_up (failures.Read e) kind path old new h = nothing h.1
+show_gives_up (failures.Index file e) kind path old new h = nothing h.1
+show_gives_up (failures.Entries file e) kind path old new h = nothing h.1
+show_gives_up (failures.CachedTree file e) kind path old new h = nothing h.1
+show_gives_up (failures.TreeIds file e) kind path old new h = nothing h.1
+show_gives_up (failures.Changed file e) kind path old new h = nothing h.1
+show_gives_up (failures.Damaged file offset e) kind path old new h = nothing h.1
+show_gives_up (failures.Trees file e) kind path old new h = nothing h.1
+show_gives_up (failures.Rewrite file e) kind path old new h = nothing h.1
+show_gives_up (failures.Output e) kind path old new h = some_of readings.Show kind path refl h
+
 pub trees_gives_up : (f : Failure) (kind : Kind) (path : List ℕ) (old new : Option (List ℕ)) → FailsToTellTrees kind path f old new → GivesUp (Reads readings.Trees kind path) old new
 trees_gives_up (failures.Read e) kind path old new h = nothing h.1
 trees_gives_up (failures.Index file e) kind path old new h = nothing h.1
@@ -92,6 +105,10 @@ check_trees_refused (Err f) kind path old new h = check_trees_gives_up f kind pa
 pub map_refused : (r : Result (Unit {0}) Failure) (kind : Kind) (path : List ℕ) (old new : Option (List ℕ)) → IfErr r (λ f. FailsToMap kind path f old new) → OnErr r (GivesUp (Reads readings.Map kind path) old new)
 map_refused (Ok x) kind path old new h = tt
 map_refused (Err f) kind path old new h = map_gives_up f kind path old new h
+
+pub show_refused : (r : Result (Unit {0}) Failure) (kind : Kind) (path : List ℕ) (old new : Option (List ℕ)) → IfErr r (λ f. FailsToShow kind path f old new) → OnErr r (GivesUp (Reads readings.Show kind path) old new)
+show_refused (Ok x) kind path old new h = tt
+show_refused (Err f) kind path old new h = show_gives_up f kind path old new h
 
 pub trees_refused : (r : Result (Unit {0}) Failure) (kind : Kind) (path : List ℕ) (old new : Option (List ℕ)) → IfErr r (λ f. FailsToTellTrees kind path f old new) → OnErr r (GivesUp (Reads readings.Trees kind path) old new)
 trees_refused (Ok x) kind path old new h = tt

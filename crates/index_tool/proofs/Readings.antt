@@ -1,12 +1,14 @@
 -- What was read at the begin of 1970, with the default options.
-use Rattle.std.proofs.Common.{◌≡◌, subst, false, Option, None, refl}
+use Rattle.std.proofs.Common.{◌≡◌, subst, false, List, ℕ, Option, None, Ok, refl}
 use Rattle.gix_index.specs.FileTime.{FileTime}
 use Rattle.gix_index.specs.Kind.{Kind}
 use Rattle.gix_index.specs.ObjectId.{ObjectId}
 use Rattle.gix_index.specs.Contents.{Contents}
 use Rattle.gix_index.specs.DecodeOptions.{Options}
+use Rattle.gix_index.specs.Checked.{IsFileAnswer}
 use Rattle.gix_index.specs.Linked.{IsOnDisk}
 use Rattle.index_tool.specs.Listing.{default_options, IsBeginOf1970, IsInFile}
+use Rattle.index_tool.specs.Showing.{IsInBytes}
 
 pub in_file : (kind : Kind) (time : FileTime) (options : Options) (v : Contents) (checksum : Option ObjectId) → IsBeginOf1970 time → options ≡ default_options → IsOnDisk false kind time options v checksum → IsInFile kind v checksum
 in_file kind time options v checksum begin e is = record { time = time; begin = begin; is = subst (λ (o : Options). IsOnDisk false kind time o v checksum) e is }
@@ -14,3 +16,7 @@ in_file kind time options v checksum begin e is = record { time = time; begin = 
 pub options_are : (options : Options) → options.thread_limit ≡ None → options.min_extension_block_in_bytes_for_threading ≡ 0 → options.expected_checksum ≡ None → options.alloc_limit_bytes ≡ None
     → options ≡ default_options
 options_are options a b c d = rw (a, b, c, d) refl
+
+pub in_bytes : (kind : Kind) (bytes : List ℕ) (time : FileTime) (options : Options) (v : Contents) (checksum : Option ObjectId) → IsBeginOf1970 time → options ≡ default_options
+    → IsFileAnswer false kind time options bytes (Ok (v, checksum)) → IsInBytes kind bytes v checksum
+in_bytes kind bytes time options v checksum begin e is = record { time = time; begin = begin; is = subst (λ (o : Options). IsFileAnswer false kind time o bytes (Ok (v, checksum))) e is }

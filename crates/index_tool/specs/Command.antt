@@ -18,6 +18,7 @@ use Rattle.index_tool.specs.Listing.{ListsIndex, ListsFront}
 use Rattle.index_tool.specs.Mapping.{Maps, MapsDamaged, MapsFront}
 use Rattle.index_tool.specs.Rewriting.{Rewrites}
 use Rattle.index_tool.specs.Salvaging.{Salvages}
+use Rattle.index_tool.specs.Showing.{Shows, ShowsFront}
 use Rattle.index_tool.specs.Trees.{Retrees, TreesFront, TreesIndex}
 use Rattle.gix_index.specs.DecodeError.{Error}
 
@@ -44,8 +45,9 @@ reading_named name =
     else (if is_word name (codes "check") then Some readings.Check
     else (if is_word name (codes "check-trees") then Some readings.CheckTrees
     else (if is_word name (codes "map") then Some readings.Map
+    else (if is_word name (codes "show") then Some readings.Show
     else (if is_word name (codes "trees") then Some readings.Trees
-    else None))))
+    else None)))))
 
 -- what the command with this name writes
 abbrev pub writing_named : List ℕ → Option Writing
@@ -77,12 +79,13 @@ command_named (name ∷ words) = named_so (reading_named name) (writing_named na
 command_named [] = None
 
 -- known bytes of the output grew by what is told of a file: the listing of an index, the line of one that passed all checks, the map
--- of a file without a fault, or the lines of the trees that an index makes
+-- of a file without a fault, the lines of all that a file holds, or those of the trees that an index makes
 abbrev pub Tells : Reading → Kind → Option (List ℕ) → Option (List ℕ) → Type 0
 Tells readings.List kind old new = ListsIndex kind old new
 Tells readings.Check kind old new = Checks false kind old new
 Tells readings.CheckTrees kind old new = Checks true kind old new
 Tells readings.Map kind old new = Maps kind old new
+Tells readings.Show kind old new = Shows kind old new
 Tells readings.Trees kind old new = TreesIndex kind old new
 
 -- they grew by a prefix of that
@@ -91,6 +94,7 @@ TellsFront readings.List kind old new = ListsFront kind old new
 TellsFront readings.Check kind old new = ChecksFront false kind old new
 TellsFront readings.CheckTrees kind old new = ChecksFront true kind old new
 TellsFront readings.Map kind old new = MapsFront kind old new
+TellsFront readings.Show kind old new = ShowsFront kind old new
 TellsFront readings.Trees kind old new = TreesFront kind old new
 
 -- an index was written to a path: the one in a file, that one with a cached tree made anew, or what is saved of a file

@@ -7,6 +7,7 @@ pub mod map;
 pub mod rewrite;
 pub mod rewrite_trees;
 pub mod salvage;
+pub mod show;
 pub mod trees;
 
 ghost use Rattle.std.specs.Prelude.{◌≡◌, ◌≤◌, ◌↔◌, false, map, IfErr, IfOk, OnOk, OnErr, IsSomeAnd, None, is_some, string_bytes};
@@ -23,6 +24,7 @@ use map::map;
 use rewrite::rewrite;
 use rewrite_trees::rewrite_trees;
 use salvage::{Report, save};
+use show::show;
 use std::alloc::Global;
 use std::io;
 use std::io::Write;
@@ -47,6 +49,8 @@ pub enum Reading {
     CheckTrees,
     /// The parts of the file, up to its first fault.
     Map,
+    /// All that the file holds.
+    Show,
     /// A line for each directory of the trees that its entries make.
     Trees,
 }
@@ -107,6 +111,9 @@ fn reading_of(name: &str) -> Option<Reading>
     }
     if name == "map" {
         return Some(Reading::Map);
+    }
+    if name == "show" {
+        return Some(Reading::Show);
     }
     if name == "trees" {
         return Some(Reading::Trees);
@@ -196,6 +203,7 @@ fn tell<'a, R: Files, W: io::Write>(
         Reading::Check => check(rt, alloc, false, kind, path, out),
         Reading::CheckTrees => check(rt, alloc, true, kind, path, out),
         Reading::Map => map(rt, alloc, kind, path, out),
+        Reading::Show => show(rt, alloc, kind, path, out),
         Reading::Trees => trees(rt, alloc, kind, path, out),
     }
 }
@@ -253,12 +261,13 @@ fn run_command<'a, R: Files, W: io::Write>(
 /// KIND is `sha1` or `sha256`, and FILE is an index, which is read with the shared index that it links to. `list KIND
 /// FILE` writes a line to `out` for each entry. `check KIND FILE` writes `ok` and a newline where the entries are in
 /// order and the file has its digest still; `check-trees KIND FILE` does so where the cached tree tells what they give,
-/// too. `map KIND FILE` writes a line to `out` for each part of FILE, whose link isn't followed: up to the first fault,
-/// where it has one. `trees KIND FILE` writes a line to `out` for each directory of the trees that the entries make.
-/// `rewrite KIND FILE OUT` writes the index to the path OUT, by way of the lock file OUT.lock, and nothing to `out`.
-/// `rewrite4 KIND FILE OUT` does so in version 4, and `rewrite-trees KIND FILE OUT` with a cached tree made anew.
-/// `salvage KIND FILE OUT` writes what can be saved of FILE, whose link isn't followed, there, and says on one line on
-/// `faults` how many entries were declared, read and kept, and where the first fault is.
+/// too. `trees KIND FILE` writes a line to `out` for each directory of the trees that the entries make. Of FILE by
+/// itself, without its shared index, `map KIND FILE` writes a line to `out` for each part, up to the first fault, where
+/// it has one, and `show KIND FILE` one for each thing that it holds. `rewrite KIND FILE OUT` writes the index to the
+/// path OUT, by way of the lock file OUT.lock, and nothing to `out`. `rewrite4 KIND FILE OUT` does so in version 4, and
+/// `rewrite-trees KIND FILE OUT` with a cached tree made anew. `salvage KIND FILE OUT` writes what can be saved of FILE
+/// by itself there, and says on one line on `faults` how many entries were declared, read and kept, and where the first
+/// fault is.
 ///
 /// [`DONE`]: the command did all that. [`REFUSED`]: a file can't be read or written, or is no such index, or `out`
 /// failed; nothing goes to `out` before FILE was read whole and, but for `map`, all checks have passed; the map of a
@@ -287,7 +296,7 @@ pub fn run<R: Files + Alloc, O: io::Write, E: io::Write>(
     let Some(command) = command_of(words) else {
         let _ = writeln!(
             faults,
-            "index-tool: usage: index-tool list|check|check-trees|map|trees sha1|sha256 FILE, or index-tool rewrite|rewrite4|rewrite-trees|salvage sha1|sha256 FILE OUT"
+            "index-tool: usage: index-tool list|check|check-trees|map|show|trees sha1|sha256 FILE, or index-tool rewrite|rewrite4|rewrite-trees|salvage sha1|sha256 FILE OUT"
         );
         return WRONG_WORDS;
     };

@@ -1,0 +1,11 @@
+use Rattle.std.proofs.Common.{◌≡◌, ℕ, ◌++◌, take}
+use Rattle.std.specs.List.{enumerate_from, flat_map}
+use Rattle.gix_index.specs.Blocks.{directory_value}
+use Rattle.gix_index.specs.Directory.{Directory}
+use Rattle.index_show.specs.Untracked.{placed_directory}
+use Rattle.index_show.proofs.untracked.append_directories.Given as goal
+
+-- the directories before this one have their lines
+abbrev pub invariant-loop-place : goal.invariant-loop-place
+invariant-loop-place l = l.lines.items
+    ≡ l.fn.lines.items ++ flat_map (λ (p : ℕ × Directory). placed_directory (p.0, directory_value p.1)) (enumerate_from 0 (take l.place l.directories))

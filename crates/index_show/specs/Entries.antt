@@ -1,0 +1,71 @@
+-- The lines of entries (the library's own; the parts of an entry are those of gitformat-index, "Index entry").
+use Rattle.std.specs.Prelude.{ℕ, ◌==◌, List, [], ◌++◌, bit_and, codes, decimal, length, if◌then◌else◌}
+use Rattle.std.specs.List.{enumerate_from, flat_map}
+use Rattle.gix_index.specs.Flags.{stage_number}
+use Rattle.gix_index.specs.Mode.{commit_mode, directory_mode, executable_mode, file_mode, link_mode}
+use Rattle.gix_index.specs.Record.{Record}
+use Rattle.gix_index.specs.StatType.{Stat}
+use Rattle.gix_index.specs.Time.{Time}
+use Rattle.index_show.specs.Fields.{field, id_field, nanoseconds, number_field, octal, text_field}
+
+-- what a mode says
+unfoldable pub mode_word : ℕ → List ℕ
+mode_word mode =
+    if mode == directory_mode then codes " directory"
+    else (if mode == file_mode then codes " file"
+    else (if mode == executable_mode then codes " executable"
+    else (if mode == link_mode then codes " symlink"
+    else (if mode == commit_mode then codes " submodule"
+    else codes " other"))))
+
+-- the digits of a mode, and what it says
+abbrev pub mode_text : ℕ → List ℕ
+mode_text mode = octal mode ++ mode_word mode
+
+-- the word, where all bits of the mask are set
+unfoldable pub flag_word : ℕ → ℕ → List ℕ → List ℕ
+flag_word flags mask word = if bit_and flags mask == mask then word else []
+
+-- the flags that a file can have beside the stage, by their bits: 15, 14, 29, and 30
+unfoldable pub flag_words : ℕ → List ℕ
+flag_words flags =
+    flag_word flags 0x8000 (codes " assume-valid") ++ flag_word flags 0x4000 (codes " extended")
+    ++ flag_word flags 0x20000000 (codes " intent-to-add") ++ flag_word flags 0x40000000 (codes " skip-worktree")
+
+-- the words, or `none` where there are no words
+abbrev pub flags_text : ℕ → List ℕ
+flags_text flags = if length (flag_words flags) == 0 then codes " none" else flag_words flags
+
+unfoldable pub flags_line : List ℕ → ℕ → List ℕ
+flags_line indent flags = indent ++ codes "flags:" ++ flags_text flags ++ codes "\n"
+
+-- seconds, a point, nanoseconds
+abbrev pub time_text : Time → List ℕ
+time_text time = decimal time.secs ++ codes "." ++ nanoseconds time.nsecs
+
+abbrev pub time_field : List ℕ → List ℕ → Time → List ℕ
+time_field indent name time = field indent name (time_text time)
+
+unfoldable pub stat_lines : List ℕ → Stat → List ℕ
+stat_lines indent s =
+    number_field indent (codes "size") s.size ++ time_field indent (codes "mtime") s.mtime ++ time_field indent (codes "ctime") s.ctime
+    ++ number_field indent (codes "dev") s.dev ++ number_field indent (codes "ino") s.ino
+    ++ number_field indent (codes "uid") s.uid ++ number_field indent (codes "gid") s.gid
+
+-- the lines of an entry but for its number and its stat
+unfoldable pub record_lines : Record → List ℕ
+record_lines r =
+    text_field (codes "    ") (codes "path") r.path ++ id_field (codes "    ") (codes "id") r.id
+    ++ field (codes "    ") (codes "mode") (mode_text r.mode)
+    ++ number_field (codes "    ") (codes "stage") (stage_number r.flags) ++ flags_line (codes "    ") r.flags
+
+-- the lines of an entry, and its place before them, counted from 0
+abbrev pub entry_lines : ℕ → Record → List ℕ
+entry_lines place r = number_field (codes "  ") (codes "entry") place ++ record_lines r ++ stat_lines (codes "    ") r.stat
+
+abbrev pub placed_lines : ℕ × Record → List ℕ
+placed_lines p = entry_lines p.0 p.1
+
+-- the number of entries, and the lines of each, in their order
+abbrev pub entries_lines : List Record → List ℕ
+entries_lines rs = number_field [] (codes "entries") (length rs) ++ flat_map placed_lines (enumerate_from 0 rs)

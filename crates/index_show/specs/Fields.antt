@@ -1,0 +1,54 @@
+-- Lines of a name and a value, as people read them (the library's own).
+use Rattle.std.specs.Prelude.{ℕ, ◌+◌, ◌/◌, ◌%◌, ◌^◌, nat_lt, Bool, List, [], ◌∷◌, ◌++◌, codes, decimal, drop, length, Option, Some, None, if◌then◌else◌}
+use Rattle.hex.specs.Hex.{encode_lower}
+use Rattle.gix_index.specs.Id.{id_bytes}
+use Rattle.gix_index.specs.ObjectId.{ObjectId}
+use Rattle.index_inspect.specs.Escaped.{escaped}
+
+-- what stands before the name, the name, a colon and a space, the value, and a newline
+unfoldable pub field : List ℕ → List ℕ → List ℕ → List ℕ
+field indent name value = indent ++ name ++ codes ": " ++ value ++ codes "\n"
+
+abbrev pub number_field : List ℕ → List ℕ → ℕ → List ℕ
+number_field indent name n = field indent name (decimal n)
+
+-- bytes as text that fits in the line
+abbrev pub text_field : List ℕ → List ℕ → List ℕ → List ℕ
+text_field indent name bytes = field indent name (escaped bytes)
+
+-- an id in base 16
+abbrev pub id_field : List ℕ → List ℕ → ObjectId → List ℕ
+id_field indent name id = field indent name (encode_lower (id_bytes id))
+
+unfoldable pub yes_or_no : Bool → List ℕ
+yes_or_no holds = if holds then codes "yes" else codes "no"
+
+abbrev pub answer_field : List ℕ → List ℕ → Bool → List ℕ
+answer_field indent name holds = field indent name (yes_or_no holds)
+
+-- the id in base 16, or `none`
+abbrev pub id_or_none : Option ObjectId → List ℕ
+id_or_none None = codes "none"
+id_or_none (Some id) = encode_lower (id_bytes id)
+
+-- ---- numbers
+
+-- the character of a digit
+abbrev pub digit : ℕ → ℕ
+digit n = 48 + n
+
+-- the six last octal digits of a number
+abbrev pub octal_six : ℕ → List ℕ
+octal_six n = digit (n / 8 ^ 5 % 8) ∷ digit (n / 8 ^ 4 % 8) ∷ digit (n / 8 ^ 3 % 8) ∷ digit (n / 8 ^ 2 % 8) ∷ digit (n / 8 % 8) ∷ digit (n % 8) ∷ []
+
+-- the five digits before them, which are all that a number of 32 bits has more
+abbrev pub octal_front : ℕ → List ℕ
+octal_front n = digit (n / 8 ^ 10 % 8) ∷ digit (n / 8 ^ 9 % 8) ∷ digit (n / 8 ^ 8 % 8) ∷ digit (n / 8 ^ 7 % 8) ∷ digit (n / 8 ^ 6 % 8) ∷ []
+
+-- six octal digits where they hold the number, else eleven
+unfoldable pub octal : ℕ → List ℕ
+octal n = if nat_lt n (8 ^ 6) then octal_six n else octal_front n ++ octal_six n
+
+-- nanoseconds in nine digits, or more where a file has more
+abbrev pub nanoseconds : ℕ → List ℕ
+nanoseconds n = drop (length (decimal n)) (codes "000000000") ++ decimal n

@@ -1,0 +1,7 @@
+pub mod Bitmaps
+pub mod Entries
+pub mod Fields
+pub mod Show
+pub mod Trees
+pub mod Undo
+pub mod Untracked

@@ -1,0 +1,203 @@
+//! Lines of a name and a value.
+
+ghost use Rattle.std.specs.Prelude.{◌≡◌, ◌++◌, ◌%◌, OnOk, codes, decimal};
+ghost use Rattle.hex.specs.Hex.{encode_lower};
+ghost use Rattle.gix_index.specs.Id.{id_bytes};
+ghost use Rattle.index_show.specs.Fields.{answer_field, digit, field, id_field, id_or_none, nanoseconds, number_field, octal, octal_front, octal_six, text_field, yes_or_no};
+
+use gix_index::hash::ObjectId;
+use index_inspect::map::append_escaped;
+use itoa::Buffer;
+use std::alloc::AllocError;
+
+/// Appends what stands before a value: the indent, the name, a colon and a space.
+pub fn append_name(lines: &mut Vec<u8>, indent: &[u8], name: &[u8]) -> Result<(), AllocError>
+    ensures { OnOk result
+        (lines.new.items ≡ lines.old.items ++ (indent.now ++ name.now ++ codes ": ")) }
+{
+    lines.extend_from_slice(indent)?;
+    lines.extend_from_slice(name)?;
+    lines.extend_from_slice(b": ")
+}
+
+/// Appends a line with the value as it is.
+#[tactic(auto, unfolding(crate::specs::Fields::field))]
+pub fn append_field(
+    lines: &mut Vec<u8>,
+    indent: &[u8],
+    name: &[u8],
+    value: &[u8],
+) -> Result<(), AllocError>
+    ensures { OnOk result
+        (lines.new.items ≡ lines.old.items ++ field indent.now name.now value.now) }
+{
+    append_name(lines, indent, name)?;
+    lines.extend_from_slice(value)?;
+    lines.extend_from_slice(b"\n")
+}
+
+/// Appends a line with a number.
+pub fn append_number(
+    lines: &mut Vec<u8>,
+    indent: &[u8],
+    name: &[u8],
+    n: u64,
+) -> Result<(), AllocError>
+    ensures { OnOk result
+        (lines.new.items ≡ lines.old.items ++ number_field indent.now name.now n) }
+{
+    let mut buffer = Buffer::new();
+    append_field(lines, indent, name, buffer.format(n).as_bytes())
+}
+
+/// Appends a line with bytes as text that fits in it.
+#[tactic(auto, unfolding(crate::specs::Fields::field))]
+pub fn append_text(
+    lines: &mut Vec<u8>,
+    indent: &[u8],
+    name: &[u8],
+    bytes: &[u8],
+) -> Result<(), AllocError>
+    ensures { OnOk result
+        (lines.new.items ≡ lines.old.items ++ text_field indent.now name.now bytes.now) }
+{
+    append_name(lines, indent, name)?;
+    append_escaped(lines, bytes)?;
+    lines.extend_from_slice(b"\n")
+}
+
+fn hex_forty(bytes: &[u8; 20]) -> [u8; 40]
+    ensures { result ≡ encode_lower bytes.now }
+{
+    let mut digits = [0; 40];
+    let _ = hex::encode_to_slice(bytes.as_slice(), &mut digits);
+    digits
+}
+
+fn hex_sixty_four(bytes: &[u8; 32]) -> [u8; 64]
+    ensures { result ≡ encode_lower bytes.now }
+{
+    let mut digits = [0; 64];
+    let _ = hex::encode_to_slice(bytes.as_slice(), &mut digits);
+    digits
+}
+
+/// Appends an id in base 16.
+pub fn append_hex(lines: &mut Vec<u8>, id: &ObjectId) -> Result<(), AllocError>
+    ensures { OnOk result (lines.new.items ≡ lines.old.items ++ encode_lower (id_bytes id.now)) }
+{
+    match id {
+        ObjectId::Sha1(bytes) => lines.extend_from_slice(&hex_forty(bytes)),
+        ObjectId::Sha256(bytes) => lines.extend_from_slice(&hex_sixty_four(bytes)),
+    }
+}
+
+/// Appends a line with an id.
+#[tactic(auto, unfolding(crate::specs::Fields::field))]
+pub fn append_id(
+    lines: &mut Vec<u8>,
+    indent: &[u8],
+    name: &[u8],
+    id: &ObjectId,
+) -> Result<(), AllocError>
+    ensures { OnOk result (lines.new.items ≡ lines.old.items ++ id_field indent.now name.now id.now) }
+{
+    append_name(lines, indent, name)?;
+    append_hex(lines, id)?;
+    lines.extend_from_slice(b"\n")
+}
+
+/// Appends a line with an id, or with `none`.
+pub fn append_id_or_none(
+    lines: &mut Vec<u8>,
+    indent: &[u8],
+    name: &[u8],
+    id: Option<ObjectId>,
+) -> Result<(), AllocError>
+    ensures { OnOk result
+        (lines.new.items ≡ lines.old.items ++ field indent.now name.now (id_or_none id)) }
+{
+    match id {
+        Some(id) => append_id(lines, indent, name, &id),
+        None => append_field(lines, indent, name, b"none"),
+    }
+}
+
+#[tactic(auto, unfolding(crate::specs::Fields::yes_or_no))]
+fn yes_or_no<'a>(holds: bool) -> &'a [u8]
+    ensures { result.now ≡ yes_or_no holds }
+{
+    if holds { b"yes" } else { b"no" }
+}
+
+/// Appends a line with `yes` or `no`.
+pub fn append_answer(
+    lines: &mut Vec<u8>,
+    indent: &[u8],
+    name: &[u8],
+    holds: bool,
+) -> Result<(), AllocError>
+    ensures { OnOk result
+        (lines.new.items ≡ lines.old.items ++ answer_field indent.now name.now holds) }
+{
+    append_field(lines, indent, name, yes_or_no(holds))
+}
+
+/// The last octal digit.
+fn octal_digit(n: u32) -> u8
+    ensures { result ≡ digit (n % 8) }
+{
+    b'0' + (n % 8) as u8
+}
+
+/// The six last octal digits of a number.
+fn octal_six(n: u32) -> [u8; 6]
+    ensures { result ≡ octal_six n }
+{
+    [
+        octal_digit(n / 0o100000),
+        octal_digit(n / 0o10000),
+        octal_digit(n / 0o1000),
+        octal_digit(n / 0o100),
+        octal_digit(n / 0o10),
+        octal_digit(n),
+    ]
+}
+
+/// The five octal digits before them.
+fn octal_front(n: u32) -> [u8; 5]
+    ensures { result ≡ octal_front n }
+{
+    [
+        octal_digit(n / 0o10000000000),
+        octal_digit(n / 0o1000000000),
+        octal_digit(n / 0o100000000),
+        octal_digit(n / 0o10000000),
+        octal_digit(n / 0o1000000),
+    ]
+}
+
+/// Appends a number in octal digits: six where they hold it.
+#[tactic(auto, unfolding(crate::specs::Fields::octal))]
+pub fn append_octal(lines: &mut Vec<u8>, n: u32) -> Result<(), AllocError>
+    ensures { OnOk result (lines.new.items ≡ lines.old.items ++ octal n) }
+{
+    if n < 0o1000000 {
+        return lines.extend_from_slice(&octal_six(n));
+    }
+    lines.extend_from_slice(&octal_front(n))?;
+    lines.extend_from_slice(&octal_six(n))
+}
+
+/// Appends nanoseconds in nine digits or more.
+pub fn append_nanoseconds(lines: &mut Vec<u8>, n: u32) -> Result<(), AllocError>
+    ensures { OnOk result (lines.new.items ≡ lines.old.items ++ nanoseconds n) }
+{
+    let mut buffer = Buffer::new();
+    let digits = buffer.format(n).as_bytes();
+    let zeros = b"000000000".as_slice();
+    if digits.len() < 9 {
+        lines.extend_from_slice(&zeros[digits.len()..])?;
+    }
+    lines.extend_from_slice(digits)
+}

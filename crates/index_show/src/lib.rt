@@ -1,0 +1,12 @@
+//! All that an index file holds, for people: a line for each part, as `name: value`, with two spaces of indent a level.
+#![tactic(auto)]
+
+mod bitmaps;
+mod entries;
+mod fields;
+pub mod show;
+mod trees;
+mod undo;
+mod untracked;
+
+pub use show::write_show;

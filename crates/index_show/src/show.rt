@@ -1,0 +1,102 @@
+//! All of an index file, line by line.
+
+ghost use Rattle.std.specs.Prelude.{◌≡◌, ◌++◌, OnOk, OnErr, codes, decimal};
+ghost use Rattle.std.specs.Io.KnownBytes.{Appends};
+ghost use Rattle.gix_index.specs.Taking.{AppendsPrefix};
+ghost use Rattle.gix_index.specs.File.{checksum_of, state_of};
+ghost use Rattle.gix_index.specs.State.{PathsInStorage, contents};
+ghost use Rattle.index_show.specs.Show.{behind_lines, head_lines, mark_lines, show_lines, version_number};
+
+use crate::bitmaps::{append_link, append_monitor};
+use crate::entries::append_entries;
+use crate::fields::{append_answer, append_id_or_none, append_number};
+use crate::trees::append_tree;
+use crate::undo::append_undo;
+use crate::untracked::append_untracked;
+use gix_index::hash::ObjectId;
+use gix_index::hash::io::put_all;
+use gix_index::{File, State, Version};
+use std::alloc::{AllocError, Global};
+use std::io;
+
+fn version_number(version: Version) -> u64
+    ensures { result ≡ version_number version }
+{
+    match version {
+        Version::V2 => 2,
+        Version::V3 => 3,
+        Version::V4 => 4,
+    }
+}
+
+/// Appends what stands before the entries.
+#[tactic(auto, unfolding(crate::specs::Show::head_lines))]
+fn append_head(
+    lines: &mut Vec<u8>,
+    state: &State,
+    checksum: Option<ObjectId>,
+) -> Result<(), AllocError>
+    ensures { OnOk result
+        (lines.new.items ≡ lines.old.items ++ head_lines (contents state.now) checksum) }
+{
+    append_number(lines, b"", b"version", version_number(state.version()))?;
+    append_id_or_none(lines, b"", b"checksum", checksum)?;
+    append_answer(lines, b"", b"sparse", state.is_sparse())
+}
+
+/// Appends whether there was an offset table, and an end marker.
+fn append_marks(lines: &mut Vec<u8>, table: bool, marker: bool) -> Result<(), AllocError>
+    ensures { OnOk result (lines.new.items ≡ lines.old.items ++ mark_lines table marker) }
+{
+    append_answer(lines, b"", b"offset table", table)?;
+    append_answer(lines, b"", b"end marker", marker)
+}
+
+/// Appends what stands behind the entries.
+fn append_behind(lines: &mut Vec<u8>, alloc: Global, state: &State) -> Result<(), AllocError>
+    ensures { OnOk result
+        (lines.new.items ≡ lines.old.items ++ behind_lines (contents state.now).extensions) }
+{
+    append_tree(lines, alloc, state)?;
+    append_link(lines, state)?;
+    append_undo(lines, state)?;
+    append_untracked(lines, state)?;
+    append_monitor(lines, state)?;
+    append_marks(
+        lines,
+        state.had_offset_table(),
+        state.had_end_of_index_marker(),
+    )
+}
+
+/// Appends all lines.
+#[tactic(auto, unfolding(crate::specs::Show::show_lines))]
+fn append_show(
+    lines: &mut Vec<u8>,
+    alloc: Global,
+    state: &State,
+    checksum: Option<ObjectId>,
+) -> Result<(), AllocError>
+    requires { PathsInStorage state.now }
+    ensures { OnOk result
+        (lines.new.items ≡ lines.old.items ++ show_lines (contents state.now) checksum) }
+{
+    append_head(lines, state, checksum)?;
+    append_entries(lines, state)?;
+    append_behind(lines, alloc, state)
+}
+
+/// Writes all that the file holds, line by line, for people.
+///
+/// An error is the writer's, or want of memory for the lines; what was written by then is a prefix of them.
+pub fn write_show<W: io::Write>(alloc: Global, file: &File, out: &mut W) -> io::Result<()>
+    requires { PathsInStorage (state_of file.now) }
+    ensures ok { OnOk result (Appends (W.contents out.old) (W.contents out.new)
+        (show_lines (contents (state_of file.now)) (checksum_of file.now))) }
+    ensures err { OnErr result (AppendsPrefix (W.contents out.old) (W.contents out.new)
+        (show_lines (contents (state_of file.now)) (checksum_of file.now))) }
+{
+    let mut lines = Vec::new(alloc);
+    append_show(&mut lines, alloc, file, file.checksum())?;
+    put_all(out, lines.as_slice())
+}

@@ -1,0 +1,65 @@
+//! The command `show`.
+
+ghost use Rattle.std.specs.Prelude.{◌≡◌, IfErr, IfOk, OnOk};
+ghost use Rattle.gix_index.specs.File.{checksum_of, state_of};
+ghost use Rattle.gix_index.specs.State.{PathsInStorage, contents};
+ghost use Rattle.index_tool.specs.Listing.{FailsToRead};
+ghost use Rattle.index_tool.specs.Showing.{FailsToShow, IsInBytes, Shows};
+
+use crate::command::map::{bytes_at, out_of_memory};
+use crate::failure::Failure;
+use gix_index::entry::FileTime;
+use gix_index::hash::Kind;
+use gix_index::{File, decode};
+use index_show::write_show;
+use std::alloc::Global;
+use std::io;
+use std::path::PathBuf;
+use std::rt::Files;
+
+/// The index in the bytes of a file, whose link isn't followed.
+fn index_in<'a>(alloc: Global, kind: Kind, path: &'a str, bytes: &[u8]) -> Result<File, Failure<'a>>
+    ensures read { IfOk result
+        (λ file. IsInBytes kind bytes.now (contents (state_of file)) (checksum_of file)) }
+    ensures placed { IfOk result (λ file. PathsInStorage (state_of file)) }
+    ensures fault { IfErr result (FailsToRead path.now) }
+{
+    let Ok(place) = PathBuf::from_str(alloc, path) else {
+        return Err(out_of_memory(path));
+    };
+    let time = FileTime::EPOCH;
+    let options = decode::Options::default();
+    match File::decode(alloc, bytes, place, kind, false, time, options) {
+        Ok(file) => Ok(file),
+        Err(fault) => Err(Failure::Index { path, fault }),
+    }
+}
+
+/// Writes all that a file holds to `out`, for people, a line for each thing. Its link isn't followed.
+///
+/// Nothing goes to `out` before the file was read whole. Ok: `out` took all lines. [`Failure::Output`]: it took a front.
+/// Any other failure: it took nothing.
+pub fn show<'a, R: Files, W: io::Write>(
+    rt: &R,
+    alloc: Global,
+    kind: Kind,
+    path: &'a str,
+    out: &mut W,
+) -> Result<(), Failure<'a>>
+    ensures shown { OnOk result (Shows kind (W.contents out.old) (W.contents out.new)) }
+    ensures refused { IfErr result
+        (λ failure. FailsToShow kind path.now failure (W.contents out.old) (W.contents out.new)) }
+{
+    let bytes = match bytes_at(rt, alloc, path) {
+        Ok(bytes) => bytes,
+        Err(failure) => return Err(failure),
+    };
+    let index = match index_in(alloc, kind, path, &bytes) {
+        Ok(index) => index,
+        Err(failure) => return Err(failure),
+    };
+    match write_show(alloc, &index, out) {
+        Ok(()) => Ok(()),
+        Err(e) => Err(Failure::Output(e)),
+    }
+}

@@ -1,0 +1,172 @@
+"""All that an index holds as lines for people, of the model's state."""
+
+import bitmaps
+import entries
+import parts
+
+MODE_WORDS = {
+    entries.DIRECTORY: "directory",
+    entries.FILE: "file",
+    entries.EXECUTABLE: "executable",
+    entries.SYMLINK: "symlink",
+    entries.SUBMODULE: "submodule",
+}
+FLAG_WORDS = (
+    (entries.ASSUME_VALID, "assume-valid"),
+    (entries.EXTENDED, "extended"),
+    (entries.INTENT_TO_ADD, "intent-to-add"),
+    (entries.SKIP_WORKTREE, "skip-worktree"),
+)
+SIDES = ("base", "ours", "theirs")
+# Octal digits that every mode has, and those of a number that needs more.
+MODE_DIGITS, ALL_DIGITS = 6, 11
+
+
+def escaped(data):
+    """Bytes as text that fits in a line."""
+    return parts.escaped(data).decode()
+
+
+def yes(holds):
+    return "yes" if holds else "no"
+
+
+def id_or_none(object_id):
+    return "none" if object_id is None else object_id.hex()
+
+
+def octal(number):
+    digits = f"{number:o}"
+    return digits.zfill(MODE_DIGITS if len(digits) <= MODE_DIGITS else ALL_DIGITS)
+
+
+def mode(number):
+    return f"{octal(number)} {MODE_WORDS.get(number, 'other')}"
+
+
+def time(seconds, nanoseconds):
+    return f"{seconds}.{nanoseconds:09}"
+
+
+def further_in(lines):
+    """The same lines a level further in."""
+    return ["  " + line for line in lines]
+
+
+def stat(value):
+    return [
+        f"size: {value.size}",
+        f"mtime: {time(value.mtime_seconds, value.mtime_nanoseconds)}",
+        f"ctime: {time(value.ctime_seconds, value.ctime_nanoseconds)}",
+        f"dev: {value.dev}",
+        f"ino: {value.ino}",
+        f"uid: {value.uid}",
+        f"gid: {value.gid}",
+    ]
+
+
+def entry(place, value):
+    words = [word for bits, word in FLAG_WORDS if value.flags & bits == bits]
+    fields = [
+        f"path: {escaped(value.path)}",
+        f"id: {value.id.hex()}",
+        f"mode: {mode(value.mode)}",
+        f"stage: {value.stage}",
+        f"flags: {' '.join(words) or 'none'}",
+    ]
+    return [f"entry: {place}"] + further_in(fields + stat(value.stat))
+
+
+def node(value):
+    count = -1 if value.count is None else value.count
+    fields = [f"id: {value.id.hex()}", f"entries: {count}"]
+    for child in value.children:
+        fields += node(child)
+    return [f"directory: {escaped(value.name)}"] + further_in(fields)
+
+
+def tree(value):
+    if value is None:
+        return ["cached tree: none"]
+    return ["cached tree:"] + further_in(node(value))
+
+
+def bitmap(name, value):
+    places = "".join(f" {bitmaps.MALFORMED if it == bitmaps.MALFORMED else it}" for it in value.positions())
+    return [f"{name}:"] + further_in([f"bits: {value.bits}", f"places:{places}"])
+
+
+def link(value):
+    if value is None:
+        return ["link: none"]
+    fields = ["bitmaps: none"]
+    if value.has_bitmaps:
+        fields = bitmap("deleted", value.delete) + bitmap("replaced", value.replace)
+    return [f"link: {value.shared.hex()}"] + further_in(fields)
+
+
+def side(value):
+    return "none" if value is None else f"{octal(value[0])} {value[1].hex()}"
+
+
+def resolve_undo(value):
+    if value is None:
+        return ["resolve undo: none"]
+    lines = []
+    for path, sides in value:
+        lines.append(f"path: {escaped(path)}")
+        lines += further_in([f"{name}: {side(it)}" for name, it in zip(SIDES, sides)])
+    return [f"resolve undo: {len(value)}"] + further_in(lines)
+
+
+def exclude(name, pair):
+    if pair is None:
+        return [f"{name}: none"]
+    return [f"{name}: {pair[1].hex()}"] + further_in(stat(pair[0]))
+
+
+def directory(place, value):
+    fields = [
+        f"name: {escaped(value.name)}",
+        f"check only: {yes(value.is_check_only)}",
+        f"exclude file: {id_or_none(value.exclude_file)}",
+    ]
+    fields += ["stat: none"] if value.stat is None else ["stat:"] + further_in(stat(value.stat))
+    fields += [f"untracked: {escaped(name)}" for name in value.untracked]
+    fields += [f"subdirectory: {it}" for it in value.directories]
+    return [f"directory: {place}"] + further_in(fields)
+
+
+def untracked(value):
+    if value is None:
+        return ["untracked cache: none"]
+    fields = [
+        f"identifier: {escaped(value.identifier)}",
+        f"flags: {value.flags}",
+        f"exclude name: {escaped(value.exclude_name)}",
+    ]
+    fields += exclude("info/exclude", value.info_exclude) + exclude("excludes file", value.excludes_file)
+    for place, it in enumerate(value.directories):
+        fields += directory(place, it)
+    return [f"untracked cache: {len(value.directories)}"] + further_in(fields)
+
+
+def monitor(value):
+    if value is None:
+        return ["file system monitor: none"]
+    is_time = isinstance(value.token, int)
+    token = f"time: {value.token}" if is_time else f"token: {escaped(value.token)}"
+    return ["file system monitor:"] + further_in([token] + bitmap("dirty", value.dirty))
+
+
+def shown(state, checksum):
+    """All lines, as bytes."""
+    lines = [f"version: {state.version}", f"checksum: {id_or_none(checksum)}", f"sparse: {yes(state.is_sparse)}"]
+    listed = []
+    for place, it in enumerate(state.entries):
+        listed += entry(place, it)
+    lines += [f"entries: {len(state.entries)}"] + further_in(listed)
+    lines += tree(state.tree) + link(state.link) + resolve_undo(state.resolve_undo)
+    lines += untracked(state.untracked) + monitor(state.monitor)
+    lines += [f"offset table: {yes(state.had_offset_table)}", f"end marker: {yes(state.had_end_marker)}"]
+    return "".join(line + "\n" for line in lines).encode()
