@@ -1,6 +1,5 @@
 """All that an index holds as lines for people, of the model's state."""
 
-import bitmaps
 import entries
 import parts
 
@@ -92,8 +91,7 @@ def tree(value):
 
 
 def bitmap(name, value):
-    places = "".join(f" {bitmaps.MALFORMED if it == bitmaps.MALFORMED else it}" for it in value.positions())
-    return [f"{name}:"] + further_in([f"bits: {value.bits}", f"places:{places}"])
+    return [f"{name}:"] + further_in([f"bits: {value.bits}"])
 
 
 def link(value):

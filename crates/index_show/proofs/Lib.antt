@@ -1,4 +1,4 @@
 pub mod Appended
 pub mod Directed
-pub mod Listed
 pub mod Placed
+pub mod Written

@@ -1,6 +1,6 @@
 -- The lines of a list of which each item has its place before it.
 use Rattle.std.proofs.Common.{◌≡◌, ℕ, suc, ◌+◌, ◌<◌, ◌≤◌, List, [], ◌∷◌, ◌++◌, length, map, take, get_or, refl, sym, ap, ◌∙◌, append_assoc, append-nil, arith}
-use Rattle.std.proofs.lemmas.List.{length-map, length-take-le, take_more, take_all}
+use Rattle.std.proofs.lemmas.List.{length-take-le, take_more, take_all}
 use Rattle.std.proofs.lemmas.List.Concat.{flat_map-cons}
 use Rattle.std.specs.List.{enumerate_from, flat_map}
 
@@ -40,18 +40,6 @@ placed_map {X} f g k (x ∷ xs) =
     flat_map-cons (λ (p : ℕ × X). f (p.0, g p.1)) (k, x) (enumerate_from (k + 1) xs)
     ∙ ap (λ (l : List ℕ). f (k, g x) ++ l) (placed_map f g (k + 1) xs)
     ∙ sym (flat_map-cons f (k, g x) (enumerate_from (k + 1) (map g xs)))
-
--- the lines of all, behind those of their number
-pub placed_shown : {X Y : Type 0} (f : ℕ × Y → List ℕ) (g : X → Y) (number : ℕ → List ℕ) (old new : List ℕ) (all items : List X) (i : ℕ)
-    → items ≡ all → length items ≤ i
-    → new ≡ (old ++ number (length all)) ++ flat_map (λ (p : ℕ × X). f (p.0, g p.1)) (enumerate_from 0 (take i items))
-    → new ≡ old ++ (number (length (map g all)) ++ flat_map f (enumerate_from 0 (map g all)))
-placed_shown {X} f g number old new all items i same le h =
-    let lines : List X → List ℕ = λ xs. flat_map (λ (p : ℕ × X). f (p.0, g p.1)) (enumerate_from 0 xs) in
-    h ∙ ap (λ (xs : List X). (old ++ number (length all)) ++ lines xs) (take_all i items le ∙ same)
-    ∙ ap (λ (l : List ℕ). (old ++ number (length all)) ++ l) (placed_map f g 0 all)
-    ∙ append_assoc old (number (length all)) (flat_map f (enumerate_from 0 (map g all)))
-    ∙ ap (λ (n : ℕ). old ++ (number n ++ flat_map f (enumerate_from 0 (map g all)))) (sym (length-map all g))
 
 -- the lines of all
 pub placed_all : {X Y : Type 0} (f : ℕ × Y → List ℕ) (g : X → Y) (old new : List ℕ) (items : List X) (i : ℕ)

@@ -1,4 +1,5 @@
 pub mod Bitmaps
+pub mod Blocks
 pub mod Entries
 pub mod Fields
 pub mod Show

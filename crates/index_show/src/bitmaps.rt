@@ -1,58 +1,19 @@
 //! The lines of a bitmap, and of what has one: a link and a file system monitor.
 
 ghost use Rattle.std.specs.Prelude.{◌≡◌, ◌++◌, OnOk, codes};
-ghost use Rattle.std.specs.List.{flat_map};
 ghost use Rattle.std.specs.Option.{option_map};
 ghost use Rattle.gix_index.specs.Bitmap.{bitmap};
 ghost use Rattle.gix_index.specs.FsMonitor.{monitor_of, token_value};
 ghost use Rattle.gix_index.specs.Link.{link_of, pair_of};
 ghost use Rattle.gix_index.specs.State.{contents};
-ghost use Rattle.index_show.specs.Bitmaps.{bitmap_lines, heading, link_lines, monitor_heading, monitor_lines, pair_lines, place_text, places_line, places_of, token_field};
+ghost use Rattle.index_show.specs.Bitmaps.{bitmap_lines, heading, link_lines, monitor_heading, monitor_lines, pair_lines, token_field};
 
 use crate::fields::{append_field, append_id, append_number, append_text};
-use gix_index::State;
-use gix_index::ewah::{self, Malformed};
 use gix_index::extension::fs_monitor::Token;
 use gix_index::extension::link::Bitmaps;
 use gix_index::extension::{FsMonitor, Link};
-use itoa::Buffer;
+use gix_index::{State, ewah};
 use std::alloc::AllocError;
-
-/// Appends a place, or that the words break off.
-fn append_place(lines: &mut Vec<u8>, place: Result<u64, Malformed>) -> Result<(), AllocError>
-    ensures { OnOk result (lines.new.items ≡ lines.old.items ++ place_text place) }
-{
-    let mut buffer = Buffer::new();
-    match place {
-        Ok(place) => {
-            lines.extend_from_slice(b" ")?;
-            lines.extend_from_slice(buffer.format(place).as_bytes())
-        }
-        Err(_) => lines.extend_from_slice(b" malformed"),
-    }
-}
-
-/// Appends the places of the bits that are set.
-fn append_places(lines: &mut Vec<u8>, map: &ewah::Vec) -> Result<(), AllocError>
-    ensures { OnOk result (lines.new.items
-        ≡ lines.old.items ++ flat_map place_text (places_of (bitmap map.now))) }
-{
-    let mut positions = map.positions();
-    while let Some(position) = positions.next() {
-        append_place(lines, position)?;
-    }
-    Ok(())
-}
-
-/// Appends the line of the places.
-#[tactic(auto, unfolding(crate::specs::Bitmaps::places_line))]
-fn append_places_line(lines: &mut Vec<u8>, map: &ewah::Vec) -> Result<(), AllocError>
-    ensures { OnOk result (lines.new.items ≡ lines.old.items ++ places_line (bitmap map.now)) }
-{
-    lines.extend_from_slice(b"    places:")?;
-    append_places(lines, map)?;
-    lines.extend_from_slice(b"\n")
-}
 
 /// Appends the name of what is told further in.
 #[tactic(auto, unfolding(crate::specs::Bitmaps::heading))]
@@ -64,14 +25,13 @@ fn append_heading(lines: &mut Vec<u8>, name: &[u8]) -> Result<(), AllocError>
     lines.extend_from_slice(b":\n")
 }
 
-/// Appends how many bits a bitmap declares, and which are set.
+/// Appends how many bits a bitmap declares. Which are set isn't told: a few bytes can set 2^38 of them.
 fn append_bitmap(lines: &mut Vec<u8>, name: &[u8], map: &ewah::Vec) -> Result<(), AllocError>
     ensures { OnOk result
         (lines.new.items ≡ lines.old.items ++ bitmap_lines name.now (bitmap map.now)) }
 {
     append_heading(lines, name)?;
-    append_number(lines, b"    ", b"bits", u64::from(map.num_bits()))?;
-    append_places_line(lines, map)
+    append_number(lines, b"    ", b"bits", u64::from(map.num_bits()))
 }
 
 /// Appends which entries of a shared index are deleted and replaced, or `none`.

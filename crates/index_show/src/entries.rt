@@ -1,12 +1,15 @@
 //! The lines of entries.
 
-ghost use Rattle.std.specs.Prelude.{◌≡◌, ◌++◌, ◌<◌, OnOk, codes, length};
+ghost use Rattle.std.specs.Prelude.{◌≡◌, ◌++◌, ◌<◌, OnErr, OnOk, codes, length};
 ghost use Rattle.std.specs.List.{enumerate_from, flat_map};
+ghost use Rattle.gix_index.specs.Taking.{AppendsPrefix};
 ghost use Rattle.gix_index.specs.Record.{IsPlaced, record_in};
 ghost use Rattle.gix_index.specs.State.{PathsInStorage, contents, entries_of, records, storage_of};
+ghost use Rattle.index_show.specs.Blocks.{Passes};
 ghost use Rattle.index_show.specs.Entries.{entries_lines, entry_lines, flag_word, flag_words, flags_line, flags_text, mode_text, mode_word, record_lines, stat_lines, time_field, time_text};
 ghost use Rattle.index_show.specs.Fields.{field};
 
+use crate::block::put_block;
 use crate::fields::{
     append_field, append_id, append_name, append_nanoseconds, append_number, append_octal,
     append_text,
@@ -17,6 +20,7 @@ use gix_index::entry::{Flags, Mode, Stat};
 use gix_index::{Entry, State};
 use itoa::Buffer;
 use std::alloc::AllocError;
+use std::io;
 
 /// What a mode says.
 #[tactic(auto, unfolding(crate::specs::Entries::mode_word))]
@@ -168,15 +172,24 @@ fn append_entry(
     append_stat(lines, b"    ", entry.stat)
 }
 
-/// Appends the number of entries, and the lines of each.
-pub fn append_entries(lines: &mut Vec<u8>, state: &State) -> Result<(), AllocError>
+/// Appends the number of entries, and the lines of each; what fills a block goes out.
+pub fn write_entries<W: io::Write>(
+    lines: &mut Vec<u8>,
+    state: &State,
+    out: &mut W,
+) -> io::Result<()>
     requires { PathsInStorage state.now }
-    ensures { OnOk result
-        (lines.new.items ≡ lines.old.items ++ entries_lines (contents state.now).records) }
+    ensures ok { OnOk result
+        (Passes (W.contents out.old) (W.contents out.new) lines.new.items
+        (lines.old.items ++ entries_lines (contents state.now).records)) }
+    ensures err { OnErr result
+        (AppendsPrefix (W.contents out.old) (W.contents out.new)
+        (lines.old.items ++ entries_lines (contents state.now).records)) }
 {
     append_number(lines, b"", b"entries", state.entries().len() as u64)?;
     for (place, entry) in state.entries().iter().enumerate() {
         append_entry(lines, state, place, entry)?;
+        put_block(lines, out)?;
     }
     Ok(())
 }

@@ -2,6 +2,7 @@
 #![tactic(auto)]
 
 mod bitmaps;
+mod block;
 mod entries;
 mod fields;
 pub mod show;

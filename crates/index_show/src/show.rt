@@ -8,7 +8,7 @@ ghost use Rattle.gix_index.specs.State.{PathsInStorage, contents};
 ghost use Rattle.index_show.specs.Show.{behind_lines, head_lines, mark_lines, show_lines, version_number};
 
 use crate::bitmaps::{append_link, append_monitor};
-use crate::entries::append_entries;
+use crate::entries::write_entries;
 use crate::fields::{append_answer, append_id_or_none, append_number};
 use crate::trees::append_tree;
 use crate::undo::append_undo;
@@ -69,26 +69,30 @@ fn append_behind(lines: &mut Vec<u8>, alloc: Global, state: &State) -> Result<()
     )
 }
 
-/// Appends all lines.
-#[tactic(auto, unfolding(crate::specs::Show::show_lines))]
-fn append_show(
-    lines: &mut Vec<u8>,
+/// Writes all that an index holds, and the id at the end of its file.
+fn write_state<W: io::Write>(
     alloc: Global,
     state: &State,
     checksum: Option<ObjectId>,
-) -> Result<(), AllocError>
+    out: &mut W,
+) -> io::Result<()>
     requires { PathsInStorage state.now }
-    ensures { OnOk result
-        (lines.new.items ≡ lines.old.items ++ show_lines (contents state.now) checksum) }
+    ensures ok { OnOk result (Appends (W.contents out.old) (W.contents out.new)
+        (show_lines (contents state.now) checksum)) }
+    ensures err { OnErr result (AppendsPrefix (W.contents out.old) (W.contents out.new)
+        (show_lines (contents state.now) checksum)) }
 {
-    append_head(lines, state, checksum)?;
-    append_entries(lines, state)?;
-    append_behind(lines, alloc, state)
+    let mut lines = Vec::new(alloc);
+    append_head(&mut lines, state, checksum)?;
+    write_entries(&mut lines, state, out)?;
+    append_behind(&mut lines, alloc, state)?;
+    put_all(out, lines.as_slice())
 }
 
 /// Writes all that the file holds, line by line, for people.
 ///
-/// An error is the writer's, or want of memory for the lines; what was written by then is a prefix of them.
+/// The lines of entries wait in one buffer, which goes out past 64 KiB; those behind them wait in it all. An error is
+/// the writer's, or want of memory for that buffer; what was written by then is a prefix of the lines.
 pub fn write_show<W: io::Write>(alloc: Global, file: &File, out: &mut W) -> io::Result<()>
     requires { PathsInStorage (state_of file.now) }
     ensures ok { OnOk result (Appends (W.contents out.old) (W.contents out.new)
@@ -96,7 +100,5 @@ pub fn write_show<W: io::Write>(alloc: Global, file: &File, out: &mut W) -> io::
     ensures err { OnErr result (AppendsPrefix (W.contents out.old) (W.contents out.new)
         (show_lines (contents (state_of file.now)) (checksum_of file.now))) }
 {
-    let mut lines = Vec::new(alloc);
-    append_show(&mut lines, alloc, file, file.checksum())?;
-    put_all(out, lines.as_slice())
+    write_state(alloc, file, file.checksum(), out)
 }
