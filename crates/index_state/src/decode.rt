@@ -25,11 +25,11 @@ impl From<Parts> for State {
 }
 
 impl State {
-    /// Reads an index from all bytes of its file, and gives it with the trailer's id, or None where the trailer is
-    /// null. The timestamp is kept.
+    /// Reads an index from all bytes of its file, and gives it with the trailer's id, or None where the trailer
+    /// is null. The timestamp is kept, and nothing is compared with it.
     ///
-    /// Of several faults the first is given, in this order: [`Error::Header`] for a file that is too short, has another
-    /// signature, a version that can't be read, or a count of entries that its length can't hold;
+    /// Of several faults the first is given, in this order: [`Error::Header`] for a file that is too short, has
+    /// another signature, a version that can't be read, or a count of entries that its length can't hold;
     /// [`Error::OutOfMemory`] by the caller's limit; [`Error::Entry`]; [`Error::Extension`];
     /// [`Error::UnexpectedTrailerLength`]; [`Error::Verify`]. [`Error::Memory`] is the want of it, and never comes in
     /// place of the first two. The digest isn't computed.

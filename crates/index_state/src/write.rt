@@ -23,6 +23,8 @@ impl State {
     /// index; and, behind one of these, an end marker, where there are entries, even ones that are left out, and the
     /// options ask for it.
     ///
+    /// In version 4 each path is written as its difference to the one that was written before it.
+    ///
     /// [`Error::TooManyEntries`], then [`Error::NulInPath`], then [`Error::TooLarge`], come before any byte and leave
     /// the writer as it was. [`Error::Io`] comes only where the writer failed, which then took a prefix of the bytes.
     /// No memory is taken.
