@@ -1,4 +1,4 @@
-//! All that an index file holds, for people: a line for each part, as `name: value`, with two spaces of indent a level.
+//! What an index file holds, for people: a line for each part, as `name: value`, with two spaces of indent a level.
 #![tactic(auto)]
 
 mod bitmaps;

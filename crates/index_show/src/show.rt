@@ -89,7 +89,8 @@ fn write_state<W: io::Write>(
     put_all(out, lines.as_slice())
 }
 
-/// Writes all that the file holds, line by line, for people.
+/// Writes what the file holds, line by line, for people. Which bits of a bitmap are set isn't told, nor what an offset
+/// table and an end marker say, but that they were there; and nothing of extensions that the library doesn't read.
 ///
 /// The lines of entries wait in one buffer, which goes out past 64 KiB; those behind them wait in it all. An error is
 /// the writer's, or want of memory for that buffer; what was written by then is a prefix of the lines.

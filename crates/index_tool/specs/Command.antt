@@ -79,7 +79,7 @@ command_named (name ∷ words) = named_so (reading_named name) (writing_named na
 command_named [] = None
 
 -- known bytes of the output grew by what is told of a file: the listing of an index, the line of one that passed all checks, the map
--- of a file without a fault, the lines of all that a file holds, or those of the trees that an index makes
+-- of a file without a fault, the lines of what a file holds, or those of the trees that an index makes
 abbrev pub Tells : Reading → Kind → Option (List ℕ) → Option (List ℕ) → Type 0
 Tells readings.List kind old new = ListsIndex kind old new
 Tells readings.Check kind old new = Checks false kind old new

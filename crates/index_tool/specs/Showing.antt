@@ -1,4 +1,4 @@
--- All that a file holds, as the program prints it (the program's own). No clause can name the file's bytes: it is what some hold.
+-- What a file holds, as the program prints it (the program's own). No clause can name the file's bytes: it is what some hold.
 use Rattle.std.specs.Prelude.{ℕ, false, List, Option, Ok}
 use Rattle.std.specs.Io.KnownBytes.{Appends, Keeps}
 use Rattle.gix_index.specs.Checked.{IsFileAnswer}
@@ -18,7 +18,7 @@ pub record IsInBytes (kind : Kind) (bytes : List ℕ) (value : Contents) (checks
   pub begin : IsBeginOf1970 time
   pub is : IsFileAnswer false kind time default_options bytes (Ok (value, checksum))
 
--- known bytes grew by the lines of all that some bytes hold
+-- known bytes grew by the lines of what some bytes hold
 pub record Shows (kind : Kind) (old new : Option (List ℕ)) : Type 0 where
   pub bytes : List ℕ
   pub value : Contents

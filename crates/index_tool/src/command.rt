@@ -49,7 +49,7 @@ pub enum Reading {
     CheckTrees,
     /// The parts of the file, up to its first fault.
     Map,
-    /// All that the file holds.
+    /// What the file holds.
     Show,
     /// A line for each directory of the trees that its entries make.
     Trees,
@@ -263,7 +263,7 @@ fn run_command<'a, R: Files, W: io::Write>(
 /// order and the file has its digest still; `check-trees KIND FILE` does so where the cached tree tells what they give,
 /// too. `trees KIND FILE` writes a line to `out` for each directory of the trees that the entries make. Of FILE by
 /// itself, without its shared index, `map KIND FILE` writes a line to `out` for each part, up to the first fault, where
-/// it has one, and `show KIND FILE` one for each thing that it holds. `rewrite KIND FILE OUT` writes the index to the
+/// it has one, and `show KIND FILE` lines of what it holds. `rewrite KIND FILE OUT` writes the index to the
 /// path OUT, by way of the lock file OUT.lock, and nothing to `out`. `rewrite4 KIND FILE OUT` does so in version 4, and
 /// `rewrite-trees KIND FILE OUT` with a cached tree made anew. `salvage KIND FILE OUT` writes what can be saved of FILE
 /// by itself there, and says on one line on `faults` how many entries were declared, read and kept, and where the first

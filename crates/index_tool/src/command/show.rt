@@ -35,7 +35,7 @@ fn index_in<'a>(alloc: Global, kind: Kind, path: &'a str, bytes: &[u8]) -> Resul
     }
 }
 
-/// Writes all that a file holds to `out`, for people, a line for each thing. Its link isn't followed.
+/// Writes what a file holds to `out`, for people, as [`write_show`] tells it. Its link isn't followed.
 ///
 /// Nothing goes to `out` before the file was read whole. Ok: `out` took all lines. [`Failure::Output`]: it took a front.
 /// Any other failure: it took nothing.
