@@ -173,7 +173,7 @@ def memory_of(jobs):
 def jobs_for(idle, room, others):
     """How many processes work on the next proof, or 0 for none: with so many more wanted, so much memory free for
     them, and so many other proofs ready."""
-    jobs = min(MOST_JOBS, processors(), -(-idle // (others + 1)))
+    jobs = min(MOST_JOBS, processors(), idle, max(idle - others, 1))
     while jobs > 1 and memory_of(jobs) + others * MEMORY_OF_A_PROOF > room:
         jobs -= 1
     return jobs if jobs > 0 and memory_of(jobs) <= room else 0
@@ -189,8 +189,9 @@ def prove_all(crates, runs, report):
                 waiting = {*left, *(crate for crate, _ in running.values())}
                 ready = [crate for crate in left if not waiting & {*uses[crate]}]
                 for place, crate in enumerate(ready):
-                    # (half as many again as there are processors: a proof's first and last steps are one process)
-                    idle = processors() * 3 // 2 - sum(jobs for _, jobs in running.values())
+                    # (twice as many as there are processors: a proof's first and last steps are one process, and it
+                    # gets no more of them later; the one with the most above it gets all but one for each other)
+                    idle = processors() * 2 - sum(jobs for _, jobs in running.values())
                     room = memory - sum(memory_of(jobs) for _, jobs in running.values())
                     jobs = jobs_for(idle, room, len(ready) - place - 1) or (0 if running else 1)
                     if jobs:

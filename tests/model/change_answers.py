@@ -4,6 +4,7 @@ import edits
 import extensions
 import faults
 import lookups
+import made_trees
 import merging
 import objects
 import show
@@ -106,6 +107,31 @@ def answer_verify_extensions(row, folder):
     return first_fault(trees.verify_in_index, found.tree, len(found.entries), store_named(row))
 
 
+def answer_verify_tree_ids(row, _):
+    kind, tree = row[0], words.named(row, "tree")
+    if tree is None:
+        return ["verify: right"]
+    try:
+        given, _ = made_trees.made(kind, words.list_of(row[1], kind).entries)
+    except made_trees.NoTree as fault:
+        return [f"fault: {faults.of_no_tree(fault)}"]
+    wrong = made_trees.first_wrong(words.tree_of(tree, kind), given)
+    return ["verify: right" if wrong is None else f"fault: {faults.of_tree_ids(*wrong)}"]
+
+
+def answer_write_trees(row, folder):
+    kind, room = row[0], words.number_named(row, "room")
+    check = words.check_of(row[-1]) if row[2:] and ":" in row[-1] else None
+    try:
+        root, made = made_trees.made(kind, words.state_of(row[1], kind, folder).entries, check)
+    except made_trees.NoTree as fault:
+        return [f"fault: {faults.of_no_tree(fault)}"]
+    lines = [f"object: {object_id.hex()} {show.bytes_word(data)}" for object_id, data in made]
+    if room is not None and room < len(made):
+        return lines[:room] + ["fault: sink 7"]
+    return lines + [f"node: {show.node(node)}" for _, node in root.preorder()]
+
+
 def answer_from_tree(row, _):
     kind, most, store = row[0], int(row[2]), words.store_of(row[3])
     check = words.check_of(row[4]) if row[4:] else None
@@ -194,6 +220,8 @@ CALLS = {
     "merge": answer_merge,
     "verify-tree": answer_verify_tree,
     "verify-extensions": answer_verify_extensions,
+    "verify-tree-ids": answer_verify_tree_ids,
+    "write-trees": answer_write_trees,
     "from-tree": answer_from_tree,
     "image": answer_image,
     "image4": answer_image4,

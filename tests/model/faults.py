@@ -61,6 +61,29 @@ def of_leaves(fault):
     return spellings[fault.name](**fault.carried)
 
 
+def of_no_tree(fault):
+    """Why entries have no trees."""
+    spellings = {
+        "unmerged": lambda path: f"{text(path)} isn't merged",
+        "mode": lambda path, mode: f"{text(path)} of mode {mode:o}",
+        "empty name": lambda path: f"{text(path)} with an empty name",
+        "nul": lambda path: f"{text(path)} with a nul",
+        "refused": lambda path, number: f"{text(path)} refused by {number}",
+        "no slash": lambda path: f"{text(path)} without its slash",
+        "too deep": lambda path: f"{text(path)} too deep",
+        "another kind": lambda path: f"{text(path)} of another kind",
+        "no object": lambda path: f"{text(path)} of no object",
+        "both": lambda path, file: f"{text(path)} in {text(file)}",
+    }
+    return spellings[fault.name](**fault.carried)
+
+
+def of_tree_ids(path, node, given):
+    """A node that tells something else than what the entries give."""
+    other = "nothing" if given is None else f"{given.id.hex()} {given.count}"
+    return f"{text(path)} has {node.id.hex()} {node.count}, not {other}"
+
+
 def of_order(entries, place):
     """The entry at this place isn't above the one before it."""
     current, previous = entries[place], entries[place - 1]

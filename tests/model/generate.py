@@ -3,12 +3,14 @@
 A line `= NAME` in a file of rows/ stands for the rows that `ROWS[NAME]` makes.
 """
 
+import made_trees
 import show
 from bitmaps import Bitmap
 from bytes import ID_LENGTH
 from draws import Draws
-from entries import DIRECTORY, EXECUTABLE, FILE, REMOVE, SUBMODULE, SYMLINK, Entry, flags_of_stage
+from entries import DIRECTORY, EXECUTABLE, FILE, INTENT_TO_ADD, REMOVE, SUBMODULE, SYMLINK, Entry, flags_of_stage
 from lookups import is_ordered_by_path, is_strictly_ordered
+from trees import DEEPEST
 
 # Names that clash in two cases, and names that stand before and behind a slash.
 NAMES = "A Ab B D DIR Dir F a a-b a.b a0 ab b d dir f x".split()
@@ -17,6 +19,7 @@ FEW_NAMES = "B a a-b a/b b c".split()
 LOOKUP_LISTS = {"strict": 90, "by-path": 35, "any-order": 80}
 EDIT_LISTS = 60
 MERGED_LISTS = 70
+TREE_LISTS = 25
 
 
 def id_of(draws):
@@ -220,6 +223,54 @@ def stats():
     return rows
 
 
+# Cached trees.
+
+
+def deep_paths():
+    """A path below more directories than a cached tree can have."""
+    return [f"write-trees sha1 [{'a/' * (DEEPEST + 1)}b]"]
+
+
+def staged_at_random(draws):
+    """Entries that have a place in a tree."""
+    found = {}
+    for _ in range(1 + draws.below(12)):
+        path = path_at_random(draws).encode()
+        mode, flags = draws.one_of([FILE, EXECUTABLE, SYMLINK, SUBMODULE]), INTENT_TO_ADD if draws.once_in(12) else 0
+        if draws.once_in(9):
+            path, mode = path + b"/", DIRECTORY
+        found[path] = Entry(path, id_of(draws), mode, flags)
+    listed = []
+    for path in sorted(found):
+        try:
+            made_trees.made("sha1", listed + [found[path]])
+        except made_trees.NoTree:
+            continue
+        listed.append(found[path])
+    return listed
+
+
+def tree_word(tree):
+    return show.listed(show.node(node) for _, node in tree.preorder())
+
+
+def tree_ids():
+    """Trees that are written, and beside the entries the cached tree as it is, and with a change at one node."""
+    draws, rows = Draws("tree ids"), []
+    for _ in range(TREE_LISTS):
+        entries = staged_at_random(draws)
+        tree, _ = made_trees.made("sha1", entries)
+        row = f"sha1 {list_word(entries)}"
+        rows += [f"write-trees {row}", f"verify-tree-ids {row} tree {tree_word(tree)}"]
+        node = draws.one_of([node for _, node in tree.preorder()])
+        if draws.once_in(3):
+            node.count = None if draws.once_in(3) else (node.count or 0) + 1
+        else:
+            node.id = id_of(draws)
+        rows.append(f"verify-tree-ids {row} tree {tree_word(tree)}")
+    return rows
+
+
 ROWS = {
     "lookups strict": lambda: lookups("strict"),
     "lookups by-path": lambda: lookups("by-path"),
@@ -229,4 +280,6 @@ ROWS = {
     "images": images,
     "changed modes": changed_modes,
     "stats": stats,
+    "deep paths": deep_paths,
+    "tree ids": tree_ids,
 }

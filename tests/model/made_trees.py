@@ -1,42 +1,76 @@
 """The trees of an index, as `git write-tree` makes them of its entries (git-write-tree, gitformat-index "Cache tree")."""
 
 import trees
-from bytes import digest
+from bytes import digest, kind_of_id, null_id
 from entries import DIRECTORY, EXECUTABLE, FILE, INTENT_TO_ADD, SUBMODULE, SYMLINK
 
 MODES = (FILE, EXECUTABLE, SYMLINK, SUBMODULE, DIRECTORY)
-# Directories above a path.
-DEEPEST = 2048
 
 
 class NoTree(Exception):
-    """An entry has no place in a tree."""
+    """An entry has no place in a tree: the name of the refusal, and what it carries."""
+
+    def __init__(self, name, /, **carried):
+        super().__init__(name)
+        self.name, self.carried = name, carried
 
 
-def check(entry, files):
-    """Whether an entry has a place in a tree, beside the paths that are files."""
+def check_name(name, path, is_link, check):
+    """A name is some bytes without NUL that the check lets pass."""
+    if not name:
+        raise NoTree("empty name", path=path)
+    if b"\0" in name:
+        raise NoTree("nul", path=path)
+    if check is not None and name[0] == check.first and (is_link or not check.is_of_links):
+        raise NoTree("refused", path=path, number=check.number)
+
+
+def check_path(path, mode, check):
+    """Each name in turn, and how many directories lie above. That of a directory has a slash at its end."""
+    *above, last = path.split(b"/")
+    for level, name in enumerate(above):
+        check_name(name, path, False, check)
+        if level == trees.DEEPEST:
+            raise NoTree("too deep", path=path)
+    if mode == DIRECTORY and above and not last:
+        return
+    check_name(last, path, mode == SYMLINK, check)
+    if mode == DIRECTORY:
+        raise NoTree("no slash", path=path)
+
+
+def check_entry(kind, entry, before, check):
+    """Whether an entry has a place in a tree, beside those before it, by their paths."""
     path = entry.path
-    names = path.split(b"/")
-    if entry.mode == DIRECTORY:
-        if names.pop() != b"":
-            raise NoTree
-    if entry.stage or entry.mode not in MODES or b"" in names or b"\0" in path or len(names) - 1 > DEEPEST:
-        raise NoTree
-    if not any(entry.id):
-        raise NoTree
-    fronts = (b"/".join(names[:place]) for place in range(1, len(names)))
-    if any(front in files for front in fronts):
-        raise NoTree
+    if entry.stage:
+        raise NoTree("unmerged", path=path)
+    if entry.mode not in MODES:
+        raise NoTree("mode", path=path, mode=entry.mode)
+    check_path(path, entry.mode, check)
+    if kind_of_id(entry.id) != kind:
+        raise NoTree("another kind", path=path)
+    if entry.id == null_id(kind):
+        raise NoTree("no object", path=path)
+    for place in (place for place, byte in enumerate(path) if byte == ord("/")):
+        for other in (path[:place], path[:place + 1]):
+            if other in before:
+                raise NoTree("both", path=path, file=other)
 
 
-def made(kind, entries):
-    """The cached tree of the entries that aren't marked as removed, and the objects by their ids."""
-    staged = [entry for entry in entries if not entry.is_removed]
-    files = {entry.path.rstrip(b"/") if entry.mode == DIRECTORY else entry.path for entry in staged}
-    for entry in staged:
-        check(entry, files)
-    root, objects = {}, {}
-    for entry in staged:
+def staged_of(kind, entries, check):
+    """The entries that aren't marked as removed, each with a place in a tree."""
+    found = {}
+    for entry in entries:
+        if not entry.is_removed:
+            check_entry(kind, entry, found, check)
+            found[entry.path] = entry
+    return found.values()
+
+
+def made(kind, entries, check=None):
+    """The cached tree of the entries, and the objects in turn, each as its id and its bytes."""
+    root, objects = {}, []
+    for entry in staged_of(kind, entries, check):
         *above, name = (entry.path[:-1] if entry.mode == DIRECTORY else entry.path).split(b"/")
         place = root
         for each in above:
@@ -49,7 +83,7 @@ def made(kind, entries):
 def put(kind, data, objects):
     """The id of a tree with these bytes."""
     found = digest(kind, b"tree %d\0" % len(data) + data)
-    objects[found] = data
+    objects.append((found, data))
     return found
 
 
@@ -80,14 +114,32 @@ def node_of(kind, name, directory, objects):
     return trees.Tree(name, put(kind, data, objects), count_of(directory), children)
 
 
+def named(tree):
+    """The nodes in preorder, each behind the names that lead to it; none leads to the root."""
+    names = []
+    for level, node in tree.preorder():
+        del names[max(level - 1, 0):]
+        names += [node.name] if level else []
+        yield tuple(names), node
+
+
 def walked(tree):
     """The nodes in preorder, each behind its path."""
-    fronts = [b""]
-    for level, node in tree.preorder():
-        del fronts[level + 1:]
-        path = fronts[level] + node.name
-        fronts.append(path + b"/" if path else b"")
-        yield path, node
+    for names, node in named(tree):
+        yield b"/".join(names), node
+
+
+def first_wrong(tree, given):
+    """The first node in preorder that has a count, and another id or count than what is given to its directory.
+
+    What is told is its path, the node, and the node that is given there, if one with a count is.
+    """
+    known = {names: node for names, node in named(given) if node.count is not None}
+    for names, node in named(tree):
+        same = known.get(names)
+        if node.count is not None and (same is None or (node.id, node.count) != (same.id, same.count)):
+            return b"/".join(names), node, same
+    return None
 
 
 def lines(tree):

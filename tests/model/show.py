@@ -91,15 +91,17 @@ def sign(one, other):
     return "<" if one < other else ">"
 
 
+def node(value):
+    count = "-" if value.count is None else value.count
+    return f"{text(value.name)}:{count}:{len(value.children)}:{short_id(value.id)}"
+
+
 def tree(value):
     if value is None:
         return ["tree: none"]
-    nodes = [node for _, node in value.preorder()]
+    nodes = [it for _, it in value.preorder()]
     lines = [f"tree: {len(nodes)} nodes"]
-    for place, node in enumerate(nodes[:MOST]):
-        count = "-" if node.count is None else node.count
-        lines.append(f"node {place}: {text(node.name)}:{count}:{len(node.children)}:{short_id(node.id)}")
-    return lines
+    return lines + [f"node {place}: {node(it)}" for place, it in enumerate(nodes[:MOST])]
 
 
 def positions(bitmap):

@@ -103,11 +103,8 @@ def tree_checked(found, name):
     """What is checked, and whether each node that has a count has the id and the count that the entries give."""
     answer = checked(found, name)
     if found.tree is not None:
-        given = dict(made_trees.walked(made_of(found, name)))
-        for path, node in made_trees.walked(found.tree):
-            same = given.get(path)
-            if node.count is not None and (same is None or (node.id, node.count) != (same.id, same.count)):
-                raise Refused(f"{name}: ")
+        if made_trees.first_wrong(found.tree, made_of(found, name)) is not None:
+            raise Refused(f"{name}: ")
     return answer
 
 

@@ -3,7 +3,6 @@ pub mod Checks
 mod FileFaults
 pub mod Files
 pub mod Joined
-pub mod Pieces
 pub use Rattle.index_entries.proofs.Storing
 pub use Rattle.index_extensions.proofs.Walks
 pub use Rattle.index_extensions.proofs.MarkerReadings

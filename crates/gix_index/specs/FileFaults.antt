@@ -19,7 +19,7 @@ use Rattle.index_state.specs.Dissolve.{IsDissolveFault}
 use Rattle.index_state.specs.Edits.{without_link}
 use Rattle.gix_index.specs.Checked.{IsFileAnswer, SaysFile}
 use Rattle.gix_index.specs.Linked.{IsSplit, expecting}
-use Rattle.gix_index.specs.declared.file.disk.PathError.{PathError}
+use Rattle.index_window.specs.declared.disk.PathError.{PathError}
 use Rattle.gix_index.specs.declared.file.init.Error.{Error as ReadError}
 use Rattle.gix_index.specs.declared.file.init.Error.TheVariants as reads
 use Rattle.gix_index.specs.declared.file.write.Error.{Error as WriteError}

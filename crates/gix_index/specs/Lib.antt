@@ -3,13 +3,12 @@
 pub mod Checked
 pub mod File
 pub mod FileFaults
-pub mod Laws
 pub mod Linked
 pub mod VerifiedFile
 pub mod WrittenFile
-pub use Rattle.index_parts.specs.Ascending
-pub use Rattle.index_parts.specs.Bitmap
-pub use Rattle.index_parts.specs.Bits
+pub use Rattle.index_bitmaps.specs.Ascending
+pub use Rattle.index_bitmaps.specs.Bitmap
+pub use Rattle.index_bitmaps.specs.Bits
 pub use Rattle.index_parts.specs.Digest
 pub use Rattle.index_parts.specs.Id
 pub use Rattle.index_parts.specs.Limit
@@ -19,19 +18,19 @@ pub use Rattle.index_parts.specs.Offset
 pub use Rattle.index_parts.specs.Puts
 pub use Rattle.index_parts.specs.Taking
 pub use Rattle.index_metadata.specs.Flags
-pub use Rattle.index_metadata.specs.Mode
+pub use Rattle.index_objects.specs.Mode
 pub use Rattle.index_metadata.specs.ModeChange
-pub use Rattle.index_metadata.specs.Object
+pub use Rattle.index_objects.specs.Object
 pub use Rattle.index_metadata.specs.Stat
 pub use Rattle.index_metadata.specs.StatMatch
-pub use Rattle.index_metadata.specs.TreeObject
+pub use Rattle.index_objects.specs.TreeObject
 pub use Rattle.index_entries.specs.Entries
 pub use Rattle.index_entries.specs.Entry
-pub use Rattle.index_entries.specs.EntryFaults
+pub use Rattle.index_entry_reading.specs.EntryFaults
 pub use Rattle.index_entries.specs.EntryImage
 pub use Rattle.index_entries.specs.Header
 pub use Rattle.index_entries.specs.Held
-pub use Rattle.index_entries.specs.Lent
+pub use Rattle.index_entry_reading.specs.Lent
 pub use Rattle.index_entries.specs.Limits
 pub use Rattle.index_entries.specs.Order
 pub use Rattle.index_entries.specs.Record
@@ -51,16 +50,18 @@ pub use Rattle.index_trees.specs.Leaves
 pub use Rattle.index_tree_writer.specs.Cached
 pub use Rattle.index_tree_writer.specs.Directory as TreeDirectory
 pub use Rattle.index_tree_writer.specs.Objects
-pub use Rattle.index_tree_writer.specs.Reading
+pub use Rattle.index_laws.specs.Laws
+pub use Rattle.index_laws.specs.Reading
+pub use Rattle.index_laws.specs.TreesAnswer
 pub use Rattle.index_tree_writer.specs.Refusals
 pub use Rattle.index_tree_writer.specs.Staged
 pub use Rattle.index_tree_writer.specs.TreeIds
 pub use Rattle.index_extensions.specs.EndMarker
 pub use Rattle.index_extensions.specs.ExtensionValue
-pub use Rattle.index_extensions.specs.FsMonitor
-pub use Rattle.index_extensions.specs.ModeDigits
-pub use Rattle.index_extensions.specs.OffsetTable
-pub use Rattle.index_extensions.specs.ResolveUndo
+pub use Rattle.index_small_extensions.specs.FsMonitor
+pub use Rattle.index_small_extensions.specs.ModeDigits
+pub use Rattle.index_small_extensions.specs.OffsetTable
+pub use Rattle.index_small_extensions.specs.ResolveUndo
 pub use Rattle.index_extensions.specs.Encoding
 pub use Rattle.index_extensions.specs.Walk
 pub use Rattle.index_cached_tree.specs.Agreement
@@ -75,7 +76,7 @@ pub use Rattle.index_untracked.specs.CacheBitmaps
 pub use Rattle.index_untracked.specs.CachedStat
 pub use Rattle.index_untracked.specs.Untracked
 pub use Rattle.index_split.specs.Link
-pub use Rattle.index_split.specs.Merge
+pub use Rattle.index_merge.specs.Merge
 pub use Rattle.index_format.specs.Answer
 pub use Rattle.index_format.specs.Contents
 pub use Rattle.index_format.specs.DecodeErrors
@@ -99,10 +100,10 @@ pub use Rattle.index_parts.specs.declared.hash.io.Retrying
 pub use Rattle.index_parts.specs.declared.hash.io.Write as DigestWriter
 pub use Rattle.index_parts.specs.declared.hash.verify.Error as DigestError
 pub use Rattle.index_parts.specs.contracts.hash.ObjectIdOrd
-pub use Rattle.index_parts.specs.declared.ewah.Vec as BitmapType
-pub use Rattle.index_parts.specs.declared.ewah.iter.Malformed as BitmapMalformed
-pub use Rattle.index_parts.specs.declared.ewah.iter.Positions
-pub use Rattle.index_parts.specs.declared.ewah.reading.Error as BitmapError
+pub use Rattle.index_bitmaps.specs.declared.ewah.Vec as BitmapType
+pub use Rattle.index_bitmaps.specs.declared.ewah.iter.Malformed as BitmapMalformed
+pub use Rattle.index_bitmaps.specs.declared.ewah.iter.Positions
+pub use Rattle.index_bitmaps.specs.declared.ewah.reading.Error as BitmapError
 pub use Rattle.index_metadata.specs.declared.entry.flags.Flags as FlagsType
 pub use Rattle.index_metadata.specs.declared.entry.flags.Stage
 pub use Rattle.index_metadata.specs.declared.entry.mode.Mode as ModeType
@@ -116,18 +117,18 @@ pub use Rattle.index_metadata.specs.declared.entry.at_rest.Flags as FlagsAtRest
 pub use Rattle.index_metadata.specs.declared.entry.at_rest.FlagsExtended as ExtendedFlagsAtRest
 pub use Rattle.index_metadata.specs.declared.fs.FileKind
 pub use Rattle.index_metadata.specs.declared.fs.Metadata
-pub use Rattle.index_metadata.specs.declared.object.Kind as ObjectKind
-pub use Rattle.index_metadata.specs.declared.object.find.Error as FindError
-pub use Rattle.index_metadata.specs.declared.object.tree.EntryKind
-pub use Rattle.index_metadata.specs.declared.object.tree.EntryMode
-pub use Rattle.index_metadata.specs.declared.object.tree.EntryRef
-pub use Rattle.index_metadata.specs.declared.object.tree.Entries as TreeEntries
-pub use Rattle.index_metadata.specs.declared.object.tree.Malformed as MalformedTree
-pub use Rattle.index_metadata.specs.declared.object.NoObjects
+pub use Rattle.index_objects.specs.declared.object.Kind as ObjectKind
+pub use Rattle.index_objects.specs.declared.object.find.Error as FindError
+pub use Rattle.index_objects.specs.declared.object.tree.EntryKind
+pub use Rattle.index_objects.specs.declared.object.tree.EntryMode
+pub use Rattle.index_objects.specs.declared.object.tree.EntryRef
+pub use Rattle.index_objects.specs.declared.object.tree.Entries as TreeEntries
+pub use Rattle.index_objects.specs.declared.object.tree.Malformed as MalformedTree
+pub use Rattle.index_objects.specs.declared.object.NoObjects
 pub use Rattle.index_entries.specs.declared.Entry as EntryType
 pub use Rattle.index_entries.specs.declared.Pathless
 pub use Rattle.index_entries.specs.declared.Version
-pub use Rattle.index_entries.specs.declared.decode.entry.Lent as LentEntry
+pub use Rattle.index_entry_reading.specs.declared.entry.Lent as LentEntry
 pub use Rattle.index_format.specs.declared.error.Header as HeaderError
 pub use Rattle.index_entries.specs.declared.write.VersionChoice
 pub use Rattle.index_lookups.specs.declared.folded.AccelerateLookup
@@ -139,11 +140,11 @@ pub use Rattle.index_tree_writer.specs.declared.error.Error as WriteTreesError
 pub use Rattle.index_tree_writer.specs.declared.error.NameFault
 pub use Rattle.index_tree_writer.specs.declared.tree_ids.Error as TreeIdsError
 pub use Rattle.index_extensions.specs.declared.iter.Iter as ExtensionIter
-pub use Rattle.index_extensions.specs.declared.fs_monitor.FsMonitor as FsMonitorType
-pub use Rattle.index_extensions.specs.declared.fs_monitor.Token
-pub use Rattle.index_extensions.specs.declared.index_entry_offset_table.Offset as OffsetType
-pub use Rattle.index_extensions.specs.declared.resolve_undo.ResolvePath
-pub use Rattle.index_extensions.specs.declared.resolve_undo.Stage as ResolveStage
+pub use Rattle.index_small_extensions.specs.declared.fs_monitor.FsMonitor as FsMonitorType
+pub use Rattle.index_small_extensions.specs.declared.fs_monitor.Token
+pub use Rattle.index_small_extensions.specs.declared.index_entry_offset_table.Offset as OffsetType
+pub use Rattle.index_small_extensions.specs.declared.resolve_undo.ResolvePath
+pub use Rattle.index_small_extensions.specs.declared.resolve_undo.Stage as ResolveStage
 pub use Rattle.index_cached_tree.specs.declared.Tree as TreeType
 pub use Rattle.index_cached_tree.specs.declared.verify.Error as TreeError
 pub use Rattle.index_cached_tree.specs.declared.write.Error as TreeWriteError

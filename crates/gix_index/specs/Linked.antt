@@ -1,6 +1,8 @@
 -- What an index is that was read from the disk (gitformat-index, "Split index"). No clause can name a file's bytes: it is what
 -- some bytes are read as, and for a split index some bytes of its shared index.
-use Rattle.std.specs.Prelude.{◌≡◌, ℕ, Bool, true, false, List, Option, Some, None, Ok}
+use Rattle.std.specs.Prelude.{◌≡◌, ℕ, ◌++◌, Bool, true, false, List, codes, Option, Some, None, Ok}
+use Rattle.std.specs.Path.{path_with_file_name}
+use Rattle.hex.specs.Hex.{encode_lower}
 use Rattle.index_parts.specs.Id.{id_bytes, is_null}
 use Rattle.index_parts.specs.declared.hash.Kind.{Kind}
 use Rattle.index_parts.specs.declared.hash.ObjectId.{ObjectId}
@@ -11,6 +13,10 @@ use Rattle.index_split.specs.Link.{LinkValue}
 use Rattle.index_state.specs.Dissolve.{IsDissolved}
 use Rattle.index_format.specs.Contents.{Contents}
 use Rattle.gix_index.specs.Checked.{IsFileAnswer}
+
+-- the path of the shared index with this id: beside the split index at a path, named by the id in base 16
+abbrev pub shared_path : List ℕ → ObjectId → List ℕ
+shared_path path id = path_with_file_name path (codes "sharedindex." ++ encode_lower (id_bytes id))
 
 -- the same, and the trailer has to be this id, unless it is null
 abbrev pub expecting : Options → ObjectId → Options

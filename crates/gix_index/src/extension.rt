@@ -4,11 +4,9 @@ pub mod decode;
 
 pub use index_cached_tree as tree;
 pub use index_cached_tree::Tree;
-pub use index_extensions::{
-    FsMonitor, Iter, MIN_SIZE, Signature, end_of_index_entry, fs_monitor, index_entry_offset_table,
-    resolve_undo, sparse,
-};
-pub use index_format::extension::is_understood;
+pub use index_extensions::{Iter, MIN_SIZE, Signature, end_of_index_entry, sparse};
+pub use index_reading::extension::is_understood;
+pub use index_small_extensions::{FsMonitor, fs_monitor, index_entry_offset_table, resolve_undo};
 pub use index_split::link;
 pub use index_split::link::Link;
 pub use index_untracked as untracked_cache;

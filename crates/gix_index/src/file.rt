@@ -1,7 +1,6 @@
 //! An index with the path of its file and the id at the file's end.
 
 mod at;
-mod disk;
 mod image;
 pub mod init;
 pub mod verify;
@@ -12,10 +11,10 @@ ghost use Rattle.std.specs.Borrow.{Lends, sem};
 ghost use Rattle.std.specs.Path.{path_bytes, path_buf_bytes};
 ghost use Rattle.gix_index.specs.File.{state_of, path_of, checksum_of, IsSameFile, LendsState};
 
-pub use disk::PathError;
 use index_entries::{PathBacking, PathStorageRef};
 use index_parts::hash::ObjectId;
 use index_state::State;
+pub use index_window::disk::PathError;
 use std::alloc::AllocError;
 use std::fmt;
 use std::ops::{Deref, DerefMut};

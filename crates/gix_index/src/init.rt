@@ -2,4 +2,4 @@
 
 pub mod from_tree;
 
-pub use index_trees::ComponentCheck;
+pub use index_objects::check::ComponentCheck;

@@ -5,11 +5,11 @@ use Rattle.std.specs.Option.{option_map}
 use Rattle.std.proofs.lemmas.Bool.{eqb-true, eq-eqb}
 use Rattle.std.proofs.lemmas.List.Elements.{All-nil, All-cons, All-head, All-tail}
 use Rattle.index_parts.specs.Id.{id_kind}
-use Rattle.index_metadata.specs.Object.{Found, tree_bytes}
-use Rattle.index_metadata.specs.TreeObject.{TreeEntry, IsTreeEntry, NoTreeEntry, Lists, is_tree_mode}
+use Rattle.index_objects.specs.Object.{Found, tree_bytes}
+use Rattle.index_objects.specs.TreeObject.{TreeEntry, IsTreeEntry, NoTreeEntry, Lists, is_tree_mode}
 use Rattle.index_parts.specs.declared.hash.Kind.{Kind}
 use Rattle.index_parts.specs.declared.hash.ObjectId.{ObjectId}
-use Rattle.index_metadata.proofs.TreeLists.{listed_in, lists_some, list_behind, list_ends}
+use Rattle.index_objects.proofs.TreeLists.{listed_in, lists_some, list_behind, list_ends}
 use Rattle.index_cached_tree.specs.Agreement.{Trees, ListsEntries, AreTrees, directories, has_child, AreChildren}
 use Rattle.index_extensions.specs.ExtensionValue.{or_else}
 use Rattle.index_cached_tree.specs.Tree.{Nodes, how_many_nodes}

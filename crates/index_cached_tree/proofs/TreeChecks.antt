@@ -2,8 +2,8 @@
 use Rattle.std.proofs.Common.{◌≡◌, inl, inr, ◌⊎◌, ℕ, eqb, true, false, List, [], ◌∷◌, length, Option, Some, None, refl, sym, ap, ◌∙◌, arith}
 use Rattle.std.proofs.lemmas.Bool.{eq-eqb, ne_eqb}
 use Rattle.index_parts.specs.Id.{id_kind}
-use Rattle.index_metadata.specs.Object.{Found, tree_bytes}
-use Rattle.index_metadata.specs.TreeObject.{TreeEntry, Lists}
+use Rattle.index_objects.specs.Object.{Found, tree_bytes}
+use Rattle.index_objects.specs.TreeObject.{TreeEntry, Lists}
 use Rattle.index_parts.specs.declared.hash.ObjectId.{ObjectId}
 use Rattle.index_cached_tree.specs.Agreement.{Trees, AreTrees, directories}
 use Rattle.index_cached_tree.specs.ObjectSteps.{AreLooked, SaysBy}

@@ -3,8 +3,8 @@ use Rattle.std.specs.Prelude.{◌≡◌, ℕ, ◌||◌, Bool, false, List, filte
 use Rattle.std.specs.Cmp.Lexicographic.{slice_cmp}
 use Rattle.std.specs.Ordering.{nat_cmp, is_eq}
 use Rattle.index_parts.specs.Id.{id_kind}
-use Rattle.index_metadata.specs.Object.{Found, tree_bytes}
-use Rattle.index_metadata.specs.TreeObject.{TreeEntry, Lists, is_tree_mode}
+use Rattle.index_objects.specs.Object.{Found, tree_bytes}
+use Rattle.index_objects.specs.TreeObject.{TreeEntry, Lists, is_tree_mode}
 use Rattle.index_parts.specs.declared.hash.Kind.{Kind}
 use Rattle.index_parts.specs.declared.hash.ObjectId.{ObjectId}
 use Rattle.index_cached_tree.specs.Tree.{Node, Nodes, node, none, more, name_of, how_many_nodes}

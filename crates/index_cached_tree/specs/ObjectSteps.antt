@@ -1,7 +1,7 @@
 -- What helpers that may look at a store's trees say, with the trees or without (gitformat-index, "Cache tree"). Public
 -- clauses cite none of these.
 use Rattle.std.specs.Prelude.{Option, Some, None}
-use Rattle.index_metadata.specs.Object.{Found}
+use Rattle.index_objects.specs.Object.{Found}
 use Rattle.index_parts.specs.declared.hash.ObjectId.{ObjectId}
 use Rattle.index_cached_tree.specs.Agreement.{Trees, AreTrees}
 use Rattle.index_cached_tree.specs.TreeFaults.{TreeFault, SaysTree, SaysOrWants}

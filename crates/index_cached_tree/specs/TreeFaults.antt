@@ -3,7 +3,7 @@ use Rattle.std.specs.Prelude.{◌≡◌, ◌⊎◌, ℕ, ◌+◌, ◌^◌, ◌==
 use Rattle.std.specs.Ordering.{is_lt}
 use Rattle.bstr.specs.Owned.{bstring_bytes}
 use Rattle.index_parts.specs.declared.hash.ObjectId.{ObjectId}
-use Rattle.index_metadata.specs.TreeObject.{TreeEntry}
+use Rattle.index_objects.specs.TreeObject.{TreeEntry}
 use Rattle.index_cached_tree.specs.Agreement.{Trees, directories, has_child, Agrees}
 use Rattle.index_extensions.specs.ExtensionValue.{or_else}
 use Rattle.index_cached_tree.specs.Sound.{counted_entries, entries_sum, IsSoundTree}

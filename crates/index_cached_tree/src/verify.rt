@@ -12,7 +12,7 @@ ghost use Rattle.index_cached_tree.specs.declared.verify.Error.TheVariants.{Memo
 use super::Tree;
 use super::nodes::compare_names;
 use bstr::BString;
-use index_metadata::object::Find;
+use index_objects::object::Find;
 use index_parts::hash::ObjectId;
 use objects::check_tree;
 use std::alloc::{AllocError, Global};

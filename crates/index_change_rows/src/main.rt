@@ -10,6 +10,7 @@ mod merges;
 mod objects;
 mod trees;
 mod worktree;
+mod written_trees;
 
 use gix_index::write::VersionChoice;
 use index_row_kit::{Answer, Fault, Lines, Words, rows};
@@ -40,6 +41,8 @@ fn answer_index(call: &str, words: &mut Words<'_>, out: &mut Lines) -> Result<()
         "edits" => edits::edits(out, kind, words),
         "verify-tree" => trees::tree(out, kind, words),
         "verify-extensions" => trees::extensions(out, kind, words),
+        "verify-tree-ids" => written_trees::verify(out, kind, words),
+        "write-trees" => written_trees::write(out, kind, words),
         "from-tree" => trees::leaves(out, kind, words),
         "image" => images::image(out, VersionChoice::Smallest, kind, words),
         "image4" => images::image(out, VersionChoice::V4, kind, words),

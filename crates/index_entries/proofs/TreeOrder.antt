@@ -8,7 +8,7 @@ use Rattle.std.proofs.lemmas.List.{length-append, append-nil, append_assoc}
 use Rattle.std.proofs.lemmas.List.Elements.{All-head, All-tail, All-append}
 use Rattle.std.proofs.lemmas.List.Kept.{AllPairs-cons}
 use Rattle.std.proofs.lemmas.Map.Lookups.{exact_unsigned}
-use Rattle.index_metadata.specs.TreeObject.{TreeEntry, is_tree_mode}
+use Rattle.index_objects.specs.TreeObject.{TreeEntry, is_tree_mode}
 use Rattle.index_entries.specs.Order.{path_cmp, record_cmp, IsStrictlyOrdered}
 use Rattle.index_entries.specs.Record.{Record}
 use Rattle.index_entries.specs.TreeOrder.{sorted_name}

@@ -3,7 +3,7 @@ use Rattle.std.specs.Prelude.{◌≡◌, ℕ, ◌+◌, ◌-◌, ◌%◌, ◌≤�
 use Rattle.index_parts.specs.Numbers.{be, number, IsUpTo}
 use Rattle.index_parts.specs.Id.{id_len, make_id}
 use Rattle.index_metadata.specs.Flags.{is_extended, joined_words, stored_flags}
-use Rattle.index_metadata.specs.Mode.{stored_mode}
+use Rattle.index_objects.specs.Mode.{stored_mode}
 use Rattle.index_parts.specs.Offset.{StartsWithOffset}
 use Rattle.index_parts.specs.declared.hash.Kind.{Kind}
 use Rattle.index_metadata.specs.Stat.{stat_of}

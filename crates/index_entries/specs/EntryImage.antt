@@ -5,7 +5,7 @@ use Rattle.std.specs.Int.{w16, to_be_bytes}
 use Rattle.index_metadata.specs.Flags.{is_extended, stored_flags, storage_flags, extended_flags}
 use Rattle.index_parts.specs.Numbers.{be32}
 use Rattle.index_parts.specs.Id.{id_bytes}
-use Rattle.index_metadata.specs.Mode.{stored_mode}
+use Rattle.index_objects.specs.Mode.{stored_mode}
 use Rattle.index_parts.specs.Offset.{offset_bytes}
 use Rattle.index_entries.specs.declared.Version.{Version}
 use Rattle.index_entries.specs.declared.Version.TheVariants.{V2, V3, V4}

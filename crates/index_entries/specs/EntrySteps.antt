@@ -3,7 +3,7 @@
 use Rattle.std.specs.Prelude.{◌≡◌, ℕ, ◌-◌, ◌%◌, ◌==◌, nat_lt, List, length, take, drop, Option, Some, None, if◌then◌else◌, bit_and}
 use Rattle.index_parts.specs.Numbers.{be, number}
 use Rattle.index_metadata.specs.Flags.{is_extended, joined_words, stored_flags}
-use Rattle.index_metadata.specs.Mode.{stored_mode}
+use Rattle.index_objects.specs.Mode.{stored_mode}
 use Rattle.index_metadata.specs.Stat.{stat_of}
 use Rattle.index_parts.specs.Id.{id_len, make_id}
 use Rattle.index_parts.specs.ReadingSteps.{◌>>=◌, piece_at, split_at_byte, offset_at}

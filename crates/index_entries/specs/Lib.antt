@@ -1,12 +1,9 @@
 pub mod Entries
 pub mod Entry
-pub mod EntryFaults
 pub mod EntryImage
 pub mod EntrySteps
 pub mod Header
 pub mod Held
-pub mod Lent
-pub mod LentSteps
 pub mod Limits
 pub mod Order
 pub mod Record

@@ -2,11 +2,11 @@
 use Rattle.std.specs.Prelude.{◌≡◌, ◌≢◌, ℕ, List, [], ◌∷◌, ◌++◌, All, Contains, IsTrue, if◌then◌else◌}
 use Rattle.std.specs.List.{AllPairs}
 use Rattle.std.specs.declared.cmp.Ordering.TheVariants.{Less}
-use Rattle.index_metadata.specs.Object.{Found, object}
-use Rattle.index_metadata.specs.TreeObject.{TreeEntry, IsTreeObject, is_tree_mode}
+use Rattle.index_objects.specs.Object.{Found, object}
+use Rattle.index_objects.specs.TreeObject.{TreeEntry, IsTreeObject, is_tree_mode}
 use Rattle.index_parts.specs.declared.hash.Kind.{Kind}
 use Rattle.index_parts.specs.declared.hash.ObjectId.{ObjectId}
-use Rattle.index_metadata.specs.declared.object.Kind.TheVariants as objects
+use Rattle.index_objects.specs.declared.object.Kind.TheVariants as objects
 use Rattle.index_entries.specs.Order.{path_cmp}
 
 -- what an entry is sorted by: its name, and behind that of a directory a slash

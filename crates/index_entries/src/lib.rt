@@ -10,7 +10,6 @@ use index_parts::hash::ObjectId;
 use std::cmp::Ordering;
 use std::ops::Range;
 
-pub mod decode;
 pub mod list;
 pub mod order;
 pub mod paths;

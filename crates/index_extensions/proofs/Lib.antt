@@ -1,15 +1,8 @@
 pub mod EndMarks
-pub mod EntryBlocks
 pub mod Errors
-pub mod FirstContent
 pub mod Items
 pub mod Limits
 pub mod MarkerReadings
-pub mod Monitors
-pub mod Octals
-pub mod Paths
 pub mod Readings
-pub mod ResolveUndo
-pub mod TableReadings
 pub mod Walks
 pub mod WrittenItems

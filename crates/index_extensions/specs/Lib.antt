@@ -1,11 +1,5 @@
 pub mod EndMarker
 pub mod ExtensionValue
-pub mod FsMonitor
-pub mod ModeDigits
-pub mod MonitorSteps
-pub mod OffsetTable
-pub mod ResolveUndo
-pub mod ResolveUndoSteps
 pub mod Encoding
 pub mod Walk
 pub mod WalkSteps

@@ -1,15 +1,11 @@
-//! The extensions of a git index file that stand for themselves, and what all extensions have in common
+//! What all extensions of a git index file have in common: the walk over them, the end marker and the sparse mark
 //! (gitformat-index, "Extensions").
 #![tactic(auto)]
 
 pub mod end_of_index_entry;
-pub mod fs_monitor;
-pub mod index_entry_offset_table;
 mod iter;
-pub mod resolve_undo;
 pub mod sparse;
 
-pub use fs_monitor::FsMonitor;
 pub use iter::Iter;
 
 /// The four bytes by which an extension begins, as `TREE`. A reader that doesn't know a signature may skip

@@ -4,8 +4,8 @@ use Rattle.std.specs.Prelude.{◌||◌, not, nat_eq, codes}
 use Rattle.std.specs.Cmp.Lexicographic.{pointwise}
 use Rattle.index_parts.specs.declared.hash.Kind.{Kind}
 use Rattle.index_extensions.specs.ExtensionValue.{IsRead}
-use Rattle.index_extensions.specs.FsMonitor.{Monitor, IsMonitor}
-use Rattle.index_extensions.specs.ResolveUndo.{PathStages, IsResolveUndo}
+use Rattle.index_small_extensions.specs.FsMonitor.{Monitor, IsMonitor}
+use Rattle.index_small_extensions.specs.ResolveUndo.{PathStages, IsResolveUndo}
 use Rattle.index_extensions.proofs.EndMarks.{bytes_agree}
 use Rattle.index_cached_tree.specs.Tree.{Node, IsTree}
 use Rattle.index_untracked.specs.Untracked.{Cache, IsCache}

@@ -21,9 +21,9 @@ use Rattle.index_split.specs.declared.link.decode.Error.TheVariants as links
 use Rattle.index_format.specs.Answer.{Fault, NoEntry, Extension, TrailerLength, Verify, Answer, trailer_checksum, IsVerified, value_of, IsClosed, faulty, left, whole, IsEnding, short, walked, IsBehindHeader, lacks, has, IsCounted, IsAnswer}
 use Rattle.index_entries.specs.Entries.{AreEntries}
 use Rattle.index_format.specs.DecodeErrors.{IsEarly, SaysFault, Says, entries_error, extension_fault}
-use Rattle.index_entries.specs.EntryFaults.{LacksSome}
-use Rattle.index_entries.specs.declared.decode.entries.Error.{Error as EntriesError}
-use Rattle.index_entries.specs.declared.decode.entries.Error.TheVariants as entries
+use Rattle.index_entry_reading.specs.EntryFaults.{LacksSome}
+use Rattle.index_entry_reading.specs.declared.entries.Error.{Error as EntriesError}
+use Rattle.index_entry_reading.specs.declared.entries.Error.TheVariants as entries
 use Rattle.index_format.specs.ExtensionSteps.{IsGathered, IsTaken, SaysExtension}
 use Rattle.index_entries.specs.Header.{HeaderFault, header_of, count_of}
 use Rattle.index_entries.specs.Limits.{most_entries, is_too_large}

@@ -1,8 +1,8 @@
 -- Clones of resolved paths, path by path.
 use Rattle.std.proofs.Common.{◌≡◌, List, [], ◌∷◌, map, refl}
 use Rattle.std.specs.List.{AllZip}
-use Rattle.index_extensions.specs.ResolveUndo.{path_stages}
-use Rattle.index_extensions.specs.declared.resolve_undo.ResolvePath.{ResolvePath}
+use Rattle.index_small_extensions.specs.ResolveUndo.{path_stages}
+use Rattle.index_small_extensions.specs.declared.resolve_undo.ResolvePath.{ResolvePath}
 
 -- clones that have the values of their sources
 pub same_paths : (xs ys : List ResolvePath) → AllZip (λ x y. path_stages y ≡ path_stages x) xs ys → map path_stages ys ≡ map path_stages xs

@@ -6,15 +6,15 @@ use Rattle.std.proofs.lemmas.List.Elements.{All-nil, All-push}
 use Rattle.std.proofs.lemmas.List.Folds.{list_any-append}
 use Rattle.index_parts.specs.declared.hash.Kind.{Kind}
 use Rattle.index_extensions.specs.ExtensionValue.{is_named, or_else, content_named, last_content, IsRead, IsValue}
-use Rattle.index_extensions.specs.FsMonitor.{IsMonitor}
-use Rattle.index_extensions.specs.ResolveUndo.{IsResolveUndo, PathIdsAreOf}
+use Rattle.index_small_extensions.specs.FsMonitor.{IsMonitor}
+use Rattle.index_small_extensions.specs.ResolveUndo.{IsResolveUndo, PathIdsAreOf}
 use Rattle.index_cached_tree.specs.Tree.{NodeIdsAreOf, IsTree}
 use Rattle.index_untracked.specs.Untracked.{CacheIdsAreOf, IsCache}
 use Rattle.index_extensions.specs.Walk.{Item, IsItem, AreItems, NoItem, left_of}
 use Rattle.index_parts.proofs.Ids.{id_kind-make_id}
 use Rattle.index_parts.specs.Id.{id_kind}
 use Rattle.index_untracked.proofs.CacheIds.{ids_of_cache}
-use Rattle.index_extensions.proofs.ResolveUndo.{ids_of_paths}
+use Rattle.index_small_extensions.proofs.ResolveUndo.{ids_of_paths}
 use Rattle.index_cached_tree.proofs.Trees.{ids_of_tree}
 use Rattle.index_extensions.proofs.Walks.{walk_of, more_items}
 use Rattle.index_format.specs.ExtensionSteps.{Adds, IsGathered, HasExtensionFault, Replaces, SaysExtension, SaysItem}

@@ -8,7 +8,7 @@ use Rattle.index_parts.specs.declared.hash.ObjectId.{ObjectId}
 use Rattle.index_metadata.specs.declared.entry.stat.FileTime.{FileTime}
 use Rattle.index_extensions.specs.EndMarker.{IsMarker}
 use Rattle.index_extensions.specs.Walk.{Item, IsWalk}
-use Rattle.index_extensions.proofs.EntryBlocks.{same_front, same_back}
+use Rattle.index_small_extensions.proofs.EntryBlocks.{same_front, same_back}
 use Rattle.index_extensions.proofs.Walks.{walk_one}
 use Rattle.index_entries.specs.declared.Version.{Version}
 use Rattle.index_format.specs.declared.decode.Options.{Options}

@@ -5,8 +5,8 @@ use Rattle.std.specs.Cmp.Lexicographic.{pointwise}
 use Rattle.std.specs.List.{list_any}
 use Rattle.index_parts.specs.declared.hash.Kind.{Kind}
 use Rattle.index_extensions.specs.ExtensionValue.{is_named, last_content}
-use Rattle.index_extensions.specs.FsMonitor.{IsMonitor}
-use Rattle.index_extensions.specs.ResolveUndo.{IsResolveUndo}
+use Rattle.index_small_extensions.specs.FsMonitor.{IsMonitor}
+use Rattle.index_small_extensions.specs.ResolveUndo.{IsResolveUndo}
 use Rattle.index_cached_tree.specs.Tree.{IsTree}
 use Rattle.index_untracked.specs.Untracked.{IsCache}
 use Rattle.index_extensions.specs.Walk.{Item}
@@ -14,8 +14,8 @@ use Rattle.index_extensions.proofs.Readings.{Decided, one_read, value_reading, o
 use Rattle.index_cached_tree.proofs.TreeReadings.{tree_reading, tree_reading_one}
 use Rattle.index_untracked.proofs.CacheReadings.{cache_reading}
 use Rattle.index_untracked.proofs.Caches.{one_cache}
-use Rattle.index_extensions.proofs.Monitors.{one_monitor, monitor_reading}
-use Rattle.index_extensions.proofs.ResolveUndo.{one_resolve_undo, resolve_undo_reading}
+use Rattle.index_small_extensions.proofs.Monitors.{one_monitor, monitor_reading}
+use Rattle.index_small_extensions.proofs.ResolveUndo.{one_resolve_undo, resolve_undo_reading}
 use Rattle.index_split.specs.Link.{LinkFault, IsLink, IsLinkFault, HasLink}
 use Rattle.index_format.specs.Outcome.{Outcome, ExtensionFault, Unimplemented, Link, is_mandatory, is_understood, IsFault, unknown, broken_link, IsOutcome}
 use Rattle.index_split.proofs.Links.{no_link_fault}

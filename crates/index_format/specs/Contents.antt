@@ -6,7 +6,7 @@ use Rattle.index_metadata.specs.declared.entry.stat.FileTime.{FileTime}
 use Rattle.index_entries.specs.Record.{Record, IsPlaced, records_in}
 use Rattle.index_entries.specs.declared.Version.{Version}
 use Rattle.index_entries.specs.declared.Entry.{Entry}
-use Rattle.index_extensions.specs.ResolveUndo.{PathIdsAreOf}
+use Rattle.index_small_extensions.specs.ResolveUndo.{PathIdsAreOf}
 use Rattle.index_cached_tree.specs.Tree.{NodeIdsAreOf}
 use Rattle.index_untracked.specs.Untracked.{CacheIdsAreOf}
 use Rattle.index_format.specs.Outcome.{Outcome, outcome_of}

@@ -4,8 +4,8 @@ use Rattle.std.specs.Option.{option_map}
 use Rattle.index_parts.specs.declared.hash.ObjectId.{ObjectId}
 use Rattle.index_format.specs.declared.error.Error.{Error}
 use Rattle.index_format.specs.declared.error.Error.TheVariants as errors
-use Rattle.index_entries.specs.declared.decode.entries.Error.{Error as EntriesError}
-use Rattle.index_entries.specs.declared.decode.entries.Error.TheVariants as entries
+use Rattle.index_entry_reading.specs.declared.entries.Error.{Error as EntriesError}
+use Rattle.index_entry_reading.specs.declared.entries.Error.TheVariants as entries
 use Rattle.index_format.specs.HeaderErrors.{header_fault}
 use Rattle.index_split.specs.declared.link.decode.Error.{Error as LinkError}
 use Rattle.index_split.specs.declared.link.decode.Error.TheVariants as links

@@ -4,8 +4,8 @@ use Rattle.std.specs.Prelude.{◌≡◌, ℕ, ◌+◌, ◌==◌, ◌||◌, true,
 use Rattle.std.specs.Cmp.Lexicographic.{pointwise}
 use Rattle.index_parts.specs.declared.hash.Kind.{Kind}
 use Rattle.index_extensions.specs.ExtensionValue.{IsRead}
-use Rattle.index_extensions.specs.FsMonitor.{IsMonitor}
-use Rattle.index_extensions.specs.ResolveUndo.{IsResolveUndo}
+use Rattle.index_small_extensions.specs.FsMonitor.{IsMonitor}
+use Rattle.index_small_extensions.specs.ResolveUndo.{IsResolveUndo}
 use Rattle.index_cached_tree.specs.Tree.{IsTree}
 use Rattle.index_extensions.specs.Walk.{Item, IsWalk, left_of}
 use Rattle.index_parts.specs.Id.{id_len}

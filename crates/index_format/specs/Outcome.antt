@@ -5,8 +5,8 @@ use Rattle.std.specs.Option.{option_map}
 use Rattle.std.specs.Cmp.Lexicographic.{pointwise}
 use Rattle.index_parts.specs.declared.hash.Kind.{Kind}
 use Rattle.index_extensions.specs.ExtensionValue.{is_named, last_content, IsValue}
-use Rattle.index_extensions.specs.FsMonitor.{Monitor, IsMonitor, monitor_of}
-use Rattle.index_extensions.specs.ResolveUndo.{PathStages, IsResolveUndo, path_stages}
+use Rattle.index_small_extensions.specs.FsMonitor.{Monitor, IsMonitor, monitor_of}
+use Rattle.index_small_extensions.specs.ResolveUndo.{PathStages, IsResolveUndo, path_stages}
 use Rattle.index_cached_tree.specs.Tree.{Node, IsTree, node_of}
 use Rattle.index_untracked.specs.Untracked.{Cache, IsCache, cache_of}
 use Rattle.index_extensions.specs.Walk.{Item}

@@ -5,7 +5,7 @@ ghost use Rattle.index_format.specs.DecodeErrors.{entries_error, link_error};
 ghost use Rattle.index_format.specs.declared.error.Error.TheVariants.{Extension, Header, Memory, Verify};
 ghost use Rattle.index_format.specs.declared.error.Extension.TheVariants.{Link};
 
-use index_entries::decode::entries::Error as EntriesError;
+use index_entry_reading::entries::Error as EntriesError;
 use index_extensions::{Signature, sparse};
 use index_parts::hash::{ObjectId, verify};
 use index_split::link;

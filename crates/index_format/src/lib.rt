@@ -8,11 +8,9 @@ use index_metadata::entry::FileTime;
 use index_parts::hash::Kind;
 
 pub mod decode;
-mod error;
+pub mod error;
 pub mod extension;
 mod lend;
-pub mod storable;
-pub mod trailer;
 pub mod write;
 
 /// The parts of an index in memory: entries in the order of the file with the storage of their paths, and what the

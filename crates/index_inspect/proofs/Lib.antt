@@ -3,9 +3,10 @@ mod Divided
 mod Fronts
 mod Laid
 mod Links
-mod Printed
+pub mod Printed
 mod ReadFronts
 mod Readable
+mod Sameness
 mod Saved
 mod Saving
 mod Spelled

@@ -44,13 +44,20 @@ by_false false P Q e q = q
 pub by_ok : (r : Result Version HeaderFault) (P : Version → Type 0) (Q : HeaderFault → Type 0) (v : Version) → r ≡ Ok v → P v → MatchResult r P Q
 by_ok r P Q v e p = subst (λ (x : Result Version HeaderFault). MatchResult x P Q) (sym e) p
 
+-- bytes have an answer with these entries
+pub record IsAnswered (kind : Kind) (time : FileTime) (options : Options) (bytes : List ℕ) (rs : List Record) : Type 0 where
+  pub value : Contents
+  pub checksum : Option ObjectId
+  pub records : value.records ≡ rs
+  pub read : IsAnswer kind time options bytes (Ok (value, checksum))
+
 module _ (kind : Kind) (time : FileTime) (options : Options) (takes : TakesAll options) (bytes : List ℕ) where
-  -- the value of whole parts is the answer
-  whole_read : (version : Version) (ss : List Spelling) (after : List ℕ) (items : List Item) (tail trailer extensions : List ℕ)
+  -- the value of whole parts is the answer, whatever the digest
+  pub whole_answer : (version : Version) (ss : List Spelling) (after : List ℕ) (items : List Item) (tail trailer extensions : List ℕ)
       → header_of kind bytes ≡ Ok version → AreSpelled version kind None (drop header_len bytes) ss after → length ss ≡ count_of bytes → IsCrowded kind version bytes false
-      → after ≡ extensions ++ trailer → length trailer ≡ id_len kind → AreItems extensions items tail → AreSound kind items → NoItem tail → left_of tail ≡ 0 → IsIntact false kind bytes
-      → IsReadAs kind time options bytes (entries_spelled ss)
-  whole_read version ss after items tail trailer extensions is are all fits parted len items_are sound ended none intact =
+      → after ≡ extensions ++ trailer → length trailer ≡ id_len kind → AreItems extensions items tail → AreSound kind items → NoItem tail → left_of tail ≡ 0
+      → IsAnswered kind time options bytes (entries_spelled ss)
+  whole_answer version ss after items tail trailer extensions is are all fits parted len items_are sound ended none =
       let rs = entries_spelled ss in
       let o = outcome_reading kind options.alloc_limit_bytes items in
       let checksum = trailer_checksum kind trailer in
@@ -64,7 +71,15 @@ module _ (kind : Kind) (time : FileTime) (options : Options) (takes : TakesAll o
       let few : is_too_large options.alloc_limit_bytes (count_of bytes) (length bytes) fits.0 kind version ≡ false = rw takes.limit refl in
       let counted : IsCounted fits.0 kind time options bytes answer version = by_false _ _ _ fits.2 (by_false _ _ _ few body) in
       let read : IsAnswer kind time options bytes answer = by_ok (header_of kind bytes) _ _ version is (fits.0, fits.1, counted) in
-      record { value = value; checksum = checksum; records = refl; read = to_file false kind time options bytes answer intact read }
+      record { value = value; checksum = checksum; records = refl; read = read }
+
+  whole_read : (version : Version) (ss : List Spelling) (after : List ℕ) (items : List Item) (tail trailer extensions : List ℕ)
+      → header_of kind bytes ≡ Ok version → AreSpelled version kind None (drop header_len bytes) ss after → length ss ≡ count_of bytes → IsCrowded kind version bytes false
+      → after ≡ extensions ++ trailer → length trailer ≡ id_len kind → AreItems extensions items tail → AreSound kind items → NoItem tail → left_of tail ≡ 0 → IsIntact false kind bytes
+      → IsReadAs kind time options bytes (entries_spelled ss)
+  whole_read version ss after items tail trailer extensions is are all fits parted len items_are sound ended none intact =
+      let a = whole_answer version ss after items tail trailer extensions is are all fits parted len items_are sound ended none in
+      record { value = a.value; checksum = a.checksum; records = a.records; read = to_file false kind time options bytes (Ok (a.value, a.checksum)) intact a.read }
 
   end_read : (version : Version) (ss : List Spelling) (after : List ℕ) (items : List Item) (tail trailer extensions : List ℕ) (last : List Piece) (f : Option Fault)
       → header_of kind bytes ≡ Ok version → AreSpelled version kind None (drop header_len bytes) ss after → length ss ≡ count_of bytes → IsCrowded kind version bytes false

@@ -19,7 +19,7 @@ use Rattle.gix_index.specs.Sorted.{IsOrdered}
 use Rattle.index_inspect.specs.Salvage.{IsFirst, IsSavedOf, with_key_of}
 use Rattle.index_inspect.specs.SalvageSteps.{TakesNext}
 
-records_total : IsTotalOrder record_cmp
+pub records_total : IsTotalOrder record_cmp
 records_total = then_total (on_total (λ (r : Record). r.path) nat_list_cmp_total) (on_total record_stage nat_cmp_total)
 
 -- ---- one more record
@@ -68,7 +68,7 @@ first_holds : (P : Record → Type 0) (rs : List Record) (r : Record) → All P 
 first_holds P rs r all h = All-head P r h.others (subst (All P) h.first (All-filter (λ q. is_eq (record_cmp r q)) P rs all))
 
 -- a record above all others is kept
-saved_more : (rs kept : List Record) (x : Record) → All (λ q. record_cmp q x ≡ Less) rs → x.path ≢ [] → IsSavedOf rs kept → IsSavedOf (rs ++ x ∷ []) (kept ++ x ∷ [])
+pub saved_more : (rs kept : List Record) (x : Record) → All (λ q. record_cmp q x ≡ Less) rs → x.path ≢ [] → IsSavedOf rs kept → IsSavedOf (rs ++ x ∷ []) (kept ++ x ∷ [])
 saved_more rs kept x above named h = record {
   ordered = record { less = all_pairs_push (λ r q. record_cmp r q ≡ Less) kept x h.ordered.less (λ k d lt. first_holds (λ q. record_cmp q x ≡ Less) rs (get_or kept k d) above ((h.are (get_or kept k d)).0 (Contains-get_or kept k d lt))) };
   are = λ r. (λ c. there r (Contains-push_cases kept x r c), λ f. back r (first_back rs x r f));

@@ -1,12 +1,18 @@
 -- What the parts of a file say of reading it (the library's own).
-use Rattle.std.specs.Prelude.{◌≡◌, ℕ, false, List, Option, Ok}
+use Rattle.std.specs.Prelude.{◌≡◌, ◌≢◌, ℕ, false, List, [], All, length, Option, Ok}
+use Rattle.gix_index.specs.Answer.{IsAnswer}
 use Rattle.gix_index.specs.Checked.{IsFileAnswer}
 use Rattle.gix_index.specs.Contents.{Contents}
 use Rattle.gix_index.specs.DecodeOptions.{Options}
 use Rattle.gix_index.specs.FileTime.{FileTime}
 use Rattle.gix_index.specs.Kind.{Kind}
+use Rattle.gix_index.specs.Laws.{TakesAll}
 use Rattle.gix_index.specs.ObjectId.{ObjectId}
+use Rattle.gix_index.specs.Order.{IsStrictlyOrdered}
 use Rattle.gix_index.specs.Record.{Record}
+use Rattle.gix_index.specs.State.{records}
+use Rattle.index_inspect.specs.Salvage.{IsSavedOf, Saves}
+use Rattle.index_inspect.specs.declared.salvage.Salvaged.{Salvaged}
 
 -- bytes are read as an index with these entries, and with their digest, unless that is left out
 pub record IsReadAs (kind : Kind) (time : FileTime) (options : Options) (bytes : List ℕ) (rs : List Record) : Type 0 where
@@ -18,3 +24,19 @@ pub record IsReadAs (kind : Kind) (time : FileTime) (options : Options) (bytes :
 -- they are no index
 abbrev pub IsUnread : Kind → FileTime → Options → List ℕ → Type 0
 IsUnread kind time options bytes = (x : Contents × Option ObjectId) → IsFileAnswer false kind time options bytes (Ok x) → ⊥
+
+-- bytes are read as a value, by a reader without a limit that expects no trailer; and what is saved of them is this
+pub record IsReadAndSaved (v : Contents) (s : Salvaged) : Type 0 where
+  pub kind : Kind
+  pub time : FileTime
+  pub options : Options
+  pub takes_all : TakesAll options
+  pub bytes : List ℕ
+  pub checksum : Option ObjectId
+  pub read : IsAnswer kind time options bytes (Ok (v, checksum))
+  pub saves : Saves kind bytes s
+
+-- entries as git writes them where there is no link: in order by path and stage, each once, and with a path
+pub record AreWhole (rs : List Record) : Type 0 where
+  pub ordered : IsStrictlyOrdered rs
+  pub named : All (λ r. r.path ≢ []) rs

@@ -1,7 +1,7 @@
 -- What stands at a directory or below it (gitformat-index, "Index entry", "Sparse Directory Entries").
 use Rattle.std.specs.Prelude.{ℕ, ◌==◌, ◌||◌, ◌&&◌, Bool, List, [], ◌∷◌, ◌++◌, Option, position, if◌then◌else◌}
 use Rattle.std.specs.List.{list_any}
-use Rattle.index_metadata.specs.Mode.{directory_mode, commit_mode}
+use Rattle.index_objects.specs.Mode.{directory_mode, commit_mode}
 use Rattle.index_entries.specs.Record.{Record}
 use Rattle.index_lookups.specs.Range.{is_at, begins_with}
 

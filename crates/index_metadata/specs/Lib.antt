@@ -1,8 +1,4 @@
 pub mod Flags
-pub mod Mode
 pub mod ModeChange
-pub mod Object
 pub mod Stat
 pub mod StatMatch
-pub mod TreeObject
-pub mod TreeObjectSteps

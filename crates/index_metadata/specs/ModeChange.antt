@@ -1,7 +1,7 @@
 -- What a file in the work tree says of the mode that the index has for it (the library's own; the modes are those of
 -- gitformat-index, "Index entry").
 use Rattle.std.specs.Prelude.{ℕ, ◌==◌, ◌&&◌, Bool, true, false, not, List, [], ◌∷◌, Option, Some, None, if◌then◌else◌}
-use Rattle.index_metadata.specs.Mode.{directory_mode, commit_mode, file_mode, executable_mode, link_mode}
+use Rattle.index_objects.specs.Mode.{directory_mode, commit_mode, file_mode, executable_mode, link_mode}
 use Rattle.index_metadata.specs.declared.entry.mode.Change.{Change}
 use Rattle.index_metadata.specs.declared.entry.mode.Change.TheVariants as changes
 use Rattle.index_metadata.specs.declared.fs.FileKind.{FileKind}

@@ -1,15 +1,11 @@
-pub mod BitmapFaults
-pub mod Bitmaps
 pub mod Digests
 pub mod Gatherings
 pub mod Ids
 pub mod Octals
 pub mod Offsets
-pub mod Places
 pub mod Readers
 pub mod Encodings
 pub mod Splits
 pub mod Steps
 pub mod Taking
 pub mod Puts
-pub mod Unpackings

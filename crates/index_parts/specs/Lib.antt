@@ -1,6 +1,3 @@
-pub mod Ascending
-pub mod Bitmap
-pub mod Bits
 pub mod Digest
 pub mod Gathered
 pub mod Id
@@ -11,4 +8,3 @@ pub mod Offset
 pub mod ReadingSteps
 pub mod Taking
 pub mod Puts
-pub mod UnpackingSteps

@@ -1,10 +1,9 @@
-//! What a git index file is encoded with: numbers, object ids and digests, and bitmaps.
+//! What a git index file is encoded with: numbers, object ids and digests.
 #![tactic(auto)]
 
 pub mod block;
 mod bytes;
 pub mod encode;
-pub mod ewah;
 pub mod hash;
 pub mod read;
 pub mod util;

@@ -2,7 +2,7 @@
 use Rattle.std.proofs.Common.{◌≡◌, ℕ, true, false, eqb, List, [], ◌∷◌, length, refl, ap, arith}
 use Rattle.std.specs.Prelude.{◌≢◌, codes}
 use Rattle.std.proofs.lemmas.Bool.{eqb-true, eqb-false}
-use Rattle.index_parts.specs.Bitmap.{Bitmap, IsBitmap}
+use Rattle.index_bitmaps.specs.Bitmap.{Bitmap, IsBitmap}
 use Rattle.index_parts.specs.declared.hash.Kind.{Kind}
 use Rattle.index_parts.specs.declared.hash.ObjectId.{ObjectId}
 use Rattle.index_split.specs.Link.{BitmapDecode, StartsWithId, no_delete, no_replace, SaysLink, SaysBitmap}

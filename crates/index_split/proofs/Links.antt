@@ -2,15 +2,15 @@
 use Rattle.std.proofs.Common.{◌≡◌, ℕ, ◌<◌, List, [], length, Some, sym, ap, subst, ◌∙◌, arith}
 use Rattle.std.proofs.lemmas.List.{length-append}
 use Rattle.std.proofs.lemmas.Option.{same_Some}
-use Rattle.index_parts.specs.Bitmap.{Bitmap, IsBitmap, Lacks}
+use Rattle.index_bitmaps.specs.Bitmap.{Bitmap, IsBitmap, Lacks}
 use Rattle.index_parts.specs.Id.{id_len, make_id}
 use Rattle.index_parts.specs.ReadingSteps.{piece_at}
-use Rattle.index_parts.specs.declared.ewah.reading.Error.{Error as BitmapError}
-use Rattle.index_parts.specs.declared.ewah.reading.Error.TheVariants as bitmaps
+use Rattle.index_bitmaps.specs.declared.ewah.reading.Error.{Error as BitmapError}
+use Rattle.index_bitmaps.specs.declared.ewah.reading.Error.TheVariants as bitmaps
 use Rattle.index_parts.specs.declared.hash.Kind.{Kind}
 use Rattle.index_parts.specs.declared.hash.ObjectId.{ObjectId}
-use Rattle.index_parts.proofs.BitmapFaults.{no_fault}
-use Rattle.index_parts.proofs.Bitmaps.{one_bitmap}
+use Rattle.index_bitmaps.proofs.BitmapFaults.{no_fault}
+use Rattle.index_bitmaps.proofs.Bitmaps.{one_bitmap}
 use Rattle.index_parts.proofs.Splits.{piece_again}
 use Rattle.index_split.specs.Link.{LinkFault, LinkValue, StartsWithId, IsLink, alone, split, IsLinkFault, short, no_delete, no_replace, garbage}
 

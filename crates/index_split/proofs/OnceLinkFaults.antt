@@ -1,11 +1,11 @@
 -- Bytes that are no link have one first fault.
 use Rattle.std.proofs.Common.{◌≡◌, ℕ, List, sym, ap, ◌∙◌}
 use Rattle.std.specs.Prelude.{codes}
-use Rattle.index_parts.specs.Bitmap.{Lacks}
-use Rattle.index_parts.specs.declared.ewah.reading.Error.{Error as BitmapError}
+use Rattle.index_bitmaps.specs.Bitmap.{Lacks}
+use Rattle.index_bitmaps.specs.declared.ewah.reading.Error.{Error as BitmapError}
 use Rattle.index_parts.specs.declared.hash.Kind.{Kind}
-use Rattle.index_parts.proofs.BitmapFaults.{one_fault}
-use Rattle.index_parts.proofs.Bitmaps.{one_bitmap}
+use Rattle.index_bitmaps.proofs.BitmapFaults.{one_fault}
+use Rattle.index_bitmaps.proofs.Bitmaps.{one_bitmap}
 use Rattle.index_split.specs.Link.{LinkFault, BitmapDecode, IsLinkFault, short, no_delete, no_replace, garbage}
 use Rattle.index_split.proofs.Links.{one_id, long_enough, moved, lacking, lacks_moved}
 

@@ -3,13 +3,13 @@ use Rattle.std.proofs.Common.{◌≡◌, ℕ, ◌<◌, ◌≤◌, ◌⊎◌, inl
 use Rattle.std.specs.Prelude.{◌≢◌, codes}
 use Rattle.std.proofs.lemmas.List.{length-take, take-append-drop}
 use Rattle.std.proofs.lemmas.Bool.{cases_lt}
-use Rattle.index_parts.specs.Bitmap.{Bitmap, IsBitmap, HasBitmap, Lacks}
+use Rattle.index_bitmaps.specs.Bitmap.{Bitmap, IsBitmap, HasBitmap, Lacks}
 use Rattle.index_parts.specs.Id.{id_len, make_id}
-use Rattle.index_parts.specs.declared.ewah.reading.Error.{Error as BitmapError}
+use Rattle.index_bitmaps.specs.declared.ewah.reading.Error.{Error as BitmapError}
 use Rattle.index_parts.specs.declared.hash.Kind.{Kind}
 use Rattle.index_parts.specs.declared.hash.ObjectId.{ObjectId}
-use Rattle.index_parts.proofs.BitmapFaults.{bitmap_or_fault}
-use Rattle.index_parts.proofs.Bitmaps.{one_bitmap}
+use Rattle.index_bitmaps.proofs.BitmapFaults.{bitmap_or_fault}
+use Rattle.index_bitmaps.proofs.Bitmaps.{one_bitmap}
 use Rattle.index_extensions.specs.ExtensionValue.{IsRead}
 use Rattle.index_split.specs.Link.{LinkFault, Corrupt, BitmapDecode, BitmapPair, LinkValue, StartsWithId, IsLink, alone, split, IsLinkFault, short, no_delete, no_replace, garbage, HasLink}
 use Rattle.index_split.proofs.Links.{one_id, no_bitmap, moved, no_link_fault}

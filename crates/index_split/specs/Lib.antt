@@ -1,3 +1,1 @@
 pub mod Link
-pub mod Merge
-pub mod MergeSteps

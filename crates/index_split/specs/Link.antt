@@ -1,9 +1,9 @@
 -- The link of a split index to its shared index (gitformat-index, "Split index").
 use Rattle.std.specs.Prelude.{◌≡◌, ◌≢◌, ℕ, ◌<◌, List, [], ◌++◌, length, codes, Option, Some, None}
 use Rattle.std.specs.Option.{option_map}
-use Rattle.index_parts.specs.Bitmap.{Bitmap, bitmap, IsBitmap, HasBitmap, Lacks}
+use Rattle.index_bitmaps.specs.Bitmap.{Bitmap, bitmap, IsBitmap, HasBitmap, Lacks}
 use Rattle.index_parts.specs.Id.{id_len, make_id}
-use Rattle.index_parts.specs.declared.ewah.reading.Error.{Error as BitmapError}
+use Rattle.index_bitmaps.specs.declared.ewah.reading.Error.{Error as BitmapError}
 use Rattle.index_parts.specs.declared.hash.Kind.{Kind}
 use Rattle.index_parts.specs.declared.hash.ObjectId.{ObjectId}
 use Rattle.index_split.specs.declared.link.Bitmaps.{Bitmaps}

@@ -1,5 +1,4 @@
-//! Split indexes: the link to a shared index, and the merge of the entries of both (gitformat-index, "Split index").
+//! Split indexes: the link to a shared index (gitformat-index, "Split index").
 #![tactic(auto)]
 
 pub mod link;
-pub mod merge;

@@ -7,8 +7,8 @@ ghost use Rattle.std.specs.Prelude.{◌≡◌};
 ghost use Rattle.index_split.specs.Link.{link_of, pair_of};
 
 pub use dissolve::SplitIndex;
+use index_bitmaps::ewah;
 use index_extensions::Signature;
-use index_parts::ewah;
 use index_parts::hash::ObjectId;
 use std::alloc::AllocError;
 

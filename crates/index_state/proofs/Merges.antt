@@ -5,12 +5,12 @@ use Rattle.index_parts.specs.Id.{id_kind}
 use Rattle.index_parts.specs.declared.hash.Kind.{Kind}
 use Rattle.index_cached_tree.specs.StoredTree.{IsStorableTree}
 use Rattle.index_entries.specs.declared.Entry.{Entry}
-use Rattle.index_split.specs.declared.merge.Error.{Error as MergeError}
-use Rattle.index_split.specs.declared.merge.Error.TheVariants as merges
-use Rattle.index_split.specs.Merge.{replaced, IsMerge, IsMergeFault}
-use Rattle.index_split.specs.MergeSteps.{SaysMerge, merge_error}
+use Rattle.index_merge.specs.declared.merge.Error.{Error as MergeError}
+use Rattle.index_merge.specs.declared.merge.Error.TheVariants as merges
+use Rattle.index_merge.specs.Merge.{replaced, IsMerge, IsMergeFault}
+use Rattle.index_merge.specs.MergeSteps.{SaysMerge, merge_error}
 use Rattle.index_entries.specs.Record.{Record, IsSized, IdsAreOf, records_in}
-use Rattle.index_split.proofs.Merged.{all_merged}
+use Rattle.index_merge.proofs.Merged.{all_merged}
 use Rattle.index_split.specs.Link.{BitmapPair, LinkValue}
 use Rattle.index_state.specs.Dissolve.{IsMerged, broken, SaysDissolve}
 use Rattle.index_format.proofs.Ids.{entries_have, records_of}

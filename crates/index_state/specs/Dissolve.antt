@@ -1,6 +1,6 @@
 -- What becomes of a split index whose link is dissolved (gitformat-index, "Split index").
 use Rattle.std.specs.Prelude.{◌≡◌, List, ℕ, codes, Option, Some, None, IsSome, IfSome, Result, IfErr, IsOk, OnOk, OnErr}
-use Rattle.index_split.specs.Merge.{IsMerge, IsMergeFault}
+use Rattle.index_merge.specs.Merge.{IsMerge, IsMergeFault}
 use Rattle.index_split.specs.declared.link.decode.Error.{Error}
 use Rattle.index_split.specs.Link.{BitmapPair, LinkFault, Corrupt, LinkValue, link_fault}
 use Rattle.index_entries.specs.Record.{IdsAreOf}

@@ -13,9 +13,9 @@ use index_format::Parts;
 use index_format::decode::{Error, Options};
 use index_metadata::entry::FileTime;
 use index_parts::hash::{Kind, ObjectId};
+use index_reading::decode::from_bytes;
 use std::alloc::Global;
 
-/// A state of parts that were read.
 impl From<Parts> for State {
     ghost from_gives = { λ parts state. state.parts ≡ parts };
 
@@ -25,11 +25,11 @@ impl From<Parts> for State {
 }
 
 impl State {
-    /// Reads an index from all bytes of its file, and gives it with the trailer's id, or None where the trailer
-    /// is null. The timestamp is kept, and nothing is compared with it.
+    /// Reads an index from all bytes of its file, and gives it with the trailer's id, or None where the trailer is
+    /// null. The timestamp is kept.
     ///
-    /// Of several faults the first is given, in this order: [`Error::Header`] for a file that is too short, has
-    /// another signature, a version that can't be read, or a count of entries that its length can't hold;
+    /// Of several faults the first is given, in this order: [`Error::Header`] for a file that is too short, has another
+    /// signature, a version that can't be read, or a count of entries that its length can't hold;
     /// [`Error::OutOfMemory`] by the caller's limit; [`Error::Entry`]; [`Error::Extension`];
     /// [`Error::UnexpectedTrailerLength`]; [`Error::Verify`]. [`Error::Memory`] is the want of it, and never comes in
     /// place of the first two. The digest isn't computed.
@@ -51,7 +51,7 @@ impl State {
         ensures extension_ids { IfOk result
             (λ x. ExtensionIdsAreOf object_hash (contents x.0).extensions) }
     {
-        let (parts, checksum) = Parts::from_bytes(alloc, data, timestamp, object_hash, options)?;
+        let (parts, checksum) = from_bytes(alloc, data, timestamp, object_hash, options)?;
         Ok((State { parts }, checksum))
     }
 }

@@ -10,9 +10,9 @@ ghost use Rattle.index_state.specs.State.{PathsInStorage, contents, entries_of};
 ghost use Rattle.index_format.specs.Storable.{IsStorable};
 
 use crate::State;
+use index_merge::merge;
 use index_split::link::decode::Error;
 use index_split::link::{Link, SplitIndex};
-use index_split::merge;
 
 /// Merges the shared index into the split one, as the link says.
 fn merge_shared(link: &Link, split: &mut State, shared: State) -> Result<(), Error>

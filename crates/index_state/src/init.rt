@@ -14,16 +14,16 @@ use index_entries::Version;
 use index_format::Parts;
 use index_format::extension::Outcome;
 use index_metadata::entry::FileTime;
-use index_metadata::object::Find;
+use index_objects::check::ComponentCheck;
+use index_objects::object::Find;
 use index_parts::hash::{Kind, ObjectId};
-use index_trees::ComponentCheck;
 use index_trees::from_tree::{Error, leaves_of};
 use std::alloc::Global;
 
 impl State {
     /// An index with no entry and no extension, of version 2, for ids of this kind. Its timestamp is `now`.
     ///
-    /// It takes no memory: `alloc` serves the entries and paths that are added later.
+    /// It takes no memory.
     pub fn new(alloc: Global, object_hash: Kind, now: FileTime) -> State
         ensures empty { contents result ≡ empty_contents object_hash now }
         ensures storage { storage_of result ≡ [] }
@@ -51,8 +51,7 @@ impl State {
     /// before what it stands for is listed or read, a link's also as such. The first fault is the error, and leaves
     /// nothing.
     ///
-    /// Where each tree that is read has its entries in git's order, and no name has a slash, the entries strictly
-    /// increase.
+    /// Where trees have their entries in git's order, and no name has a slash, the entries strictly increase.
     pub fn from_tree<F: Find, C: ComponentCheck>(
         alloc: Global,
         tree: &ObjectId,

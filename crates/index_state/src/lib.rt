@@ -26,8 +26,7 @@ pub struct State {
     parts: Parts,
 }
 
-/// The clone has equal entries in the same order, the same storage of paths, and all else the same. It takes as much
-/// memory as its source, and an error is want of it.
+/// The clone has the same value and storage of paths, and takes as much memory. An error is want of it.
 impl Clone for State {
     ghost use Rattle.index_state.specs.Edits.{IsUnchanged};
 
@@ -87,7 +86,7 @@ impl State {
         &self.parts.entries[idx]
     }
 
-    /// The storage in which the entries' paths lie, as [`Entry::path_in`] asks for it.
+    /// The storage of the entries' paths, as [`Entry::path_in`] asks for it.
     pub fn path_backing(&self) -> PathStorageRef<'_>
         ensures { result.now ≡ storage_of self.now }
     {
@@ -110,17 +109,15 @@ impl State {
         self.parts.extensions.is_sparse
     }
 
-    /// Whether each entry's path lies inside the storage; true where there are no entries.
-    ///
-    /// It holds of each state that was read. Calls that read paths ask for it.
+    /// Whether each entry's path lies inside the storage, as calls that read paths ask; true where there are no
+    /// entries.
     pub fn paths_in_storage(&self) -> bool
         ensures { IsTrue result ↔ PathsInStorage self.now }
     {
         are_placed(&self.parts.entries, self.parts.path_backing.len())
     }
 
-    /// Whether no path of the entries that aren't marked `REMOVE` has a NUL; true where there are none. Version 4 is
-    /// written only where it holds. No memory is taken.
+    /// Whether no path of the entries that aren't marked `REMOVE` has a NUL, so that version 4 can hold them.
     pub fn paths_without_nul(&self) -> bool
         requires { PathsInStorage self.now }
         ensures { IsTrue result ↔ LackNul (contents self.now).records }

@@ -15,24 +15,22 @@ ghost use Rattle.index_state.specs.State.{PathsInStorage, contents, entries_of, 
 use crate::State;
 use crate::verify::tree_ids;
 use index_cached_tree::Tree;
+use index_objects::check::ComponentCheck;
 use index_tree_writer::tree_ids::verify_tree_ids;
 use index_tree_writer::write::write_trees;
 use index_tree_writer::{Error, Sink};
-use index_trees::ComponentCheck;
 use std::alloc::Global;
 
 impl State {
     /// Puts the tree objects of the entries into the sink, as `git write-tree` makes them: each directory's once, by
-    /// its id and with its bytes, behind those that it names, the root last. The answer is the cached tree that names
-    /// them, which [`set_tree`](State::set_tree) puts in.
+    /// its id and with its bytes, behind those that it names, the root last. The answer is the cached tree of them.
     ///
     /// Entries that are marked `REMOVE` are left out. One that is only intended to be added is checked as the others,
-    /// but stands in no tree, and no directory above it has a count. An entry of a sparse index that stands for a
-    /// directory stands for its tree. Each name of a path goes through `check`, a link's also as such.
+    /// but stands in no tree, and no directory above it has a count. A sparse directory's entry stands for its tree.
+    /// Each name of a path goes through `check`, a link's also as such.
     ///
     /// The first entry that has no place in a tree is the error, before anything goes to the sink; then it may be the
-    /// sink's own, or want of memory. To know whether the entries are in order, use
-    /// [`verify_entries`](State::verify_entries).
+    /// sink's own, or want of memory.
     pub fn write_trees<S: Sink, C: ComponentCheck>(
         &self,
         alloc: Global,
@@ -68,13 +66,11 @@ impl State {
 
     /// Whether the cached tree tells what the entries give (gitformat-index, "Cache tree"): each node of it that has a
     /// count has the id of the tree that `git write-tree` makes of the entries below its directory, and counts as many
-    /// entries as lie there. Nothing is asked of a node without a count, but its children are looked at. Where there is
-    /// no cached tree, there is nothing to ask.
+    /// entries as lie there. Of a node without a count only the children are looked at.
     ///
-    /// The error is the first node in preorder that tells something else, with what it tells and what the entries
-    /// give. Before any node, it is the first entry that has no place in a tree, as
-    /// [`write_trees`](State::write_trees) tells it, but that any name passes. To know whether the entries are in
-    /// order, use [`verify_entries`](State::verify_entries).
+    /// The error is the first node in preorder that tells something else, with what it tells and what the entries give.
+    /// Before any node, it is the first entry that has no place in a tree, as [`write_trees`](State::write_trees) tells
+    /// it, but that any name passes.
     pub fn verify_tree_ids(&self, alloc: Global) -> Result<(), tree_ids::Error>
         requires placed { PathsInStorage self.now }
         requires ordered { IsStrictlyOrdered (records self.now) }

@@ -15,7 +15,7 @@ use crate::State;
 use bstr::BString;
 use index_cached_tree as tree;
 use index_entries::slice::EntrySlice;
-use index_metadata::object::Find;
+use index_objects::object::Find;
 use std::alloc::{AllocError, Global};
 
 /// The error that names the entry at a place, and the one before it.
@@ -38,8 +38,8 @@ fn out_of_order(
 
 impl State {
     /// Whether the entries strictly increase by path, then by stage, as a file has them and as searches ask. So their
-    /// paths never fall, as lookups by path, prefix and directory ask, and the same holds of the first entries, however
-    /// many. The error names the first entry that isn't above the one before it; memory is asked for to name it alone.
+    /// paths never fall, and the same holds of the first entries, however many. The error names the first entry that
+    /// isn't above the one before it; memory is asked for to name it alone.
     pub fn verify_entries(&self) -> Result<(), entries::Error>
         requires { PathsInStorage self.now }
         ensures ok { IsOk result ↔ IsStrictlyOrdered (records self.now) }

@@ -11,6 +11,7 @@ use crate::State;
 use index_entries::Version;
 use index_format::write::{Error, Options};
 use index_parts::hash::io::Out;
+use index_writing::write_to;
 
 impl State {
     /// Writes the index as the bytes of a file, but for the trailer, and gives the version that they have: 4 where it
@@ -22,8 +23,6 @@ impl State {
     /// kind. Behind them come the cached tree, where there is one and the options ask for it; the mark of a sparse
     /// index; and, behind one of these, an end marker, where there are entries, even ones that are left out, and the
     /// options ask for it.
-    ///
-    /// In version 4 each path is written as its difference to the one that was written before it.
     ///
     /// [`Error::TooManyEntries`], then [`Error::NulInPath`], then [`Error::TooLarge`], come before any byte and leave
     /// the writer as it was. [`Error::Io`] comes only where the writer failed, which then took a prefix of the bytes.
@@ -46,6 +45,6 @@ impl State {
             ↔ RefusedWith (contents self.now) options Error.TooLarge }
         ensures writable { OnOk result (IsWritable (contents self.now) options) }
     {
-        self.parts.write_to(out, options)
+        write_to(&self.parts, out, options)
     }
 }

@@ -1,5 +1,6 @@
 -- The lines of a cached tree, one for each directory (the program's own).
-use Rattle.std.specs.Prelude.{ℕ, ◌==◌, List, [], ◌∷◌, ◌++◌, length, Option, if◌then◌else◌}
+use Rattle.std.specs.Prelude.{◌≡◌, ℕ, ◌==◌, List, [], ◌∷◌, ◌++◌, length, Option, if◌then◌else◌}
+use Rattle.std.specs.Io.KnownBytes.{Appends}
 use Rattle.hex.specs.Hex.{encode_lower}
 use Rattle.gix_index.specs.Id.{id_bytes}
 use Rattle.gix_index.specs.ObjectId.{ObjectId}
@@ -26,3 +27,9 @@ abbrev mutual
   pub all_lines : List ℕ → Nodes → List ℕ
   all_lines front none = []
   all_lines front (more t ts) = directory_lines front t ++ all_lines front ts
+
+-- of the lines that waited and of more behind them, known bytes grew by a front, and the rest waits
+pub record LetsOut (old new : Option (List ℕ)) (waited more waiting : List ℕ) : Type 0 where
+  pub gone : List ℕ
+  pub grew : Appends old new gone
+  pub parts : gone ++ waiting ≡ waited ++ more

@@ -122,7 +122,7 @@ fn append_line(lines: &mut Vec<u8>, state: &State, entry: &Entry) -> Result<(), 
 }
 
 /// Lets the lines out where they fill a block.
-fn put_block<W: io::Write>(lines: &mut Vec<u8>, out: &mut W) -> io::Result<()>
+pub fn put_block<W: io::Write>(lines: &mut Vec<u8>, out: &mut W) -> io::Result<()>
     ensures ok { OnOk result
         ((done : List ℕ) × Appends (W.contents out.old) (W.contents out.new) done
         × (done ++ lines.new.items ≡ lines.old.items)) }

@@ -1,15 +1,15 @@
 //! The lines of trees: one for each directory.
 
-ghost use Rattle.std.specs.Prelude.{◌≡◌, ◌++◌, [], length, OnOk, OnErr};
+ghost use Rattle.std.specs.Prelude.{◌≡◌, ◌++◌, [], OnOk, OnErr};
 ghost use Rattle.std.specs.List.{flat_map};
 ghost use Rattle.std.specs.Io.KnownBytes.{Appends};
 ghost use Rattle.gix_index.specs.Taking.{AppendsPrefix};
 ghost use Rattle.gix_index.specs.Tree.{node_of};
 ghost use Rattle.gix_index.specs.TreeImage.{count_bytes};
 ghost use Rattle.gix_index.specs.TreeType.TheViews.{out-Tree};
-ghost use Rattle.index_tool.specs.Directories.{directory_line, directory_lines, front_of};
+ghost use Rattle.index_tool.specs.Directories.{directory_line, directory_lines, front_of, LetsOut};
 
-use crate::listing::append_hex;
+use crate::listing::{append_hex, put_block};
 use gix_index::extension::Tree;
 use gix_index::hash::io::put_all;
 use itoa::Buffer;
@@ -50,36 +50,48 @@ fn go_in(path: &mut Vec<u8>) -> Result<(), AllocError>
     Ok(())
 }
 
-/// Appends the lines of a directory and of all below it. Its path is its name behind the front, which is as it was
-/// afterwards.
+/// Appends the lines of a directory and of all below it, and lets lines out where they fill a block. Its path is its
+/// name behind the front, which is as it was afterwards.
 #[cycle(directories)]
-fn append_directory(lines: &mut Vec<u8>, front: &mut Vec<u8>, tree: &Tree) -> Result<(), AllocError>
-    ensures lines { OnOk result (lines.new.items ≡ lines.old.items
-        ++ directory_lines front.old.items (node_of tree.now)) }
+fn append_directory<W: io::Write>(
+    lines: &mut Vec<u8>,
+    front: &mut Vec<u8>,
+    tree: &Tree,
+    out: &mut W,
+) -> io::Result<()>
+    ensures lines { OnOk result (LetsOut (W.contents out.old) (W.contents out.new) lines.old.items
+        (directory_lines front.old.items (node_of tree.now)) lines.new.items) }
     ensures front { OnOk result (front.new.items ≡ front.old.items) }
+    ensures err { OnErr result (AppendsPrefix (W.contents out.old) (W.contents out.new)
+        (lines.old.items ++ directory_lines front.old.items (node_of tree.now))) }
 {
     let len = front.len();
     front.extend_from_slice(tree.name.as_slice())?;
     append_line(lines, front, tree)?;
+    put_block(lines, out)?;
     go_in(front)?;
-    append_directories(lines, front, &tree.children)?;
+    append_directories(lines, front, &tree.children, out)?;
     front.truncate(len);
     Ok(())
 }
 
-/// Appends the lines of directories that lie in one.
+/// Appends the lines of directories that lie in one, and lets lines out so.
 #[cycle(directories)]
-fn append_directories(
+fn append_directories<W: io::Write>(
     lines: &mut Vec<u8>,
     front: &mut Vec<u8>,
     trees: &[Tree],
-) -> Result<(), AllocError>
-    ensures lines { OnOk result (lines.new.items ≡ lines.old.items
-        ++ flat_map (λ t. directory_lines front.old.items (node_of t)) trees.now) }
+    out: &mut W,
+) -> io::Result<()>
+    ensures lines { OnOk result (LetsOut (W.contents out.old) (W.contents out.new) lines.old.items
+        (flat_map (λ t. directory_lines front.old.items (node_of t)) trees.now) lines.new.items) }
     ensures front { OnOk result (front.new.items ≡ front.old.items) }
+    ensures err { OnErr result (AppendsPrefix (W.contents out.old) (W.contents out.new)
+        (lines.old.items
+        ++ flat_map (λ t. directory_lines front.old.items (node_of t)) trees.now)) }
 {
     for tree in trees {
-        append_directory(lines, front, tree)?;
+        append_directory(lines, front, tree, out)?;
     }
     Ok(())
 }
@@ -87,7 +99,8 @@ fn append_directories(
 /// Writes a line for each directory of a tree, in preorder: the id, a space, the number of entries below it or -1 where
 /// one of them is only intended to be added, a tab, and the path, which is empty for the root.
 ///
-/// An error is the writer's, or want of memory for the lines; what was written by then is a prefix of them.
+/// The lines wait in one buffer, which goes out past 64 KiB. An error is the writer's, or want of memory for that
+/// buffer; what was written by then is a prefix of them.
 pub fn write_trees<W: io::Write>(alloc: Global, tree: &Tree, out: &mut W) -> io::Result<()>
     ensures ok { OnOk result (Appends (W.contents out.old) (W.contents out.new)
         (directory_lines [] (node_of tree.now))) }
@@ -96,6 +109,6 @@ pub fn write_trees<W: io::Write>(alloc: Global, tree: &Tree, out: &mut W) -> io:
 {
     let mut lines = Vec::new(alloc);
     let mut front = Vec::new(alloc);
-    append_directory(&mut lines, &mut front, tree)?;
+    append_directory(&mut lines, &mut front, tree, out)?;
     put_all(out, lines.as_slice())
 }

@@ -12,7 +12,7 @@ use Rattle.std.proofs.lemmas.List.Prefix.{front_rest}
 use Rattle.std.proofs.lemmas.List.Quantifiers.{all_pairs_push}
 use Rattle.std.proofs.lemmas.Map.Lookups.{exact_unsigned}
 use Rattle.std.proofs.lemmas.Slice.Eq.{starts_is}
-use Rattle.index_metadata.specs.declared.object.tree.EntryKind.TheVariants as kinds
+use Rattle.index_objects.specs.declared.object.tree.EntryKind.TheVariants as kinds
 use Rattle.index_entries.specs.Order.{path_cmp}
 use Rattle.index_tree_writer.specs.ApartSteps.{EndsWith, Follows, IsKept}
 use Rattle.index_tree_writer.specs.Refusals.{Begins, IsBelow, IsInside, LiesIn}

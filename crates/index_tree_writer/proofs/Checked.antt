@@ -15,11 +15,11 @@ use Rattle.index_parts.specs.Id.{id_bytes, id_kind, is_null}
 use Rattle.index_parts.specs.declared.hash.Kind.{Kind}
 use Rattle.index_parts.specs.declared.hash.ObjectId.{ObjectId}
 use Rattle.index_metadata.specs.Flags.{stage_number}
-use Rattle.index_metadata.specs.Mode.{mode_of_kind, named_kind}
-use Rattle.index_metadata.specs.TreeObject.{kind_of_mode}
-use Rattle.index_metadata.specs.declared.object.tree.EntryKind.{EntryKind}
-use Rattle.index_metadata.specs.declared.object.tree.EntryKind.TheVariants as kinds
-use Rattle.index_metadata.specs.declared.object.tree.EntryMode.{EntryMode}
+use Rattle.index_objects.specs.Mode.{mode_of_kind, named_kind}
+use Rattle.index_objects.specs.TreeObject.{kind_of_mode}
+use Rattle.index_objects.specs.declared.object.tree.EntryKind.{EntryKind}
+use Rattle.index_objects.specs.declared.object.tree.EntryKind.TheVariants as kinds
+use Rattle.index_objects.specs.declared.object.tree.EntryMode.{EntryMode}
 use Rattle.index_entries.specs.EntryImage.{is_removed}
 use Rattle.index_entries.specs.Order.{IsStrictlyOrdered, path_cmp, record_cmp, record_stage}
 use Rattle.index_entries.specs.Record.{Record}

@@ -9,8 +9,8 @@ use Rattle.std.proofs.lemmas.List.{append-nil, length-append}
 use Rattle.std.proofs.lemmas.List.Elements.{All-append, All-cons, All-head, All-tail, All-nil, All-map, All-weaker}
 use Rattle.index_parts.specs.declared.hash.Kind.{Kind}
 use Rattle.index_parts.specs.declared.hash.ObjectId.{ObjectId}
-use Rattle.index_metadata.specs.declared.object.tree.EntryKind.{EntryKind}
-use Rattle.index_metadata.specs.declared.object.tree.EntryKind.TheVariants as kinds
+use Rattle.index_objects.specs.declared.object.tree.EntryKind.{EntryKind}
+use Rattle.index_objects.specs.declared.object.tree.EntryKind.TheVariants as kinds
 use Rattle.index_entries.specs.Order.{path_cmp}
 use Rattle.index_entries.specs.TreeOrder.{IsGitOrdered, sorted_name}
 use Rattle.index_cached_tree.specs.Tree.{Node, node, none, name_of}

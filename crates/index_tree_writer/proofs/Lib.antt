@@ -2,14 +2,12 @@ pub mod Aparts
 pub mod Begun
 pub mod Behinds
 pub mod Checked
-pub mod Contents
 pub mod Gives
 pub mod Leaves
 pub mod OneTree
 pub mod PathNames
 pub mod Pushes
 pub mod Ranges
-pub mod ReadBack
 pub mod Ready
 pub mod Searches
 pub mod Sorting

@@ -6,11 +6,11 @@ use Rattle.std.proofs.lemmas.Cmp.{nat_list_cmp_total, tied_itself}
 use Rattle.std.proofs.lemmas.List.{append-nil, length-append}
 use Rattle.std.proofs.lemmas.List.Elements.{All-append, All-cons, All-head, All-tail, All-nil, All-map}
 use Rattle.std.proofs.lemmas.List.Prefix.{front_rest}
-use Rattle.index_metadata.specs.TreeObject.{TreeEntry}
+use Rattle.index_objects.specs.TreeObject.{TreeEntry}
 use Rattle.index_parts.specs.declared.hash.Kind.{Kind}
 use Rattle.index_parts.specs.declared.hash.ObjectId.{ObjectId}
-use Rattle.index_metadata.specs.declared.object.tree.EntryKind.{EntryKind}
-use Rattle.index_metadata.specs.declared.object.tree.EntryKind.TheVariants as kinds
+use Rattle.index_objects.specs.declared.object.tree.EntryKind.{EntryKind}
+use Rattle.index_objects.specs.declared.object.tree.EntryKind.TheVariants as kinds
 use Rattle.index_entries.specs.Order.{path_cmp}
 use Rattle.index_entries.specs.TreeOrder.{IsGitOrdered, sorted_name}
 use Rattle.index_tree_writer.specs.Directory.{Item, Items, leaf, directory, no_more, next, IsItem, AreItems, entries, entry_of, item_leaves, leaves, key}

@@ -8,11 +8,11 @@ use Rattle.std.proofs.lemmas.Bool.{eqb-false, eqb-true}
 use Rattle.std.proofs.lemmas.Cmp.{nat_list_cmp_total, tied_itself}
 use Rattle.std.proofs.lemmas.List.{append-nil, length-append, nil_from_length}
 use Rattle.std.proofs.lemmas.List.Elements.{All-head, All-tail}
-use Rattle.index_metadata.specs.declared.object.tree.EntryKind.{EntryKind}
-use Rattle.index_metadata.specs.declared.object.tree.EntryKind.TheVariants as kinds
+use Rattle.index_objects.specs.declared.object.tree.EntryKind.{EntryKind}
+use Rattle.index_objects.specs.declared.object.tree.EntryKind.TheVariants as kinds
 use Rattle.index_entries.specs.Order.{path_cmp}
 use Rattle.std.proofs.lemmas.Map.Lookups.{exact_bytes}
-use Rattle.index_trees.specs.Leaves.{refusal_as}
+use Rattle.index_objects.specs.NameCheck.{refusal_as}
 use Rattle.index_tree_writer.specs.Directory.{IsName, key}
 use Rattle.index_tree_writer.specs.Refusals.{Begins, Check, IsBadName, IsMisnamed, IsPath, of_file, of_directory, beneath, some_name, deep, later_name}
 use Rattle.index_tree_writer.specs.Staged.{Staged}

@@ -1,10 +1,10 @@
 -- Items with one more at their end, and the leaves below a front.
 use Rattle.std.proofs.Common.{◌≡◌, ℕ, List, [], ◌∷◌, ◌++◌, map, refl, sym, ap, ◌∙◌, append_assoc}
 use Rattle.std.proofs.lemmas.List.{append-nil, map-append}
-use Rattle.index_metadata.specs.TreeObject.{TreeEntry}
+use Rattle.index_objects.specs.TreeObject.{TreeEntry}
 use Rattle.index_parts.specs.declared.hash.Kind.{Kind}
 use Rattle.index_parts.specs.declared.hash.ObjectId.{ObjectId}
-use Rattle.index_metadata.specs.declared.object.tree.EntryKind.TheVariants as kinds
+use Rattle.index_objects.specs.declared.object.tree.EntryKind.TheVariants as kinds
 use Rattle.index_cached_tree.specs.Tree.{Node}
 use Rattle.index_tree_writer.specs.Cached.{AreItemNodes, AreNodes}
 use Rattle.index_tree_writer.specs.Directory.{Item, Items, leaf, directory, no_more, next, IsItem, AreItems, content, item_bytes, entries, entry_of, item_leaves, leaves, item_objects, objects_below, key}

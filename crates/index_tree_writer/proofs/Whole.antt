@@ -9,8 +9,8 @@ use Rattle.std.proofs.lemmas.List.{get_or_default}
 use Rattle.std.proofs.lemmas.List.Elements.{All-cons, All-head, All-nil, All-tail}
 use Rattle.std.proofs.lemmas.Option.{same_Some}
 use Rattle.index_parts.specs.declared.hash.Kind.{Kind}
-use Rattle.index_metadata.specs.Mode.{named_kind}
-use Rattle.index_metadata.specs.declared.object.tree.EntryKind.{EntryKind}
+use Rattle.index_objects.specs.Mode.{named_kind}
+use Rattle.index_objects.specs.declared.object.tree.EntryKind.{EntryKind}
 use Rattle.index_entries.specs.EntryImage.{is_removed}
 use Rattle.index_entries.specs.Order.{IsStrictlyOrdered, path_cmp}
 use Rattle.index_entries.specs.Record.{Record}

@@ -2,12 +2,12 @@
 use Rattle.std.specs.Prelude.{◌≡◌, ◌≢◌, ℕ, List, [], ◌∷◌, ◌++◌, All, length, Bool, Option, Some, None, if◌then◌else◌}
 use Rattle.std.specs.List.{list_any}
 use Rattle.index_parts.specs.Id.{id_kind, id_bytes, id_len}
-use Rattle.index_metadata.specs.Mode.{mode_of_kind}
-use Rattle.index_metadata.specs.TreeObject.{TreeEntry}
+use Rattle.index_objects.specs.Mode.{mode_of_kind}
+use Rattle.index_objects.specs.TreeObject.{TreeEntry}
 use Rattle.index_parts.specs.declared.hash.Kind.{Kind}
 use Rattle.index_parts.specs.declared.hash.ObjectId.{ObjectId}
-use Rattle.index_metadata.specs.declared.object.tree.EntryKind.{EntryKind}
-use Rattle.index_metadata.specs.declared.object.tree.EntryKind.TheVariants as kinds
+use Rattle.index_objects.specs.declared.object.tree.EntryKind.{EntryKind}
+use Rattle.index_objects.specs.declared.object.tree.EntryKind.TheVariants as kinds
 use Rattle.index_entries.specs.TreeOrder.{IsGitOrdered}
 use Rattle.index_tree_writer.specs.Objects.{entry_bytes, tree_id}
 use Rattle.index_tree_writer.specs.Staged.{Staged}

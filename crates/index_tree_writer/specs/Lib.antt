@@ -2,7 +2,6 @@ pub mod ApartSteps
 pub mod Cached
 pub mod Directory
 pub mod Objects
-pub mod Reading
 pub mod Refusals
 pub mod Staged
 pub mod TreeIds

@@ -4,8 +4,8 @@ use Rattle.index_parts.specs.Digest.{digest}
 use Rattle.index_parts.specs.Id.{id_bytes, make_id}
 use Rattle.index_parts.specs.declared.hash.Kind.{Kind}
 use Rattle.index_parts.specs.declared.hash.ObjectId.{ObjectId}
-use Rattle.index_metadata.specs.declared.object.tree.EntryKind.{EntryKind}
-use Rattle.index_metadata.specs.declared.object.tree.EntryKind.TheVariants as kinds
+use Rattle.index_objects.specs.declared.object.tree.EntryKind.{EntryKind}
+use Rattle.index_objects.specs.declared.object.tree.EntryKind.TheVariants as kinds
 
 -- the mode in octal digits, without zeros in front
 abbrev pub mode_text : EntryKind → List ℕ

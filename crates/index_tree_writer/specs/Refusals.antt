@@ -3,14 +3,14 @@ use Rattle.std.specs.Prelude.{◌≡◌, ◌≢◌, ◌⊎◌, ℕ, suc, ◌^◌
 use Rattle.bstr.specs.Owned.{bstring_bytes}
 use Rattle.index_parts.specs.Id.{id_bytes, id_kind, id_len, is_null}
 use Rattle.index_metadata.specs.Flags.{stage_number}
-use Rattle.index_metadata.specs.Mode.{named_kind}
+use Rattle.index_objects.specs.Mode.{named_kind}
 use Rattle.index_parts.specs.declared.hash.Kind.{Kind}
 use Rattle.index_parts.specs.declared.hash.ObjectId.{ObjectId}
-use Rattle.index_metadata.specs.declared.object.tree.EntryKind.{EntryKind}
-use Rattle.index_metadata.specs.declared.object.tree.EntryKind.TheVariants as kinds
+use Rattle.index_objects.specs.declared.object.tree.EntryKind.{EntryKind}
+use Rattle.index_objects.specs.declared.object.tree.EntryKind.TheVariants as kinds
 use Rattle.index_entries.specs.EntryImage.{is_removed}
 use Rattle.index_entries.specs.Record.{Record}
-use Rattle.index_trees.specs.Leaves.{refusal_as}
+use Rattle.index_objects.specs.NameCheck.{refusal_as}
 use Rattle.index_tree_writer.specs.Directory.{IsName}
 use Rattle.index_tree_writer.specs.Staged.{Staged, staged_in}
 use Rattle.index_tree_writer.specs.declared.error.Error.{Error}

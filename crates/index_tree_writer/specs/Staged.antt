@@ -3,8 +3,8 @@ use Rattle.std.specs.Prelude.{ℕ, ◌==◌, List, ◌++◌, drop, Bool, bit_and
 use Rattle.std.specs.List.{filter_map}
 use Rattle.std.specs.Option.{option_map}
 use Rattle.index_parts.specs.declared.hash.ObjectId.{ObjectId}
-use Rattle.index_metadata.specs.Mode.{named_kind}
-use Rattle.index_metadata.specs.declared.object.tree.EntryKind.{EntryKind}
+use Rattle.index_objects.specs.Mode.{named_kind}
+use Rattle.index_objects.specs.declared.object.tree.EntryKind.{EntryKind}
 use Rattle.index_entries.specs.EntryImage.{is_removed}
 use Rattle.index_entries.specs.Record.{Record}
 use Rattle.index_tree_writer.specs.declared.leaf.Leaf.{Leaf}

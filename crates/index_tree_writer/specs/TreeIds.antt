@@ -6,7 +6,7 @@ use Rattle.std.specs.Option.{option_and_then, option_map}
 use Rattle.bstr.specs.Owned.{bstring_bytes}
 use Rattle.index_parts.specs.declared.hash.Kind.{Kind}
 use Rattle.index_parts.specs.declared.hash.ObjectId.{ObjectId}
-use Rattle.index_metadata.specs.declared.object.tree.EntryKind.TheVariants as kinds
+use Rattle.index_objects.specs.declared.object.tree.EntryKind.TheVariants as kinds
 use Rattle.index_cached_tree.specs.Tree.{Node, Nodes, node, none, more, name_of}
 use Rattle.index_tree_writer.specs.Directory.{Items, IsTreeOf, count_of, items_id}
 use Rattle.index_entries.specs.Record.{Record}

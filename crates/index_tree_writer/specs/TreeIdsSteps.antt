@@ -4,7 +4,7 @@ use Rattle.bstr.specs.Owned.{bstring_bytes}
 use Rattle.index_parts.specs.declared.hash.Kind.{Kind}
 use Rattle.index_parts.specs.declared.hash.ObjectId.{ObjectId}
 use Rattle.index_cached_tree.specs.Tree.{Node, Nodes, node, none, name_of, nodes_from}
-use Rattle.index_metadata.specs.declared.object.tree.EntryKind.TheVariants as kinds
+use Rattle.index_objects.specs.declared.object.tree.EntryKind.TheVariants as kinds
 use Rattle.index_tree_writer.specs.Cached.{IsCached}
 use Rattle.index_tree_writer.specs.Directory.{Items, IsTreeOf}
 use Rattle.index_tree_writer.specs.Staged.{Staged}

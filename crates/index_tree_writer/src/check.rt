@@ -14,8 +14,8 @@ use crate::leaf::{Leaf, is_removed, leaf_at};
 use crate::names::fault_of;
 use bstr::BString;
 use index_entries::slice::EntrySlice;
+use index_objects::check::ComponentCheck;
 use index_parts::hash::{Kind, ObjectId};
-use index_trees::ComponentCheck;
 use std::alloc::Global;
 
 /// How many levels of directories may lie below the root.

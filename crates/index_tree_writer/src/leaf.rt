@@ -3,7 +3,7 @@
 ghost use Rattle.std.specs.Prelude.{◌≡◌, ◌≢◌, ◌<◌, IsTrue, false, length};
 ghost use Rattle.std.specs.List.{HoldsAt};
 ghost use Rattle.std.specs.Option.{option_map};
-ghost use Rattle.index_metadata.specs.declared.object.tree.EntryKind.TheVariants as kinds;
+ghost use Rattle.index_objects.specs.declared.object.tree.EntryKind.TheVariants as kinds;
 ghost use Rattle.index_entries.specs.EntryImage.{is_removed};
 ghost use Rattle.index_tree_writer.specs.Staged.{is_intended, staged_entry, staged_of};
 
@@ -11,7 +11,7 @@ use bitflags::Flags as _;
 use index_entries::Entry;
 use index_entries::slice::EntrySlice;
 use index_metadata::entry::Flags;
-use index_metadata::object::tree::EntryKind;
+use index_objects::object::tree::EntryKind;
 use index_parts::hash::ObjectId;
 
 /// What an entry stages: a file, a link, a commit, or in a sparse index a whole directory, whose path has a slash at

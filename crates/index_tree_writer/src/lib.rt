@@ -4,7 +4,6 @@
 mod apart;
 mod check;
 mod error;
-pub mod laws;
 mod leaf;
 mod names;
 mod object;

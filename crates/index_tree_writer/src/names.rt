@@ -2,15 +2,15 @@
 
 ghost use Rattle.std.specs.Prelude.{◌≡◌, ◌≢◌, ℕ, All, None, IfSome};
 ghost use Rattle.std.specs.Option.{option_map};
-ghost use Rattle.index_trees.specs.Leaves.{refusal_as};
+ghost use Rattle.index_objects.specs.NameCheck.{refusal_as};
 ghost use Rattle.index_tree_writer.specs.Directory.{IsName};
 ghost use Rattle.index_tree_writer.specs.Refusals.{IsBadName, IsMisnamed, IsPath};
 ghost use Rattle.index_tree_writer.specs.WritingSteps.{IsComponent, IsSplit};
 
 use crate::error::NameFault;
 use crate::leaf::is_tree;
-use index_metadata::object::tree::EntryKind;
-use index_trees::{ComponentCheck, refusal_of};
+use index_objects::check::{ComponentCheck, refusal_of};
+use index_objects::object::tree::EntryKind;
 
 /// A component of a path.
 #[derive(Clone, Copy)]

@@ -3,7 +3,7 @@
 ghost use Rattle.std.specs.Prelude.{◌≡◌, ◌++◌, OnOk, OnErr};
 ghost use Rattle.index_tree_writer.specs.Objects.{mode_text, entry_bytes, tree_id};
 
-use index_metadata::object::tree::EntryKind;
+use index_objects::object::tree::EntryKind;
 use index_parts::hash::{Hasher, Kind, ObjectId};
 use itoa::Buffer;
 use std::alloc::AllocError;

@@ -4,13 +4,13 @@ use Rattle.std.specs.Prelude.{◌≢◌}
 use Rattle.std.proofs.lemmas.List.Elements.{All-nil, All-cons, All-append, All-head, All-tail}
 use Rattle.index_parts.proofs.Ids.{id_bytes-make_id, id_kind-make_id}
 use Rattle.index_parts.specs.Id.{id_bytes, id_kind, id_len}
-use Rattle.index_metadata.specs.Mode.{mode_of_kind}
-use Rattle.index_metadata.specs.Object.{Found}
-use Rattle.index_metadata.specs.TreeObject.{TreeEntry, IsTreeEntry, AreTreeEntries, kind_of_mode}
+use Rattle.index_objects.specs.Mode.{mode_of_kind}
+use Rattle.index_objects.specs.Object.{Found}
+use Rattle.index_objects.specs.TreeObject.{TreeEntry, IsTreeEntry, AreTreeEntries, kind_of_mode}
 use Rattle.index_parts.specs.declared.hash.Kind.{Kind}
 use Rattle.index_parts.specs.declared.hash.ObjectId.{ObjectId}
-use Rattle.index_metadata.specs.declared.object.tree.EntryKind.{EntryKind}
-use Rattle.index_metadata.specs.declared.object.tree.EntryKind.TheVariants as kinds
+use Rattle.index_objects.specs.declared.object.tree.EntryKind.{EntryKind}
+use Rattle.index_objects.specs.declared.object.tree.EntryKind.TheVariants as kinds
 use Rattle.index_entries.specs.Record.{Record, IsSized}
 use Rattle.index_trees.specs.Leaves.{AreLeaves, LeavesAnswer, Part, Yields, with_leaves, leaf_of, some_entries, whole_tree, limit, unread, opened, ended, refused, leaf, below, stopped}
 

@@ -5,11 +5,11 @@ use Rattle.std.specs.declared.cmp.Ordering.TheVariants.{Less}
 use Rattle.std.proofs.lemmas.List.{append-nil, append_assoc}
 use Rattle.std.proofs.lemmas.List.Elements.{All-nil, All-cons, All-append, All-tail}
 use Rattle.index_parts.specs.Id.{id_kind}
-use Rattle.index_metadata.specs.Object.{Found}
-use Rattle.index_metadata.specs.TreeObject.{TreeEntry, is_tree_mode, kind_of_mode, type_bits}
+use Rattle.index_objects.specs.Object.{Found}
+use Rattle.index_objects.specs.TreeObject.{TreeEntry, is_tree_mode, kind_of_mode, type_bits}
 use Rattle.index_parts.specs.declared.hash.Kind.{Kind}
 use Rattle.index_parts.specs.declared.hash.ObjectId.{ObjectId}
-use Rattle.index_metadata.specs.declared.object.tree.EntryKind.TheVariants as kinds
+use Rattle.index_objects.specs.declared.object.tree.EntryKind.TheVariants as kinds
 use Rattle.index_entries.specs.Order.{path_cmp, IsStrictlyOrdered}
 use Rattle.index_entries.specs.Record.{Record}
 use Rattle.index_entries.specs.TreeOrder.{sorted_name, IsGitOrdered, IsReached, AreGitOrdered, itself, listed}

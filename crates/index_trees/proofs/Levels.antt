@@ -1,10 +1,10 @@
 -- The trees that a walk has begun: one more, one less, and a path that keeps their prefixes.
 use Rattle.std.proofs.Common.{◌≡◌, ℕ, suc, ◌≤◌, List, [], ◌∷◌, ◌++◌, length, Bool, Option, Ok, Err, take, refl, sym, ap, subst, ◌∙◌, arith}
 use Rattle.std.proofs.lemmas.List.{take-take, take-append-le, length-take-le, length-append}
-use Rattle.index_metadata.specs.Object.{Found, object}
+use Rattle.index_objects.specs.Object.{Found, object}
 use Rattle.index_parts.specs.declared.hash.Kind.{Kind}
 use Rattle.index_parts.specs.declared.hash.ObjectId.{ObjectId}
-use Rattle.index_metadata.specs.declared.object.Kind.TheVariants.{Tree}
+use Rattle.index_objects.specs.declared.object.Kind.TheVariants.{Tree}
 use Rattle.index_entries.specs.Record.{Record}
 use Rattle.index_trees.specs.Leaves.{LeavesAnswer, LeavesFault, Yields, with_leaves, whole_tree, opened}
 use Rattle.index_trees.specs.LeafSteps.{EntriesComeTo, LevelsComeTo, IsBegun, Rise, unlisted}

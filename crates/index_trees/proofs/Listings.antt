@@ -2,15 +2,16 @@
 use Rattle.std.proofs.Common.{◌≡◌, ℕ, List, [], ◌∷◌, ◌++◌, length, Bool, Option, Some, None, Ok, Err, refl, sym, ap, subst, ◌∙◌, append_assoc}
 use Rattle.std.specs.Prelude.{◌≢◌}
 use Rattle.std.proofs.lemmas.List.{append-nil}
-use Rattle.index_metadata.proofs.TreeLists.{last_bytes, object_behind}
-use Rattle.index_metadata.specs.Object.{Found}
-use Rattle.index_metadata.specs.TreeObject.{TreeEntry, IsTreeEntry, kind_of_mode}
+use Rattle.index_objects.proofs.TreeLists.{last_bytes, object_behind}
+use Rattle.index_objects.specs.Object.{Found}
+use Rattle.index_objects.specs.TreeObject.{TreeEntry, IsTreeEntry, kind_of_mode}
 use Rattle.index_parts.specs.declared.hash.Kind.{Kind}
 use Rattle.index_parts.specs.declared.hash.ObjectId.{ObjectId}
-use Rattle.index_metadata.specs.declared.object.tree.EntryKind.{EntryKind}
-use Rattle.index_metadata.specs.declared.object.tree.EntryKind.TheVariants as kinds
+use Rattle.index_objects.specs.declared.object.tree.EntryKind.{EntryKind}
+use Rattle.index_objects.specs.declared.object.tree.EntryKind.TheVariants as kinds
 use Rattle.index_entries.specs.Record.{Record}
-use Rattle.index_trees.specs.Leaves.{LeavesAnswer, LeavesFault, InvalidComponent, SaysLeaves, Yields, with_leaves, leaf_of, refusal_as, refusal_of, whole_tree, ended, refused, leaf, below, stopped}
+use Rattle.index_objects.specs.NameCheck.{refusal_as}
+use Rattle.index_trees.specs.Leaves.{LeavesAnswer, LeavesFault, InvalidComponent, SaysLeaves, Yields, with_leaves, leaf_of, refusal_of, whole_tree, ended, refused, leaf, below, stopped}
 use Rattle.index_trees.specs.LeafSteps.{EntriesComeTo, IsRefused, IsSomeTree, ListsAll, ListsFault, ListsUpTo, listed_records}
 use Rattle.index_trees.proofs.WalkLoops.{IsListing}
 use Rattle.index_trees.specs.declared.error.Error.{Error}

@@ -1,9 +1,9 @@
 -- What a store's answer says.
 use Rattle.std.proofs.Common.{◌≡◌, ℕ, List, Option, Some, None, Ok, Err, subst}
-use Rattle.index_metadata.specs.Object.{Found, Answers, absent, object, fault}
-use Rattle.index_metadata.specs.declared.object.Kind.{Kind}
-use Rattle.index_metadata.specs.declared.object.find.Error.{Error}
-use Rattle.index_metadata.specs.declared.object.find.Error.TheVariants as errors
+use Rattle.index_objects.specs.Object.{Found, Answers, absent, object, fault}
+use Rattle.index_objects.specs.declared.object.Kind.{Kind}
+use Rattle.index_objects.specs.declared.object.find.Error.{Error}
+use Rattle.index_objects.specs.declared.object.find.Error.TheVariants as errors
 
 module _ (found : Found) (bytes : List ℕ) where
   pub found_none : (answer : Option Kind) → answer ≡ None → Answers found (Ok answer) bytes → found ≡ absent

@@ -3,16 +3,16 @@ use Rattle.std.proofs.Common.{◌≡◌, ◌≢◌, ℕ, zero, suc, ◌≤◌, B
 use Rattle.std.specs.Prelude.{◌⊎◌, Result, Ok, Err}
 use Rattle.std.proofs.lemmas.Option.{same_Some}
 use Rattle.index_parts.specs.Id.{id_kind}
-use Rattle.index_metadata.specs.Object.{Found, absent, object, fault}
-use Rattle.index_metadata.specs.TreeObject.{TreeEntry, IsTreeObject, IsMalformedTree, AreTreeEntries, NoTreeEntry, kind_of_mode}
+use Rattle.index_objects.specs.Object.{Found, absent, object, fault}
+use Rattle.index_objects.specs.TreeObject.{TreeEntry, IsTreeObject, IsMalformedTree, AreTreeEntries, NoTreeEntry, kind_of_mode}
 use Rattle.index_parts.specs.declared.hash.Kind.{Kind}
 use Rattle.index_parts.specs.declared.hash.ObjectId.{ObjectId}
-use Rattle.index_metadata.specs.declared.object.Kind.{Kind as ObjectKind}
-use Rattle.index_metadata.specs.declared.object.Kind.TheVariants as objects
-use Rattle.index_metadata.specs.declared.object.tree.EntryKind.{EntryKind}
-use Rattle.index_metadata.specs.declared.object.tree.EntryKind.TheVariants as kinds
-use Rattle.index_metadata.proofs.TreeLists.{listed_in, lists_some}
-use Rattle.index_metadata.proofs.TreeObjects.{malformed_behind, one_tree}
+use Rattle.index_objects.specs.declared.object.Kind.{Kind as ObjectKind}
+use Rattle.index_objects.specs.declared.object.Kind.TheVariants as objects
+use Rattle.index_objects.specs.declared.object.tree.EntryKind.{EntryKind}
+use Rattle.index_objects.specs.declared.object.tree.EntryKind.TheVariants as kinds
+use Rattle.index_objects.proofs.TreeLists.{listed_in, lists_some}
+use Rattle.index_objects.proofs.TreeObjects.{malformed_behind, one_tree}
 use Rattle.index_entries.specs.Record.{Record}
 use Rattle.index_trees.specs.Leaves.{LeavesAnswer, LeavesFault, TooManyObjects, NotFound, NotATree, Find, Malformed, InvalidComponent, Part, whole_tree, some_entries, IsUnread, missing, failed, other, malformed, Yields, AreLeaves, with_leaves, leaf_of, refusal_of, limit, unread, opened, ended, refused, leaf, below, stopped}
 use Rattle.index_trees.specs.LeafSteps.{IsSomeTree}

@@ -2,10 +2,10 @@
 use Rattle.std.proofs.Common.{◌≡◌, ℕ, suc, List, [], ◌∷◌, ◌++◌, length, Bool, Option, Ok, Err, take, sym, ap, subst, ◌∙◌, arith}
 use Rattle.std.proofs.lemmas.List.{take_all}
 use Rattle.index_parts.specs.Id.{id_kind}
-use Rattle.index_metadata.specs.Object.{Found, object}
+use Rattle.index_objects.specs.Object.{Found, object}
 use Rattle.index_parts.specs.declared.hash.Kind.{Kind}
 use Rattle.index_parts.specs.declared.hash.ObjectId.{ObjectId}
-use Rattle.index_metadata.specs.declared.object.Kind.TheVariants.{Tree}
+use Rattle.index_objects.specs.declared.object.Kind.TheVariants.{Tree}
 use Rattle.index_entries.specs.Record.{Record}
 use Rattle.index_trees.specs.Leaves.{AreLeaves, IsUnread, LeavesAnswer, LeavesFault, TooManyObjects, Yields, with_leaves, limit, unread, whole_tree}
 use Rattle.index_trees.specs.LeafSteps.{Begins, Ends, WalkHasFault, LevelsComeTo, IsPacked, IsSound, IsSomeTree, Reaches, Rise, WalkComesTo, listed_records}

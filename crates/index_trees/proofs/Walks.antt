@@ -1,7 +1,7 @@
 -- A walk whose innermost tree is listed, up to its end or to a tree below it, over plain values.
 use Rattle.std.proofs.Common.{◌≡◌, ℕ, ◌-◌, ◌+◌, ◌≤◌, List, [], ◌∷◌, ◌++◌, length, Bool, Option, Ok, Err, take, drop, sym, ap, subst, ◌∙◌, append_assoc, arith}
 use Rattle.std.proofs.lemmas.List.{take-append-drop, length-append, drop_at}
-use Rattle.index_metadata.specs.Object.{Found}
+use Rattle.index_objects.specs.Object.{Found}
 use Rattle.index_parts.specs.declared.hash.Kind.{Kind}
 use Rattle.index_parts.specs.declared.hash.ObjectId.{ObjectId}
 use Rattle.index_trees.specs.Leaves.{LeavesAnswer, LeavesFault, with_leaves}

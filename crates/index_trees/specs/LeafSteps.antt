@@ -1,13 +1,14 @@
 -- What the steps of a walk over trees do ("Pro Git", "Git Objects"). Public clauses cite none of these.
 use Rattle.std.specs.Prelude.{◌≡◌, ℕ, ◌≤◌, List, [], ◌∷◌, ◌++◌, Bool, Option, Some, None, Ok, Err, flat_map, take, drop, length}
-use Rattle.index_metadata.specs.Mode.{mode_of_kind}
-use Rattle.index_metadata.specs.Object.{Found}
-use Rattle.index_metadata.specs.TreeObject.{TreeEntry, IsTreeObject}
+use Rattle.index_objects.specs.Mode.{mode_of_kind}
+use Rattle.index_objects.specs.Object.{Found}
+use Rattle.index_objects.specs.TreeObject.{TreeEntry, IsTreeObject}
 use Rattle.index_parts.specs.declared.hash.Kind.{Kind}
 use Rattle.index_parts.specs.declared.hash.ObjectId.{ObjectId}
-use Rattle.index_metadata.specs.declared.object.tree.EntryKind.{EntryKind}
+use Rattle.index_objects.specs.declared.object.tree.EntryKind.{EntryKind}
 use Rattle.index_entries.specs.Record.{Record}
-use Rattle.index_trees.specs.Leaves.{LeavesAnswer, LeavesFault, InvalidComponent, Yields, refusal_as, zero_stat, with_leaves, some_entries, whole_tree}
+use Rattle.index_objects.specs.NameCheck.{refusal_as}
+use Rattle.index_trees.specs.Leaves.{LeavesAnswer, LeavesFault, InvalidComponent, Yields, zero_stat, with_leaves, some_entries, whole_tree}
 use Rattle.index_trees.specs.declared.walk.Level.{Level}
 use Rattle.index_trees.specs.declared.walk.Listed.{Listed}
 use Rattle.index_trees.specs.declared.walk.Next.{Next}

@@ -1,17 +1,18 @@
 -- The leaves of a tree in preorder, over what a store has ("Pro Git", "Git Objects", on tree objects), or the first fault.
-use Rattle.std.specs.Prelude.{◌≡◌, ◌≢◌, ℕ, suc, List, [], ◌∷◌, ◌++◌, Bool, true, false, Option, Some, None, Result, Ok, Err}
+use Rattle.std.specs.Prelude.{◌≡◌, ◌≢◌, ℕ, suc, List, [], ◌∷◌, ◌++◌, Bool, Option, Some, None, Result, Ok, Err}
 use Rattle.bstr.specs.Owned.{bstring_bytes}
 use Rattle.index_parts.specs.Id.{id_kind}
-use Rattle.index_metadata.specs.Mode.{mode_of_kind}
-use Rattle.index_metadata.specs.Object.{Found, absent, object, fault}
-use Rattle.index_metadata.specs.TreeObject.{TreeEntry, IsTreeObject, IsMalformedTree, kind_of_mode}
+use Rattle.index_objects.specs.Mode.{mode_of_kind}
+use Rattle.index_objects.specs.NameCheck.{refusal_as}
+use Rattle.index_objects.specs.Object.{Found, absent, object, fault}
+use Rattle.index_objects.specs.TreeObject.{TreeEntry, IsTreeObject, IsMalformedTree, kind_of_mode}
 use Rattle.index_metadata.specs.declared.entry.stat.Stat.{Stat}
 use Rattle.index_parts.specs.declared.hash.Kind.{Kind}
 use Rattle.index_parts.specs.declared.hash.ObjectId.{ObjectId}
-use Rattle.index_metadata.specs.declared.object.Kind.{Kind as ObjectKind}
-use Rattle.index_metadata.specs.declared.object.Kind.TheVariants as objects
-use Rattle.index_metadata.specs.declared.object.tree.EntryKind.{EntryKind}
-use Rattle.index_metadata.specs.declared.object.tree.EntryKind.TheVariants as kinds
+use Rattle.index_objects.specs.declared.object.Kind.{Kind as ObjectKind}
+use Rattle.index_objects.specs.declared.object.Kind.TheVariants as objects
+use Rattle.index_objects.specs.declared.object.tree.EntryKind.{EntryKind}
+use Rattle.index_objects.specs.declared.object.tree.EntryKind.TheVariants as kinds
 use Rattle.index_entries.specs.Record.{Record}
 use Rattle.index_trees.specs.declared.error.Error.{Error}
 use Rattle.index_trees.specs.declared.error.Error.TheVariants as errors
@@ -38,15 +39,7 @@ leaf_of prefix e = record { path = prefix ++ e.name; stat = zero_stat; id = e.id
 
 -- ---- what a check says of names
 
--- the answer, or for a link's name that passes, what the check says of it as such
-abbrev pub or_as_link : (List ℕ → Bool → Option ℕ) → List ℕ → EntryKind → Option ℕ → Option ℕ
-or_as_link check name kinds.Link None = check name true
-or_as_link check name kind answer = answer
-
--- the number by which the name of what is of a kind is refused, if it is
-abbrev pub refusal_as : (List ℕ → Bool → Option ℕ) → List ℕ → EntryKind → Option ℕ
-refusal_as check name kind = or_as_link check name kind (check name false)
-
+-- the number by which an entry's name is refused, if it is
 abbrev pub refusal_of : (List ℕ → Bool → Option ℕ) → TreeEntry → Option ℕ
 refusal_of check e = refusal_as check e.name (kind_of_mode e.mode)
 

@@ -6,12 +6,12 @@ ghost use Rattle.index_entries.specs.Order.{IsStrictlyOrdered};
 ghost use Rattle.index_entries.specs.TreeOrder.{AreGitOrdered};
 ghost use Rattle.index_trees.specs.Leaves.{AreLeaves, SaysLeaves};
 
-use crate::ComponentCheck;
 pub use crate::error::{Error, Traversal};
 use crate::read::read_tree;
 use crate::walk::Walk;
 use index_entries::list::EntryList;
-use index_metadata::object::Find;
+use index_objects::check::ComponentCheck;
+use index_objects::object::Find;
 use index_parts::hash::ObjectId;
 use std::alloc::Global;
 

@@ -1,10 +1,7 @@
 //! The leaves of a tree of objects, as entries of a git index.
 #![tactic(auto)]
 
-mod check;
 mod error;
 pub mod from_tree;
 mod read;
 mod walk;
-
-pub use check::{ComponentCheck, refusal_of};

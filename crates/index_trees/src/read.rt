@@ -1,16 +1,16 @@
 //! Trees, read whole from a store.
 
 ghost use Rattle.std.specs.Prelude.{◌≡◌, false, IsTrue, IfOk, IfErr};
-ghost use Rattle.index_metadata.specs.Object.{object};
-ghost use Rattle.index_metadata.specs.TreeObject.{IsMalformedTree};
-ghost use Rattle.index_metadata.specs.declared.object.Kind.TheVariants.{Tree};
+ghost use Rattle.index_objects.specs.Object.{object};
+ghost use Rattle.index_objects.specs.TreeObject.{IsMalformedTree};
+ghost use Rattle.index_objects.specs.declared.object.Kind.TheVariants.{Tree};
 ghost use Rattle.index_trees.specs.Leaves.{IsUnread, SaysLeaves};
 ghost use Rattle.index_trees.specs.LeafSteps.{IsSomeTree};
 
 use crate::error::{Error, Traversal};
-use index_metadata::object;
-use index_metadata::object::tree::Entries;
-use index_metadata::object::{Find, find};
+use index_objects::object;
+use index_objects::object::tree::Entries;
+use index_objects::object::{Find, find};
 use index_parts::hash::{Kind, ObjectId};
 use std::alloc::Global;
 

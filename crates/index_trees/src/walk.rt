@@ -1,18 +1,18 @@
 //! A walk over trees, from one that is read to the next.
 
 ghost use Rattle.std.specs.Prelude.{◌≡◌, ◌≤◌, ◌++◌, [], ◌∷◌, None, IfOk, IfErr, OnOk, length, take};
-ghost use Rattle.index_trees.specs.Leaves.{SaysLeaves, refusal_as};
+ghost use Rattle.index_objects.specs.NameCheck.{refusal_as};
+ghost use Rattle.index_trees.specs.Leaves.{SaysLeaves};
 ghost use Rattle.index_trees.specs.declared.error.Error.TheVariants.{Memory};
 ghost use Rattle.index_trees.specs.LeafSteps.{Begins, WalkHasFault, IsPacked, IsRefused, IsSound, IsSomeTree, ListsOn, ListsFault, EndsOrReaches, last_leaf, listed_records, unlisted};
 
-use crate::ComponentCheck;
-use crate::check::refusal_of;
 use crate::error::Error;
 use bstr::BString;
 use index_entries::Pathless;
 use index_entries::list::EntryList;
 use index_metadata::entry::{Flags, Mode, Stage, Stat};
-use index_metadata::object::tree::{Entries, EntryKind};
+use index_objects::check::{ComponentCheck, refusal_of};
+use index_objects::object::tree::{Entries, EntryKind};
 use index_parts::hash::{Kind, ObjectId};
 use std::alloc::{AllocError, Global};
 

@@ -1,14 +1,14 @@
 -- The places of a bitmap over directories, and that bytes are three such bitmaps in one way.
 use Rattle.std.proofs.Common.{◌≡◌, ℕ, ◌<◌, ◌≤◌, List, [], ◌∷◌, ◌++◌, map, All, Result, Ok, Err, refl, sym, ap, subst, ◌∙◌}
 use Rattle.std.proofs.lemmas.List.Elements.{All-head, All-tail}
-use Rattle.index_parts.specs.Bitmap.{Bitmap, IsBitmap, SaysBitmapFault}
-use Rattle.index_parts.specs.Bits.{ListPlaces}
-use Rattle.index_parts.specs.declared.ewah.reading.Error.{Error}
-use Rattle.index_parts.specs.declared.ewah.reading.Error.TheVariants as errors
-use Rattle.index_parts.specs.declared.ewah.iter.Malformed.{Malformed}
-use Rattle.index_parts.proofs.BitmapFaults.{no_fault}
-use Rattle.index_parts.proofs.Bitmaps.{one_bitmap}
-use Rattle.index_parts.proofs.Places.{one_listing}
+use Rattle.index_bitmaps.specs.Bitmap.{Bitmap, IsBitmap, SaysBitmapFault}
+use Rattle.index_bitmaps.specs.Bits.{ListPlaces}
+use Rattle.index_bitmaps.specs.declared.ewah.reading.Error.{Error}
+use Rattle.index_bitmaps.specs.declared.ewah.reading.Error.TheVariants as errors
+use Rattle.index_bitmaps.specs.declared.ewah.iter.Malformed.{Malformed}
+use Rattle.index_bitmaps.proofs.BitmapFaults.{no_fault}
+use Rattle.index_bitmaps.proofs.Bitmaps.{one_bitmap}
+use Rattle.index_bitmaps.proofs.Places.{one_listing}
 use Rattle.index_untracked.specs.CacheBitmaps.{DirectoryBitmaps, ListsBelow, AreMarks}
 
 abbrev pub oks : List ℕ → List (Result ℕ Malformed)

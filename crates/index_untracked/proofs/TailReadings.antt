@@ -3,14 +3,14 @@ use Rattle.std.proofs.Common.{◌≡◌, ℕ, zero, suc, ◌+◌, ◌*◌, ◌<�
 use Rattle.std.specs.List.{enumerate_from}
 use Rattle.std.proofs.lemmas.List.{take-append-drop, length-take}
 use Rattle.std.proofs.lemmas.List.Elements.{All-nil, All-cons, All-head, All-tail}
-use Rattle.index_parts.specs.Bitmap.{Bitmap, IsBitmap, HasBitmap}
-use Rattle.index_parts.specs.Bits.{places}
+use Rattle.index_bitmaps.specs.Bitmap.{Bitmap, IsBitmap, HasBitmap}
+use Rattle.index_bitmaps.specs.Bits.{places}
 use Rattle.index_parts.specs.Id.{id_len}
-use Rattle.index_parts.specs.UnpackingSteps.{unpacked}
-use Rattle.index_parts.specs.declared.ewah.iter.Malformed.{Malformed}
+use Rattle.index_bitmaps.specs.UnpackingSteps.{unpacked}
+use Rattle.index_bitmaps.specs.declared.ewah.iter.Malformed.{Malformed}
 use Rattle.index_parts.specs.declared.hash.Kind.{Kind}
-use Rattle.index_parts.proofs.BitmapFaults.{bitmap_or_fault, no_fault}
-use Rattle.index_parts.proofs.Unpackings.{le_or_lt, stand_for_unpacked, one_unpacking}
+use Rattle.index_bitmaps.proofs.BitmapFaults.{bitmap_or_fault, no_fault}
+use Rattle.index_bitmaps.proofs.Unpackings.{le_or_lt, stand_for_unpacked, one_unpacking}
 use Rattle.index_untracked.specs.Blocks.{DirectoryValue}
 use Rattle.index_untracked.specs.CacheBitmaps.{ListsBelow, DirectoryBitmaps, AreMarks, ArePieces, with_marks, IsTail}
 use Rattle.index_untracked.proofs.BitmapPlaces.{oks, one_list, Lists, bitmap_is}

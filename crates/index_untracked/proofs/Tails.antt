@@ -11,8 +11,8 @@ use Rattle.index_untracked.specs.BitmapSteps.{with_stat, with_exclude, checked, 
 use Rattle.index_untracked.specs.CacheBitmaps.{DirectoryBitmaps, ListsBelow, AreMarks, ArePieces, value_at, with_marks, IsTail}
 use Rattle.index_untracked.specs.CachedStat.{cached_stat}
 use Rattle.index_extensions.specs.ExtensionValue.{or_else}
-use Rattle.index_parts.proofs.Places.{listed_ascend}
-use Rattle.index_parts.specs.Ascending.{Ascends}
+use Rattle.index_bitmaps.proofs.Places.{listed_ascend}
+use Rattle.index_bitmaps.specs.Ascending.{Ascends}
 use Rattle.std.proofs.lemmas.Bool.{eqb-true, ne_eqb}
 use Rattle.index_untracked.proofs.BitmapPlaces.{oks, one_marks}
 use Rattle.index_untracked.proofs.EqualPieces.{pieces_len, one_row_of_pieces}

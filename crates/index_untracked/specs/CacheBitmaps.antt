@@ -3,8 +3,8 @@
 use Rattle.std.specs.Prelude.{◌≡◌, ℕ, ◌<◌, ◌≤◌, ◌==◌, List, [], ◌∷◌, ◌++◌, All, length, map, Option, Some, None, Ok, if◌then◌else◌}
 use Rattle.std.specs.List.{concat, enumerate_from, list_any}
 use Rattle.std.specs.Option.{option_map}
-use Rattle.index_parts.specs.Bitmap.{Bitmap, IsBitmap}
-use Rattle.index_parts.specs.Bits.{ListPlaces}
+use Rattle.index_bitmaps.specs.Bitmap.{Bitmap, IsBitmap}
+use Rattle.index_bitmaps.specs.Bits.{ListPlaces}
 use Rattle.index_parts.specs.Id.{id_len, make_id}
 use Rattle.index_parts.specs.declared.hash.Kind.{Kind}
 use Rattle.index_untracked.specs.Blocks.{DirectoryValue}

@@ -2,8 +2,8 @@
 
 ghost use Rattle.std.specs.Prelude.{◌≡◌, ◌≢◌, ◌<◌, ◌*◌, ◌==◌, ℕ, false, List, All, map, length, Ok, IsTrue, IfOk, IfSome, IfNone};
 ghost use Rattle.std.specs.List.{AllByRecursion, list_any};
-ghost use Rattle.index_parts.specs.Bitmap.{Bitmap, IsBitmap, bitmap};
-ghost use Rattle.index_parts.specs.Bits.{ListPlaces};
+ghost use Rattle.index_bitmaps.specs.Bitmap.{Bitmap, IsBitmap, bitmap};
+ghost use Rattle.index_bitmaps.specs.Bits.{ListPlaces};
 ghost use Rattle.index_parts.specs.Id.{id_len};
 ghost use Rattle.index_untracked.specs.Blocks.{DirectoryValue, directory_value};
 ghost use Rattle.index_untracked.specs.BitmapSteps.{changed_directory, with_stat, with_exclude, checked, last_at, by_some, by_true, each, IsBare};
@@ -12,9 +12,10 @@ ghost use Rattle.index_untracked.specs.CacheSteps.{own_marks};
 
 use super::Directory;
 use super::stat::{SIZE, cached_stat};
-use index_parts::ewah::{Error, decode};
+use index_bitmaps::ewah;
+use index_bitmaps::ewah::{Error, decode};
 use index_parts::hash::{Kind, ObjectId};
-use index_parts::{ewah, read};
+use index_parts::read;
 use std::alloc::{AllocError, Global};
 
 /// The places that three bitmaps have.

@@ -1,4 +1,5 @@
 mod Endings
+mod Fronts
 pub mod Readers
 mod Steps
 mod Wholes

@@ -1,11 +1,12 @@
-//! Reading an index file in windows: entries are decoded from a window of the file that is used again, while it is
-//! hashed, and only what follows them is kept whole.
+//! Reading an index file from the disk: in windows, where entries are decoded from a window of the file that is used
+//! again, while it is hashed, and only what follows them is kept whole; or whole.
 #![tactic(auto)]
 
 use index_format::decode;
 use index_metadata::entry::FileTime;
 use index_parts::hash::Kind;
 
+pub mod disk;
 pub mod large;
 pub mod pieces;
 pub mod windows;

@@ -2,7 +2,7 @@
 
 ghost use Rattle.std.specs.Prelude.{◌≡◌, ◌⊎◌, Bool, List, ℕ, Option, IfErr, IfOk, IsErrAnd, IsTrue, None, Ok};
 ghost use Rattle.std.specs.IoError.{error_kind};
-ghost use Rattle.std.specs.Path.{path_buf_bytes};
+ghost use Rattle.std.specs.Path.{path_buf_bytes, path_bytes};
 ghost use Rattle.index_entries.specs.Record.{IdsAreOf};
 ghost use Rattle.index_format.specs.declared.decode.Options.{Options};
 ghost use Rattle.index_metadata.specs.declared.entry.stat.FileTime.{FileTime as Timestamp};
@@ -13,16 +13,16 @@ ghost use Rattle.index_format.specs.Storable.{IsStorable};
 ghost use Rattle.gix_index.specs.Checked.{IsFileAnswer};
 ghost use Rattle.gix_index.specs.File.{IsEmptyFile, checksum_of, path_of, state_of};
 ghost use Rattle.gix_index.specs.FileFaults.{SaysOfFile, SaysOfFiles};
-ghost use Rattle.gix_index.specs.Linked.{IsOnDisk, expecting};
+ghost use Rattle.gix_index.specs.Linked.{IsOnDisk, expecting, shared_path};
 
 use super::File;
-use super::disk::{PathError, bytes_of};
 use super::init::{Error, decoded};
 use index_format::decode;
 use index_metadata::entry::FileTime;
 use index_parts::hash::{Kind, ObjectId};
 use index_state::State;
 use index_window::ReadOptions;
+use index_window::disk::{PathError, bytes_of};
 use index_window::large::in_windows;
 use std::alloc::{AllocError, Global};
 use std::fs::OpenFile;
@@ -43,7 +43,10 @@ fn read_fault(path: PathBuf, error: io::Error) -> Error
 }
 
 /// The shared index's path: in the folder of the split one, by its id.
-fn shared_path(alloc: Global, path: Path<'_>, id: &ObjectId) -> Result<PathBuf, AllocError> {
+fn shared_path(alloc: Global, path: Path<'_>, id: &ObjectId) -> Result<PathBuf, AllocError>
+    ensures { IfOk result
+        (λ shared. path_buf_bytes shared ≡ shared_path (path_bytes path.entry) id.now) }
+{
     let name = format!(in alloc; "sharedindex.{id}")?;
     path.with_file_name(alloc, name.as_str())
 }

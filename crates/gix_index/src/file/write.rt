@@ -1,6 +1,7 @@
 //! Writing a `File` to its path, by way of a lock file.
 
-ghost use Rattle.std.specs.Prelude.{◌≡◌, IfErr, IfOk, OnErr, OnOk};
+ghost use Rattle.std.specs.Path.{path_buf_bytes};
+ghost use Rattle.std.specs.Prelude.{◌≡◌, ◌++◌, codes, IfErr, IfOk, OnErr, OnOk};
 ghost use Rattle.index_parts.specs.Id.{make_id};
 ghost use Rattle.index_format.specs.Contents.{Contents};
 ghost use Rattle.index_format.specs.Image.{image_version, trailer};
@@ -13,12 +14,12 @@ ghost use Rattle.gix_index.specs.WrittenFile.{IsWritten};
 ghost use Rattle.gix_index.specs.declared.file.write.Error.TheVariants.{Memory};
 
 use super::File;
-use super::disk::PathError;
 use index_entries::Version;
 use index_format::write;
 use index_format::write::Options;
 use index_parts::hash::ObjectId;
 use index_parts::hash::io::{Plain, Retrying};
+use index_window::disk::PathError;
 use std::alloc::{AllocError, Global};
 use std::io::{BufWriter, ErrorKind, Write};
 use std::path::PathBuf;
@@ -86,7 +87,9 @@ fn fault_of(step: Step, path: PathBuf, error: io::Error) -> Error
 }
 
 /// The index's path with `.lock` behind it.
-fn lock_path(alloc: Global, path: &PathBuf) -> Result<PathBuf, AllocError> {
+fn lock_path(alloc: Global, path: &PathBuf) -> Result<PathBuf, AllocError>
+    ensures { IfOk result (λ lock. path_buf_bytes lock ≡ path_buf_bytes path.now ++ codes ".lock") }
+{
     let mut lock = String::from_str(alloc, path.as_path().as_str())?;
     lock.push_str(".lock")?;
     PathBuf::from_str(alloc, lock.as_str())

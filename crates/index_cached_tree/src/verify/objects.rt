@@ -4,8 +4,8 @@ ghost use Rattle.std.specs.Prelude.{◌≡◌, ◌⊎◌, ℕ, List, length, map
 ghost use Rattle.std.specs.Cmp.Lexicographic.{slice_cmp};
 ghost use Rattle.std.specs.Ordering.{nat_cmp};
 ghost use Rattle.index_parts.specs.Id.{id_kind};
-ghost use Rattle.index_metadata.specs.Object.{tree_bytes};
-ghost use Rattle.index_metadata.specs.TreeObject.{TreeEntry, Lists, tree_entry_of};
+ghost use Rattle.index_objects.specs.Object.{tree_bytes};
+ghost use Rattle.index_objects.specs.TreeObject.{TreeEntry, Lists, tree_entry_of};
 ghost use Rattle.index_cached_tree.specs.Agreement.{Trees, AreTrees, directories, has_child};
 ghost use Rattle.index_cached_tree.specs.Sound.{RiseFrom};
 ghost use Rattle.index_cached_tree.specs.Tree.{name_of, node_of, nodes_from};
@@ -15,9 +15,9 @@ ghost use Rattle.index_cached_tree.specs.TreeFaults.{no_tree, child_fault, missi
 use super::Error;
 use crate::Tree;
 use bstr::BString;
-use index_metadata::object;
-use index_metadata::object::tree::{Entries, EntryRef};
-use index_metadata::object::{Find, find};
+use index_objects::object;
+use index_objects::object::tree::{Entries, EntryRef};
+use index_objects::object::{Find, find};
 use index_parts::hash::{Kind, ObjectId};
 use std::alloc::Global;
 use std::cmp::Ordering;

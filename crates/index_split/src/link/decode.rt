@@ -1,12 +1,12 @@
 //! Reading a link.
 
 ghost use Rattle.std.specs.Prelude.{◌<◌, length, IfOk, IfErr, IfSome, IfNone};
-ghost use Rattle.index_parts.specs.Bitmap.{bitmap, IsBitmap};
+ghost use Rattle.index_bitmaps.specs.Bitmap.{bitmap, IsBitmap};
 ghost use Rattle.index_parts.specs.Id.{id_len};
 ghost use Rattle.index_split.specs.Link.{IsLink, StartsWithId, SaysBitmap, SaysLink, link_of};
 
 use super::{Bitmaps, Link};
-use index_parts::ewah;
+use index_bitmaps::ewah;
 use index_parts::hash::{Kind, ObjectId};
 use std::alloc::Global;
 use thiserror::Error;

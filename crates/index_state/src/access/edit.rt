@@ -24,8 +24,7 @@ impl State {
         self.parts.timestamp = timestamp;
     }
 
-    /// Sets the version, as a file that was just written has it. All else stays: which version a later write takes is
-    /// told by the entries alone.
+    /// Sets the version, as a file that was just written has it. All else stays, and a later write takes its own.
     pub fn set_version(&mut self, version: Version)
         ensures version { contents self.new ≡ with_version (contents self.old) version }
         ensures entries { entries_of self.new ≡ entries_of self.old }
@@ -43,7 +42,7 @@ impl State {
     }
 
     /// The entries, lent for writing, and beside them the storage of their paths. What was last written through the
-    /// slice is what the state has then; all else stays. A loop by index over both meets each entry with its path.
+    /// slice is what the state has then; all else stays.
     ///
     /// `entries[i].path_in(storage)` asks that the path lies in the storage. A loop that writes entries keeps that by
     /// the invariant `All (IsPlaced (length l.storage)) l.entries`, which is `PathsInStorage` before it and after it.
@@ -57,7 +56,7 @@ impl State {
 
     /// The entry at the path and the stage, lent for writing, or None, as
     /// [`entry_by_path_and_stage`](State::entry_by_path_and_stage) finds it. What was last written through it stands in
-    /// its place then; all else stays.
+    /// its place.
     pub fn entry_mut_by_path_and_stage(&mut self, path: &[u8], stage: Stage) -> Option<&mut Entry>
         requires { PathsInStorage self.old }
         ensures* writes_back { sem 𝓛 (LendsEntryAt path.now (stage_code stage) self.entry result) }

@@ -3,8 +3,8 @@
 ghost use Rattle.std.specs.Borrow.{sem};
 ghost use Rattle.std.specs.Option.{option_map, option_copied_mut};
 ghost use Rattle.std.specs.Prelude.{◌≡◌, map};
-ghost use Rattle.index_extensions.specs.FsMonitor.{monitor_of};
-ghost use Rattle.index_extensions.specs.ResolveUndo.{path_stages};
+ghost use Rattle.index_small_extensions.specs.FsMonitor.{monitor_of};
+ghost use Rattle.index_small_extensions.specs.ResolveUndo.{path_stages};
 ghost use Rattle.index_cached_tree.specs.Tree.{node_of};
 ghost use Rattle.index_untracked.specs.Untracked.{cache_of};
 ghost use Rattle.index_state.specs.Edits.{LendsTree, without_link, without_resolve_undo, without_tree};
@@ -13,7 +13,7 @@ ghost use Rattle.index_state.specs.State.{contents, entries_of, storage_of};
 
 use crate::State;
 use index_cached_tree::Tree;
-use index_extensions::{FsMonitor, resolve_undo};
+use index_small_extensions::{FsMonitor, resolve_undo};
 use index_split::link::Link;
 use index_untracked::UntrackedCache;
 

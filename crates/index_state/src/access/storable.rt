@@ -6,7 +6,7 @@ ghost use Rattle.index_format.specs.Storable.{IsStorable};
 ghost use Rattle.index_state.specs.State.{PathsInStorage, contents};
 
 use crate::State;
-use index_format::storable::are_storable;
+use index_writing::storable::are_storable;
 
 impl State {
     /// Whether a file can hold the index, so that what is written of it is read as it was written: true exactly where

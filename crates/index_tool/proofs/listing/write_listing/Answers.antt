@@ -9,7 +9,7 @@ use Rattle.gix_index.specs.State.{storage_of, entries_of}
 use Rattle.gix_index.specs.EntryType.{Entry}
 use Rattle.gix_index.specs.StateType.{State}
 use Rattle.index_tool.specs.Line.{line_of}
-use Rattle.index_tool.proofs.Listed.{listed_more, listed_all, front_before_line, front_of_block, front_of_rest}
+use Rattle.index_inspect.proofs.Printed.{listed_more, listed_all, front_before_line, front_of_block, front_of_rest}
 use Rattle.index_tool.proofs.listing.write_listing.Goals as goal
 
 on_ok_then : {A E : Type 0} (r : Result A E) {P Q : Type 0} → (P → Q) → OnOk r P → OnOk r Q

@@ -1,6 +1,6 @@
 use Rattle.std.proofs.Common.{◌⊎◌, inl, inr, []}
 use Rattle.std.specs.Prelude.{◌≢◌}
-use Rattle.index_metadata.specs.declared.object.tree.EntryKind.TheVariants as kinds
+use Rattle.index_objects.specs.declared.object.tree.EntryKind.TheVariants as kinds
 use Rattle.index_tree_writer.proofs.PathNames.{split_some, bad_front, too_deep, path_later, path_whole, later_some, empty_from, some_from}
 use Rattle.index_tree_writer.proofs.names.+fault_of.Goals as goal
 use Rattle.index_tree_writer.proofs.names.+fault_of.Goals.{else-is_tree-via-then-is_tree+else-is_empty, else-is_tree-via-else-is_tree}

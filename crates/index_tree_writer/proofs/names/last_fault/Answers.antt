@@ -1,8 +1,8 @@
 use Rattle.index_tree_writer.specs.Refusals.{of_file, last_name, no_slash}
 use Rattle.std.proofs.Common.{◌≡◌, sym, subst, None}
-use Rattle.index_metadata.specs.declared.object.tree.EntryKind.{EntryKind}
-use Rattle.index_metadata.specs.declared.object.tree.EntryKind.TheVariants as kinds
-use Rattle.index_trees.specs.Leaves.{refusal_as}
+use Rattle.index_objects.specs.declared.object.tree.EntryKind.{EntryKind}
+use Rattle.index_objects.specs.declared.object.tree.EntryKind.TheVariants as kinds
+use Rattle.index_objects.specs.NameCheck.{refusal_as}
 use Rattle.index_tree_writer.specs.Refusals.{IsMisnamed}
 use Rattle.index_tree_writer.specs.declared.error.NameFault.TheVariants as faults
 use Rattle.index_tree_writer.proofs.names.last_fault.Goals as goal

@@ -1,5 +1,5 @@
 use Rattle.std.proofs.Common.{◌≡◌, List}
-use Rattle.index_metadata.specs.TreeObject.{TreeEntry, AreTreeEntries, kind_of_entries, unread_entries}
+use Rattle.index_objects.specs.TreeObject.{TreeEntry, AreTreeEntries, kind_of_entries, unread_entries}
 use Rattle.index_trees.proofs.read.is_whole.Given as goal
 
 -- the entries so far stand before the bytes that aren't read

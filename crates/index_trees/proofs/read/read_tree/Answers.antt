@@ -1,6 +1,6 @@
 use Rattle.std.proofs.Common.{rules, ℕ, Some, ap, sym, subst, ◌∙◌}
-use Rattle.index_metadata.specs.TreeObject.{IsMalformedTree}
-use Rattle.index_metadata.specs.declared.object.Kind.TheVariants.{Tree, Blob, Commit, Tag}
+use Rattle.index_objects.specs.TreeObject.{IsMalformedTree}
+use Rattle.index_objects.specs.declared.object.Kind.TheVariants.{Tree, Blob, Commit, Tag}
 use Rattle.index_trees.proofs.Objects.{found_none, found_some, found_fault}
 use Rattle.index_trees.specs.Leaves.{Find, IsUnread, missing, failed, malformed, other}
 use Rattle.index_trees.proofs.read.read_tree.Goals as goal

@@ -1,9 +1,9 @@
 use Rattle.std.proofs.Common.{rules, ◌≡◌, ◌++◌, [], ◌∷◌, ℕ, List, length, take, refl, ap, ◌∙◌}
 use Rattle.std.specs.Prelude.{◌≢◌}
 use Rattle.std.proofs.lemmas.Result.{err_from_is_err_and}
-use Rattle.index_metadata.proofs.TreeLists.{gives_entry, gives_malformed, object_begins}
-use Rattle.index_metadata.specs.TreeObject.{IsTreeEntry, kind_of_entries, tree_entry_of, unread_entries}
-use Rattle.index_metadata.specs.declared.object.tree.EntryKind.TheVariants as kinds
+use Rattle.index_objects.proofs.TreeLists.{gives_entry, gives_malformed, object_begins}
+use Rattle.index_objects.specs.TreeObject.{IsTreeEntry, kind_of_entries, tree_entry_of, unread_entries}
+use Rattle.index_objects.specs.declared.object.tree.EntryKind.TheVariants as kinds
 use Rattle.index_trees.proofs.Levels.{prefix_kept}
 use Rattle.index_trees.proofs.Listings.{listing_ends, listing_leaf, listing_refused, listing_tree, says_also}
 use Rattle.index_trees.specs.Leaves.{leaf_of}

@@ -1,5 +1,5 @@
 use Rattle.std.proofs.Common.{◌≡◌, ◌≤◌, take, length}
-use Rattle.index_metadata.specs.TreeObject.{kind_of_entries, unread_entries}
+use Rattle.index_objects.specs.TreeObject.{kind_of_entries, unread_entries}
 use Rattle.index_trees.specs.LeafSteps.{IsPacked}
 use Rattle.index_trees.proofs.WalkLoops.{IsListing}
 use Rattle.index_trees.proofs.walk.list_entries.Given as goal

@@ -1,7 +1,7 @@
 use Rattle.std.proofs.Common.{ℕ, ◌++◌, ◌∷◌, List, Result, ap, arith, ◌∙◌}
-use Rattle.index_parts.specs.UnpackingSteps.{items_left}
-use Rattle.index_parts.specs.declared.ewah.iter.Malformed.{Malformed}
-use Rattle.index_parts.proofs.Places.{one_listing}
+use Rattle.index_bitmaps.specs.UnpackingSteps.{items_left}
+use Rattle.index_bitmaps.specs.declared.ewah.iter.Malformed.{Malformed}
+use Rattle.index_bitmaps.proofs.Places.{one_listing}
 use Rattle.index_untracked.proofs.BitmapPlaces.{oks, no_err, place_below}
 use Rattle.index_untracked.proofs.marks.places_in.Goals as goal
 

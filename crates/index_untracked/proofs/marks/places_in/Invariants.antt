@@ -1,7 +1,7 @@
 use Rattle.std.proofs.Common.{◌++◌, ◌<◌, All, map, Ok}
-use Rattle.index_parts.specs.Bitmap.{bitmap}
-use Rattle.index_parts.specs.Bits.{ListPlaces}
-use Rattle.index_parts.specs.UnpackingSteps.{items_left}
+use Rattle.index_bitmaps.specs.Bitmap.{bitmap}
+use Rattle.index_bitmaps.specs.Bits.{ListPlaces}
+use Rattle.index_bitmaps.specs.UnpackingSteps.{items_left}
 use Rattle.index_untracked.proofs.marks.places_in.Given as goal
 
 abbrev pub invariant-loop-position : goal.invariant-loop-position

@@ -1,5 +1,5 @@
 use Rattle.std.proofs.Common.{arith}
-use Rattle.index_parts.specs.Bitmap.{bitmap}
+use Rattle.index_bitmaps.specs.Bitmap.{bitmap}
 use Rattle.index_untracked.proofs.BitmapPlaces.{bitmap_is}
 use Rattle.index_untracked.proofs.marks.places_of.Goals as goal
 

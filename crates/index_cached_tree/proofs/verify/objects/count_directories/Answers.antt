@@ -1,9 +1,9 @@
 use Rattle.std.proofs.Common.{◌<◌, ℕ, List, length, arith, refl, sym, ap, subst, ◌∙◌}
 use Rattle.std.proofs.lemmas.Result.{err_from_is_err_and}
-use Rattle.index_metadata.proofs.TreeLists.{gives_entry, gives_malformed, gives_end}
-use Rattle.index_metadata.proofs.TreeObjects.{entry_fewer}
+use Rattle.index_objects.proofs.TreeLists.{gives_entry, gives_malformed, gives_end}
+use Rattle.index_objects.proofs.TreeObjects.{entry_fewer}
 use Rattle.index_parts.specs.Id.{id_kind}
-use Rattle.index_metadata.specs.TreeObject.{IsTreeEntry, tree_entry_of, kind_of_entries, unread_entries}
+use Rattle.index_objects.specs.TreeObject.{IsTreeEntry, tree_entry_of, kind_of_entries, unread_entries}
 use Rattle.index_cached_tree.specs.TreeFaults.{child_fault}
 use Rattle.index_cached_tree.proofs.Agreements.{CountsOn, counts_begin, counts_pass, counts_more, counts_fault, counts_end}
 use Rattle.index_cached_tree.proofs.Sounds.{row_of_trees, says_is, says_first}

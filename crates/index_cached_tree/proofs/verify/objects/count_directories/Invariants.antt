@@ -1,6 +1,6 @@
 use Rattle.std.proofs.Common.{◌≡◌, ◌+◌, ◌≤◌, length}
 use Rattle.index_parts.specs.Id.{id_kind}
-use Rattle.index_metadata.specs.TreeObject.{kind_of_entries, unread_entries}
+use Rattle.index_objects.specs.TreeObject.{kind_of_entries, unread_entries}
 use Rattle.index_cached_tree.proofs.Agreements.{CountsOn}
 use Rattle.index_cached_tree.proofs.Sounds.{row_of_trees}
 use Rattle.index_cached_tree.proofs.verify.objects.count_directories.Given as goal

@@ -1,9 +1,0 @@
-use Rattle.index_format.proofs.OnceAnswers.{answer_one}
-use Rattle.index_format.proofs.SomeAnswers.{answer_some}
-use Rattle.gix_index.proofs.laws.one_answer.Goals as goal
-
-pub returns-clause-some : goal.returns-clause-some
-returns-clause-some c = answer_some
-
-pub returns-clause-one : goal.returns-clause-one
-returns-clause-one c = answer_one

@@ -1,8 +1,0 @@
-use Rattle.index_trees.proofs.OneListing.{leaves_some, leaves_one}
-use Rattle.gix_index.proofs.laws.one_listing.Goals as goal
-
-pub returns-clause-some : goal.returns-clause-some
-returns-clause-some c = leaves_some
-
-pub returns-clause-one : goal.returns-clause-one
-returns-clause-one c = leaves_one

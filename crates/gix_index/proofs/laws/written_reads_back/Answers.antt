@@ -1,6 +1,0 @@
-use Rattle.index_format.proofs.RoundTrip.{written_reads_back}
-use Rattle.gix_index.proofs.laws.written_reads_back.Goals as goal
-
-pub returns : goal.returns
-returns c = λ v options time reading h all.
-    written_reads_back v options time reading h.storable h.writable h.unmistakable all.limit all.checksum

@@ -1,0 +1,4 @@
+pub mod BitmapFaults
+pub mod Bitmaps
+pub mod Places
+pub mod Unpackings

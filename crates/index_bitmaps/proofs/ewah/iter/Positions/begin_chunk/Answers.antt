@@ -1,0 +1,36 @@
+use Rattle.std.proofs.Common.{◌*◌, ◌<◌, ◌≤◌, ◌++◌, length, ap, sym, ◌∙◌}
+use Rattle.std.specs.Prelude.{replicate}
+use Rattle.index_bitmaps.specs.Bits.{literal_count, repetitions, places, set}
+use Rattle.index_bitmaps.specs.UnpackingSteps.{next_place}
+use Rattle.index_bitmaps.proofs.Places.{run_set, run_clear}
+use Rattle.index_bitmaps.proofs.Unpackings.{behind_whole, behind_broken}
+use Rattle.index_bitmaps.proofs.ewah.iter.Positions.begin_chunk.Goals as goal
+use Rattle.index_bitmaps.proofs.ewah.iter.Positions.begin_chunk.Goals.{then-run-eq1, else-run-eq1}
+
+pub returns-then-literals-self-clause-left : goal.returns-then-literals-self-clause-left
+returns-then-literals-self-clause-left c =
+    let run = c.args.run in
+    let words = c.args.self.now.words.now in
+    let place = c.args.self.now.place in
+    elim c.if-run-eq1.branch [
+      | then-run-eq1 w ↦
+          let fits : literal_count run ≤ length words = rw w.self-is at c.if-literals-self.true in
+          rw w.self-is (rw (c.requires.1, c.requires.3) (ap (λ rest. places (next_place place) (replicate (64 * repetitions run) set ++ rest)) (sym (behind_whole run words fits)) ∙ run_set (next_place place) run words w.if-run-eq1.true))
+      | else-run-eq1 w ↦
+          let fits : literal_count run ≤ length words = rw w.self-is at c.if-literals-self.true in
+          rw w.self-is (rw (c.requires.0, c.requires.1, c.requires.3) (ap (λ rest. places (next_place w.skip-self.result) rest) (sym (behind_whole run words fits)) ∙ run_clear place w.skip-self.result run words w.if-run-eq1.false w.skip-self.ensures))
+    ]
+
+pub returns-else-literals-self-clause-left : goal.returns-else-literals-self-clause-left
+returns-else-literals-self-clause-left c =
+    let run = c.args.run in
+    let words = c.args.self.now.words.now in
+    let place = c.args.self.now.place in
+    elim c.if-run-eq1.branch [
+      | then-run-eq1 w ↦
+          let few : length words < literal_count run = rw w.self-is at c.if-literals-self.false in
+          rw w.self-is (rw c.requires.1 (ap (λ rest. places (next_place place) (replicate (64 * repetitions run) set ++ rest)) (sym (behind_broken run words few)) ∙ run_set (next_place place) run words w.if-run-eq1.true))
+      | else-run-eq1 w ↦
+          let few : length words < literal_count run = rw w.self-is at c.if-literals-self.false in
+          rw w.self-is (rw (c.requires.0, c.requires.1) (ap (λ rest. places (next_place w.skip-self.result) rest) (sym (behind_broken run words few)) ∙ run_clear place w.skip-self.result run words w.if-run-eq1.false w.skip-self.ensures))
+    ]

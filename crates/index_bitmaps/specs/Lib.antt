@@ -1,0 +1,4 @@
+pub mod Ascending
+pub mod Bitmap
+pub mod Bits
+pub mod UnpackingSteps

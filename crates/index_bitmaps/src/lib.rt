@@ -1,0 +1,4 @@
+//! Bitmaps, as the extensions of an index file have them.
+#![tactic(auto)]
+
+pub mod ewah;

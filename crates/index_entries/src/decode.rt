@@ -1,4 +1,0 @@
-//! Reading the header and the entries of a file.
-
-pub mod entries;
-pub mod entry;

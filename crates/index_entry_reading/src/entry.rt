@@ -1,0 +1,224 @@
+//! One entry at the front of bytes, as lent pieces: for a reader that walks over a file's entries and keeps none of
+//! them.
+
+ghost use Rattle.std.specs.Prelude.{◌≡◌, ◌+◌, ◌*◌, ◌≤◌, ℕ, List, length, Option, Some, IfSome, IfNone, drop, take, unwrap_or, [], ◌++◌};
+ghost use Rattle.std.specs.Option.{option_map};
+ghost use Rattle.index_metadata.specs.Flags.{stored_flags, joined_words};
+ghost use Rattle.index_parts.specs.Id.{id_kind};
+ghost use Rattle.index_metadata.specs.Stat.{stat_of};
+ghost use Rattle.index_entries.specs.Entry.{IsEntry23, IsEntry4, IsEntry};
+ghost use Rattle.index_entry_reading.specs.Lent.{lent_record};
+ghost use Rattle.index_entry_reading.specs.LentSteps.{lent_head};
+ghost use Rattle.index_entries.specs.EntrySteps.{IsLong, record_from, second_at, head_at, path_at, entry23_at, shared_of, entry4_at};
+ghost use Rattle.index_entries.specs.Record.{Record};
+
+use bitflags::Flags as _;
+use index_entries::sizes::{ENTRY_ALIGN, FLAGS_LEN, NUMBERS_LEN};
+use index_entries::{Pathless, Version};
+use index_metadata::entry::{Flags, Mode, Stat};
+use index_metadata::read::stat;
+use index_parts::hash::{Kind, ObjectId};
+use index_parts::read;
+use index_parts::util::from_be_u16;
+
+/// Where the mode begins among the bytes of an entry's numbers.
+const MODE_START: usize = 24;
+
+/// Where the mode ends there.
+const MODE_END: usize = 28;
+
+/// An entry up to its path, with both words of its flags; the second is 0 where there is none.
+#[derive(Clone, Copy)]
+pub(super) struct EntryHead<'a> {
+    numbers: &'a [u8],
+    id: &'a [u8],
+    flags: u16,
+    extended: u16,
+}
+
+/// An entry whose path is so many bytes of the path before it, and bytes that were read.
+#[derive(Clone, Copy)]
+pub struct Lent<'a> {
+    /// How many bytes of the path before it stay; 0 in versions 2 and 3.
+    pub shared: usize,
+    /// The path's bytes behind those.
+    pub path: &'a [u8],
+    /// All of the entry but its path.
+    pub entry: Pathless,
+}
+
+/// The second word where the first asks for one, or 0.
+#[tactic(auto, unfolding(index_entries::specs::EntrySteps::second_at))]
+fn second_of(word: u16, bytes: &[u8]) -> Option<(u16, &[u8])>
+    ensures { option_map (λ x. (x.0, x.1.now)) result ≡ second_at word bytes.now }
+{
+    if word & 0x4000 != 0x4000 {
+        return Some((0, bytes));
+    }
+    let (second, rest) = read::piece(bytes, FLAGS_LEN)?;
+    let second = from_be_u16(second);
+    if second & 0x6000 != second {
+        return None;
+    }
+    Some((second, rest))
+}
+
+#[tactic(auto, unfolding(index_entries::specs::EntrySteps::head_at))]
+fn head_of(kind: Kind, bytes: &[u8]) -> Option<(EntryHead<'_>, &[u8])>
+    ensures { option_map (λ x. (lent_head x.0, x.1.now)) result ≡ head_at kind bytes.now }
+{
+    let (numbers, rest) = read::piece(bytes, NUMBERS_LEN)?;
+    let (id, rest) = read::piece(rest, kind.len_in_bytes())?;
+    let (word, rest) = read::piece(rest, FLAGS_LEN)?;
+    let flags = from_be_u16(word);
+    let (extended, rest) = second_of(flags, rest)?;
+    Some((
+        EntryHead {
+            numbers,
+            id,
+            flags,
+            extended,
+        },
+        rest,
+    ))
+}
+
+/// The path of an entry of version 2 or 3 with this length field.
+#[tactic(auto, unfolding(index_entries::specs::EntrySteps::path_at))]
+fn path_of(field: u16, bytes: &[u8]) -> Option<(&[u8], &[u8])>
+    ensures { option_map (λ x. (x.0.now, x.1.now)) result ≡ path_at field bytes.now }
+{
+    if field == 0x0fff {
+        let (path, _) = read::up_to(bytes, 0)?;
+        return read::piece(bytes, path.len());
+    }
+    read::piece(bytes, field as usize)
+}
+
+#[tactic(auto, unfolding(index_entries::specs::EntrySteps::entry23_at))]
+fn pieces23_of(kind: Kind, bytes: &[u8]) -> Option<((EntryHead<'_>, &[u8]), &[u8])>
+    ensures { option_map (λ x. ((lent_head x.0.0, x.0.1.now), x.1.now)) result
+        ≡ entry23_at kind bytes.now }
+{
+    let (head, rest) = head_of(kind, bytes)?;
+    let (path, rest) = path_of(head.flags & 0x0fff, rest)?;
+    let taken = bytes.len() - rest.len();
+    let (_, rest) = read::piece(rest, ENTRY_ALIGN - taken % ENTRY_ALIGN)?;
+    Some(((head, path), rest))
+}
+
+/// The stat of an entry's ten numbers, of which the mode is the seventh.
+fn stat_of(numbers: &[u8]) -> Stat
+    requires { length numbers.now ≡ 40 }
+    ensures { result ≡ stat_of (take 24 numbers.now) (drop 28 numbers.now) }
+{
+    stat(&numbers[..MODE_START], &numbers[MODE_END..])
+}
+
+/// The flags in memory of two words of flags.
+fn flags_of(word: u16, second: u16) -> Flags
+    ensures { result.0 ≡ stored_flags (joined_words word second) }
+{
+    Flags::from_bits_retain(u32::from(word) | (u32::from(second) << 16)).to_stored()
+}
+
+/// The entry of these pieces.
+fn lent_of<'a>(kind: Kind, head: EntryHead<'a>, shared: usize, path: &'a [u8]) -> Lent<'a>
+    requires { IsLong kind (lent_head head) }
+    ensures shared { result.shared ≡ shared }
+    ensures kind { id_kind result.entry.id ≡ kind }
+    ensures record { (previous : Option (List ℕ)) → lent_record previous result
+        ≡ record_from kind (lent_head head.entry)
+        (take shared (unwrap_or previous []) ++ path.now) }
+{
+    Lent {
+        shared,
+        path,
+        entry: Pathless {
+            stat: stat_of(head.numbers),
+            id: ObjectId::of_kind(kind, head.id),
+            flags: flags_of(head.flags, head.extended),
+            mode: Mode::from_bits_retain(read::number(head.numbers, 6)).to_stored(),
+        },
+    }
+}
+
+/// The entry of version 2 or 3 at the front, and the bytes behind its padding.
+fn entry23_of(kind: Kind, bytes: &[u8]) -> Option<(Lent<'_>, &[u8])>
+    ensures found { IfSome result (λ x. (previous : Option (List ℕ))
+        → IsEntry23 kind bytes.now (lent_record previous x.0) x.1.now) }
+    ensures none { IfNone result ((r : Record) (rest : List ℕ) → IsEntry23 kind bytes.now r rest
+        → ⊥) }
+    ensures shared { IfSome result (λ x. x.0.shared ≡ 0) }
+    ensures kind { IfSome result (λ x. id_kind x.0.entry.id ≡ kind) }
+{
+    let ((head, path), rest) = pieces23_of(kind, bytes)?;
+    Some((lent_of(kind, head, 0, path), rest))
+}
+
+/// How many bytes stay of a path with so many, where some are stripped.
+fn shared_len_of(room: Option<usize>, stripped: u64) -> Option<usize>
+    ensures { result ≡ shared_of room stripped }
+{
+    let Some(len) = room else {
+        return Some(0);
+    };
+    if stripped > len as u64 {
+        return None;
+    }
+    Some(len - stripped as usize)
+}
+
+#[tactic(auto, unfolding(index_entries::specs::EntrySteps::entry4_at))]
+fn pieces4_of(
+    kind: Kind,
+    room: Option<usize>,
+    bytes: &[u8],
+) -> Option<((EntryHead<'_>, usize, &[u8]), &[u8])>
+    ensures { option_map (λ x. ((lent_head x.0.0, x.0.1, x.0.2.now), x.1.now)) result
+        ≡ entry4_at kind room bytes.now }
+{
+    let (head, rest) = head_of(kind, bytes)?;
+    let (stripped, rest) = read::offset(rest)?;
+    let shared = shared_len_of(room, stripped)?;
+    let (tail, rest) = read::up_to(rest, 0)?;
+    Some(((head, shared, tail), rest))
+}
+
+/// The entry of version 4 at the front, behind a path of so many bytes or none, and the bytes behind it.
+fn entry4_of(kind: Kind, room: Option<usize>, bytes: &[u8]) -> Option<(Lent<'_>, &[u8])>
+    ensures found { IfSome result (λ x. (previous : Option (List ℕ))
+        → option_map length previous ≡ room
+        → IsEntry4 kind previous bytes.now (lent_record previous x.0) x.1.now) }
+    ensures none { IfNone result ((previous : Option (List ℕ)) (r : Record) (rest : List ℕ)
+        → option_map length previous ≡ room
+        → IsEntry4 kind previous bytes.now r rest → ⊥) }
+    ensures shared { IfSome result (λ x. x.0.shared ≤ unwrap_or room 0) }
+    ensures kind { IfSome result (λ x. id_kind x.0.entry.id ≡ kind) }
+{
+    let ((head, shared, tail), rest) = pieces4_of(kind, room, bytes)?;
+    Some((lent_of(kind, head, shared, tail), rest))
+}
+
+/// The entry of a version at the front, behind a path of so many bytes or none, and the bytes behind it; None where no
+/// entry stands there. Nothing is copied but the numbers.
+pub fn entry_of(
+    version: Version,
+    kind: Kind,
+    room: Option<usize>,
+    bytes: &[u8],
+) -> Option<(Lent<'_>, &[u8])>
+    ensures found { IfSome result (λ x. (previous : Option (List ℕ))
+        → option_map length previous ≡ room
+        → IsEntry version kind previous bytes.now (lent_record previous x.0) x.1.now) }
+    ensures none { IfNone result ((previous : Option (List ℕ)) (r : Record) (rest : List ℕ)
+        → option_map length previous ≡ room
+        → IsEntry version kind previous bytes.now r rest → ⊥) }
+    ensures shared { IfSome result (λ x. x.0.shared ≤ unwrap_or room 0) }
+    ensures kind { IfSome result (λ x. id_kind x.0.entry.id ≡ kind) }
+{
+    match version {
+        Version::V2 | Version::V3 => entry23_of(kind, bytes),
+        Version::V4 => entry4_of(kind, room, bytes),
+    }
+}

@@ -1,0 +1,6 @@
+mod Contents
+mod ReadBack
+mod RecordFaults
+mod TreeNames
+mod TreesAnswers
+mod TreesMade

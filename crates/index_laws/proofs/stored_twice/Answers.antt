@@ -1,0 +1,5 @@
+use Rattle.index_format.proofs.Twice.{stored_twice}
+use Rattle.index_laws.proofs.stored_twice.Goals as goal
+
+pub returns : goal.returns
+returns c = stored_twice

@@ -1,0 +1,8 @@
+use Rattle.index_laws.proofs.TreesAnswers.{answer_one, answer_some}
+use Rattle.index_laws.proofs.trees.one_answer.Goals as goal
+
+pub returns-clause-some : goal.returns-clause-some
+returns-clause-some c = answer_some
+
+pub returns-clause-one : goal.returns-clause-one
+returns-clause-one c = answer_one

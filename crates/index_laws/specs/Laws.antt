@@ -1,0 +1,63 @@
+-- What it means that bytes have one reading, and that an index is read, written and read again (the library's own).
+use Rattle.std.specs.Prelude.{◌≡◌, ℕ, List, Option, None, Ok, ◌⊎◌}
+use Rattle.index_parts.specs.declared.hash.Kind.{Kind}
+use Rattle.index_parts.specs.declared.hash.ObjectId.{ObjectId}
+use Rattle.index_metadata.specs.declared.entry.stat.FileTime.{FileTime}
+use Rattle.index_entries.specs.Record.{AreBytes}
+use Rattle.index_format.specs.Answer.{IsAnswer}
+use Rattle.index_format.specs.Contents.{Contents}
+use Rattle.index_format.specs.Image.{image}
+use Rattle.index_format.specs.Storable.{IsStorable, IsWritable, IsUnmistakable}
+use Rattle.index_format.specs.declared.decode.Options.{Options}
+use Rattle.index_format.specs.declared.write.Options.{Options as WriteOptions}
+use Rattle.index_bitmaps.specs.Bitmap.{Bitmap, IsBitmap, HasBitmap, Lacks}
+use Rattle.index_bitmaps.specs.declared.ewah.reading.Error.{Error}
+use Rattle.index_extensions.specs.ExtensionValue.{IsRead}
+use Rattle.index_extensions.specs.Walk.{Item, IsWalk}
+
+-- all bytes are read as a value or as none, and in one way
+pub record HasOneReading {A : Type 0} (Is : List ℕ → A → Type 0) : Type 0 where
+  pub some : (bytes : List ℕ) → (v : Option A) × IsRead Is bytes v
+  pub one : (bytes : List ℕ) (v w : Option A) → IsRead Is bytes v → IsRead Is bytes w → v ≡ w
+
+-- all bytes are whole extensions and a tail, in one way
+pub record HasOneWalk : Type 0 where
+  pub some : (bytes : List ℕ) → (items : List Item) × ((tail : List ℕ) × IsWalk bytes items tail)
+  pub one : (bytes : List ℕ) (items others : List Item) (tail rest : List ℕ) → IsWalk bytes items tail → IsWalk bytes others rest → (items ≡ others) × (tail ≡ rest)
+
+-- all bytes begin with a bitmap, in one way, or lack one first part of it
+pub record HasOneBitmap : Type 0 where
+  pub some : (bytes : List ℕ) → HasBitmap bytes ⊎ ((fault : Error) × Lacks fault bytes)
+  pub apart : (bytes : List ℕ) (fault : Error) → HasBitmap bytes → Lacks fault bytes → ⊥
+  pub one : (bytes : List ℕ) (b c : Bitmap) (rest after : List ℕ) → IsBitmap bytes b rest → IsBitmap bytes c after → (b ≡ c) × (rest ≡ after)
+  pub one_fault : (bytes : List ℕ) (f g : Error) → Lacks f bytes → Lacks g bytes → f ≡ g
+
+-- ---- written and read again
+
+-- a reading without a limit on memory, that expects no id
+pub record TakesAll (reading : Options) : Type 0 where
+  pub limit : reading.alloc_limit_bytes ≡ None
+  pub checksum : reading.expected_checksum ≡ None
+
+-- a file can hold the value, writing it is not refused, and its image doesn't end as if it had an end marker that it hasn't
+pub record IsFaithful (v : Contents) (options : WriteOptions) : Type 0 where
+  pub storable : IsStorable v
+  pub writable : IsWritable v options
+  pub unmistakable : IsUnmistakable v options
+
+-- Some bytes are read as a value, which is written by the options; and the image is read again, as another value.
+pub record IsReread (v : Contents) (options : WriteOptions) (w : Contents) : Type 0 where
+  pub kind : Kind
+  pub bytes : List ℕ
+  pub are_bytes : AreBytes bytes
+  pub time : FileTime
+  pub reading : Options
+  pub checksum : Option ObjectId
+  pub read : IsAnswer kind time reading bytes (Ok (v, checksum))
+  pub writable : IsWritable v options
+  pub unmistakable : IsUnmistakable v options
+  pub time_again : FileTime
+  pub reading_again : Options
+  pub takes_all : TakesAll reading_again
+  pub checksum_again : Option ObjectId
+  pub read_again : IsAnswer kind time_again reading_again (image v options) (Ok (w, checksum_again))

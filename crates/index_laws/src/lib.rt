@@ -1,0 +1,108 @@
+//! Laws of the definitions that the contracts of `State::from_bytes`, `State::from_tree`, `State::write_to` and those
+//! of `File` cite. A law computes nothing.
+#![tactic(auto)]
+
+ghost use Rattle.std.specs.Prelude.{◌≡◌, ℕ, List, Bool, Option, Result, Ok};
+ghost use Rattle.index_parts.specs.declared.hash.Kind.{Kind};
+ghost use Rattle.index_metadata.specs.declared.entry.stat.FileTime.{FileTime};
+ghost use Rattle.index_extensions.specs.EndMarker.{EndsInMarker};
+ghost use Rattle.index_small_extensions.specs.FsMonitor.{IsMonitor};
+ghost use Rattle.index_small_extensions.specs.OffsetTable.{IsTable};
+ghost use Rattle.index_small_extensions.specs.ResolveUndo.{IsResolveUndo};
+ghost use Rattle.index_cached_tree.specs.Tree.{IsTree};
+ghost use Rattle.index_untracked.specs.Untracked.{IsCache};
+ghost use Rattle.index_split.specs.Link.{LinkFault, IsLink, IsLinkFault};
+ghost use Rattle.index_objects.specs.Object.{Found};
+ghost use Rattle.index_parts.specs.declared.hash.ObjectId.{ObjectId};
+ghost use Rattle.index_entries.specs.Record.{Record};
+ghost use Rattle.index_trees.specs.Leaves.{LeavesFault, AreLeaves};
+ghost use Rattle.index_format.specs.declared.decode.Options.{Options};
+ghost use Rattle.index_format.specs.declared.write.Options.{Options as WriteOptions};
+ghost use Rattle.index_format.specs.Answer.{Answer, IsAnswer, trailer_checksum};
+ghost use Rattle.index_format.specs.Image.{image, trailer};
+ghost use Rattle.index_format.specs.Contents.{Contents};
+ghost use Rattle.index_format.specs.Stored.{expected, stored};
+ghost use Rattle.index_laws.specs.Reading.{HasOneTree, ReadsBack};
+ghost use Rattle.index_laws.specs.Laws.{HasOneReading, HasOneWalk, HasOneBitmap, IsFaithful, IsReread, TakesAll};
+
+pub mod trees;
+
+/// All bytes have an answer, for each kind of id, time and options, and no second: an index as a value with the
+/// trailer's id, or a fault.
+pub fn one_answer()
+    ensures some { (kind : Kind) (time : FileTime) (options : Options) (bytes : List ℕ)
+        → (a : Answer) × IsAnswer kind time options bytes a }
+    ensures one { (kind : Kind) (time : FileTime) (options : Options) (bytes : List ℕ)
+        (a b : Answer) → IsAnswer kind time options bytes a → IsAnswer kind time options bytes b
+        → a ≡ b }
+{}
+
+/// The content of an extension has a reading, a value or none, and no second; a link that has none has one first fault.
+/// The same of the end marker of a file, of the walk over extensions, and of a bitmap at the front of bytes.
+pub fn one_reading()
+    ensures tree { (kind : Kind) (limit : Option ℕ) → HasOneReading (IsTree kind limit) }
+    ensures link { (kind : Kind) → HasOneReading (IsLink kind) }
+    ensures link_fault { (kind : Kind) (bytes : List ℕ) (f g : LinkFault)
+        → IsLinkFault kind bytes f → IsLinkFault kind bytes g → f ≡ g }
+    ensures resolve_undo { (kind : Kind) → HasOneReading (IsResolveUndo kind) }
+    ensures untracked { (kind : Kind) (limit : Option ℕ) → HasOneReading (IsCache kind limit) }
+    ensures fs_monitor { HasOneReading IsMonitor }
+    ensures offset_table { HasOneReading IsTable }
+    ensures end_marker { (kind : Kind) → HasOneReading (EndsInMarker kind) }
+    ensures walk { HasOneWalk }
+    ensures bitmap { HasOneBitmap }
+{}
+
+/// A tree has leaves or a first fault, and no second answer: for all that a store has for ids, all that a check says of
+/// names, each root, and each number of objects that may be read.
+pub fn one_listing()
+    ensures some { (find : ObjectId → Found) (check : List ℕ → Bool → Option ℕ) (root : ObjectId)
+        (most : ℕ) → (a : Result (List Record) LeavesFault) × AreLeaves find check root most a }
+    ensures one { (find : ObjectId → Found) (check : List ℕ → Bool → Option ℕ) (root : ObjectId)
+        (most : ℕ) (a b : Result (List Record) LeavesFault) → AreLeaves find check root most a
+        → AreLeaves find check root most b → a ≡ b }
+{}
+
+/// Reading what is written of a storable index gives what a file keeps of it, and the trailer: for either kind of id
+/// and all choices of writing, by a reader of the same kind that has no limit and expects no trailer. The index has no
+/// more entries and bytes than a file counts, in version 4 no path that is written has a NUL, and a SHA-1 file that has
+/// no end marker doesn't end as if it had one.
+pub fn written_reads_back()
+    ensures { (v : Contents) (options : WriteOptions) (time : FileTime) (reading : Options)
+        → IsFaithful v options → TakesAll reading
+        → IsAnswer v.kind time reading (image v options)
+        (Ok (expected v options time, trailer_checksum v.kind (trailer v options))) }
+{}
+
+/// What a file keeps of what it kept is the same.
+pub fn stored_twice()
+    ensures { (v : Contents) (options : WriteOptions)
+        → stored (stored v options) options ≡ stored v options }
+{}
+
+/// An index that was read, of whatever version, is written as the same bytes again once these have been read: by the
+/// same options, and with the premises of [`written_reads_back`], but that it is storable, as each index that was read
+/// of bytes is.
+pub fn rewrite_is_canonical()
+    ensures { (v w : Contents) (options : WriteOptions) → IsReread v options w
+        → image w options ≡ image v options }
+{}
+
+/// An index that was read, written and read again, in whichever version, has lost nothing that a file keeps: it is
+/// written as before, by all options that choose the same extensions. The premises are those of
+/// [`rewrite_is_canonical`].
+pub fn version_change_loses_nothing()
+    ensures { (v w : Contents) (options chosen : WriteOptions) → IsReread v options w
+        → chosen.extensions ≡ options.extensions → image w chosen ≡ image v chosen }
+{}
+
+/// What is written of a list is read back as what stands in trees, where the store has each tree that was written, by
+/// its id.
+pub fn written_trees_read_back()
+    ensures { ReadsBack }
+{}
+
+/// A list has one tree of names at most.
+pub fn one_tree()
+    ensures { HasOneTree }
+{}

@@ -1,0 +1,4 @@
+pub mod Candidates
+mod MergeLoops
+pub mod Merged
+pub mod Merging

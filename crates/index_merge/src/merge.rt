@@ -1,0 +1,309 @@
+//! Merging the entries of a split index into those of its shared index (gitformat-index, "Split index").
+
+ghost use Rattle.std.specs.Prelude.{◌≡◌, ◌<◌, ◌≤◌, ◌++◌, [], ◌∷◌, ℕ, List, All, Some, None, length, slice_get, filter, not, IfOk, IfErr, OnOk};
+ghost use Rattle.std.specs.Option.{option_map};
+ghost use Rattle.index_bitmaps.specs.Bitmap.{bitmap};
+ghost use Rattle.index_entries.specs.EntryImage.{is_removed};
+ghost use Rattle.index_merge.specs.declared.merge.Error.TheVariants.{Memory};
+ghost use Rattle.index_merge.specs.Merge.{IsMerge, IsMergeFault, place_fault, record_fault, replaced};
+ghost use Rattle.index_merge.specs.MergeSteps.{AreRemovedAt, IsDeleteFault, IsReplaceFault, Keeps, RemovesAt, ReplacesEntries, SaysMerge, changed_at, merge_error};
+ghost use Rattle.index_entries.specs.Record.{IsPlaced, record_in, records_in};
+
+use bitflags::Flags as _;
+use index_bitmaps::ewah;
+use index_entries::list::append;
+use index_entries::sort::sort;
+use index_entries::{Entry, Pathless};
+use index_metadata::entry::Flags;
+use index_split::link::decode;
+use std::alloc::AllocError;
+use thiserror::Error;
+
+/// Why entries can't be merged.
+#[derive(Debug, Drop, Error)]
+pub enum Error {
+    /// What is wrong with a bitmap, or with an entry at one of its places, in words.
+    #[error("{0}")]
+    Corrupt(&'static str),
+    /// A growth was refused.
+    #[error("out of memory while merging entries")]
+    Memory,
+}
+
+impl From<AllocError> for Error {
+    ghost from_gives = { λ _e error. error ≡ Memory };
+
+    fn from(_e: AllocError) -> Error {
+        Error::Memory
+    }
+}
+
+impl From<Error> for decode::Error {
+    ghost from_gives = { λ e error. error ≡ merge_error e };
+
+    fn from(e: Error) -> decode::Error {
+        match e {
+            Error::Corrupt(text) => decode::Error::Corrupt(text),
+            Error::Memory => decode::Error::Memory,
+        }
+    }
+}
+
+/// What is wrong with replacing an entry where no split entry is left.
+fn fault_alone(entry: &Entry) -> &'static str
+    ensures { (storage : List ℕ)
+        → record_fault (record_in storage entry.now) None ≡ Some result.now }
+{
+    if entry.is_removed() {
+        return "entry is marked as both replace and delete";
+    }
+    "replace bitmap length exceeds split index length - more entries in bitmap than found in split index"
+}
+
+/// What is wrong with replacing an entry by another.
+fn fault_between(
+    entry: &Entry,
+    storage: &[u8],
+    by: &Entry,
+    split_storage: &[u8],
+) -> Option<&'static str>
+    requires placed { IsPlaced (length storage.now) entry.now }
+    requires by_placed { IsPlaced (length split_storage.now) by.now }
+    ensures { option_map (λ text. text.now) result
+        ≡ record_fault (record_in storage.now entry.now)
+        (Some (record_in split_storage.now by.now)) }
+{
+    if entry.is_removed() {
+        return Some("entry is marked as both replace and delete");
+    }
+    if by.path_in(split_storage).len() != 0 {
+        return Some("paths in split index entries that are for replacement should be empty");
+    }
+    if entry.path_in(storage).len() == 0 {
+        return Some("paths in shared index entries that are replaced should not be empty");
+    }
+    None
+}
+
+/// Puts all but the path of an entry into the one at a place.
+fn take_at(shared: &mut Vec<Entry>, place: usize, by: &Entry)
+    requires { place < length shared.old.items }
+    ensures replaced { (storage split_storage : List ℕ) → records_in storage shared.new.items
+        ≡ changed_at (λ r. replaced r (Some (record_in split_storage by.now))) place
+        (records_in storage shared.old.items) }
+    ensures placed { (len : ℕ) → All (IsPlaced len) shared.old.items
+        → All (IsPlaced len) shared.new.items }
+{
+    let entry = &mut shared[place];
+    entry.stat = by.stat;
+    entry.id = by.id;
+    entry.flags = by.flags;
+    entry.mode = by.mode;
+}
+
+/// Replaces the shared entry at a place by this split one, if both are there.
+fn replace_at(
+    shared: &mut Vec<Entry>,
+    storage: &[u8],
+    split: &[Entry],
+    split_storage: &[u8],
+    taken: usize,
+    place: u64,
+) -> Result<(), Error>
+    requires placed { All (IsPlaced (length storage.now)) shared.old.items }
+    requires split_placed { All (IsPlaced (length split_storage.now)) split.now }
+    ensures sound { OnOk result
+        (place_fault (slice_get (records_in storage.now shared.old.items) place)
+        (slice_get (records_in split_storage.now split.now) taken) ≡ None) }
+    ensures in_range { OnOk result (taken < length split.now) }
+    ensures replaced { OnOk result (records_in storage.now shared.new.items
+        ≡ changed_at (λ r. replaced r (slice_get (records_in split_storage.now split.now) taken))
+        place
+        (records_in storage.now shared.old.items)) }
+    ensures placed { OnOk result (All (IsPlaced (length storage.now)) shared.new.items) }
+    ensures fault { IfErr result (λ e. SaysMerge e (λ fault. place_fault
+        (slice_get (records_in storage.now shared.old.items) place)
+        (slice_get (records_in split_storage.now split.now) taken) ≡ Some fault)) }
+{
+    if place >= shared.len() as u64 {
+        return Err(Error::Corrupt(
+            "replace bitmap length exceeds shared index length - more entries in bitmap than found in shared index",
+        ));
+    }
+    let at = place as usize;
+    if taken >= split.len() {
+        return Err(Error::Corrupt(fault_alone(&shared[at])));
+    }
+    if let Some(text) = fault_between(&shared[at], storage, &split[taken], split_storage) {
+        return Err(Error::Corrupt(text));
+    }
+    take_at(shared, at, &split[taken]);
+    Ok(())
+}
+
+/// Replaces shared entries by the first split ones, and says by how many.
+fn replace_entries(
+    shared: &mut Vec<Entry>,
+    storage: &[u8],
+    split: &[Entry],
+    split_storage: &[u8],
+    replace: &ewah::Vec,
+) -> Result<usize, Error>
+    requires placed { All (IsPlaced (length storage.now)) shared.old.items }
+    requires split_placed { All (IsPlaced (length split_storage.now)) split.now }
+    ensures replaced { IfOk result
+        (ReplacesEntries (bitmap replace.now).words (records_in storage.now shared.old.items)
+        (records_in split_storage.now split.now) (records_in storage.now shared.new.items)) }
+    ensures few { IfOk result (λ taken. taken ≤ length split.now) }
+    ensures placed { OnOk result (All (IsPlaced (length storage.now)) shared.new.items) }
+    ensures fault { IfErr result (λ e. SaysMerge e (IsReplaceFault (bitmap replace.now).words
+        (records_in storage.now shared.old.items) (records_in split_storage.now split.now))) }
+{
+    let mut taken = 0;
+    let mut positions = replace.positions();
+    while let Some(position) = positions.next() {
+        let Ok(place) = position else {
+            return Err(Error::Corrupt("replace bitmap is malformed"));
+        };
+        replace_at(shared, storage, split, split_storage, taken, place)?;
+        taken += 1;
+    }
+    Ok(taken)
+}
+
+/// Puts an entry at the end, and its path behind the others.
+fn append_entry(
+    entries: &mut Vec<Entry>,
+    storage: &mut Vec<u8>,
+    entry: &Entry,
+    split_storage: &[u8],
+) -> Result<(), AllocError>
+    requires placed { All (IsPlaced (length storage.old.items)) entries.old.items }
+    requires entry_placed { IsPlaced (length split_storage.now) entry.now }
+    ensures appended { OnOk result (records_in storage.new.items entries.new.items
+        ≡ records_in storage.old.items entries.old.items ++ record_in split_storage.now entry.now ∷
+        []) }
+    ensures placed { OnOk result (All (IsPlaced (length storage.new.items)) entries.new.items) }
+{
+    let path = entry.path_in(split_storage);
+    let pathless = Pathless {
+        stat: entry.stat,
+        id: entry.id,
+        flags: entry.flags,
+        mode: entry.mode,
+    };
+    append(entries, storage, pathless, path)?;
+    Ok(())
+}
+
+/// Puts the split entries that replace none behind the shared ones, and their paths behind theirs.
+fn append_entries(
+    entries: &mut Vec<Entry>,
+    storage: &mut Vec<u8>,
+    split: &[Entry],
+    split_storage: &[u8],
+) -> Result<(), AllocError>
+    requires placed { All (IsPlaced (length storage.old.items)) entries.old.items }
+    requires split_placed { All (IsPlaced (length split_storage.now)) split.now }
+    ensures appended { OnOk result (records_in storage.new.items entries.new.items
+        ≡ records_in storage.old.items entries.old.items
+        ++ records_in split_storage.now split.now) }
+    ensures placed { OnOk result (All (IsPlaced (length storage.new.items)) entries.new.items) }
+{
+    for entry in split {
+        append_entry(entries, storage, entry, split_storage)?;
+    }
+    Ok(())
+}
+
+/// Marks the entry at a place as one to be left out.
+fn mark_at(entries: &mut Vec<Entry>, place: usize)
+    requires { place < length entries.old.items }
+    ensures { (seen : List ℕ) (old : List Entry) → AreRemovedAt seen old entries.old.items
+        → AreRemovedAt (seen ++ place ∷ []) old entries.new.items }
+{
+    let entry = &mut entries[place];
+    entry.flags.insert(Flags::REMOVE);
+}
+
+/// Marks the entries at the places of the bitmap.
+fn mark_deleted(entries: &mut Vec<Entry>, delete: &ewah::Vec) -> Result<(), Error>
+    ensures marked { OnOk result
+        (RemovesAt (bitmap delete.now).words entries.old.items entries.new.items) }
+    ensures fault { IfErr result
+        (λ e. SaysMerge e (IsDeleteFault (bitmap delete.now).words (length entries.old.items))) }
+{
+    let mut positions = delete.positions();
+    while let Some(position) = positions.next() {
+        let Ok(place) = position else {
+            return Err(Error::Corrupt("delete bitmap is malformed"));
+        };
+        if place >= entries.len() as u64 {
+            return Err(Error::Corrupt(
+                "delete bitmap length exceeds shared index length - more entries in bitmap than found in shared index",
+            ));
+        }
+        mark_at(entries, place as usize);
+    }
+    Ok(())
+}
+
+/// Drops the entries that are marked.
+fn drop_removed(entries: &mut Vec<Entry>)
+    ensures { entries.new.items ≡ filter (λ e. not (is_removed e.flags.0)) entries.old.items }
+{
+    entries.retain(|entry| !entry.is_removed());
+}
+
+/// Drops the entries at the places of the bitmap, and those that are marked `REMOVE`.
+fn keep_others(entries: &mut Vec<Entry>, storage: &[u8], delete: &ewah::Vec) -> Result<(), Error>
+    requires { All (IsPlaced (length storage.now)) entries.old.items }
+    ensures kept { OnOk result
+        (Keeps (bitmap delete.now).words (records_in storage.now entries.old.items)
+        (records_in storage.now entries.new.items)) }
+    ensures placed { OnOk result (All (IsPlaced (length storage.now)) entries.new.items) }
+    ensures fault { IfErr result (λ e. SaysMerge e (IsDeleteFault (bitmap delete.now).words
+        (length (records_in storage.now entries.old.items)))) }
+{
+    mark_deleted(entries, delete)?;
+    drop_removed(entries);
+    Ok(())
+}
+
+/// Merges split entries into shared ones, which stand in the place of the shared ones then, with the storage of all
+/// paths.
+///
+/// The entry at each place of `replace`, in turn, takes all but the path of the next split entry. The other split
+/// entries come behind the shared ones. Those at the places of `delete`, counted over this longer list, and those that
+/// are marked `REMOVE` are dropped; the rest is sorted by path and stage, and entries that agree in both keep their
+/// order.
+///
+/// [`Error::Corrupt`] names the first fault; the places of a bitmap are looked at one by one, and one that is malformed
+/// after its good places. After an error the shared entries are of no use any more. Memory is asked for by the split
+/// entries that come behind, and by the sort.
+pub fn merge(
+    entries: &mut Vec<Entry>,
+    storage: &mut Vec<u8>,
+    split: &[Entry],
+    split_storage: &[u8],
+    delete: &ewah::Vec,
+    replace: &ewah::Vec,
+) -> Result<(), Error>
+    requires placed { All (IsPlaced (length storage.old.items)) entries.old.items }
+    requires split_placed { All (IsPlaced (length split_storage.now)) split.now }
+    ensures merged { OnOk result (IsMerge (bitmap delete.now).words (bitmap replace.now).words
+        (records_in storage.old.items entries.old.items) (records_in split_storage.now split.now)
+        (records_in storage.new.items entries.new.items)) }
+    ensures placed { OnOk result (All (IsPlaced (length storage.new.items)) entries.new.items) }
+    ensures fault { IfErr result
+        (λ e. SaysMerge e (IsMergeFault (bitmap delete.now).words (bitmap replace.now).words
+        (records_in storage.old.items entries.old.items)
+        (records_in split_storage.now split.now))) }
+{
+    let taken = replace_entries(entries, storage, split, split_storage, replace)?;
+    let (_, others) = split.split_at(taken);
+    append_entries(entries, storage, others, split_storage)?;
+    keep_others(entries, storage, delete)?;
+    sort(entries, storage)?;
+    Ok(())
+}

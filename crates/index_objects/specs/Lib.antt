@@ -1,0 +1,5 @@
+pub mod Mode
+pub mod NameCheck
+pub mod Object
+pub mod TreeObject
+pub mod TreeObjectSteps

@@ -1,0 +1,93 @@
+-- Tree objects (the book "Pro Git", "Git Objects", on tree objects): entries, one after another.
+use Rattle.std.specs.Prelude.{◌≡◌, ◌≢◌, ℕ, ◌^◌, ◌<◌, ◌==◌, Bool, List, [], ◌∷◌, ◌++◌, All, length, bit_and, Option, Some, None, Result, Ok, Err, if◌then◌else◌}
+use Rattle.index_parts.specs.Id.{id_len, make_id}
+use Rattle.index_parts.specs.Octal.{IsOctal}
+use Rattle.index_parts.specs.declared.hash.Kind.{Kind}
+use Rattle.index_parts.specs.declared.hash.ObjectId.{ObjectId}
+use Rattle.index_objects.specs.declared.object.tree.Entries.{Entries}
+use Rattle.index_objects.specs.declared.object.tree.EntryKind.{EntryKind}
+use Rattle.index_objects.specs.declared.object.tree.EntryKind.TheVariants as kinds
+use Rattle.index_objects.specs.declared.object.tree.EntryRef.{EntryRef}
+use Rattle.index_objects.specs.declared.object.tree.Malformed.{Malformed}
+
+-- ---- an entry
+
+-- what a name in a tree stands for
+pub record TreeEntry : Type 0 where
+  pub mode : ℕ
+  pub name : List ℕ
+  pub id : ObjectId
+
+-- Bytes are an entry, and the rest: the mode in octal digits, of at most 16 bits, a space, a name of one byte or more,
+-- a NUL, and an id.
+pub record IsTreeEntry (kind : Kind) (bytes : List ℕ) (e : TreeEntry) (rest : List ℕ) : Type 0 where
+  pub text : List ℕ
+  pub id : List ℕ
+  pub parts : bytes ≡ text ++ 32 ∷ (e.name ++ 0 ∷ (id ++ rest))
+  pub is_mode : IsOctal text e.mode
+  pub fits : e.mode < 2 ^ 16
+  pub named : e.name ≢ []
+  pub apart : All (λ b. b ≢ 0) e.name
+  pub id_size : length id ≡ id_len kind
+  pub is_id : e.id ≡ make_id kind id
+
+-- no entry begins bytes
+abbrev pub NoTreeEntry : Kind → List ℕ → Type 0
+NoTreeEntry kind bytes = (e : TreeEntry) (rest : List ℕ) → IsTreeEntry kind bytes e rest → ⊥
+
+-- ---- a tree
+
+-- bytes are these entries, one after another, and the rest
+abbrev pub AreTreeEntries : Kind → List ℕ → List TreeEntry → List ℕ → Type 0
+AreTreeEntries kind bytes [] rest = bytes ≡ rest
+AreTreeEntries kind bytes (e ∷ es) rest = (after : List ℕ) × IsTreeEntry kind bytes e after × AreTreeEntries kind after es rest
+
+-- bytes are the object of a tree with these entries
+abbrev pub IsTreeObject : Kind → List ℕ → List TreeEntry → Type 0
+IsTreeObject kind bytes es = AreTreeEntries kind bytes es []
+
+-- bytes are no tree's object
+abbrev pub IsMalformedTree : Kind → List ℕ → Type 0
+IsMalformedTree kind bytes = (es : List TreeEntry) → IsTreeObject kind bytes es → ⊥
+
+-- bytes begin with these entries, and no entry follows them: what a tree lists before it is malformed, or to its end
+abbrev pub Lists : Kind → List ℕ → List TreeEntry → Type 0
+Lists kind bytes es = (rest : List ℕ) × AreTreeEntries kind bytes es rest × NoTreeEntry kind rest
+
+-- ---- modes
+
+-- the bits that say what an entry is
+abbrev pub type_bits : ℕ → ℕ
+type_bits mode = bit_and mode 0o170000
+
+abbrev pub is_tree_mode : ℕ → Bool
+is_tree_mode mode = type_bits mode == 0o040000
+
+-- of a file, the bit of 0o100 says whether its owner may run it; what is neither a tree, a link nor a file is a commit
+abbrev pub kind_of_mode : ℕ → EntryKind
+kind_of_mode mode =
+    if is_tree_mode mode then kinds.Tree
+    else (if type_bits mode == 0o120000 then kinds.Link
+    else (if type_bits mode == 0o100000 then (if bit_and mode 0o100 == 0 then kinds.Blob else kinds.BlobExecutable)
+    else kinds.Commit))
+
+-- ---- the entries that are read one after another
+
+-- the value of an entry that lends its name
+abbrev pub tree_entry_of : EntryRef → TreeEntry
+tree_entry_of e = record { mode = e.mode.0; name = e.filename.now; id = e.oid }
+
+-- the bytes that aren't read yet
+abbrev pub unread_entries : Entries → List ℕ
+unread_entries entries = entries.rest.now
+
+-- the kind of the ids
+abbrev pub kind_of_entries : Entries → Kind
+kind_of_entries entries = entries.kind
+
+-- What a step gives, and the bytes after it: the entry at the front; where bytes are left and none begins them, that
+-- they are malformed, and nothing stays; where no bytes are left it ends.
+abbrev pub Gives : Kind → List ℕ → Option (Result EntryRef Malformed) → List ℕ → Type 0
+Gives kind bytes None rest = (bytes ≡ []) × (rest ≡ [])
+Gives kind bytes (Some (Ok e)) rest = IsTreeEntry kind bytes (tree_entry_of e) rest
+Gives kind bytes (Some (Err m)) rest = (bytes ≢ []) × NoTreeEntry kind bytes × (rest ≡ [])

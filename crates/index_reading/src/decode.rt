@@ -1,0 +1,264 @@
+//! Reading an index from the bytes of a file.
+
+pub mod entries;
+pub mod header;
+
+ghost use Rattle.std.specs.Prelude.{◌≡◌, ◌≤◌, ◌+◌, ◌*◌, ◌||◌, not, nat_lt, false, length, Ok, IfOk, IfErr, IfSome, OnOk, All};
+ghost use Rattle.index_parts.specs.Id.{id_kind, id_len};
+ghost use Rattle.index_format.specs.Outcome.{outcome_of};
+ghost use Rattle.index_format.specs.Answer.{Answer, IsVerified, IsAnswer, IsBehindHeader, IsEnding};
+ghost use Rattle.index_format.specs.DecodeErrors.{Says, SaysFault};
+ghost use Rattle.index_parts.specs.Limit.{is_within};
+ghost use Rattle.index_entries.specs.Header.{header_of, count_of};
+ghost use Rattle.index_entries.specs.Limits.{entry_cost, is_too_large, most_entries};
+ghost use Rattle.index_format.specs.ExtensionSteps.{IsTaken};
+ghost use Rattle.index_format.specs.Storable.{IsStorable};
+ghost use Rattle.index_format.specs.Contents.{PartsInStorage, ExtensionIdsAreOf, parts_contents, parts_entries};
+ghost use Rattle.index_entries.specs.Record.{IdsAreOf, has_directory};
+
+use crate::{extension, trailer};
+use index_entries::Version;
+use index_entry_reading::entries::{Read, read_entries};
+use index_extensions::end_of_index_entry;
+use index_format::Parts;
+use index_format::decode::{Error, Options};
+use index_format::extension::Outcome;
+use index_metadata::entry::FileTime;
+use index_parts::hash::{Kind, ObjectId};
+use index_parts::read;
+use std::alloc::Global;
+
+/// How many bytes an entry counts as against [`Options::alloc_limit_bytes`].
+const ENTRY_COST: usize = 96;
+
+/// Whether the ids, if there are two, agree.
+fn verify(expected: Option<ObjectId>, actual: Option<ObjectId>) -> Result<(), Error>
+    ensures ok { OnOk result ((whole : Answer) → IsVerified expected actual whole whole) }
+    ensures err { IfErr result (λ e. (whole : Answer)
+        → SaysFault e (IsVerified expected actual whole)) }
+{
+    let Some(expected) = expected else {
+        return Ok(());
+    };
+    let Some(actual) = actual else {
+        return Ok(());
+    };
+    if actual != expected {
+        return Err(Error::Verify { actual, expected });
+    }
+    Ok(())
+}
+
+/// What a file is read as.
+#[derive(Clone, Copy)]
+pub struct ReadAs {
+    /// When the file was changed last.
+    pub timestamp: FileTime,
+    /// The hash of its ids.
+    pub object_hash: Kind,
+    /// The version that its header declares.
+    pub version: Version,
+    /// What the caller asked for.
+    pub options: Options,
+}
+
+/// The state of entries and extensions that were read. So many bytes are left before the trailer.
+fn read_parts(
+    read: Read<'_>,
+    outcome: Outcome,
+    left: usize,
+    trailer: &[u8],
+    read_as: ReadAs,
+) -> Result<(Parts, Option<ObjectId>), Error>
+    requires ids { All (λ r. id_kind r.id ≡ read_as.object_hash) read.list.records }
+    requires extension_ids { ExtensionIdsAreOf read_as.object_hash (outcome_of outcome) }
+    requires sparse { read.sparse ≡ has_directory read.list.records }
+    requires trailer { length trailer.now ≡ id_len read_as.object_hash }
+    requires room { left + id_len read_as.object_hash ≤ 0xffffffffffffffff }
+    ensures taken { Says parts_contents result (IsTaken read_as.object_hash read_as.timestamp
+        read_as.options read_as.version read.entry.list.records (outcome_of outcome) left
+        trailer.now) }
+    ensures placed { IfOk result (λ x. PartsInStorage x.0) }
+    ensures ids { IfOk result (λ x. IdsAreOf read_as.object_hash (parts_entries x.0)) }
+    ensures extension_ids { IfOk result
+        (λ x. ExtensionIdsAreOf read_as.object_hash (parts_contents x.0).extensions) }
+{
+    let ReadAs {
+        timestamp,
+        object_hash,
+        version,
+        options,
+    } = read_as;
+    if left != 0 {
+        let expected = object_hash.len_in_bytes();
+        let actual = left + expected;
+        return Err(Error::UnexpectedTrailerLength { expected, actual });
+    }
+    let checksum = trailer::checksum(object_hash, trailer);
+    verify(options.expected_checksum, checksum)?;
+    let (entries, path_backing) = read.list.into_parts();
+    let state = Parts {
+        object_hash,
+        timestamp,
+        version,
+        entries,
+        path_backing,
+        extensions: Outcome {
+            is_sparse: outcome.is_sparse || read.sparse,
+            ..outcome
+        },
+    };
+    Ok((state, checksum))
+}
+
+/// The parts of entries that were read, with the extensions and the trailer behind them; and the trailer's id, or None
+/// where it is null.
+pub fn read_ending(
+    alloc: Global,
+    read: Read<'_>,
+    read_as: ReadAs,
+) -> Result<(Parts, Option<ObjectId>), Error>
+    requires ids { All (λ r. id_kind r.id ≡ read_as.object_hash) read.list.records }
+    requires sparse { read.sparse ≡ has_directory read.list.records }
+    ensures ending { Says parts_contents result (IsEnding read_as.object_hash read_as.timestamp
+        read_as.options read_as.version read.entry.list.records read.entry.rest.now) }
+    ensures placed { IfOk result (λ x. PartsInStorage x.0) }
+    ensures ids { IfOk result (λ x. IdsAreOf read_as.object_hash (parts_entries x.0)) }
+    ensures extension_ids { IfOk result
+        (λ x. ExtensionIdsAreOf read_as.object_hash (parts_contents x.0).extensions) }
+{
+    let expected = read_as.object_hash.len_in_bytes();
+    let actual = read.rest.len();
+    if actual < expected {
+        return Err(Error::UnexpectedTrailerLength { expected, actual });
+    }
+    let (extensions, trailer) = read.rest.split_at(actual - expected);
+    let limit = read_as.options.alloc_limit_bytes;
+    let (outcome, left) = extension::all(alloc, extensions, read_as.object_hash, limit)?;
+    read_parts(read, outcome, left, trailer, read_as)
+}
+
+/// Whether entries, or the estimate of their paths, pass the limit.
+fn is_too_large(limit: Option<usize>, count: u32, paths: usize) -> bool
+    ensures { result ≡ (not (is_within limit (entry_cost * count)) || not (is_within limit paths)) }
+{
+    !read::is_within(limit, ENTRY_COST * count as usize) || !read::is_within(limit, paths)
+}
+
+/// How many entries a file has, and how they are encoded.
+#[derive(Clone, Copy)]
+pub struct Declared {
+    /// The version that the header declares.
+    pub version: Version,
+    /// The count of entries that it declares.
+    pub count: u32,
+    /// An estimate of the bytes that their paths take.
+    pub paths: usize,
+}
+
+/// What the header at the front of a file of so many bytes declares, whose end marker names this offset, or which has
+/// none. None where the header is at fault, or the count passes what such a file can hold or the limit.
+pub fn declared_by(
+    front: &[u8],
+    len: usize,
+    offset: Option<usize>,
+    object_hash: Kind,
+    options: Options,
+) -> Option<Declared>
+    ensures header { IfSome result (λ x. header_of object_hash front.now ≡ Ok x.version) }
+    ensures count { IfSome result (λ x. x.count ≡ count_of front.now) }
+    ensures fits { IfSome result
+        (λ x. nat_lt (most_entries len offset object_hash x.version) x.count ≡ false) }
+    ensures small { IfSome result (λ x. is_too_large options.alloc_limit_bytes x.count len offset
+        object_hash x.version ≡ false) }
+{
+    let (version, count, _) = header::decode(front, object_hash).ok()?;
+    if count as usize > entries::max_entries_possible(len, offset, object_hash, version) {
+        return None;
+    }
+    let paths = entries::estimate_path_storage_requirements_in_bytes(
+        count,
+        len,
+        offset,
+        object_hash,
+        version,
+    );
+    if is_too_large(options.alloc_limit_bytes, count, paths) {
+        return None;
+    }
+    Some(Declared {
+        version,
+        count,
+        paths,
+    })
+}
+
+/// The state of so many entries at the front of the bytes, and the end behind them.
+fn read_behind_header(
+    alloc: Global,
+    read_as: ReadAs,
+    count: u32,
+    paths: usize,
+    bytes: &[u8],
+) -> Result<(Parts, Option<ObjectId>), Error>
+    ensures body { Says parts_contents result
+        (IsBehindHeader read_as.object_hash read_as.timestamp read_as.options read_as.version
+        count bytes.now) }
+    ensures placed { IfOk result (λ x. PartsInStorage x.0) }
+    ensures ids { IfOk result (λ x. IdsAreOf read_as.object_hash (parts_entries x.0)) }
+    ensures extension_ids { IfOk result
+        (λ x. ExtensionIdsAreOf read_as.object_hash (parts_contents x.0).extensions) }
+{
+    let ReadAs {
+        object_hash,
+        version,
+        ..
+    } = read_as;
+    let read = read_entries(alloc, version, object_hash, count, paths, bytes)?;
+    read_ending(alloc, read, read_as)
+}
+
+/// Reads the parts of an index from all bytes of its file, and gives them with the trailer's id, or None where the
+/// trailer is null; or the first fault, in the order of the variants of [`Error`]. The digest isn't computed.
+pub fn from_bytes(
+    alloc: Global,
+    data: &[u8],
+    timestamp: FileTime,
+    object_hash: Kind,
+    options: Options,
+) -> Result<(Parts, Option<ObjectId>), Error>
+    // The state or the first fault that the format gives these bytes.
+    ensures answer { Says parts_contents result
+        (IsAnswer object_hash timestamp options «data».now) }
+    ensures placed { IfOk result (λ x. PartsInStorage x.0) }
+    ensures ids { IfOk result (λ x. IdsAreOf object_hash (parts_entries x.0)) }
+    ensures storable { IfOk result (λ x. IsStorable (parts_contents x.0)) }
+    ensures extension_ids { IfOk result
+        (λ x. ExtensionIdsAreOf object_hash (parts_contents x.0).extensions) }
+{
+    let (version, count, rest) = header::decode(data, object_hash)?;
+    let offset = end_of_index_entry::decode(data, object_hash);
+    let most = entries::max_entries_possible(data.len(), offset, object_hash, version);
+    if count as usize > most {
+        return Err(Error::Header(header::Error::Corrupt(
+            "Declared entry count exceeds possible entries for file size",
+        )));
+    }
+    let paths = entries::estimate_path_storage_requirements_in_bytes(
+        count,
+        data.len(),
+        offset,
+        object_hash,
+        version,
+    );
+    if is_too_large(options.alloc_limit_bytes, count, paths) {
+        return Err(Error::OutOfMemory);
+    }
+    let read_as = ReadAs {
+        timestamp,
+        object_hash,
+        version,
+        options,
+    };
+    read_behind_header(alloc, read_as, count, paths, rest)
+}

@@ -1,0 +1,42 @@
+//! The first twelve bytes of a file (gitformat-index, "A 12-byte header").
+
+ghost use Rattle.std.specs.Prelude.{◌≡◌, drop, MatchResult, Ok, Err};
+ghost use Rattle.index_entries.specs.Header.{header_of, count_of};
+ghost use Rattle.index_format.specs.HeaderErrors.{header_fault};
+
+use index_entries::Version;
+use index_entries::sizes::HEADER_LEN;
+pub use index_format::error::Header as Error;
+use index_parts::hash::Kind;
+use index_parts::util::from_be_u32;
+
+/// The first four bytes.
+pub const SIGNATURE: [u8; 4] = *b"DIRC";
+
+/// The version, the count of entries, and the bytes behind the header.
+pub fn decode(bytes: &[u8], kind: Kind) -> Result<(Version, u32, &[u8]), Error>
+    ensures { MatchResult result
+        (λ x. (header_of kind bytes.now ≡ Ok x.0) × (x.1 ≡ count_of bytes.now)
+        × (x.2.now ≡ drop 12 bytes.now))
+        (λ e. header_of kind bytes.now ≡ Err (header_fault e)) }
+{
+    if bytes.len() < HEADER_LEN + kind.len_in_bytes() {
+        return Err(Error::Corrupt(
+            "File is too small even for header with zero entries and smallest hash",
+        ));
+    }
+    if !bytes.starts_with(&SIGNATURE) {
+        return Err(Error::Corrupt("Signature mismatch - this doesn't claim to be a header file"));
+    }
+    let version = match from_be_u32(&bytes[4..8]) {
+        2 => Version::V2,
+        3 => Version::V3,
+        4 => Version::V4,
+        unknown => return Err(Error::UnsupportedVersion(unknown)),
+    };
+    Ok((
+        version,
+        from_be_u32(&bytes[8..HEADER_LEN]),
+        &bytes[HEADER_LEN..],
+    ))
+}

@@ -1,0 +1,6 @@
+pub mod FsMonitor
+pub mod ModeDigits
+pub mod MonitorSteps
+pub mod OffsetTable
+pub mod ResolveUndo
+pub mod ResolveUndoSteps

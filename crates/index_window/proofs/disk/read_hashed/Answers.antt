@@ -1,0 +1,43 @@
+use Rattle.std.proofs.Common.{rules, ◌≡◌, ◌≤◌, ◌-◌, ◌++◌, ℕ, List, length, take, refl, sym, subst, ◌∙◌, arith}
+use Rattle.std.specs.Prelude.{slice_range}
+use Rattle.std.specs.Io.KnownBytes.{Consumes}
+use Rattle.std.proofs.KnownBytes.{Consumes-nil, Consumes-whole}
+use Rattle.index_parts.specs.Digest.{Holds}
+use Rattle.index_parts.specs.Id.{id_len}
+use Rattle.index_window.proofs.Fronts.{front_grown}
+use Rattle.index_window.proofs.Readers.{read_more}
+use Rattle.index_window.proofs.disk.read_hashed.Goals as goal
+
+pub pieces-init : goal.pieces-init
+pieces-init g c = record {
+  kind = search rules;
+  end = search rules;
+  holds = search rules;
+  read = subst (Consumes (g.R.Read.remaining c.args.reader.now) (g.R.Read.remaining c.args.reader.now)) (sym c.requires) (Consumes-nil _);
+}
+
+pub pieces-preserved : goal.pieces-preserved
+pieces-preserved g c =
+    let old = c.pieces.bytes.items in
+    let new = c.append_piece.new.bytes.items in
+    let hashed = c.pieces.hashed in
+    let end = c.saturating_sub-end.result in
+    let is_end : end ≡ length new - id_len c.args.kind = search rules in
+    let within : hashed ≤ length old = omega (arith, c.pieces.invariant.end) in
+    let ordered : hashed ≤ end = search rules in
+    let P : List ℕ → Type 0 = λ l. Holds c.update.new.self l in
+    let Q : List ℕ → Type 0 = λ l. Holds c.update.new.self (take hashed old ++ slice_range l hashed end) in
+    record {
+      kind = c.update.ensures.kind ∙ c.pieces.invariant.kind;
+      end = is_end;
+      holds = subst P (front_grown old new hashed end c.in_ok-count.ensures.appends within ordered)
+          (subst Q c.deref.ensures.value (c.update.ensures.more (take hashed old) c.pieces.invariant.holds));
+      read = read_more _ _ _ old new c.in_ok-count.ensures.appends c.pieces.invariant.read c.in_ok-count.ensures.consumes;
+    }
+
+pub returns-then-count-eq0-clause-whole : goal.returns-then-count-eq0-clause-whole
+returns-then-count-eq0-clause-whole g c =
+    let old = c.pieces.bytes.items in
+    let new = c.append_piece.new.bytes.items in
+    let all = read_more _ _ _ old new c.in_ok-count.ensures.appends c.pieces.invariant.read c.in_ok-count.ensures.consumes in
+    Consumes-whole (g.R.Read.remaining c.args.reader.now) (g.R.Read.remaining c.append_piece.new.reader) new (λ left. new ≡ left) all (c.in_ok-count.ensures.end c.if-count-eq0.true) refl

@@ -1,0 +1,103 @@
+//! Writing an index as the bytes of a file (gitformat-index, as a whole).
+#![tactic(auto)]
+
+mod items;
+mod layout;
+pub mod storable;
+
+ghost use Rattle.std.specs.Prelude.{◌≡◌, ◌≤◌, ◌<◌, ◌^◌, ◌↔◌, length, false, is_err, IfOk, IsTrue, OnOk};
+ghost use Rattle.index_parts.specs.Taking.{Hashes};
+ghost use Rattle.index_parts.specs.Puts.{Puts};
+ghost use Rattle.index_format.specs.Image.{image_version, unmarked, body};
+ghost use Rattle.index_format.specs.LayoutSteps.{header_and_entries, IsLayout};
+ghost use Rattle.index_format.specs.Contents.{PartsInStorage, parts_contents};
+ghost use Rattle.index_format.specs.Storable.{CanEncode, IsWritable};
+ghost use Rattle.index_format.specs.Writing.{RefusedWith, Writes};
+
+use index_entries::paths::paths_without_nul;
+use index_entries::{Version, write};
+use index_format::Parts;
+use index_format::write::{Error, Options, VersionChoice};
+use index_parts::hash::io::Out;
+use items::put_extensions;
+use layout::{Layout, layout_of};
+use std::io;
+
+/// Writes the header and the entries.
+fn put_header_and_entries<W: Out>(
+    parts: &Parts,
+    layout: Layout,
+    out: &mut W,
+    options: Options,
+) -> io::Result<()>
+    requires layout { IsLayout layout.entries.version layout.entries.count layout.entries.end
+        layout.tree (parts_contents parts.now) options }
+    requires placed { PartsInStorage parts.now }
+    requires unfailed { W.failed out.old ≡ false }
+    ensures { Puts W.Out out.old out.new result
+        (header_and_entries (parts_contents parts.now) options) }
+{
+    out.put(&write::header(layout.entries.version, layout.entries.count))?;
+    let version = layout.entries.version;
+    write::put_entries(version, &parts.entries, &parts.path_backing, out)
+}
+
+/// Writes all but the trailer.
+fn put_body<W: Out>(parts: &Parts, layout: Layout, out: &mut W, options: Options) -> io::Result<()>
+    requires layout { IsLayout layout.entries.version layout.entries.count layout.entries.end
+        layout.tree (parts_contents parts.now) options }
+    requires placed { PartsInStorage parts.now }
+    requires unfailed { W.failed out.old ≡ false }
+    ensures { Puts W.Out out.old out.new result
+        (body (parts_contents parts.now) options) }
+{
+    put_header_and_entries(parts, layout, out, options)?;
+    put_extensions(parts, layout, out, options)
+}
+
+/// Whether a file of the chosen version has all paths that would be written.
+fn can_encode(parts: &Parts, choice: VersionChoice) -> bool
+    requires { PartsInStorage parts.now }
+    ensures { IsTrue result ↔ CanEncode choice (parts_contents parts.now) }
+{
+    match choice {
+        VersionChoice::Smallest => true,
+        VersionChoice::V4 => paths_without_nul(&parts.entries, &parts.path_backing),
+    }
+}
+
+/// Writes the index as the bytes of a file, but for the trailer, and gives the version that they have.
+///
+/// [`Error::TooManyEntries`], then [`Error::NulInPath`], then [`Error::TooLarge`], come before any byte and leave
+/// the writer as it was. [`Error::Io`] comes only where the writer failed, which then took a prefix of the bytes.
+/// No memory is taken.
+pub fn write_to<W: Out>(parts: &Parts, out: &mut W, options: Options) -> Result<Version, Error>
+    requires placed { PartsInStorage parts.now }
+    requires unfailed { W.failed out.old ≡ false }
+    ensures version { IfOk result
+        (λ version. version ≡ image_version (parts_contents parts.now) options) }
+    ensures bytes { Writes W.taken W.failed out.old out.new result
+        (body (parts_contents parts.now) options) }
+    ensures hashed { OnOk result
+        (Hashes W.hashed out.old out.new (body (parts_contents parts.now) options)) }
+    ensures loan { W.loan out.new ≡ W.loan out.old }
+    ensures too_many { (result ≡ Err Error.TooManyEntries)
+        ↔ RefusedWith (parts_contents parts.now) options Error.TooManyEntries }
+    ensures nul_in_path { (result ≡ Err Error.NulInPath)
+        ↔ RefusedWith (parts_contents parts.now) options Error.NulInPath }
+    ensures too_large { (result ≡ Err Error.TooLarge)
+        ↔ RefusedWith (parts_contents parts.now) options Error.TooLarge }
+    ensures writable { OnOk result (IsWritable (parts_contents parts.now) options) }
+{
+    if parts.entries.len() > u32::MAX as usize {
+        return Err(Error::TooManyEntries);
+    }
+    if !can_encode(parts, options.version) {
+        return Err(Error::NulInPath);
+    }
+    let Some(layout) = layout_of(parts, options) else {
+        return Err(Error::TooLarge);
+    };
+    put_body(parts, layout, out, options)?;
+    Ok(layout.entries.version)
+}
