@@ -1,5 +1,5 @@
--- What reading a file gives, whose digest is compared first (gitformat-index, "Hash checksum over the content of the index file
--- before this checksum").
+-- What reading a file gives, whose digest is compared first (gitformat-index, "Hash checksum over the content of the
+-- index file before this checksum").
 use Rattle.std.specs.Prelude.{◌≡◌, ◌≢◌, ℕ, ◌⊎◌, Bool, List, Result, Ok, Err, MatchBool}
 use Rattle.index_parts.specs.declared.hash.Kind.{Kind}
 use Rattle.index_metadata.specs.declared.entry.stat.FileTime.{FileTime}
@@ -26,7 +26,8 @@ abbrev pub IsFileAnswer : Bool → Kind → FileTime → Options → List ℕ �
 IsFileAnswer skip kind time options bytes a =
     MatchBool (needs_check skip kind bytes)
     (((digest_id kind bytes ≡ trailer_id kind bytes) × IsAnswer kind time options bytes a)
-    ⊎ ((digest_id kind bytes ≢ trailer_id kind bytes) × (a ≡ Err (Verify (digest_id kind bytes) (trailer_id kind bytes)))))
+    ⊎ ((digest_id kind bytes ≢ trailer_id kind bytes)
+    × (a ≡ Err (Verify (digest_id kind bytes) (trailer_id kind bytes)))))
     (IsAnswer kind time options bytes a)
 
 -- the error that reading's error becomes: want of memory is told by the outer variant
@@ -39,7 +40,8 @@ abbrev pub link_error_of : LinkError → Error
 link_error_of links.Memory = errors.Memory
 link_error_of e = errors.LinkExtension e
 
--- What a result says of the answer that P holds of. Want of memory has a variant of its own, and says that no early fault is the answer.
+-- What a result says of the answer that P holds of. Want of memory has a variant of its own, and says that no early
+-- fault is the answer.
 abbrev pub SaysFile : Result File Error → (Answer → Type 0) → Type 0
 SaysFile (Ok f) P = P (Ok (contents (state_of f), checksum_of f))
 SaysFile (Err (errors.Io e)) P = ⊥

@@ -1,5 +1,5 @@
--- Why an index isn't read from a file or written to one (gitformat-index, "Split index"; the library's own). No clause can name
--- a file's bytes: a fault that was read is one of some bytes.
+-- Why an index isn't read from a file or written to one (gitformat-index, "Split index"; the library's own). No clause
+-- can name a file's bytes: a fault that was read is one of some bytes.
 use Rattle.std.specs.Prelude.{◌≡◌, ◌≢◌, ◌⊎◌, ℕ, Bool, List, Option, Some, Ok, Err}
 use Rattle.std.specs.IoError.{error_kind}
 use Rattle.std.specs.declared.io.ErrorKind.TheVariants.{OutOfMemory}
@@ -33,10 +33,12 @@ IsOfDisk fault = error_kind fault.error ≢ OutOfMemory
 
 -- some bytes are refused with this fault
 abbrev pub RefusesBytes : Bool → Kind → FileTime → ReadOptions → DecodeError → Type 0
-RefusesBytes skip kind time options e = (bytes : List ℕ) × SaysFile (Err (reads.Decode e)) (IsFileAnswer skip kind time options bytes)
+RefusesBytes skip kind time options e =
+    (bytes : List ℕ) × SaysFile (Err (reads.Decode e)) (IsFileAnswer skip kind time options bytes)
 
 -- there is a split index, and some bytes of its shared index are refused with this fault
-pub record RefusesShared (skip : Bool) (kind : Kind) (time : FileTime) (options : ReadOptions) (e : DecodeError) : Type 0 where
+pub record RefusesShared (skip : Bool) (kind : Kind) (time : FileTime) (options : ReadOptions) (e : DecodeError)
+    : Type 0 where
   pub split : Contents
   pub checksum : Option ObjectId
   pub link : LinkValue
@@ -44,7 +46,8 @@ pub record RefusesShared (skip : Bool) (kind : Kind) (time : FileTime) (options 
   pub refuses : RefusesBytes skip kind time (expecting options link.shared) e
 
 -- a split index and its shared index are read of some bytes, and the link between them has this first fault
-pub record RefusesLink (skip : Bool) (kind : Kind) (time : FileTime) (options : ReadOptions) (e : LinkError) : Type 0 where
+pub record RefusesLink (skip : Bool) (kind : Kind) (time : FileTime) (options : ReadOptions) (e : LinkError)
+    : Type 0 where
   pub split : Contents
   pub checksum : Option ObjectId
   pub link : LinkValue
@@ -52,7 +55,8 @@ pub record RefusesLink (skip : Bool) (kind : Kind) (time : FileTime) (options : 
   pub shared_bytes : List ℕ
   pub shared : Contents
   pub shared_checksum : Option ObjectId
-  pub read_shared : IsFileAnswer skip kind time (expecting options link.shared) shared_bytes (Ok (shared, shared_checksum))
+  pub read_shared : IsFileAnswer skip kind time (expecting options link.shared) shared_bytes
+      (Ok (shared, shared_checksum))
   pub fault : LinkFault
   pub stands_for : link_fault e ≡ Some fault
   pub is_fault : IsDissolveFault link shared (without_link split) fault
@@ -67,7 +71,8 @@ SaysOfFile skip kind time options reads.Memory = Unit {0}
 -- what an error says of a file and the shared index that it links to
 abbrev pub SaysOfFiles : Bool → Kind → FileTime → ReadOptions → ReadError → Type 0
 SaysOfFiles skip kind time options (reads.Io fault) = IsOfDisk fault
-SaysOfFiles skip kind time options (reads.Decode e) = RefusesBytes skip kind time options e ⊎ RefusesShared skip kind time options e
+SaysOfFiles skip kind time options (reads.Decode e) =
+    RefusesBytes skip kind time options e ⊎ RefusesShared skip kind time options e
 SaysOfFiles skip kind time options (reads.LinkExtension e) = RefusesLink skip kind time options e
 SaysOfFiles skip kind time options reads.Memory = Unit {0}
 

@@ -1,14 +1,17 @@
--- The definitions and types that a caller's clauses cite, each under one name. A type has a name of its own here where a
--- definition's file has its name already.
+-- The definitions and types that a caller's clauses cite, each under one name. A type has a name of its own here where
+-- a definition's file has its name already.
 pub mod Checked
 pub mod File
 pub mod FileFaults
 pub mod Linked
 pub mod VerifiedFile
 pub mod WrittenFile
+pub use Rattle.bstr.specs.Owned
+pub use Rattle.hex.specs.Hex
 pub use Rattle.index_bitmaps.specs.Ascending
 pub use Rattle.index_bitmaps.specs.Bitmap
 pub use Rattle.index_bitmaps.specs.Bits
+pub use Rattle.index_bitmaps.specs.UnpackingSteps
 pub use Rattle.index_parts.specs.Digest
 pub use Rattle.index_parts.specs.Id
 pub use Rattle.index_parts.specs.Limit
@@ -71,6 +74,7 @@ pub use Rattle.index_cached_tree.specs.StoredTree
 pub use Rattle.index_cached_tree.specs.Tree
 pub use Rattle.index_cached_tree.specs.TreeFaults
 pub use Rattle.index_cached_tree.specs.TreeImage
+pub use Rattle.index_cached_tree.specs.TreeWriting
 pub use Rattle.index_untracked.specs.Blocks
 pub use Rattle.index_untracked.specs.CacheBitmaps
 pub use Rattle.index_untracked.specs.CachedStat
@@ -88,6 +92,7 @@ pub use Rattle.index_format.specs.Storable
 pub use Rattle.index_format.specs.Stored
 pub use Rattle.index_format.specs.Writing
 pub use Rattle.index_window.specs.Intact
+pub use Rattle.index_window.specs.declared.disk.PathError
 pub use Rattle.index_state.specs.Dissolve
 pub use Rattle.index_state.specs.Edits
 pub use Rattle.index_state.specs.SoundState
@@ -127,6 +132,8 @@ pub use Rattle.index_objects.specs.declared.object.tree.Malformed as MalformedTr
 pub use Rattle.index_objects.specs.declared.object.NoObjects
 pub use Rattle.index_entries.specs.declared.Entry as EntryType
 pub use Rattle.index_entries.specs.declared.Pathless
+pub use Rattle.index_entries.specs.declared.list.EntryList
+pub use Rattle.index_entries.specs.declared.slice.EntrySlice
 pub use Rattle.index_entries.specs.declared.Version
 pub use Rattle.index_entry_reading.specs.declared.entry.Lent as LentEntry
 pub use Rattle.index_format.specs.declared.error.Header as HeaderError
@@ -138,6 +145,7 @@ pub use Rattle.index_trees.specs.declared.error.Error as FromTreeError
 pub use Rattle.index_trees.specs.declared.error.Traversal
 pub use Rattle.index_tree_writer.specs.declared.error.Error as WriteTreesError
 pub use Rattle.index_tree_writer.specs.declared.error.NameFault
+pub use Rattle.index_tree_writer.specs.declared.sink.Discard
 pub use Rattle.index_tree_writer.specs.declared.tree_ids.Error as TreeIdsError
 pub use Rattle.index_extensions.specs.declared.iter.Iter as ExtensionIter
 pub use Rattle.index_small_extensions.specs.declared.fs_monitor.FsMonitor as FsMonitorType

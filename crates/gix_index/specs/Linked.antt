@@ -1,5 +1,5 @@
--- What an index is that was read from the disk (gitformat-index, "Split index"). No clause can name a file's bytes: it is what
--- some bytes are read as, and for a split index some bytes of its shared index.
+-- What an index is that was read from the disk (gitformat-index, "Split index"). No clause can name a file's bytes: it
+-- is what some bytes are read as, and for a split index some bytes of its shared index.
 use Rattle.std.specs.Prelude.{◌≡◌, ℕ, ◌++◌, Bool, true, false, List, codes, Option, Some, None, Ok}
 use Rattle.std.specs.Path.{path_with_file_name}
 use Rattle.hex.specs.Hex.{encode_lower}
@@ -28,7 +28,8 @@ IsUnfollowed None = Unit {0}
 IsUnfollowed (Some l) = is_null (id_bytes l.shared) ≡ true
 
 -- the value and the trailer's id, where nothing is followed: what some bytes are read as, without the link
-pub record IsOwn (skip : Bool) (kind : Kind) (time : FileTime) (options : Options) (v : Contents) (checksum : Option ObjectId) : Type 0 where
+pub record IsOwn (skip : Bool) (kind : Kind) (time : FileTime) (options : Options) (v : Contents)
+    (checksum : Option ObjectId) : Type 0 where
   pub bytes : List ℕ
   pub split : Contents
   pub read : IsFileAnswer skip kind time options bytes (Ok (split, checksum))
@@ -36,24 +37,28 @@ pub record IsOwn (skip : Bool) (kind : Kind) (time : FileTime) (options : Option
   pub is : v ≡ without_link split
 
 -- some bytes are read as a split index with this trailer and this link, whose id isn't null
-pub record IsSplit (skip : Bool) (kind : Kind) (time : FileTime) (options : Options) (split : Contents) (checksum : Option ObjectId) (link : LinkValue) : Type 0 where
+pub record IsSplit (skip : Bool) (kind : Kind) (time : FileTime) (options : Options) (split : Contents)
+    (checksum : Option ObjectId) (link : LinkValue) : Type 0 where
   pub bytes : List ℕ
   pub read : IsFileAnswer skip kind time options bytes (Ok (split, checksum))
   pub has_link : split.extensions.link ≡ Some link
   pub followed : is_null (id_bytes link.shared) ≡ false
 
--- the value and the trailer's id, where a link is followed: some other bytes are read as the shared index, whose trailer has to
--- be the link's id, and the link is dissolved
-pub record IsJoined (skip : Bool) (kind : Kind) (time : FileTime) (options : Options) (v : Contents) (checksum : Option ObjectId) : Type 0 where
+-- the value and the trailer's id, where a link is followed: some other bytes are read as the shared index, whose
+-- trailer has to be the link's id, and the link is dissolved
+pub record IsJoined (skip : Bool) (kind : Kind) (time : FileTime) (options : Options) (v : Contents)
+    (checksum : Option ObjectId) : Type 0 where
   pub split : Contents
   pub link : LinkValue
   pub is_split : IsSplit skip kind time options split checksum link
   pub shared_bytes : List ℕ
   pub shared : Contents
   pub shared_checksum : Option ObjectId
-  pub read_shared : IsFileAnswer skip kind time (expecting options link.shared) shared_bytes (Ok (shared, shared_checksum))
+  pub read_shared : IsFileAnswer skip kind time (expecting options link.shared) shared_bytes
+      (Ok (shared, shared_checksum))
   pub dissolved : IsDissolved link shared (without_link split) v
 
-pub data IsOnDisk (skip : Bool) (kind : Kind) (time : FileTime) (options : Options) (v : Contents) (checksum : Option ObjectId) : Type 0 where
+pub data IsOnDisk (skip : Bool) (kind : Kind) (time : FileTime) (options : Options) (v : Contents)
+    (checksum : Option ObjectId) : Type 0 where
   own : IsOwn skip kind time options v checksum → IsOnDisk skip kind time options v checksum
   joined : IsJoined skip kind time options v checksum → IsOnDisk skip kind time options v checksum

@@ -11,12 +11,13 @@ use Rattle.gix_index.specs.declared.file.verify.Error.TheVariants as errors
 abbrev pub SaysOfBytes : List ℕ → ObjectId → Error → Type 0
 SaysOfBytes bytes checksum errors.TooShort = length bytes < id_len (id_kind checksum)
 SaysOfBytes bytes checksum (errors.Verify e) =
-    (id_len (id_kind checksum) ≤ length bytes) × (digest_id (id_kind checksum) bytes ≢ checksum) × (e.actual ≡ digest_id (id_kind checksum) bytes) × (e.expected ≡ checksum)
+    (id_len (id_kind checksum) ≤ length bytes) × (digest_id (id_kind checksum) bytes ≢ checksum)
+    × (e.actual ≡ digest_id (id_kind checksum) bytes) × (e.expected ≡ checksum)
 SaysOfBytes bytes checksum (errors.Io e) = ⊥
 SaysOfBytes bytes checksum errors.Memory = ⊥
 
--- No clause can name the bytes of a file that is read again. The checksum fits: some bytes have it as the digest of all but the
--- last, of which it has as many.
+-- No clause can name the bytes of a file that is read again. The checksum fits: some bytes have it as the digest of all
+-- but the last, of which it has as many.
 abbrev pub FitsSomeBytes : ObjectId → Type 0
 FitsSomeBytes checksum =
     (bytes : List ℕ) × (id_len (id_kind checksum) ≤ length bytes) × (digest_id (id_kind checksum) bytes ≡ checksum)

@@ -15,9 +15,10 @@ use Rattle.index_format.specs.Writing.{RefusedWith, Writes}
 use Rattle.gix_index.specs.declared.file.File.{File}
 use Rattle.gix_index.specs.File.{state_of, path_of, checksum_of}
 
--- The answer to writing these bytes of a value: the version and the id that the trailer is; too many entries, then a NUL in a path,
--- then too many bytes, exactly where it is so; or the writer's fault.
-pub record WritesIndex {S : Type 0} (taken : S → Option (List ℕ)) (failed : S → Bool) (old new : S) (r : Result (Version × ObjectId) Error) (v : Contents) (options : Options) (whole : List ℕ) : Type 0 where
+-- The answer to writing these bytes of a value: the version and the id that the trailer is; too many entries, then a
+-- NUL in a path, then too many bytes, exactly where it is so; or the writer's fault.
+pub record WritesIndex {S : Type 0} (taken : S → Option (List ℕ)) (failed : S → Bool) (old new : S)
+    (r : Result (Version × ObjectId) Error) (v : Contents) (options : Options) (whole : List ℕ) : Type 0 where
   pub version : IfOk r (λ x. x.0 ≡ image_version v options)
   pub id : IfOk r (λ x. x.1 ≡ make_id v.kind (trailer v options))
   pub bytes : Writes taken failed old new r whole
@@ -25,11 +26,14 @@ pub record WritesIndex {S : Type 0} (taken : S → Option (List ℕ)) (failed : 
   pub nul_in_path : (r ≡ Err NulInPath) ↔ RefusedWith v options NulInPath
   pub too_large : (r ≡ Err TooLarge) ↔ RefusedWith v options TooLarge
 
--- A file that was written to its path: version and checksum are those of what was written, the checksum None where that is zeros.
--- All else stays.
+-- A file that was written to its path: version and checksum are those of what was written, the checksum None where that
+-- is zeros. All else stays.
 pub record IsWritten (old new : File) (options : Options) : Type 0 where
-  pub value : contents (state_of new) ≡ with_version (contents (state_of old)) (image_version (contents (state_of old)) options)
+  pub value : contents (state_of new) ≡ with_version (contents (state_of old))
+      (image_version (contents (state_of old)) options)
   pub entries : entries_of (state_of new) ≡ entries_of (state_of old)
   pub storage : storage_of (state_of new) ≡ storage_of (state_of old)
   pub path : path_of new ≡ path_of old
-  pub checksum : checksum_of new ≡ (if options.skip_hash then None else Some (make_id (contents (state_of old)).kind (trailer (contents (state_of old)) options)))
+  pub checksum : checksum_of new ≡
+      (if options.skip_hash then None
+      else Some (make_id (contents (state_of old)).kind (trailer (contents (state_of old)) options)))

@@ -12,7 +12,9 @@ unpacked_within zero words = []
 unpacked_within (suc most) [] = []
 unpacked_within (suc most) (run ∷ words) =
     run_bits run
-    ++ (if nat_le (literal_count run) (length words) then flat_map word_bits (take (literal_count run) words) ++ unpacked_within most (drop (literal_count run) words) else broken ∷ [])
+    ++ (if nat_le (literal_count run) (length words)
+    then flat_map word_bits (take (literal_count run) words) ++ unpacked_within most (drop (literal_count run) words)
+    else broken ∷ [])
 
 -- the bits that words stand for
 unfoldable pub unpacked : List ℕ → List Bit
@@ -25,7 +27,9 @@ next_place None = 2 ^ 64
 
 -- the bits after those of the run and of the literal word that were begun
 abbrev pub bits_behind : Positions → List Bit
-bits_behind s = if s.is_broken then broken ∷ [] else flat_map word_bits (take s.literals s.words.now) ++ unpacked (drop s.literals s.words.now)
+bits_behind s =
+    if s.is_broken then broken ∷ []
+    else flat_map word_bits (take s.literals s.words.now) ++ unpacked (drop s.literals s.words.now)
 
 abbrev pub bits_left : Positions → List Bit
 bits_left s = replicate s.ones set ++ (low_bits s.bits s.word ++ bits_behind s)

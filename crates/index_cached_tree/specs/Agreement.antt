@@ -1,4 +1,5 @@
--- When a cached tree agrees with the tree objects that it names (gitformat-index, "Cache tree": the object name of each directory).
+-- When a cached tree agrees with the tree objects that it names (gitformat-index, "Cache tree": the object name of each
+-- directory).
 use Rattle.std.specs.Prelude.{◌≡◌, ℕ, ◌||◌, Bool, false, List, filter, length, All, Option, Some, None, MatchOption, IsTrue}
 use Rattle.std.specs.Cmp.Lexicographic.{slice_cmp}
 use Rattle.std.specs.Ordering.{nat_cmp, is_eq}
@@ -42,7 +43,8 @@ abbrev mutual
   -- Each node that has children has a tree, whose directories they are. Nothing is asked of a node without children.
   pub Agrees : Trees → Node → Type 0
   Agrees trees (node name id count none) = Unit {0}
-  Agrees trees (node name id count (more t ts)) = MatchOption (trees id) ⊥ (λ es. AreChildren (more t ts) es) × Agree trees (more t ts)
+  Agrees trees (node name id count (more t ts)) =
+      MatchOption (trees id) ⊥ (λ es. AreChildren (more t ts) es) × Agree trees (more t ts)
 
   pub Agree : Trees → Nodes → Type 0
   Agree trees none = Unit {0}

@@ -20,6 +20,8 @@ pub record IsDecimal (text : List ℕ) (n : ℕ) : Type 0 where
 -- A count of 32 signed bits: a sign or none, then a decimal number. A negative one stands for no count.
 pub data IsCount (text : List ℕ) (count : Option ℕ) : Type 0 where
   plain : (n : ℕ) → IsDecimal text n → n < 2 ^ 31 → count ≡ Some n → IsCount text count
-  plus : (digits : List ℕ) (n : ℕ) → text ≡ 43 ∷ digits → IsDecimal digits n → n < 2 ^ 31 → count ≡ Some n → IsCount text count
-  minus : (digits : List ℕ) (n : ℕ) → text ≡ 45 ∷ digits → IsDecimal digits n → 1 ≤ n → n ≤ 2 ^ 31 → count ≡ None → IsCount text count
+  plus : (digits : List ℕ) (n : ℕ) → text ≡ 43 ∷ digits → IsDecimal digits n → n < 2 ^ 31 → count ≡ Some n
+      → IsCount text count
+  minus : (digits : List ℕ) (n : ℕ) → text ≡ 45 ∷ digits → IsDecimal digits n → 1 ≤ n → n ≤ 2 ^ 31 → count ≡ None
+      → IsCount text count
   minus_zero : (digits : List ℕ) → text ≡ 45 ∷ digits → IsDecimal digits 0 → count ≡ Some 0 → IsCount text count

@@ -60,7 +60,8 @@ node_head_at kind limit bytes = do
 
 -- the same, where the rest has room for the children, of six bytes or more each
 unfoldable pub roomy_head_at : Kind → Option ℕ → List ℕ → Option (NodeHead × List ℕ)
-roomy_head_at kind limit bytes = node_head_at kind limit bytes >>= λ h. if nat_lt (length h.1 / 6) h.0.number then None else Some h
+roomy_head_at kind limit bytes =
+    node_head_at kind limit bytes >>= λ h. if nat_lt (length h.1 / 6) h.0.number then None else Some h
 
 -- what a head that lends its name stands for
 abbrev pub lent_node_head : LentNodeHead → NodeHead

@@ -19,10 +19,12 @@ RiseFrom None (more t ts) = RiseFrom (Some t) ts
 RiseFrom (Some u) (more t ts) = (name_cmp u t ≡ Less) × RiseFrom (Some t) ts
 
 abbrev mutual
-  -- At each node, names increase strictly among its children, and what these count together has at most 32 bits and isn't more than
-  -- what the node counts, where it counts.
+  -- At each node, names increase strictly among its children, and what these count together has at most 32 bits and
+  -- isn't more than what the node counts, where it counts.
   pub IsSoundNode : Node → Type 0
-  IsSoundNode (node name id count children) = (entries_sum children < 2 ^ 32) × RiseFrom None children × IfSome count (λ own. entries_sum children ≤ own) × AreSoundNodes children
+  IsSoundNode (node name id count children) =
+      (entries_sum children < 2 ^ 32) × RiseFrom None children × IfSome count (λ own. entries_sum children ≤ own)
+      × AreSoundNodes children
 
   pub AreSoundNodes : Nodes → Type 0
   AreSoundNodes none = Unit {0}

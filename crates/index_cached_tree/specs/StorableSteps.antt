@@ -11,7 +11,8 @@ use Rattle.index_cached_tree.specs.StoredTree.{IsApartFrom}
 -- as many bytes as such ids.
 abbrev pub IsPlainHead : Kind → Node → Type 0
 IsPlainHead kind (node name id count children) =
-    All (λ b. b ≢ 0) name × IfSome count (λ n. n < 2 ^ 31) × (id_kind id ≡ kind) × (length (id_bytes id) ≡ id_len (id_kind id))
+    All (λ b. b ≢ 0) name × IfSome count (λ n. n < 2 ^ 31) × (id_kind id ≡ kind)
+    × (length (id_bytes id) ≡ id_len (id_kind id))
 
 -- the node's name is above that of the node before, where there is one
 abbrev pub IsAbove : Option Node → Node → Type 0
@@ -26,8 +27,11 @@ AreApart (more t ts) = IsApartFrom t ts × AreApart ts
 abbrev mutual
   -- bytes can hold the node with all below it, which is at most so many levels, and fewer than 2^64 children a node
   pub IsStorableWithin : Kind → ℕ → Node → Type 0
-  IsStorableWithin kind levels (node name id count children) = IsPlainHead kind (node name id count children) × (how_many_nodes children < 2 ^ 64) × AreApart children × AreStorableWithin kind levels children
+  IsStorableWithin kind levels (node name id count children) =
+      IsPlainHead kind (node name id count children) × (how_many_nodes children < 2 ^ 64) × AreApart children
+      × AreStorableWithin kind levels children
 
   pub AreStorableWithin : Kind → ℕ → Nodes → Type 0
   AreStorableWithin kind levels none = Unit {0}
-  AreStorableWithin kind levels (more t ts) = (0 < levels) × IsStorableWithin kind (levels - 1) t × AreStorableWithin kind levels ts
+  AreStorableWithin kind levels (more t ts) =
+      (0 < levels) × IsStorableWithin kind (levels - 1) t × AreStorableWithin kind levels ts

@@ -8,7 +8,7 @@ use Rattle.index_cached_tree.specs.Tree.{Node, Nodes, node, none, more, how_many
 
 -- ---- what they keep
 
--- without a count no id is kept, and the null id is read
+-- without a count no id is stored, and the null id is read
 abbrev pub kept_id : Kind → Option ℕ → ObjectId → ObjectId
 kept_id kind None id = null_id kind
 kept_id kind (Some n) id = id
@@ -37,7 +37,8 @@ IsApartFrom t (more u us) = (name_of t ≢ name_of u) × IsApartFrom t us
 abbrev mutual
   -- no name has a NUL, no count has more than 31 bits, and siblings have different names
   pub IsPlainNode : Node → Type 0
-  IsPlainNode (node name id count children) = All (λ b. b ≢ 0) name × IfSome count (λ n. n < 2 ^ 31) × ArePlainNodes children
+  IsPlainNode (node name id count children) =
+      All (λ b. b ≢ 0) name × IfSome count (λ n. n < 2 ^ 31) × ArePlainNodes children
 
   pub ArePlainNodes : Nodes → Type 0
   ArePlainNodes none = Unit {0}
@@ -46,14 +47,15 @@ abbrev mutual
 abbrev mutual
   -- a node has fewer than 2^64 children, and its id has as many bytes as its kind: so is each tree in memory
   pub IsSizedNode : Node → Type 0
-  IsSizedNode (node name id count children) = (length (id_bytes id) ≡ id_len (id_kind id)) × (how_many_nodes children < 2 ^ 64) × AreSizedNodes children
+  IsSizedNode (node name id count children) =
+      (length (id_bytes id) ≡ id_len (id_kind id)) × (how_many_nodes children < 2 ^ 64) × AreSizedNodes children
 
   pub AreSizedNodes : Nodes → Type 0
   AreSizedNodes none = Unit {0}
   AreSizedNodes (more t ts) = IsSizedNode t × AreSizedNodes ts
 
--- All ids are of this kind, no level is lower than the 2048th below the root, and names, counts and numbers of children are such
--- that bytes can hold them.
+-- All ids are of this kind, no level is lower than the 2048th below the root, and names, counts and numbers of children
+-- are such that bytes can hold them.
 pub record IsStorableTree (kind : Kind) (t : Node) : Type 0 where
   pub plain : IsPlainNode t
   pub ids : NodeIdsAreOf kind t

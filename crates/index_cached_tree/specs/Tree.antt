@@ -46,8 +46,8 @@ pub record NodeHead : Type 0 where
   pub id : ObjectId
   pub number : ℕ
 
--- The name up to a NUL, the count up to a space, the number of children up to a newline, and the id, which only a node with a
--- count has. At 104 bytes each, the children are within the limit.
+-- The name up to a NUL, the count up to a space, the number of children up to a newline, and the id, which only a node
+-- with a count has. At 104 bytes each, the children are within the limit.
 pub record IsNodeHead (kind : Kind) (limit : Option ℕ) (bytes : List ℕ) (h : NodeHead) (tail : List ℕ) : Type 0 where
   pub count : List ℕ
   pub number : List ℕ
@@ -57,10 +57,11 @@ pub record IsNodeHead (kind : Kind) (limit : Option ℕ) (bytes : List ℕ) (h :
   pub is_count : IsCount count h.count
   pub is_number : IsDecimal number h.number
   pub within : IsWithin limit (104 * h.number)
-  pub is_id : MatchOption h.count ((id ≡ []) × (h.id ≡ null_id kind)) (λ _. (length id ≡ id_len kind) × (h.id ≡ make_id kind id))
+  pub is_id : MatchOption h.count
+      ((id ≡ []) × (h.id ≡ null_id kind)) (λ _. (length id ≡ id_len kind) × (h.id ≡ make_id kind id))
 
--- Bytes begin with a head, and the rest has room for as many children as it declares: a node has six bytes or more, which are a
--- NUL, a count as `-1`, a space, a number as `0`, and a newline.
+-- Bytes begin with a head, and the rest has room for as many children as it declares: a node has six bytes or more,
+-- which are a NUL, a count as `-1`, a space, a number as `0`, and a newline.
 pub record HasNodeHead (kind : Kind) (limit : Option ℕ) (bytes : List ℕ) : Type 0 where
   pub head : NodeHead
   pub tail : List ℕ
@@ -71,12 +72,16 @@ abbrev mutual
   -- bytes encode a node and all below it, in preorder, and the rest
   pub IsSpelled : Kind → Option ℕ → Node → List ℕ → List ℕ → Type 0
   IsSpelled kind limit (node name id count children) bytes rest =
-      (tail : List ℕ) × IsNodeHead kind limit bytes (record { name = name; count = count; id = id; number = how_many_nodes children }) tail × AreSpelled kind limit children tail rest
+      (tail : List ℕ)
+      × IsNodeHead kind limit bytes
+      (record { name = name; count = count; id = id; number = how_many_nodes children }) tail
+      × AreSpelled kind limit children tail rest
 
   -- bytes encode these nodes, one after another, and the rest
   pub AreSpelled : Kind → Option ℕ → Nodes → List ℕ → List ℕ → Type 0
   AreSpelled kind limit none bytes rest = bytes ≡ rest
-  AreSpelled kind limit (more t ts) bytes rest = (middle : List ℕ) × IsSpelled kind limit t bytes middle × AreSpelled kind limit ts middle rest
+  AreSpelled kind limit (more t ts) bytes rest =
+      (middle : List ℕ) × IsSpelled kind limit t bytes middle × AreSpelled kind limit ts middle rest
 
 abbrev mutual
   -- how many levels lie below a node
@@ -112,14 +117,16 @@ abbrev mutual
   -- the second node is the first with the children of every node sorted by name, sibling names apart
   pub Sorts : Node → Node → Type 0
   Sorts (node name id count children) t =
-      (ts : List Node) × SortsEach children ts × ((vs : List Node) × IsPermutation ts vs × NamesRise vs × (t ≡ node name id count (nodes_from vs)))
+      (ts : List Node) × SortsEach children ts
+      × ((vs : List Node) × IsPermutation ts vs × NamesRise vs × (t ≡ node name id count (nodes_from vs)))
 
   pub SortsEach : Nodes → List Node → Type 0
   SortsEach none ts = ts ≡ []
   SortsEach (more u us) ts = (t : Node) × (rest : List Node) × (ts ≡ t ∷ rest) × Sorts u t × SortsEach us rest
 
 -- bytes encode a node with at most so many levels below it, and the rest; sorted it is t
-pub record IsNode (kind : Kind) (limit : Option ℕ) (levels : ℕ) (bytes : List ℕ) (t : Node) (rest : List ℕ) : Type 0 where
+pub record IsNode (kind : Kind) (limit : Option ℕ) (levels : ℕ) (bytes : List ℕ) (t : Node) (rest : List ℕ)
+    : Type 0 where
   pub spelled : Node
   pub spells : IsSpelled kind limit spelled bytes rest
   pub shallow : node_depth spelled ≤ levels

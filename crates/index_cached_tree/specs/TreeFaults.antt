@@ -30,17 +30,20 @@ sum_fault sum = if nat_lt sum (2 ^ 32) then None else Some too_many_entries
 
 abbrev pub order_fault : ObjectId → Option Node → Node → Option TreeFault
 order_fault parent None t = None
-order_fault parent (Some u) t = if is_lt (name_cmp u t) then None else Some (out_of_order parent (name_of t) (name_of u))
+order_fault parent (Some u) t =
+    if is_lt (name_cmp u t) then None else Some (out_of_order parent (name_of t) (name_of u))
 
 abbrev pub count_fault : Option ℕ → ℕ → Option TreeFault
 count_fault None sum = None
 count_fault (Some own) sum = if nat_le sum own then None else Some (too_few_counted sum own)
 
--- child by child, where those before count so much and the last of them is this one: their sum, then the order of their names
+-- child by child, where those before count so much and the last of them is this one: their sum, then the order of their
+-- names
 abbrev pub row_fault : ObjectId → ℕ → Option Node → Nodes → Option TreeFault
 row_fault parent sum before none = None
 row_fault parent sum before (more t ts) =
-    or_else (sum_fault (sum + counted_entries t)) (or_else (order_fault parent before t) (row_fault parent (sum + counted_entries t) (Some t) ts))
+    or_else (sum_fault (sum + counted_entries t))
+    (or_else (order_fault parent before t) (row_fault parent (sum + counted_entries t) (Some t) ts))
 
 -- a directory that a tree lists, and that no child has the name of
 abbrev pub child_fault : ObjectId → Nodes → TreeEntry → Option TreeFault
@@ -56,7 +59,9 @@ number_fault id expected actual = if expected == actual then None else Some (oth
 -- directory by directory of the node's tree, and then how many there are
 abbrev pub listed_fault : ObjectId → Nodes → Option (List TreeEntry) → Option TreeFault
 listed_fault id children None = Some (no_tree id)
-listed_fault id children (Some es) = or_else (missing_fault id children (directories es)) (number_fault id (length (directories es)) (how_many_nodes children))
+listed_fault id children (Some es) =
+    or_else (missing_fault id children (directories es))
+    (number_fault id (length (directories es)) (how_many_nodes children))
 
 -- where trees are looked at, that of a node with children
 abbrev pub object_fault : Option Trees → ObjectId → Nodes → Option TreeFault
@@ -68,7 +73,9 @@ abbrev mutual
   -- at a node the children together, then its tree, then each child and all below it in turn, and last its own count
   pub node_fault : Option Trees → Node → Option TreeFault
   node_fault trees (node name id count children) =
-      or_else (row_fault id 0 None children) (or_else (object_fault trees id children) (or_else (nodes_fault trees children) (count_fault count (entries_sum children))))
+      or_else (row_fault id 0 None children)
+      (or_else (object_fault trees id children)
+      (or_else (nodes_fault trees children) (count_fault count (entries_sum children))))
 
   pub nodes_fault : Option Trees → Nodes → Option TreeFault
   nodes_fault trees none = None
@@ -103,8 +110,10 @@ abbrev pub IsErrorOf : Error → TreeFault → Type 0
 IsErrorOf (errors.RootWithName name) fault = fault ≡ root_with_name (bstring_bytes name)
 IsErrorOf (errors.EntriesCount actual expected) fault = fault ≡ too_few_counted actual expected
 IsErrorOf errors.EntriesCountOverflow fault = fault ≡ too_many_entries
-IsErrorOf (errors.OutOfOrder parent current previous) fault = fault ≡ out_of_order parent (bstring_bytes current) (bstring_bytes previous)
-IsErrorOf (errors.EntriesCountExceedsIndex name actual expected) fault = fault ≡ too_many_counted (bstring_bytes name) actual expected
+IsErrorOf (errors.OutOfOrder parent current previous) fault =
+    fault ≡ out_of_order parent (bstring_bytes current) (bstring_bytes previous)
+IsErrorOf (errors.EntriesCountExceedsIndex name actual expected) fault =
+    fault ≡ too_many_counted (bstring_bytes name) actual expected
 IsErrorOf (errors.TreeNodeNotFound id) fault = fault ≡ no_tree id
 IsErrorOf (errors.MissingTreeDirectory parent id name) fault = fault ≡ missing_directory parent id (bstring_bytes name)
 IsErrorOf (errors.TreeNodeChildcountMismatch id expected actual) fault = fault ≡ other_number id expected actual

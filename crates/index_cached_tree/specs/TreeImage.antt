@@ -27,7 +27,8 @@ node_head_bytes name id count number = name ++ behind_name id count number
 abbrev mutual
   -- a node, and all below it in preorder, children in the order of the value
   pub node_bytes : Node → List ℕ
-  node_bytes (node name id count children) = node_head_bytes name id count (how_many_nodes children) ++ nodes_bytes children
+  node_bytes (node name id count children) =
+      node_head_bytes name id count (how_many_nodes children) ++ nodes_bytes children
 
   pub nodes_bytes : Nodes → List ℕ
   nodes_bytes none = []

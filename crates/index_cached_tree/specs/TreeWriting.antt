@@ -11,10 +11,12 @@ abbrev pub TreeFails : {S : Type 0} → (S → Option (List ℕ)) → (S → Boo
 TreeFails taken failed old new (errors.Io e) bytes = AppendsPrefix (taken old) (taken new) bytes × (failed new ≡ true)
 TreeFails taken failed old new errors.TooLarge bytes = new ≡ old
 
--- an Ok took the bytes whole, and the writer bears no mark
-abbrev pub WritesTree : {S T : Type 0} → (S → Option (List ℕ)) → (S → ℕ → Kind → List ℕ → Type 0) → (S → Bool) → S → S → Result T Error → List ℕ → Type 0
+-- an Ok took the bytes whole, and the writer has not failed
+abbrev pub WritesTree : {S T : Type 0} → (S → Option (List ℕ)) → (S → ℕ → Kind → List ℕ → Type 0) → (S → Bool) → S → S
+    → Result T Error → List ℕ → Type 0
 WritesTree taken hashed failed old new r bytes =
-    MatchResult r (λ _. Took taken hashed old new bytes × (failed new ≡ false)) (λ e. TreeFails taken failed old new e bytes)
+    MatchResult r (λ _. Took taken hashed old new bytes × (failed new ≡ false))
+    (λ e. TreeFails taken failed old new e bytes)
 
 -- the answer that the writer failed
 abbrev pub IsIo : {T : Type 0} → Result T Error → Type 0

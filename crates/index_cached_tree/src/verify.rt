@@ -30,7 +30,8 @@ pub enum Error {
         name: BString,
     },
     /// The children of a node count more entries than the node.
-    #[error("the children of a node of the cached tree count {actual} entries, but the node counts {expected}")]
+    #[error("the children of a node of the cached tree count {actual} entries, \
+         but the node counts {expected}")]
     EntriesCount {
         /// What the children count together.
         actual: u32,
@@ -41,7 +42,8 @@ pub enum Error {
     #[error("the children of a node of the cached tree count more than 4294967295 entries")]
     EntriesCountOverflow,
     /// The name of a child isn't above the one before it.
-    #[error("in the cached tree {current_path:?} follows {previous_path:?} below the tree {parent_id}, but names increase")]
+    #[error("in the cached tree {current_path:?} follows {previous_path:?} \
+         below the tree {parent_id}, but names increase")]
     OutOfOrder {
         /// The id of the node that they are children of.
         parent_id: ObjectId,
@@ -57,7 +59,8 @@ pub enum Error {
         id: ObjectId,
     },
     /// A tree lists a directory that no child of its node has the name of.
-    #[error("the tree {parent_id} has the directory {name:?} ({entry_id}), but the cached tree has no such child")]
+    #[error("the tree {parent_id} has the directory {name:?} ({entry_id}), \
+         but the cached tree has no such child")]
     MissingTreeDirectory {
         /// The id of the node and of its tree.
         parent_id: ObjectId,
@@ -67,7 +70,8 @@ pub enum Error {
         name: BString,
     },
     /// A tree lists another number of directories than its node has children.
-    #[error("the tree {oid} has {expected_childcount} directories, but {actual_childcount} children in the cached tree")]
+    #[error("the tree {oid} has {expected_childcount} directories, \
+         but {actual_childcount} children in the cached tree")]
     TreeNodeChildcountMismatch {
         /// The id of the node and of its tree.
         oid: ObjectId,
@@ -77,7 +81,8 @@ pub enum Error {
         actual_childcount: usize,
     },
     /// A node counts more entries than the index has.
-    #[error("the tree {name:?} of the cached tree counts {actual} entries, but the index has {expected}")]
+    #[error("the tree {name:?} of the cached tree counts {actual} entries, \
+         but the index has {expected}")]
     EntriesCountExceedsIndex {
         /// The node's name; the root has none.
         name: BString,

@@ -63,9 +63,7 @@ impl Find for Store {
 pub fn store_of(words: &mut Words<'_>) -> Result<Store, Fault> {
     let alloc = words.alloc();
     let mut objects = Vec::new(alloc);
-    for _ in 0..256 {
-        objects.push(Object::Absent)?;
-    }
+    objects.resize_with(256, || Object::Absent)?;
     for item in &items_of(alloc, words.list()?)? {
         put(alloc, &mut objects, item)?;
     }

@@ -77,9 +77,14 @@ fn nodes(out: &mut Lines, tree: &Tree) {
             None => write!(out, "-"),
         }
         writeln!(out, ":{}:{}", it.children.len(), ShortId(it.id));
-        for child in it.children.iter().rev() {
-            out.note(left.push(child));
-        }
+        push_children(out, &mut left, it);
+    }
+}
+
+/// Puts the children of a node on the nodes that are left, the last one first.
+fn push_children<'a>(out: &mut Lines, left: &mut Vec<&'a Tree>, it: &'a Tree) {
+    for child in it.children.iter().rev() {
+        out.note(left.push(child));
     }
 }
 

@@ -10,9 +10,9 @@ use Rattle.index_parts.proofs.Steps.{bind_some, guard_some}
 use Rattle.index_parts.specs.ReadingSteps.{◌>>=◌, split_at_byte, offset_at}
 use Rattle.index_parts.specs.declared.hash.Kind.{Kind}
 use Rattle.index_entries.specs.Entry.{record_of, IsEntry4, joined_path, CanStrip}
-use Rattle.index_entries.specs.EntrySteps.{HeadValues, IsLong, values_of, record_from, head_at, shared_of, entry4_at}
+use Rattle.index_entries.specs.EntrySteps.{HeadValues, IsLong, record_from, head_at, shared_of, entry4_at}
 use Rattle.index_entries.specs.Record.{Record}
-use Rattle.index_entries.proofs.Pieces.{head_takes, head_again, head_long}
+use Rattle.index_entries.proofs.Pieces.{head_takes, head_again, head_long, values_of}
 
 -- ---- an entry of version 4
 

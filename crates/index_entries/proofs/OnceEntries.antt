@@ -7,11 +7,11 @@ use Rattle.index_parts.specs.declared.hash.Kind.{Kind}
 use Rattle.index_entries.specs.declared.Version.{Version}
 use Rattle.index_entries.specs.declared.Version.TheVariants.{V2, V3, V4}
 use Rattle.index_entries.specs.Entries.{AreEntries, LacksEntry, last_path}
-use Rattle.index_entries.specs.EntrySteps.{HeadValues, values_of, record_from}
+use Rattle.index_entries.specs.EntrySteps.{HeadValues, record_from}
 use Rattle.index_entries.specs.Entry.{record_of, IsEntry23, IsEntry4, IsEntry}
 use Rattle.index_entries.specs.Record.{Record}
 use Rattle.index_entries.proofs.Deltas.{entry4_again, kept_from}
-use Rattle.index_entries.proofs.Pieces.{entry_again}
+use Rattle.index_entries.proofs.Pieces.{entry_again, values_of}
 
 -- ---- one entry
 

@@ -12,8 +12,11 @@ use Rattle.index_parts.specs.Id.{id_len}
 use Rattle.index_parts.specs.ReadingSteps.{◌>>=◌, piece_at, split_at_byte}
 use Rattle.index_parts.specs.declared.hash.Kind.{Kind}
 use Rattle.index_entries.specs.Entry.{EntryHead, head_bytes, length_field, IsSecondWord, IsEntryHead, IsPath, IsEntry23}
-use Rattle.index_entries.specs.EntrySteps.{HeadValues, IsLong, values_of, record_from, second_at, head_at, path_at, entry23_at}
+use Rattle.index_entries.specs.EntrySteps.{HeadValues, IsLong, record_from, second_at, head_at, path_at, entry23_at}
 use Rattle.index_entries.specs.Record.{Record}
+
+abbrev pub values_of : EntryHead → HeadValues
+values_of f = record { numbers = f.numbers; id = f.id; flags = be f.word; extended = be f.second }
 
 -- ---- the second word
 

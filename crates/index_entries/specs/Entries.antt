@@ -8,7 +8,8 @@ use Rattle.index_entries.specs.Record.{Record}
 -- records one after another, and the rest; previous is the path before them, if one is
 abbrev pub AreEntries : Version → Kind → Option (List ℕ) → List ℕ → List Record → List ℕ → Type 0
 AreEntries version kind previous bytes [] rest = bytes ≡ rest
-AreEntries version kind previous bytes (r ∷ rs) rest = (after : List ℕ) × IsEntry version kind previous bytes r after × AreEntries version kind (Some r.path) after rs rest
+AreEntries version kind previous bytes (r ∷ rs) rest =
+    (after : List ℕ) × IsEntry version kind previous bytes r after × AreEntries version kind (Some r.path) after rs rest
 
 -- the path of the last record, or the one before them all
 abbrev pub last_path : Option (List ℕ) → List Record → Option (List ℕ)

@@ -23,7 +23,8 @@ head_bytes f = f.numbers ++ (f.id ++ (f.word ++ f.second))
 
 -- a second word stands exactly where bit 14 of the first is set, and has no bit but 13 and 14
 abbrev pub IsSecondWord : ℕ → List ℕ → Type 0
-IsSecondWord word second = MatchBool (is_extended word) ((length second ≡ 2) × (bit_and (be second) 0x6000 ≡ be second)) (second ≡ [])
+IsSecondWord word second =
+    MatchBool (is_extended word) ((length second ≡ 2) × (bit_and (be second) 0x6000 ≡ be second)) (second ≡ [])
 
 pub record IsEntryHead (kind : Kind) (f : EntryHead) : Type 0 where
   pub numbers : length f.numbers ≡ 40
@@ -47,7 +48,8 @@ length_field f = bit_and (be f.word) 0xfff
 
 -- The length field is the path's length. Where it is full, the path has no NUL, and one follows it.
 abbrev pub IsPath : ℕ → List ℕ → List ℕ → Type 0
-IsPath field path after = MatchBool (field == 0xfff) ((rest : List ℕ) × IsUpTo 0 (path ++ after) path rest) (length path ≡ field)
+IsPath field path after =
+    MatchBool (field == 0xfff) ((rest : List ℕ) × IsUpTo 0 (path ++ after) path rest) (length path ≡ field)
 
 -- An entry of version 2 or 3 at the front of bytes: 1 to 8 bytes of any value fill it up to a multiple of 8.
 pub record IsEntry23 (kind : Kind) (bytes : List ℕ) (r : Record) (rest : List ℕ) : Type 0 where
@@ -72,7 +74,8 @@ CanStrip None n = Unit {0}
 CanStrip (Some previous) n = n ≤ length previous
 
 -- An entry of version 4 at the front of bytes: an offset number of bytes to take off, and a tail up to a NUL.
-pub record IsEntry4 (kind : Kind) (previous : Option (List ℕ)) (bytes : List ℕ) (r : Record) (rest : List ℕ) : Type 0 where
+pub record IsEntry4 (kind : Kind) (previous : Option (List ℕ)) (bytes : List ℕ) (r : Record) (rest : List ℕ)
+    : Type 0 where
   pub head : EntryHead
   pub is_head : IsEntryHead kind head
   pub after : List ℕ

@@ -55,7 +55,9 @@ entry_bytes r = unpadded r ++ padding (length (unpadded r))
 -- own that follow, and a NUL
 unfoldable pub delta_bytes : List ℕ → Record → List ℕ
 delta_bytes previous r =
-    head_bytes (head_of r) ++ (offset_bytes (length previous - shared_len previous r.path) ++ (drop (shared_len previous r.path) r.path ++ 0 ∷ []))
+    head_bytes (head_of r) ++
+    (offset_bytes (length previous - shared_len previous r.path) ++
+    (drop (shared_len previous r.path) r.path ++ 0 ∷ []))
 
 -- an entry of a version behind a path, which makes a difference in version 4 alone
 abbrev pub entry_in : Version → List ℕ → Record → List ℕ

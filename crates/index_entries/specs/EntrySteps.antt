@@ -18,9 +18,6 @@ pub record HeadValues : Type 0 where
   pub flags : ℕ
   pub extended : ℕ
 
-abbrev pub values_of : EntryHead → HeadValues
-values_of f = record { numbers = f.numbers; id = f.id; flags = be f.word; extended = be f.second }
-
 -- the record of an entry with these values and this path; the mode is the seventh number
 abbrev pub record_from : Kind → HeadValues → List ℕ → Record
 record_from kind v path = record {

@@ -37,6 +37,8 @@ version_or_fault n (Some version) = Ok version
 -- the version, or the first fault of the header: its length with that of a trailer, its signature, its version
 abbrev pub header_of : Kind → List ℕ → Result Version HeaderFault
 header_of kind bytes =
-    if nat_lt (length bytes) (header_len + id_len kind) then Err (Corrupt (codes "File is too small even for header with zero entries and smallest hash"))
-    else (if starts_with nat_eq bytes signature then version_or_fault (version_number bytes) (version_of (version_number bytes))
+    if nat_lt (length bytes) (header_len + id_len kind)
+    then Err (Corrupt (codes "File is too small even for header with zero entries and smallest hash"))
+    else (if starts_with nat_eq bytes signature
+    then version_or_fault (version_number bytes) (version_of (version_number bytes))
     else Err (Corrupt (codes "Signature mismatch - this doesn't claim to be a header file")))

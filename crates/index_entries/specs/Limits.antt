@@ -35,7 +35,8 @@ average_delta_len = 80
 
 -- how many bytes the paths of so many entries may take
 abbrev pub path_estimate : ℕ → ℕ → Option ℕ → Kind → Version → ℕ
-path_estimate count len offset kind V4 = min (block_len len offset kind - count * (fixed_len kind + 2)) (average_delta_len * count)
+path_estimate count len offset kind V4 =
+    min (block_len len offset kind - count * (fixed_len kind + 2)) (average_delta_len * count)
 path_estimate count len offset kind version = block_len len offset kind - count * fixed_len kind
 
 -- what an entry is counted as
@@ -44,4 +45,5 @@ entry_cost = 96
 
 -- the entries, or the estimate of their paths, pass the limit
 abbrev pub is_too_large : Option ℕ → ℕ → ℕ → Option ℕ → Kind → Version → Bool
-is_too_large limit count len offset kind version = not (is_within limit (entry_cost * count)) || not (is_within limit (path_estimate count len offset kind version))
+is_too_large limit count len offset kind version =
+    not (is_within limit (entry_cost * count)) || not (is_within limit (path_estimate count len offset kind version))

@@ -19,7 +19,14 @@ pub record Record : Type 0 where
 
 -- the record of an entry whose path lies in this storage
 abbrev pub record_in : List ℕ → Entry → Record
-record_in storage e = record { path = slice_range storage e.path.start e.path.end; stat = e.stat; id = e.id; flags = e.flags.0; mode = e.mode.0 }
+record_in storage e =
+    record {
+      path = slice_range storage e.path.start e.path.end;
+      stat = e.stat;
+      id = e.id;
+      flags = e.flags.0;
+      mode = e.mode.0;
+    }
 
 abbrev pub records_in : List ℕ → List Entry → List Record
 records_in storage entries = map (record_in storage) entries
@@ -35,7 +42,8 @@ with_path path e = record { path = path; stat = e.stat; id = e.id; flags = e.fla
 
 -- the entry of these parts, whose path is the bytes of a storage from one place up to another
 abbrev pub made_entry : Pathless → ℕ → ℕ → Entry
-made_entry e start end = record { stat = e.stat; id = e.id; flags = e.flags; mode = e.mode; path = record { start = start; end = end } }
+made_entry e start end =
+    record { stat = e.stat; id = e.id; flags = e.flags; mode = e.mode; path = record { start = start; end = end } }
 
 -- each entry's id is of this kind
 abbrev pub IdsAreOf : Kind → List Entry → Type 0

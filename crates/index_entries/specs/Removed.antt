@@ -15,8 +15,11 @@ pub record Call : Type 0 where
   pub after : Entry
 
 -- the closure was called with the place, the path and the entry, and gave the answer
-abbrev pub IsCalled : {F : Type 0} → (F → ℕ → Bor (List ℕ) → MutBor Entry → Bool → MutBor Entry → F → Type 0) → List ℕ → F → Call → F → Type 0
-IsCalled step storage f c g = (p : Bor (List ℕ)) × (e : MutBor Entry) × (e' : MutBor Entry) × (p.now ≡ (record_in storage c.before).path) × (e.now ≡ c.before) × (e'.now ≡ c.after) × step f c.place p e c.is_removed e' g
+abbrev pub IsCalled : {F : Type 0} → (F → ℕ → Bor (List ℕ) → MutBor Entry → Bool → MutBor Entry → F → Type 0) → List ℕ
+    → F → Call → F → Type 0
+IsCalled step storage f c g =
+    (p : Bor (List ℕ)) × (e : MutBor Entry) × (e' : MutBor Entry) × (p.now ≡ (record_in storage c.before).path)
+    × (e.now ≡ c.before) × (e'.now ≡ c.after) × step f c.place p e c.is_removed e' g
 
 -- Every entry was shown one time, first to last, with the place that it has in the old list. Those that were not to go
 -- are left, in the same order and as the closure left them.
@@ -26,7 +29,8 @@ pub record RemovesBy (calls : List Call) (old new : List Entry) : Type 0 where
   pub retained : new ≡ map (λ c. c.after) (filter (λ c. not c.is_removed) calls)
 
 -- the calls from one state of the closure to another, with what they leave of the entries
-pub record RemovesWith {F : Type 0} (step : F → ℕ → Bor (List ℕ) → MutBor Entry → Bool → MutBor Entry → F → Type 0) (storage : List ℕ) (first : F) (old : List Entry) (last : F) (new : List Entry) : Type 0 where
+pub record RemovesWith {F : Type 0} (step : F → ℕ → Bor (List ℕ) → MutBor Entry → Bool → MutBor Entry → F → Type 0)
+    (storage : List ℕ) (first : F) (old : List Entry) (last : F) (new : List Entry) : Type 0 where
   pub calls : List Call
   pub ran : FoldsTo (λ f c g. IsCalled step storage f c g) first calls last
   pub left : RemovesBy calls old new
@@ -42,7 +46,14 @@ Answered = Bool × (MutBor Entry × Unit {0})
 
 -- the record of the entry and the path that a call is shown
 abbrev pub shown_record : Shown → Record
-shown_record a = record { path = a.1.0.now; stat = a.1.1.0.now.stat; id = a.1.1.0.now.id; flags = a.1.1.0.now.flags.0; mode = a.1.1.0.now.mode.0 }
+shown_record a =
+    record {
+      path = a.1.0.now;
+      stat = a.1.1.0.now.stat;
+      id = a.1.1.0.now.id;
+      flags = a.1.1.0.now.flags.0;
+      mode = a.1.1.0.now.mode.0;
+    }
 
 -- the entries are the same, but for their flags
 abbrev pub IsSameButFlags : Entry → Entry → Type 0

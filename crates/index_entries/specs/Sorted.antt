@@ -33,7 +33,8 @@ is_before_by storage by a b = is_below_or (record_cmp (record_in storage a) (rec
 
 -- Where each call of the closure answers by an order, entries of the same path and stage stand in that order, and those
 -- that it doesn't tell apart stand as they stood.
-abbrev pub TiesFollow : {F : Type 0} → Mut F (Bor Entry × (Bor Entry × Unit {0})) Ordering → F → List ℕ → List Entry → List Entry → Type 0
+abbrev pub TiesFollow : {F : Type 0} → Mut F (Bor Entry × (Bor Entry × Unit {0})) Ordering → F → List ℕ → List Entry
+    → List Entry → Type 0
 TiesFollow g f storage old new = (by : Entry → Entry → Bool) → IsStrictWeakOrder by → ComparesAs g by f
     → IsSortedBy (is_before_by storage by) new × IsStableBy (is_before_by storage by) old new
 
@@ -56,5 +57,7 @@ IsOrElse Greater asks f r g = (r ≡ Greater) × (g ≡ f)
 
 -- Where an entry stands to another: by path, by stage, and then as a call of the closure answers. No public clause
 -- cites it.
-abbrev pub AsksThird : {F : Type 0} → (F → Bor Entry → Bor Entry → Ordering → F → Type 0) → List ℕ → F → Bor Entry → Bor Entry → Ordering → F → Type 0
-AsksThird step storage f a b r g = IsOrElse (record_cmp (record_in storage a.now) (record_in storage b.now)) (step f a b) f r g
+abbrev pub AsksThird : {F : Type 0} → (F → Bor Entry → Bor Entry → Ordering → F → Type 0) → List ℕ → F → Bor Entry
+    → Bor Entry → Ordering → F → Type 0
+AsksThird step storage f a b r g =
+    IsOrElse (record_cmp (record_in storage a.now) (record_in storage b.now)) (step f a b) f r g

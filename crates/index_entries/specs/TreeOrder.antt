@@ -22,9 +22,12 @@ pub record IsGitOrdered (es : List TreeEntry) : Type 0 where
 -- list
 pub data IsReached (find : ObjectId → Found) (kind : Kind) (root : ObjectId) : ObjectId → Type 0 where
   itself : IsReached find kind root root
-  listed : (id : ObjectId) (bytes : List ℕ) (es : List TreeEntry) (e : TreeEntry) → IsReached find kind root id → find id ≡ object objects.Tree bytes → IsTreeObject kind bytes es
+  listed : (id : ObjectId) (bytes : List ℕ) (es : List TreeEntry) (e : TreeEntry) → IsReached find kind root id
+      → find id ≡ object objects.Tree bytes → IsTreeObject kind bytes es
       → Contains es e → IsTrue (is_tree_mode e.mode) → IsReached find kind root e.id
 
 -- each tree among them is in git's order
 abbrev pub AreGitOrdered : (ObjectId → Found) → Kind → ObjectId → Type 0
-AreGitOrdered find kind root = (id : ObjectId) (bytes : List ℕ) (es : List TreeEntry) → IsReached find kind root id → find id ≡ object objects.Tree bytes → IsTreeObject kind bytes es → IsGitOrdered es
+AreGitOrdered find kind root =
+    (id : ObjectId) (bytes : List ℕ) (es : List TreeEntry) → IsReached find kind root id
+    → find id ≡ object objects.Tree bytes → IsTreeObject kind bytes es → IsGitOrdered es

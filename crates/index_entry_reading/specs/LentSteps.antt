@@ -1,5 +1,5 @@
--- What the struct that lends the front of an entry stands for (gitformat-index, "Index entry"). Public clauses cite none
--- of these.
+-- What the struct that lends the front of an entry stands for (gitformat-index, "Index entry"). Public clauses cite
+-- none of these.
 use Rattle.index_entry_reading.specs.declared.entry.EntryHead.{EntryHead as LentHead}
 use Rattle.index_entries.specs.EntrySteps.{HeadValues}
 

@@ -36,7 +36,7 @@ heads_one bytes xs ys h k = ap (λ (items : List Item). digest Sha1 (heads items
 
 -- ---- the pieces of bytes with a marker, behind so many others: its offset, the bytes from there to the marker, and its digest
 
-pub record HasMarker (front : ℕ) (bytes : List ℕ) (x : ℕ × List ℕ × List ℕ) : Type 0 where
+pub record HasMarker (skipped : ℕ) (bytes : List ℕ) (x : ℕ × List ℕ × List ℕ) : Type 0 where
   pub before : List ℕ
   pub offset : List ℕ
   pub trailer : List ℕ
@@ -44,9 +44,9 @@ pub record HasMarker (front : ℕ) (bytes : List ℕ) (x : ℕ × List ℕ × Li
   pub offset_len : length offset ≡ 4
   pub hash_len : length x.2 ≡ 20
   pub trailer_len : length trailer ≡ 20
-  pub is_offset : be offset ≡ front + length before
-  pub behind_header : 12 ≤ front + length before
-  pub place_is : x.0 ≡ front + length before
+  pub is_offset : be offset ≡ skipped + length before
+  pub behind_header : 12 ≤ skipped + length before
+  pub place_is : x.0 ≡ skipped + length before
 
 starts_whole : (l s : List ℕ) → length l ≡ length s → starts_with eqb l s ≡ true → l ≡ s
 starts_whole l s n e =
@@ -60,27 +60,27 @@ four_guards false true true v o y e = absurd cc
 four_guards false true false true o y e = absurd cc
 four_guards false true false false o y e = (refl, refl, refl, refl, e)
 
-pub marker_takes : (front : ℕ) (bytes : List ℕ) (x : ℕ × List ℕ × List ℕ) → marker_at front bytes ≡ Some x → HasMarker front bytes x
+pub marker_takes : (skipped : ℕ) (bytes : List ℕ) (x : ℕ × List ℕ × List ℕ) → marker_at skipped bytes ≡ Some x → HasMarker skipped bytes x
 unfolding marker_at
-marker_takes front bytes x e =
+marker_takes skipped bytes x e =
     let n = length bytes - 52 in
     let end = ending_of bytes in
     let before = take n bytes in
     let off = offset_in end in
     let behind = drop 4 (drop 8 end) in
-    let g = four_guards (ltb (length bytes) 52) (starts_with eqb (take 8 end) marker_start) (ltb off 12) (ltb off front) (piece_at (off - front) before >>= λ before. Some (off, before.1, take 20 behind)) x e in
-    let b = bind_some (piece_at (off - front) before) (λ before. Some (off, before.1, take 20 behind)) x g.4 in
-    let p = piece_takes (off - front) before b.0 b.1 in
+    let g = four_guards (ltb (length bytes) 52) (starts_with eqb (take 8 end) marker_start) (ltb off 12) (ltb off skipped) (piece_at (off - skipped) before >>= λ before. Some (off, before.1, take 20 behind)) x e in
+    let b = bind_some (piece_at (off - skipped) before) (λ before. Some (off, before.1, take 20 behind)) x g.4 in
+    let p = piece_takes (off - skipped) before b.0 b.1 in
     let long : 52 ≤ length bytes = ltb-false _ _ g.0 in
     let header : 12 ≤ off = ltb-false _ _ g.2 in
-    let reached : front ≤ off = ltb-false _ _ g.3 in
-    let place : off ≡ front + length b.0.0 = omega (arith, p.1, reached) in
+    let reached : skipped ≤ off = ltb-false _ _ g.3 in
+    let place : off ≡ skipped + length b.0.0 = omega (arith, p.1, reached) in
     let end_len : length end ≡ 52 = omega (arith, length-drop n bytes) in
     let start : take 8 end ≡ marker_start = starts_whole (take 8 end) marker_start (omega (arith, length-take 8 end)) g.1 in
     let ends : end ≡ marker_start ++ (take 4 (drop 8 end) ++ (take 20 behind ++ drop 20 behind)) =
     sym (take-append-drop 8 end) ∙ ap (λ (l : List ℕ). l ++ drop 8 end) start ∙ ap (λ (l : List ℕ). marker_start ++ l) (sym (take-append-drop 4 (drop 8 end)) ∙ ap (λ (l : List ℕ). take 4 (drop 8 end) ++ l) (sym (take-append-drop 20 behind))) in
     let whole : bytes ≡ b.0.0 ++ (b.0.1 ++ end) = sym (take-append-drop n bytes) ∙ ap (λ (l : List ℕ). l ++ end) p.0 ∙ append_assoc b.0.0 b.0.1 end in
-    let found : HasMarker front bytes (off, b.0.1, take 20 behind) = record {
+    let found : HasMarker skipped bytes (off, b.0.1, take 20 behind) = record {
       before = b.0.0;
       offset = take 4 (drop 8 end);
       trailer = drop 20 behind;
@@ -92,11 +92,11 @@ marker_takes front bytes x e =
       behind_header = omega (arith, place, header);
       place_is = place;
     } in
-    subst (λ (y : ℕ × List ℕ × List ℕ). HasMarker front bytes y) (same_Some (off, b.0.1, take 20 behind) x b.2) found
+    subst (λ (y : ℕ × List ℕ × List ℕ). HasMarker skipped bytes y) (same_Some (off, b.0.1, take 20 behind) x b.2) found
 
-pub marker_again : (front : ℕ) (bytes : List ℕ) (x : ℕ × List ℕ × List ℕ) → HasMarker front bytes x → marker_at front bytes ≡ Some x
+pub marker_again : (skipped : ℕ) (bytes : List ℕ) (x : ℕ × List ℕ × List ℕ) → HasMarker skipped bytes x → marker_at skipped bytes ≡ Some x
 unfolding marker_at
-marker_again front bytes x h =
+marker_again skipped bytes x h =
     let between = x.1 in
     let tail = h.offset ++ (x.2 ++ h.trailer) in
     let end = marker_start ++ tail in
@@ -106,18 +106,18 @@ marker_again front bytes x h =
     let n : length bytes - 52 ≡ length (h.before ++ between) = omega arith in
     let ends : drop (length bytes - 52) bytes ≡ end = ap (λ (k : ℕ). drop k bytes) n ∙ ap (drop (length (h.before ++ between))) whole ∙ drop_at (h.before ++ between) end (length (h.before ++ between)) refl in
     let before : take (length bytes - 52) bytes ≡ h.before ++ between = ap (λ (k : ℕ). take k bytes) n ∙ ap (take (length (h.before ++ between))) whole ∙ take_at (h.before ++ between) end (length (h.before ++ between)) refl in
-    let off : be (take 4 tail) ≡ front + length h.before = ap be (take_at h.offset (x.2 ++ h.trailer) 4 h.offset_len) ∙ h.is_offset in
+    let off : be (take 4 tail) ≡ skipped + length h.before = ap be (take_at h.offset (x.2 ++ h.trailer) 4 h.offset_len) ∙ h.is_offset in
     let hash : take 20 (drop 4 tail) ≡ x.2 = ap (take 20) (drop_at h.offset (x.2 ++ h.trailer) 4 h.offset_len) ∙ take_at x.2 h.trailer 20 h.hash_len in
     let one : ltb (length bytes) 52 ≡ false = le-ltb _ _ (omega arith) in
-    let three : ltb (front + length h.before) 12 ≡ false = le-ltb _ _ h.behind_header in
-    let four : ltb (front + length h.before) front ≡ false = le-ltb _ _ (omega arith) in
-    let left : front + length h.before - front ≡ length h.before = omega arith in
+    let three : ltb (skipped + length h.before) 12 ≡ false = le-ltb _ _ h.behind_header in
+    let four : ltb (skipped + length h.before) skipped ≡ false = le-ltb _ _ (omega arith) in
+    let left : skipped + length h.before - skipped ≡ length h.before = omega arith in
     rw (one, ends, before, off, hash, three, four, left, piece_again (length h.before) h.before between refl, h.place_is) refl
 
 -- a marker of the last bytes is one of all, and one of all bytes that names a place among the last is one of those
-has_whole : (before rest : List ℕ) (front : ℕ) (x : ℕ × List ℕ × List ℕ) → length before ≡ front → HasMarker front rest x → HasMarker 0 (before ++ rest) x
-has_whole before rest front x len h =
-    let more : length (before ++ h.before) ≡ front + length h.before = omega (arith, length-append before h.before, len) in
+has_whole : (before rest : List ℕ) (skipped : ℕ) (x : ℕ × List ℕ × List ℕ) → length before ≡ skipped → HasMarker skipped rest x → HasMarker 0 (before ++ rest) x
+has_whole before rest skipped x len h =
+    let more : length (before ++ h.before) ≡ skipped + length h.before = omega (arith, length-append before h.before, len) in
     record {
       before = before ++ h.before;
       offset = h.offset;
@@ -131,15 +131,15 @@ has_whole before rest front x len h =
       place_is = omega (arith, h.place_is, more);
     }
 
-has_rest : (before rest : List ℕ) (front : ℕ) (x : ℕ × List ℕ × List ℕ) → length before ≡ front → front ≤ x.0 → HasMarker 0 (before ++ rest) x → HasMarker front rest x
-has_rest before rest front x len le h =
-    let within : front ≤ length h.before = omega (arith, h.place_is, le) in
-    let less : front + length (drop front h.before) ≡ length h.before = omega (arith, length-drop front h.before, within) in
+has_rest : (before rest : List ℕ) (skipped : ℕ) (x : ℕ × List ℕ × List ℕ) → length before ≡ skipped → skipped ≤ x.0 → HasMarker 0 (before ++ rest) x → HasMarker skipped rest x
+has_rest before rest skipped x len le h =
+    let within : skipped ≤ length h.before = omega (arith, h.place_is, le) in
+    let less : skipped + length (drop skipped h.before) ≡ length h.before = omega (arith, length-drop skipped h.before, within) in
     record {
-      before = drop front h.before;
+      before = drop skipped h.before;
       offset = h.offset;
       trailer = h.trailer;
-      parts = sym (drop_at before rest front len) ∙ ap (drop front) h.parts ∙ drop-append-le front h.before _ within;
+      parts = sym (drop_at before rest skipped len) ∙ ap (drop skipped) h.parts ∙ drop-append-le skipped h.before _ within;
       offset_len = h.offset_len;
       hash_len = h.hash_len;
       trailer_len = h.trailer_len;
@@ -161,29 +161,29 @@ marked_of bytes x m first others items e = record { before = m.before; between =
 
 -- ---- what is read of the last bytes says of all of them
 
-module _ (before rest : List ℕ) (front : ℕ) (len : length before ≡ front) where
-  pub marked_from : (x : ℕ × List ℕ × List ℕ) → marker_at front rest ≡ Some x → (first : Item) (others : List Item) → AreItems x.1 (first ∷ others) [] → x.2 ≡ digest Sha1 (heads (first ∷ others)) → EndsInMarker Sha1 (before ++ rest) x.0
-  marked_from x e = marked_of (before ++ rest) x (has_whole before rest front x len (marker_takes front rest x e))
+module _ (before rest : List ℕ) (skipped : ℕ) (len : length before ≡ skipped) where
+  pub marked_from : (x : ℕ × List ℕ × List ℕ) → marker_at skipped rest ≡ Some x → (first : Item) (others : List Item) → AreItems x.1 (first ∷ others) [] → x.2 ≡ digest Sha1 (heads (first ∷ others)) → EndsInMarker Sha1 (before ++ rest) x.0
+  marked_from x e = marked_of (before ++ rest) x (has_whole before rest skipped x len (marker_takes skipped rest x e))
 
-  reads : (place : ℕ) (h : EndsInMarker Sha1 (before ++ rest) place) → front ≤ place → marker_at front rest ≡ Some (place, h.between, h.hash)
-  reads place h le = marker_again front rest (place, h.between, h.hash) (has_rest before rest front (place, h.between, h.hash) len le (marked_has (before ++ rest) place h))
+  reads : (place : ℕ) (h : EndsInMarker Sha1 (before ++ rest) place) → skipped ≤ place → marker_at skipped rest ≡ Some (place, h.between, h.hash)
+  reads place h le = marker_again skipped rest (place, h.between, h.hash) (has_rest before rest skipped (place, h.between, h.hash) len le (marked_has (before ++ rest) place h))
 
   -- what a marker says of the pieces that were read
-  pub marked_same : (place : ℕ) (x : ℕ × List ℕ × List ℕ) → EndsInMarker Sha1 (before ++ rest) place → front ≤ place → marker_at front rest ≡ Some x
+  pub marked_same : (place : ℕ) (x : ℕ × List ℕ × List ℕ) → EndsInMarker Sha1 (before ++ rest) place → skipped ≤ place → marker_at skipped rest ≡ Some x
       → (first : Item) × (others : List Item) × AreItems x.1 (first ∷ others) [] × (x.2 ≡ digest Sha1 (heads (first ∷ others))) × (x.0 ≡ place)
   marked_same place x h le e =
       let same : ◌≡◌ {A = ℕ × List ℕ × List ℕ} (place, h.between, h.hash) x = same_Some (place, h.between, h.hash) x (sym (reads place h le) ∙ e) in
       subst (λ (y : ℕ × List ℕ × List ℕ). (first : Item) × (others : List Item) × AreItems y.1 (first ∷ others) [] × (y.2 ≡ digest Sha1 (heads (first ∷ others))) × (y.0 ≡ place)) same (h.first, h.others, h.items, h.is_digest, refl)
 
-  pub marked_none : (kind : Kind) (place : ℕ) → marker_at front rest ≡ None → front ≤ place → EndsInMarker kind (before ++ rest) place → ⊥
+  pub marked_none : (kind : Kind) (place : ℕ) → marker_at skipped rest ≡ None → skipped ≤ place → EndsInMarker kind (before ++ rest) place → ⊥
   marked_none kind place e le h =
       let m = marked_sha1 kind (before ++ rest) place h in
       absurd (cc (reads place m le, e))
 
-  pub marked_items : (kind : Kind) (place : ℕ) (x : ℕ × List ℕ × List ℕ) → marker_at front rest ≡ Some x → ((first : Item) (others : List Item) → AreItems x.1 (first ∷ others) [] → ⊥) → front ≤ place → EndsInMarker kind (before ++ rest) place → ⊥
+  pub marked_items : (kind : Kind) (place : ℕ) (x : ℕ × List ℕ × List ℕ) → marker_at skipped rest ≡ Some x → ((first : Item) (others : List Item) → AreItems x.1 (first ∷ others) [] → ⊥) → skipped ≤ place → EndsInMarker kind (before ++ rest) place → ⊥
   marked_items kind place x e none le h = let m = marked_same place x (marked_sha1 kind (before ++ rest) place h) le e in none m.0 m.1 m.2
 
-  pub marked_digest : (kind : Kind) (place : ℕ) (x : ℕ × List ℕ × List ℕ) (first : Item) (others : List Item) → marker_at front rest ≡ Some x → AreItems x.1 (first ∷ others) [] → (digest Sha1 (heads (first ∷ others)) ≡ x.2 → ⊥) → front ≤ place → EndsInMarker kind (before ++ rest) place → ⊥
+  pub marked_digest : (kind : Kind) (place : ℕ) (x : ℕ × List ℕ × List ℕ) (first : Item) (others : List Item) → marker_at skipped rest ≡ Some x → AreItems x.1 (first ∷ others) [] → (digest Sha1 (heads (first ∷ others)) ≡ x.2 → ⊥) → skipped ≤ place → EndsInMarker kind (before ++ rest) place → ⊥
   marked_digest kind place x first others e items other le h =
       let m = marked_same place x (marked_sha1 kind (before ++ rest) place h) le e in
       other (heads_one x.1 (first ∷ others) (m.0 ∷ m.1) items m.2 ∙ sym m.3)

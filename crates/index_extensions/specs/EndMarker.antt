@@ -12,8 +12,8 @@ use Rattle.index_extensions.specs.Walk.{Item, AreItems}
 abbrev pub heads : List Item → List ℕ
 heads items = flat_map (λ i. i.signature ++ i.size) items
 
--- A file of SHA-1 ends in whole extensions, one or more, the marker, and the trailer. The marker has the size 24, the offset at
--- which the extensions begin, and the digest of their signatures and sizes.
+-- A file of SHA-1 ends in whole extensions, one or more, the marker, and the trailer. The marker has the size 24, the
+-- offset at which the extensions begin, and the digest of their signatures and sizes.
 pub record EndsInMarker (kind : Kind) (bytes : List ℕ) (place : ℕ) : Type 0 where
   pub before : List ℕ
   pub between : List ℕ

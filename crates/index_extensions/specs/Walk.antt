@@ -52,10 +52,13 @@ pub record TakesItem (before : Cursor) (signature content : List ℕ) (after : C
   pub is_item : IsItem before.rest (record { signature = signature; size = size; content = content }) after.rest
   pub counted : after.consumed ≡ (before.consumed + 8 + length content) % 2 ^ 64
 
--- No whole extension begins: fewer than eight bytes stay, and a head that declares too much is counted, with nothing left behind it.
+-- No whole extension begins: fewer than eight bytes stay, and a head that declares too much is counted, with nothing
+-- left behind it.
 pub record Stops (before after : Cursor) : Type 0 where
   pub ended : NoItem before.rest
-  pub leaves : MatchBool (nat_lt (length before.rest) 8) ((after.rest ≡ before.rest) × (after.consumed ≡ before.consumed)) ((after.rest ≡ []) × (after.consumed ≡ (before.consumed + 8) % 2 ^ 64))
+  pub leaves : MatchBool (nat_lt (length before.rest) 8)
+      ((after.rest ≡ before.rest) × (after.consumed ≡ before.consumed))
+      ((after.rest ≡ []) × (after.consumed ≡ (before.consumed + 8) % 2 ^ 64))
 
 -- what a step answers, an extension's signature and content or nothing, and where it leaves the iterator
 abbrev pub Steps : Cursor → Option (List ℕ × List ℕ) → Cursor → Type 0

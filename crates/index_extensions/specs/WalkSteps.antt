@@ -27,14 +27,14 @@ marker_start = codes "EOIE" ++ (0 ∷ 0 ∷ 0 ∷ 24 ∷ [])
 abbrev pub offset_in : List ℕ → ℕ
 offset_in ending = be (take 4 (drop 8 ending))
 
--- a marker's offset, the bytes from there to the marker, and its digest, in a file of which the last bytes are at hand, behind so
--- many others
+-- a marker's offset, the bytes from there to the marker, and its digest, in a file of which the last bytes are at hand,
+-- behind so many that are skipped
 unfoldable pub marker_at : ℕ → List ℕ → Option (ℕ × List ℕ × List ℕ)
-marker_at front bytes =
+marker_at skipped bytes =
     if nat_lt (length bytes) 52 then None
     else (if starts_with nat_eq (take 8 (ending_of bytes)) marker_start then
     (if nat_lt (offset_in (ending_of bytes)) 12 then None
-    else (if nat_lt (offset_in (ending_of bytes)) front then None
-    else (piece_at (offset_in (ending_of bytes) - front) (take (length bytes - 52) bytes) >>= λ pieces.
+    else (if nat_lt (offset_in (ending_of bytes)) skipped then None
+    else (piece_at (offset_in (ending_of bytes) - skipped) (take (length bytes - 52) bytes) >>= λ pieces.
     Some (offset_in (ending_of bytes), pieces.1, take 20 (drop 4 (drop 8 (ending_of bytes)))))))
     else None)

@@ -57,16 +57,16 @@ pub fn decode(data: &[u8], object_hash: Kind) -> Option<usize>
 
 /// The same of a file of which the last bytes are at hand, behind so many others. None also where the marker names a
 /// place among those.
-pub fn decode_behind(front: usize, rest: &[u8], object_hash: Kind) -> Option<usize>
-    ensures found { IfSome result (λ place. (before : List ℕ) → length before ≡ front
+pub fn decode_behind(skipped: usize, rest: &[u8], object_hash: Kind) -> Option<usize>
+    ensures found { IfSome result (λ place. (before : List ℕ) → length before ≡ skipped
         → EndsInMarker object_hash (before ++ rest.now) place) }
-    ensures none { IfNone result ((before : List ℕ) (place : ℕ) → length before ≡ front
-        → front ≤ place → EndsInMarker object_hash (before ++ rest.now) place → ⊥) }
+    ensures none { IfNone result ((before : List ℕ) (place : ℕ) → length before ≡ skipped
+        → skipped ≤ place → EndsInMarker object_hash (before ++ rest.now) place → ⊥) }
 {
     if object_hash != Kind::Sha1 {
         return None;
     }
-    let marker = marker_of(front, rest)?;
+    let marker = marker_of(skipped, rest)?;
     let id = digest_of_heads(marker.between)?;
     if id.as_bytes() != marker.hash {
         return None;
@@ -74,11 +74,11 @@ pub fn decode_behind(front: usize, rest: &[u8], object_hash: Kind) -> Option<usi
     Some(marker.offset)
 }
 
-/// The marker before the trailer of a SHA-1 file, of which so many bytes at the front aren't at hand.
+/// The marker before the trailer of a SHA-1 file, of which so many bytes at the start aren't at hand.
 #[tactic(auto, unfolding(crate::specs::WalkSteps::marker_at))]
-fn marker_of(front: usize, bytes: &[u8]) -> Option<Marker<'_>>
+fn marker_of(skipped: usize, bytes: &[u8]) -> Option<Marker<'_>>
     ensures { option_map (λ m. (m.offset, m.between.now, m.hash.now)) result
-        ≡ marker_at front bytes.now }
+        ≡ marker_at skipped bytes.now }
 {
     if bytes.len() < MARKER_AND_TRAILER {
         return None;
@@ -93,10 +93,10 @@ fn marker_of(front: usize, bytes: &[u8]) -> Option<Marker<'_>>
     if offset < HEADER_LEN {
         return None;
     }
-    if offset < front {
+    if offset < skipped {
         return None;
     }
-    let (_, between) = before.split_at_checked(offset - front)?;
+    let (_, between) = before.split_at_checked(offset - skipped)?;
     let (hash, _) = rest.split_at(20);
     Some(Marker {
         offset,
@@ -139,7 +139,7 @@ fn digest_of_pairs(object_hash: Kind, prior_extensions: &[(Signature, u32)]) -> 
 }
 
 /// The twelve bytes before the digest of a marker.
-fn marker_front(object_hash: Kind, offset: u32) -> [u8; 12]
+fn before_digest(object_hash: Kind, offset: u32) -> [u8; 12]
     ensures { result ≡ codes "EOIE" ++ (be32 (4 + id_len object_hash) ++ be32 offset) }
 {
     let [a, b, c, d] = (4 + object_hash.len_in_bytes() as u32).to_be_bytes();
@@ -170,7 +170,7 @@ pub fn write_to<W: Out>(
         (heads_bytes prior_extensions.now))) }
 {
     let id = digest_of_pairs(object_hash, prior_extensions);
-    let front = marker_front(object_hash, offset_to_extensions);
-    let pieces = two(&front, id.as_bytes());
+    let start = before_digest(object_hash, offset_to_extensions);
+    let pieces = two(&start, id.as_bytes());
     out.put_each(&pieces)
 }

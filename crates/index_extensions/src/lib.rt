@@ -1,5 +1,5 @@
-//! What all extensions of a git index file have in common: the walk over them, the end marker and the sparse mark
-//! (gitformat-index, "Extensions").
+//! What all extensions of a git index file have in common: the walk over them, the end marker and the extension of
+//! a sparse index (gitformat-index, "Extensions").
 #![tactic(auto)]
 
 pub mod end_of_index_entry;

@@ -1,4 +1,4 @@
-//! The mark of an index with entries for whole directories (gitformat-index, "Sparse Directory Entries").
+//! The extension of an index with entries for whole directories (gitformat-index, "Sparse Directory Entries").
 
 ghost use Rattle.std.specs.Prelude.{◌≡◌, false, is_err};
 ghost use Rattle.index_parts.specs.Puts.{Puts};
@@ -11,7 +11,7 @@ use std::io;
 /// The signature. The content is empty.
 pub const SIGNATURE: Signature = *b"sdir";
 
-/// Writes the mark, which has no content (gitformat-index, "Sparse Directory Entries").
+/// Writes the extension, which has no content (gitformat-index, "Sparse Directory Entries").
 ///
 /// An error comes only where the writer failed, which then took a prefix of the bytes. No memory is taken.
 pub fn write_to<W: Out>(out: &mut W) -> io::Result<()>

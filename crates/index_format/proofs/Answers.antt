@@ -111,9 +111,9 @@ answer_from kind time options bytes version offset r h marked n m =
     body_late kind time options version (count_of bytes) (drop 12 bytes) f early (counted_back _ _ _ _ _ n m at))
 
 -- what follows the entries, where they stand
-pub body_from : (kind : Kind) (time : FileTime) (options : Options) (version : Version) (count : ℕ) (bytes : List ℕ) (rs : List Record) (rest : List ℕ) (r : Result (Parts × Option ObjectId) Error) → AreEntries version kind None bytes rs rest → length rs ≡ count
+pub behind_from : (kind : Kind) (time : FileTime) (options : Options) (version : Version) (count : ℕ) (bytes : List ℕ) (rs : List Record) (rest : List ℕ) (r : Result (Parts × Option ObjectId) Error) → AreEntries version kind None bytes rs rest → length rs ≡ count
     → Says parts_contents r (IsEnding kind time options version rs rest) → Says parts_contents r (IsBehindHeader kind time options version count bytes)
-body_from kind time options version count bytes rs rest r read n =
+behind_from kind time options version count bytes rs rest r read n =
     says_weaker r (IsEnding kind time options version rs rest) (IsBehindHeader kind time options version count bytes) (λ a e. has rs rest read n e) (body_late kind time options version count bytes)
 
 -- ---- what follows the entries

@@ -15,8 +15,8 @@ use Rattle.index_format.specs.Outcome.{Outcome, ExtensionFault, IsFirstFault, Ar
 use Rattle.index_entries.specs.Record.{Record, has_directory}
 use Rattle.index_format.specs.Contents.{Contents}
 
--- why bytes are no index, with what a fault names: the entry's place; the expected and the actual length of the trailer;
--- the trailer and the expected id
+-- why bytes are no index, with what a fault names: the entry's place; the expected and the actual length of the
+-- trailer; the trailer and the expected id
 pub data Fault : Type 0 where
   Header : HeaderFault → Fault
   OutOfMemory : Fault
@@ -34,7 +34,8 @@ trailer_checksum kind trailer = if is_null trailer then None else Some (make_id 
 
 -- the whole answer, unless there are an expected id and a trailer's, and they differ
 abbrev pub IsVerified : Option ObjectId → Option ObjectId → Answer → Answer → Type 0
-IsVerified (Some expected) (Some actual) whole a = ((actual ≡ expected) × (a ≡ whole)) ⊎ ((actual ≢ expected) × (a ≡ Err (Verify actual expected)))
+IsVerified (Some expected) (Some actual) whole a =
+    ((actual ≡ expected) × (a ≡ whole)) ⊎ ((actual ≢ expected) × (a ≡ Err (Verify actual expected)))
 IsVerified expected actual whole a = a ≡ whole
 
 -- the value of these records and of what the extensions come to
@@ -47,25 +48,39 @@ value_of kind time version rs o = record {
   extensions = record o { sparse = o.sparse || has_directory rs };
 }
 
--- what follows from the extensions, the bytes that their walk leaves, and the trailer: the first fault of an extension, a
--- trailer that isn't alone, or the value
-pub data IsClosed (kind : Kind) (time : FileTime) (options : Options) (version : Version) (rs : List Record) (items : List Item) (tail trailer : List ℕ) (a : Answer) : Type 0 where
-  faulty : (fault : ExtensionFault) → IsFirstFault kind items fault → a ≡ Err (Extension fault) → IsClosed kind time options version rs items tail trailer a
-  left : AreSound kind items → left_of tail ≢ 0 → a ≡ Err (TrailerLength (id_len kind) (left_of tail + id_len kind)) → IsClosed kind time options version rs items tail trailer a
-  whole : (o : Outcome) → AreSound kind items → left_of tail ≡ 0 → IsOutcome kind options.alloc_limit_bytes items o → IsVerified options.expected_checksum (trailer_checksum kind trailer) (Ok (value_of kind time version rs o, trailer_checksum kind trailer)) a → IsClosed kind time options version rs items tail trailer a
+-- what follows from the extensions, the bytes that their walk leaves, and the trailer: the first fault of an extension,
+-- a trailer that isn't alone, or the value
+pub data IsClosed (kind : Kind) (time : FileTime) (options : Options) (version : Version) (rs : List Record)
+    (items : List Item) (tail trailer : List ℕ) (a : Answer) : Type 0 where
+  faulty : (fault : ExtensionFault) → IsFirstFault kind items fault → a ≡ Err (Extension fault)
+      → IsClosed kind time options version rs items tail trailer a
+  left : AreSound kind items → left_of tail ≢ 0 → a ≡ Err (TrailerLength (id_len kind) (left_of tail + id_len kind))
+      → IsClosed kind time options version rs items tail trailer a
+  whole : (o : Outcome) → AreSound kind items → left_of tail ≡ 0 → IsOutcome kind options.alloc_limit_bytes items o
+      → IsVerified options.expected_checksum (trailer_checksum kind trailer)
+      (Ok (value_of kind time version rs o, trailer_checksum kind trailer)) a
+      → IsClosed kind time options version rs items tail trailer a
 
--- what follows from the bytes behind the last entry: they are fewer than a trailer has, or extensions, what their walk leaves, and the trailer
-pub data IsEnding (kind : Kind) (time : FileTime) (options : Options) (version : Version) (rs : List Record) (rest : List ℕ) (a : Answer) : Type 0 where
-  short : length rest < id_len kind → a ≡ Err (TrailerLength (id_len kind) (length rest)) → IsEnding kind time options version rs rest a
-  walked : (extensions trailer : List ℕ) (items : List Item) (tail : List ℕ) → rest ≡ extensions ++ trailer → length trailer ≡ id_len kind → IsWalk extensions items tail → IsClosed kind time options version rs items tail trailer a → IsEnding kind time options version rs rest a
+-- what follows from the bytes behind the last entry: they are fewer than a trailer has, or extensions, what their walk
+-- leaves, and the trailer
+pub data IsEnding (kind : Kind) (time : FileTime) (options : Options) (version : Version) (rs : List Record)
+    (rest : List ℕ) (a : Answer) : Type 0 where
+  short : length rest < id_len kind → a ≡ Err (TrailerLength (id_len kind) (length rest))
+      → IsEnding kind time options version rs rest a
+  walked : (extensions trailer : List ℕ) (items : List Item) (tail : List ℕ) → rest ≡ extensions ++ trailer
+      → length trailer ≡ id_len kind → IsWalk extensions items tail
+      → IsClosed kind time options version rs items tail trailer a → IsEnding kind time options version rs rest a
 
 -- what follows from the bytes behind the header: all entries stand there, or some i-th is the first that doesn't
-pub data IsBehindHeader (kind : Kind) (time : FileTime) (options : Options) (version : Version) (count : ℕ) (bytes : List ℕ) (a : Answer) : Type 0 where
-  lacks : (i : ℕ) → i < count → LacksEntry version kind bytes i → a ≡ Err (NoEntry i) → IsBehindHeader kind time options version count bytes a
-  has : (rs : List Record) (rest : List ℕ) → AreEntries version kind None bytes rs rest → length rs ≡ count → IsEnding kind time options version rs rest a → IsBehindHeader kind time options version count bytes a
+pub data IsBehindHeader (kind : Kind) (time : FileTime) (options : Options) (version : Version) (count : ℕ)
+    (bytes : List ℕ) (a : Answer) : Type 0 where
+  lacks : (i : ℕ) → i < count → LacksEntry version kind bytes i → a ≡ Err (NoEntry i)
+      → IsBehindHeader kind time options version count bytes a
+  has : (rs : List Record) (rest : List ℕ) → AreEntries version kind None bytes rs rest → length rs ≡ count
+      → IsEnding kind time options version rs rest a → IsBehindHeader kind time options version count bytes a
 
--- What follows from all bytes behind a header that stands, with the offset that an end marker names or none: a count that no
--- such file holds, entries that pass the limit, or what the body says.
+-- What follows from all bytes behind a header that stands, with the offset that an end marker names or none: a count
+-- that no such file holds, entries that pass the limit, or what follows the header.
 abbrev pub IsCounted : Option ℕ → Kind → FileTime → Options → List ℕ → Answer → Version → Type 0
 IsCounted offset kind time options bytes a version =
     MatchBool (nat_lt (most_entries (length bytes) offset kind version) (count_of bytes))

@@ -37,7 +37,8 @@ IsEarly (Header fault) = Unit {0}
 IsEarly OutOfMemory = Unit {0}
 IsEarly fault = ⊥
 
--- What an error says of the answer that P holds of. Want of memory says only that no early fault is it; a fault of hashing never comes.
+-- What an error says of the answer that P holds of. Want of memory says only that no early fault is it; a fault of
+-- hashing never comes.
 abbrev pub SaysFault : Error → (Answer → Type 0) → Type 0
 SaysFault (errors.Header e) P = P (Err (Header (header_fault e)))
 SaysFault errors.Hasher P = ⊥

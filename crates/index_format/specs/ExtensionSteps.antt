@@ -1,4 +1,4 @@
--- What one extension adds to what is kept of those before it, and what the loop over them comes to (gitformat-index,
+-- What one extension adds to what those before it gave, and what the loop over them comes to (gitformat-index,
 -- "Extensions"). Public clauses cite none of these.
 use Rattle.std.specs.Prelude.{◌≡◌, ℕ, ◌+◌, ◌==◌, ◌||◌, true, nat_eq, List, codes, Some, Option, Ok, Err, MatchBool}
 use Rattle.std.specs.Cmp.Lexicographic.{pointwise}
@@ -23,7 +23,8 @@ use Rattle.index_format.specs.declared.error.Error.TheVariants as errors
 
 -- the value of a content with this name; of another the value stays
 abbrev pub Replaces : {A : Type 0} → List ℕ → (List ℕ → A → Type 0) → List ℕ → List ℕ → Option A → Option A → Type 0
-Replaces name Is signature content old new = MatchBool (pointwise nat_eq signature name) (IsRead Is content new) (new ≡ old)
+Replaces name Is signature content old new =
+    MatchBool (pointwise nat_eq signature name) (IsRead Is content new) (new ≡ old)
 
 -- what an extension with this signature and content changes
 pub record Adds (kind : Kind) (limit : Option ℕ) (signature content : List ℕ) (old new : Outcome) : Type 0 where
@@ -50,7 +51,8 @@ pub record IsGathered (kind : Kind) (limit : Option ℕ) (bytes : List ℕ) (o :
 abbrev pub IsTaken : Kind → FileTime → Options → Version → List Record → Outcome → ℕ → List ℕ → Answer → Type 0
 IsTaken kind time options version rs o count trailer a =
     MatchBool (count == 0)
-    (IsVerified options.expected_checksum (trailer_checksum kind trailer) (Ok (value_of kind time version rs o, trailer_checksum kind trailer)) a)
+    (IsVerified options.expected_checksum (trailer_checksum kind trailer)
+    (Ok (value_of kind time version rs o, trailer_checksum kind trailer)) a)
     (a ≡ Err (TrailerLength (id_len kind) (count + id_len kind)))
 
 -- among the extensions of bytes this is the first fault
@@ -62,12 +64,14 @@ pub record HasExtensionFault (kind : Kind) (bytes : List ℕ) (fault : Extension
 
 -- what an error of one extension says: its fault, or want of memory
 abbrev pub SaysItem : Kind → Item → Error → Type 0
-SaysItem kind i (errors.Extension e) = (fault : ExtensionFault) × (extension_fault e ≡ Some fault) × IsFault kind i fault
+SaysItem kind i (errors.Extension e) =
+    (fault : ExtensionFault) × (extension_fault e ≡ Some fault) × IsFault kind i fault
 SaysItem kind i errors.Memory = Unit {0}
 SaysItem kind i e = ⊥
 
 -- what an error of the loop over the extensions says: the first fault, or want of memory
 abbrev pub SaysExtension : Kind → List ℕ → Error → Type 0
-SaysExtension kind bytes (errors.Extension e) = (fault : ExtensionFault) × (extension_fault e ≡ Some fault) × HasExtensionFault kind bytes fault
+SaysExtension kind bytes (errors.Extension e) =
+    (fault : ExtensionFault) × (extension_fault e ≡ Some fault) × HasExtensionFault kind bytes fault
 SaysExtension kind bytes errors.Memory = Unit {0}
 SaysExtension kind bytes e = ⊥

@@ -37,7 +37,8 @@ entries_end v options = header_len + length (entries_bytes v options)
 abbrev pub asks_for : Extensions → List ℕ → Bool
 asks_for extensions.All signature = true
 asks_for (extensions.Given tree marker) signature =
-    if pointwise nat_eq signature (codes "TREE") then tree else if pointwise nat_eq signature (codes "EOIE") then marker else false
+    if pointwise nat_eq signature (codes "TREE") then tree else if pointwise nat_eq signature (codes "EOIE") then marker
+    else false
 asks_for extensions.None signature = false
 
 -- the cached tree, where there is one and it is asked for
@@ -46,28 +47,33 @@ tree_items true (Some t) = tree_item t ∷ []
 tree_items true None = []
 tree_items false t = []
 
--- the mark of a sparse index, which no option leaves out
+-- the extension of a sparse index, which no option leaves out
 abbrev pub sparse_items : Bool → List Item
 sparse_items sparse = if sparse then sparse_item ∷ [] else []
 
 -- all extensions before the end marker
 unfoldable pub items_of : Contents → Options → List Item
-items_of v options = tree_items (asks_for options.extensions (codes "TREE")) v.extensions.tree ++ sparse_items v.extensions.sparse
+items_of v options =
+    tree_items (asks_for options.extensions (codes "TREE")) v.extensions.tree ++ sparse_items v.extensions.sparse
 
 -- an end marker comes behind other extensions, where there are entries, written or left out, and it is asked for
 abbrev pub has_marker : Contents → Options → Bool
-has_marker v options = not (length v.records == 0) && (asks_for options.extensions (codes "EOIE") && not (length (items_of v options) == 0))
+has_marker v options =
+    not (length v.records == 0) &&
+    (asks_for options.extensions (codes "EOIE") && not (length (items_of v options) == 0))
 
 -- it names the place behind the entries
 abbrev pub marker_of : Contents → Options → List Item
-marker_of v options = if has_marker v options then marker_item v.kind (entries_end v options) (heads (items_of v options)) ∷ [] else []
+marker_of v options =
+    if has_marker v options then marker_item v.kind (entries_end v options) (heads (items_of v options)) ∷ [] else []
 
 -- ---- the file
 
 -- all that stands before the end marker
 unfoldable pub unmarked : Contents → Options → List ℕ
 unmarked v options =
-    header_bytes (image_version v options) (length (written v.records)) ++ (entries_bytes v options ++ flat_map item_bytes (items_of v options))
+    header_bytes (image_version v options) (length (written v.records)) ++
+    (entries_bytes v options ++ flat_map item_bytes (items_of v options))
 
 -- all that stands before the trailer
 unfoldable pub body : Contents → Options → List ℕ

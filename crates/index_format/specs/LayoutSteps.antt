@@ -14,7 +14,8 @@ use Rattle.index_format.specs.Contents.{Contents}
 
 -- the header and the entries
 abbrev pub header_and_entries : Contents → Options → List ℕ
-header_and_entries v options = header_bytes (image_version v options) (length (written v.records)) ++ entries_bytes v options
+header_and_entries v options =
+    header_bytes (image_version v options) (length (written v.records)) ++ entries_bytes v options
 
 -- the cached tree, where there is one and it is asked for
 abbrev pub asked_tree : Contents → Options → Option Node
@@ -24,10 +25,12 @@ asked_tree v options = if asks_for options.extensions (codes "TREE") then v.exte
 abbrev pub wants_marker : Contents → Options → Bool
 wants_marker v options = not (length v.records == 0) && asks_for options.extensions (codes "EOIE")
 
--- the end marker behind a tree of this length and the mark of a sparse index; nothing behind none of them
+-- the end marker behind a tree of this length and the extension of a sparse index; nothing behind none of them
 abbrev pub marker_behind : Kind → ℕ → Option ℕ → Bool → List ℕ
-marker_behind kind offset (Some len) true = item_bytes (marker_item kind offset (heads_bytes ((codes "TREE", len) ∷ (codes "sdir", 0) ∷ [])))
-marker_behind kind offset (Some len) false = item_bytes (marker_item kind offset (heads_bytes ((codes "TREE", len) ∷ [])))
+marker_behind kind offset (Some len) true =
+    item_bytes (marker_item kind offset (heads_bytes ((codes "TREE", len) ∷ (codes "sdir", 0) ∷ [])))
+marker_behind kind offset (Some len) false =
+    item_bytes (marker_item kind offset (heads_bytes ((codes "TREE", len) ∷ [])))
 marker_behind kind offset None true = item_bytes (marker_item kind offset (heads_bytes ((codes "sdir", 0) ∷ [])))
 marker_behind kind offset None false = []
 
@@ -36,7 +39,7 @@ abbrev pub tree_len : Option ℕ → ℕ
 tree_len None = 0
 tree_len (Some len) = 8 + len
 
--- the bytes of the mark of a sparse index, where it is one
+-- the bytes of the extension of a sparse index, where it is one
 abbrev pub sparse_len : Bool → ℕ
 sparse_len true = 8
 sparse_len false = 0
@@ -50,8 +53,10 @@ len_within_32 (Some n) = option_map Some (within_32 n)
 abbrev pub asked_len : Contents → Options → Option ℕ
 asked_len v options = option_map (λ t. length (node_bytes t)) (asked_tree v options)
 
--- the version, the number of entries, the place behind them, and the length of the tree's content; all before the end marker fits 32 bits
-pub record IsLayout (version : Version) (count end : ℕ) (tree : Option ℕ) (v : Contents) (options : Options) : Type 0 where
+-- the version, the number of entries, the place behind them, and the length of the tree's content; all before the end
+-- marker fits 32 bits
+pub record IsLayout (version : Version) (count end : ℕ) (tree : Option ℕ) (v : Contents) (options : Options)
+    : Type 0 where
   pub is_version : version ≡ image_version v options
   pub is_count : count ≡ length (written v.records)
   pub is_end : end ≡ entries_end v options

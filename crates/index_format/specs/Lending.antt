@@ -1,4 +1,5 @@
--- What is lent of an index in memory, to be changed in place: what it ends as, once the loan is over (the library's own).
+-- What is lent of an index in memory, to be changed in place: what it ends as, once the loan is over (the library's
+-- own).
 use Rattle.std.specs.Prelude.{ℕ, List, Option, Some}
 use Rattle.std.specs.Borrow.{Lends, LendsIf, MutBor, Fml, Array}
 use Rattle.std.specs.Vec.{with_item, with_items}
@@ -11,11 +12,12 @@ use Rattle.index_format.specs.contracts.Parts as parts
 use Rattle.index_format.specs.declared.extension.Outcome.{Outcome}
 use Rattle.index_format.specs.contracts.extension.Outcome as outcome
 
--- what is kept of the extensions ends with the last cached tree behind the loan, if one is lent; all else stays
+-- what a state has of the extensions ends with the last cached tree behind the loan, if one is lent; all else stays
 abbrev pub LendsOwnTree : MutBor Outcome → Option (MutBor Tree) → Fml
 LendsOwnTree o r = LendsIf outcome.the_row tree.the_row o r (λ t. record o.now { tree = Some t }) o.now
 
--- the parts with these entries, as many as there are, with another entry at a place, or with this cached tree; all else stays
+-- the parts with these entries, as many as there are, with another entry at a place, or with this cached tree; all else
+-- stays
 abbrev pub parts_with_entries : Parts → List Entry → Parts
 parts_with_entries p entries = record p { entries = with_items p.entries entries }
 
@@ -25,7 +27,8 @@ parts_with_entry_at p i e = record p { entries = with_item p.entries i e }
 abbrev pub parts_with_tree : Parts → Tree → Parts
 parts_with_tree p t = record p { extensions = record p.extensions { tree = Some t } }
 
--- the parts end with the last entries behind the loan, with the last entry at a place, or with the last cached tree, if one is lent
+-- the parts end with the last entries behind the loan, with the last entry at a place, or with the last cached tree, if
+-- one is lent
 abbrev pub LendsPartsEntries : MutBor Parts → MutBor (List Entry) → Fml
 LendsPartsEntries p r = Lends parts.the_row (Array entry.the_row 0) p r (parts_with_entries p.now)
 

@@ -23,15 +23,17 @@ abbrev pub is_mandatory : List ℕ → Bool
 is_mandatory [] = false
 is_mandatory (b ∷ signature) = nat_le 97 b && nat_le b 122
 
--- of the mandatory ones a link is understood, and the mark of a sparse index, which has no content
+-- of the mandatory ones a link is understood, and that of a sparse index, which has no content
 abbrev pub is_understood : List ℕ → List ℕ → Bool
 is_understood signature content =
-    not (is_mandatory signature) || (pointwise nat_eq signature (codes "link") || (pointwise nat_eq signature (codes "sdir") && length content == 0))
+    not (is_mandatory signature) ||
+    (pointwise nat_eq signature (codes "link") || (pointwise nat_eq signature (codes "sdir") && length content == 0))
 
 -- the item has this fault
 pub data IsFault (kind : Kind) (i : Item) (fault : ExtensionFault) : Type 0 where
   unknown : is_understood i.signature i.content ≡ false → fault ≡ Unimplemented i.signature → IsFault kind i fault
-  broken_link : (f : LinkFault) → is_named (codes "link") i ≡ true → IsLinkFault kind i.content f → fault ≡ Link f → IsFault kind i fault
+  broken_link : (f : LinkFault) → is_named (codes "link") i ≡ true → IsLinkFault kind i.content f → fault ≡ Link f
+      → IsFault kind i fault
 
 -- no item has a fault
 abbrev pub AreSound : Kind → List Item → Type 0
@@ -46,7 +48,7 @@ pub record IsFirstFault (kind : Kind) (items : List Item) (fault : ExtensionFaul
   pub sound : AreSound kind before
   pub is_fault : IsFault kind item fault
 
--- what is kept of the extensions
+-- what a state has of the extensions
 pub record Outcome : Type 0 where
   pub tree : Option Node
   pub link : Option LinkValue
@@ -72,7 +74,17 @@ outcome_of o = record {
 
 -- what no extensions come to
 abbrev pub no_extension : Outcome
-no_extension = record { tree = None; link = None; resolve_undo = None; untracked = None; fs_monitor = None; sparse = false; had_end_marker = false; had_offset_table = false }
+no_extension =
+    record {
+      tree = None;
+      link = None;
+      resolve_undo = None;
+      untracked = None;
+      fs_monitor = None;
+      sparse = false;
+      had_end_marker = false;
+      had_offset_table = false;
+    }
 
 -- of several extensions with one signature the last counts, also where it is malformed
 pub record IsOutcome (kind : Kind) (limit : Option ℕ) (items : List Item) (o : Outcome) : Type 0 where

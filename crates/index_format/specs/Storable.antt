@@ -12,8 +12,9 @@ use Rattle.index_format.specs.declared.write.Options.{Options}
 use Rattle.index_format.specs.Image.{has_marker, image, unmarked}
 use Rattle.index_format.specs.Contents.{Contents}
 
--- The ids of all entries, also of those that a file leaves out, are of the value's kind, and all numbers fit their bits. A path
--- that the length field can't count has no NUL. The cached tree, where there is one, is such that bytes can hold it.
+-- The ids of all entries, also of those that a file leaves out, are of the value's kind, and all numbers fit their
+-- bits. A path that the length field can't count has no NUL. The cached tree, where there is one, is such that bytes
+-- can hold it.
 pub record IsStorable (v : Contents) : Type 0 where
   pub ids : All (λ r. id_kind r.id ≡ v.kind) v.records
   pub paths : All (λ r. 4095 ≤ length r.path → All (λ b. b ≢ 0) r.path) v.records

@@ -11,12 +11,13 @@ use Rattle.index_format.specs.declared.write.Options.{Options}
 use Rattle.index_format.specs.Image.{asks_for, has_marker, image_version}
 use Rattle.index_format.specs.Contents.{Contents}
 
--- what is kept of the cached tree, where it is asked for
+-- what is stored of the cached tree, where it is asked for
 abbrev pub stored_tree : Kind → Bool → Option Node → Option Node
 stored_tree kind true tree = option_map (stored_node kind) tree
 stored_tree kind false tree = None
 
--- What a file keeps: the kind, the records, the sparse mark, the cached tree. Time, version and the two marks are no part of it, and stay.
+-- What a file stores: the kind, the records, whether the index is sparse, and the cached tree. Time, version, and
+-- whether there were an end marker and an offset table are no part of it, and stay.
 abbrev pub stored : Contents → Options → Contents
 stored v options = record v {
   records = stored_records v.records;

@@ -17,14 +17,16 @@ Fails taken failed old new errors.TooManyEntries bytes = new ≡ old
 Fails taken failed old new errors.NulInPath bytes = new ≡ old
 Fails taken failed old new errors.TooLarge bytes = new ≡ old
 
--- an Ok took the bytes whole, and the writer bears no mark
+-- an Ok took the bytes whole, and the writer has not failed
 abbrev pub Writes : {S T : Type 0} → (S → Option (List ℕ)) → (S → Bool) → S → S → Result T Error → List ℕ → Type 0
 Writes taken failed old new r bytes =
-    MatchResult r (λ _. Appends (taken old) (taken new) bytes × (failed new ≡ false)) (λ e. Fails taken failed old new e bytes)
+    MatchResult r (λ _. Appends (taken old) (taken new) bytes × (failed new ≡ false))
+    (λ e. Fails taken failed old new e bytes)
 
 -- when a value is refused with each error: each comes where those before it don't; a writer's fault is no refusal
 abbrev pub RefusedWith : Contents → Options → Error → Type 0
 RefusedWith v options errors.TooManyEntries = 2 ^ 32 ≤ length v.records
 RefusedWith v options errors.NulInPath = (length v.records < 2 ^ 32) × (CanEncode options.version v → ⊥)
-RefusedWith v options errors.TooLarge = (length v.records < 2 ^ 32) × CanEncode options.version v × (2 ^ 32 ≤ length (unmarked v options))
+RefusedWith v options errors.TooLarge =
+    (length v.records < 2 ^ 32) × CanEncode options.version v × (2 ^ 32 ≤ length (unmarked v options))
 RefusedWith v options (errors.Io e) = ⊥

@@ -65,7 +65,8 @@ impl fmt::Display for Refused {
                 let [a, b, c, d] = self.0;
                 write!(
                     f,
-                    "the mandatory extension with the signature {a:02x} {b:02x} {c:02x} {d:02x} isn't supported"
+                    "the mandatory extension with the signature \
+                     {a:02x} {b:02x} {c:02x} {d:02x} isn't supported"
                 )
             }
         }
@@ -103,7 +104,8 @@ pub enum Error {
     },
     /// The trailer differs from `expected_checksum` of the options. Where a whole file is checked before it is read,
     /// the digest of its bytes differs from its trailer: there `actual` is the digest, and `expected` the trailer.
-    #[error("the index's digest is {actual} and not {expected}: the file may be damaged, have ids of the other kind, or be no index")]
+    #[error("the index's digest is {actual} and not {expected}: the file may be damaged, \
+         have ids of the other kind, or be no index")]
     Verify {
         /// The trailer, or the digest.
         actual: ObjectId,

@@ -1,4 +1,4 @@
-//! What is kept of the extensions behind the last entry.
+//! What a state has of the extensions behind the last entry.
 
 ghost use Rattle.std.specs.Borrow.{sem};
 ghost use Rattle.std.specs.Option.{option_copied_mut};
@@ -13,7 +13,7 @@ use index_split::link::Link;
 use index_untracked::UntrackedCache;
 use std::alloc::AllocError;
 
-/// What is kept of the extensions.
+/// What a state has of the extensions.
 #[derive(Drop)]
 pub struct Outcome {
     /// The cached tree.

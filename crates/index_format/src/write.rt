@@ -16,7 +16,7 @@ pub enum Extensions {
     /// All that the state has.
     #[default]
     All,
-    /// Those that are marked here.
+    /// Those that are chosen here.
     Given {
         /// The cached tree, where the state has one.
         tree_cache: bool,

@@ -15,26 +15,26 @@ use Rattle.index_parts.specs.declared.hash.ObjectId.TheVariants as ids
 use Rattle.index_objects.specs.declared.object.tree.EntryKind.{EntryKind}
 use Rattle.index_objects.specs.declared.object.tree.EntryKind.TheVariants as kinds
 use Rattle.index_tree_writer.specs.Directory.{Item, Items, leaf, directory, no_more, next, IsName, IsItem, AreItems, content, directory_bytes, item_bytes}
-use Rattle.index_tree_writer.specs.Objects.{mode_text, entry_bytes, tree_id, tree_message}
+use Rattle.index_tree_writer.specs.Objects.{tree_mode_text, tree_entry_bytes, tree_id, tree_message}
 
 -- ---- modes
 
 octal_digits : (text : List ℕ) → AllByRecursion IsOctalDigit text → All IsOctalDigit text
 octal_digits text h = All-from_recursion IsOctalDigit text h
 
-text_digits : (k : EntryKind) → AllByRecursion IsOctalDigit (mode_text k)
+text_digits : (k : EntryKind) → AllByRecursion IsOctalDigit (tree_mode_text k)
 text_digits kinds.Tree = search rules
 text_digits kinds.Blob = search rules
 text_digits kinds.BlobExecutable = search rules
 text_digits kinds.Link = search rules
 text_digits kinds.Commit = search rules
 
-pub mode_is : (k : EntryKind) → IsOctal (mode_text k) (mode_of_kind k)
-mode_is kinds.Tree = record { some = λ e. absurd cc; digits = octal_digits (mode_text kinds.Tree) (text_digits kinds.Tree); value = refl; fits = omega arith }
-mode_is kinds.Blob = record { some = λ e. absurd cc; digits = octal_digits (mode_text kinds.Blob) (text_digits kinds.Blob); value = refl; fits = omega arith }
-mode_is kinds.BlobExecutable = record { some = λ e. absurd cc; digits = octal_digits (mode_text kinds.BlobExecutable) (text_digits kinds.BlobExecutable); value = refl; fits = omega arith }
-mode_is kinds.Link = record { some = λ e. absurd cc; digits = octal_digits (mode_text kinds.Link) (text_digits kinds.Link); value = refl; fits = omega arith }
-mode_is kinds.Commit = record { some = λ e. absurd cc; digits = octal_digits (mode_text kinds.Commit) (text_digits kinds.Commit); value = refl; fits = omega arith }
+pub mode_is : (k : EntryKind) → IsOctal (tree_mode_text k) (mode_of_kind k)
+mode_is kinds.Tree = record { some = λ e. absurd cc; digits = octal_digits (tree_mode_text kinds.Tree) (text_digits kinds.Tree); value = refl; fits = omega arith }
+mode_is kinds.Blob = record { some = λ e. absurd cc; digits = octal_digits (tree_mode_text kinds.Blob) (text_digits kinds.Blob); value = refl; fits = omega arith }
+mode_is kinds.BlobExecutable = record { some = λ e. absurd cc; digits = octal_digits (tree_mode_text kinds.BlobExecutable) (text_digits kinds.BlobExecutable); value = refl; fits = omega arith }
+mode_is kinds.Link = record { some = λ e. absurd cc; digits = octal_digits (tree_mode_text kinds.Link) (text_digits kinds.Link); value = refl; fits = omega arith }
+mode_is kinds.Commit = record { some = λ e. absurd cc; digits = octal_digits (tree_mode_text kinds.Commit) (text_digits kinds.Commit); value = refl; fits = omega arith }
 
 mode_fits : (k : EntryKind) → mode_of_kind k < 2 ^ 16
 mode_fits kinds.Tree = omega arith
@@ -77,11 +77,11 @@ tree_id_len kind bytes = ap length (made_bytes kind (digest kind (tree_message b
 -- ---- entries
 
 entry_is : (kind : Kind) (name : List ℕ) (k : EntryKind) (id : ObjectId) (rest : List ℕ) → IsName name → id_kind id ≡ kind → length (id_bytes id) ≡ id_len kind
-    → IsTreeEntry kind (entry_bytes name k id ++ rest) (record { mode = mode_of_kind k; name = name; id = id }) rest
+    → IsTreeEntry kind (tree_entry_bytes name k id ++ rest) (record { mode = mode_of_kind k; name = name; id = id }) rest
 entry_is kind name k id rest h of_kind len = record {
-  text = mode_text k;
+  text = tree_mode_text k;
   id = id_bytes id;
-  parts = append_assoc (mode_text k) (32 ∷ (name ++ 0 ∷ id_bytes id)) rest ∙ ap (λ (l : List ℕ). mode_text k ++ 32 ∷ l) (append_assoc name (0 ∷ id_bytes id) rest);
+  parts = append_assoc (tree_mode_text k) (32 ∷ (name ++ 0 ∷ id_bytes id)) rest ∙ ap (λ (l : List ℕ). tree_mode_text k ++ 32 ∷ l) (append_assoc name (0 ∷ id_bytes id) rest);
   is_mode = mode_is k;
   fits = mode_fits k;
   named = h.some;

@@ -18,7 +18,7 @@ use Rattle.index_objects.specs.declared.object.tree.EntryKind.TheVariants as kin
 use Rattle.index_entries.specs.EntryImage.{is_removed}
 use Rattle.index_entries.specs.Order.{path_cmp, record_cmp}
 use Rattle.index_entries.specs.Record.{IsSized, Record}
-use Rattle.index_tree_writer.specs.Refusals.{AreApart, AreFit, Begins, Check, HasFault, HasPath, IsBelow, IsFit, IsInside, IsMerged, IsMisnamed, IsPath, LiesIn, Refusal, Unmerged, Mode, Path, OtherKind, NullId, Both, unmerged, other_mode, misnamed, other_kind, null_id, both}
+use Rattle.index_tree_writer.specs.Refusals.{LieApart, AreFit, BeginsWith, Check, RecordHasFault, HasPath, IsBelow, IsFit, IsInside, IsMergedRecord, IsMisnamed, IsTreePath, LiesIn, Refusal, Unmerged, Mode, Path, OtherKind, NullId, Both, unmerged, other_mode, misnamed, other_kind, null_id, both}
 use Rattle.index_tree_writer.specs.Staged.{Staged, is_intended, staged_entry, staged_in}
 use Rattle.index_tree_writer.specs.declared.error.NameFault.{NameFault}
 use Rattle.index_tree_writer.proofs.Aparts.{begins_from, below_begins, below_or_same, lies_begins, not_after, not_begins, pairs_last}
@@ -28,17 +28,17 @@ use Rattle.index_laws.proofs.TreeNames.{misnamed_one, path_judged, path_not_misn
 
 -- ---- a path that lies in another
 
-begins_judged : (p f : List ℕ) → Begins p f ⊎ (Begins p f → ⊥)
+begins_judged : (p f : List ℕ) → BeginsWith p f ⊎ (BeginsWith p f → ⊥)
 begins_judged p f = by (pointwise eqb f (take (length f) p)) refl
   where
-    by : (r : Bool) → r ≡ pointwise eqb f (take (length f) p) → Begins p f ⊎ (Begins p f → ⊥)
+    by : (r : Bool) → r ≡ pointwise eqb f (take (length f) p) → BeginsWith p f ⊎ (BeginsWith p f → ⊥)
     by true e = inl (begins_from p f true e refl)
     by false e = inr (not_begins p f false e refl)
 
 below_judged : (p f : List ℕ) → IsBelow p f ⊎ (IsBelow p f → ⊥)
 below_judged p f = by (begins_judged p (f ++ 47 ∷ []))
   where
-    by : Begins p (f ++ 47 ∷ []) ⊎ (Begins p (f ++ 47 ∷ []) → ⊥) → IsBelow p f ⊎ (IsBelow p f → ⊥)
+    by : BeginsWith p (f ++ 47 ∷ []) ⊎ (BeginsWith p (f ++ 47 ∷ []) → ⊥) → IsBelow p f ⊎ (IsBelow p f → ⊥)
     by (inl b) = inl (b.0, b.1 ∙ append_assoc f (47 ∷ []) b.0)
     by (inr n) = inr (λ b. n (b.0, b.1 ∙ sym (append_assoc f (47 ∷ []) b.0)))
 
@@ -49,7 +49,7 @@ neither p s n m (inr i) = m i
 lies_judged : (p : List ℕ) (s : Staged) → LiesIn p s ⊎ (LiesIn p s → ⊥)
 lies_judged p s = by (below_judged p s.path) (tree_or_file s.kind) (begins_judged p s.path)
   where
-    by : IsBelow p s.path ⊎ (IsBelow p s.path → ⊥) → (s.kind ≡ kinds.Tree) ⊎ (s.kind ≡ kinds.Tree → ⊥) → Begins p s.path ⊎ (Begins p s.path → ⊥) → LiesIn p s ⊎ (LiesIn p s → ⊥)
+    by : IsBelow p s.path ⊎ (IsBelow p s.path → ⊥) → (s.kind ≡ kinds.Tree) ⊎ (s.kind ≡ kinds.Tree → ⊥) → BeginsWith p s.path ⊎ (BeginsWith p s.path → ⊥) → LiesIn p s ⊎ (LiesIn p s → ⊥)
     by (inl b) t c = inl (inl b)
     by (inr n) (inl t) (inl b) = inl (inr (t, b))
     by (inr n) (inl t) (inr m) = inr (neither p s n (λ i. m i.1))
@@ -93,7 +93,7 @@ prefixes (a ∷ p) (b ∷ q) x y e = by (prefixes p q x y tail)
     by (inr h) = inr (h.0, ap (λ (c : ℕ). c ∷ p) head ∙ ap (λ (l : List ℕ). b ∷ l) h.1)
 
 -- the longer of both is the same
-longer_same : (before : List Staged) → AreApart before → (path : List ℕ) (s t : Staged) (z : List ℕ) → Contains before s → Contains before t → t.path ≡ s.path ++ z → LiesIn path s → LiesIn path t → s.path ≡ t.path
+longer_same : (before : List Staged) → LieApart before → (path : List ℕ) (s t : Staged) (z : List ℕ) → Contains before s → Contains before t → t.path ≡ s.path ++ z → LiesIn path s → LiesIn path t → s.path ≡ t.path
 longer_same before apart path s t z c d e (inr i) m = sym (apart.inside s t c d (i.0, (z, e)))
 longer_same before apart path s t z c d e (inl b) m = by (lies_begins path t m)
   where
@@ -101,10 +101,10 @@ longer_same before apart path s t z c d e (inl b) m = by (lies_begins path t m)
     split (inl same) = sym same
     split (inr below) = absurd (apart.below s t c d below)
 
-    by : Begins path t.path → s.path ≡ t.path
+    by : BeginsWith path t.path → s.path ≡ t.path
     by g = split (below_or_same s.path t.path path z g.0 e g.1 b)
 
-one_file : (before : List Staged) → AreApart before → (path : List ℕ) (s t : Staged) → Contains before s → Contains before t → LiesIn path s → LiesIn path t → s.path ≡ t.path
+one_file : (before : List Staged) → LieApart before → (path : List ℕ) (s t : Staged) → Contains before s → Contains before t → LiesIn path s → LiesIn path t → s.path ≡ t.path
 one_file before apart path s t c d l m =
     let a = lies_begins path s l in
     let b = lies_begins path t m in
@@ -119,7 +119,7 @@ one_file before apart path s t c d l m =
 not_itself : (p : List ℕ) → path_cmp p p ≡ Less → ⊥
 not_itself p e = let tie = tied_itself nat_list_cmp_total p in absurd (cc (tie, e))
 
-module _ (ss : List Staged) (x : Staged) (apart : AreApart ss) (rise : (s : Staged) → Contains ss s → path_cmp s.path x.path ≡ Less) (out : (s : Staged) → Contains ss s → LiesIn x.path s → ⊥) where
+module _ (ss : List Staged) (x : Staged) (apart : LieApart ss) (rise : (s : Staged) → Contains ss s → path_cmp s.path x.path ≡ Less) (out : (s : Staged) → Contains ss s → LiesIn x.path s → ⊥) where
   below_more : (p u : Staged) → Contains (ss ++ x ∷ []) p → Contains (ss ++ x ∷ []) u → IsBelow u.path p.path → ⊥
   below_more p u a b below = by (Contains-push_cases ss x p a) (Contains-push_cases ss x u b)
     where
@@ -138,10 +138,10 @@ module _ (ss : List Staged) (x : Staged) (apart : AreApart ss) (rise : (s : Stag
       by : Contains ss p ⊎ (x ≡ p) → Contains ss u ⊎ (x ≡ u) → u.path ≡ p.path
       by (inl c) (inl d) = apart.inside p u c d inside
       by (inl c) (inr s) = absurd (out p c (inr (subst (λ (y : Staged). IsInside y.path p) (sym s) inside)))
-      by (inr s) (inl d) = absurd (not_after u.path x.path (rise u d) (subst (λ (y : Staged). Begins u.path y.path) (sym s) inside.1))
+      by (inr s) (inl d) = absurd (not_after u.path x.path (rise u d) (subst (λ (y : Staged). BeginsWith u.path y.path) (sym s) inside.1))
       by (inr s) (inr t) = ap (λ (y : Staged). y.path) (sym t ∙ s)
 
-  apart_more : AreApart (ss ++ x ∷ [])
+  apart_more : LieApart (ss ++ x ∷ [])
   apart_more = record { below = below_more; inside = inside_more }
 
 -- ---- what a record stages
@@ -194,19 +194,19 @@ module _ (check : Check) (kind : Kind) where
   -- ---- a record fits by itself, or has a fault wherever it stands
 
   abbrev HasFaultAnywhere : Record → Type 0
-  HasFaultAnywhere r = (f : Refusal) × ((before : List Staged) → HasFault check kind before r f)
+  HasFaultAnywhere r = (f : Refusal) × ((before : List Staged) → RecordHasFault check kind before r f)
 
   module _ (r : Record) (len : length (id_bytes r.id) ≡ id_len (id_kind r.id)) where
-    object_judged : (k : EntryKind) → IsMerged r → HasPath check r k → (id_kind r.id ≡ kind) ⊎ (id_kind r.id ≡ kind → ⊥) → (b : Bool) → is_null (id_bytes r.id) ≡ b → IsFit check kind r ⊎ HasFaultAnywhere r
+    object_judged : (k : EntryKind) → IsMergedRecord r → HasPath check r k → (id_kind r.id ≡ kind) ⊎ (id_kind r.id ≡ kind → ⊥) → (b : Bool) → is_null (id_bytes r.id) ≡ b → IsFit check kind r ⊎ HasFaultAnywhere r
     object_judged k m p (inr o) b e = inr (OtherKind r.path, λ before. other_kind k m p o)
     object_judged k m p (inl s) true e = inr (NullId r.path, λ before. null_id k m p s (λ z. absurd (cc (e, z))))
     object_judged k m p (inl s) false e = inl (λ d. (m.1, (k, p), (s, len ∙ ap id_len s), e))
 
-    path_judged_of : (k : EntryKind) → IsMerged r → named_kind r.mode ≡ Some k → IsPath check 2048 k r.path ⊎ ((f : NameFault) × IsMisnamed check 2048 k r.path f) → IsFit check kind r ⊎ HasFaultAnywhere r
+    path_judged_of : (k : EntryKind) → IsMergedRecord r → named_kind r.mode ≡ Some k → IsTreePath check 2048 k r.path ⊎ ((f : NameFault) × IsMisnamed check 2048 k r.path f) → IsFit check kind r ⊎ HasFaultAnywhere r
     path_judged_of k m n (inr b) = inr (Path r.path b.0, λ before. misnamed k b.0 m n b.1)
     path_judged_of k m n (inl p) = object_judged k m (n, p) (kind_judged (id_kind r.id) kind) (is_null (id_bytes r.id)) refl
 
-    mode_judged : IsMerged r → (o : Option EntryKind) → named_kind r.mode ≡ o → IsFit check kind r ⊎ HasFaultAnywhere r
+    mode_judged : IsMergedRecord r → (o : Option EntryKind) → named_kind r.mode ≡ o → IsFit check kind r ⊎ HasFaultAnywhere r
     mode_judged m None e = inr (Mode r.path r.mode, λ before. other_mode m e)
     mode_judged m (Some k) e = path_judged_of k m e (path_judged check 2048 k r.path)
 
@@ -224,10 +224,10 @@ module _ (check : Check) (kind : Kind) where
     each : All (IsFit check kind) (before ++ r ∷ [])
     each = All-push (IsFit check kind) before r fit.each now
 
-    behind_judged : (b : Bool) → is_removed r.flags ≡ b → AreFit check kind (before ++ r ∷ []) ⊎ ((f : Refusal) × HasFault check kind (staged_in before) r f)
+    behind_judged : (b : Bool) → is_removed r.flags ≡ b → AreFit check kind (before ++ r ∷ []) ⊎ ((f : Refusal) × RecordHasFault check kind (staged_in before) r f)
     behind_judged true e =
         let same : staged_in (before ++ r ∷ []) ≡ staged_in before = staged_more before r None (removed_none r e) ∙ append-nil (staged_in before) in
-        inl (record { each = each; apart = subst AreApart (sym same) fit.apart })
+        inl (record { each = each; apart = subst LieApart (sym same) fit.apart })
     behind_judged false e = by (some_judged r.path (staged_in before))
       where
         k : EntryKind
@@ -239,14 +239,14 @@ module _ (check : Check) (kind : Kind) where
         rise : (s : Staged) → Contains (staged_in before) s → path_cmp s.path r.path ≡ Less
         rise s c = pairs_last (λ s t. path_cmp s.path t.path ≡ Less) (staged_in before) (staged_as r k) s (subst (AllPairs (λ s t. path_cmp s.path t.path ≡ Less)) same (staged_rise check kind (before ++ r ∷ []) rising each)) c
 
-        by : IsInOne r.path (staged_in before) ⊎ ((s : Staged) → Contains (staged_in before) s → LiesIn r.path s → ⊥) → AreFit check kind (before ++ r ∷ []) ⊎ ((f : Refusal) × HasFault check kind (staged_in before) r f)
+        by : IsInOne r.path (staged_in before) ⊎ ((s : Staged) → Contains (staged_in before) s → LiesIn r.path s → ⊥) → AreFit check kind (before ++ r ∷ []) ⊎ ((f : Refusal) × RecordHasFault check kind (staged_in before) r f)
         by (inl l) = inr (Both l.0.path r.path, both l.0 e now l.1 l.2)
-        by (inr n) = inl (record { each = each; apart = subst AreApart (sym same) (apart_more (staged_in before) (staged_as r k) fit.apart rise n) })
+        by (inr n) = inl (record { each = each; apart = subst LieApart (sym same) (apart_more (staged_in before) (staged_as r k) fit.apart rise n) })
 
-  pub next_judged : (before : List Record) (r : Record) → AreFit check kind before → Rising (before ++ r ∷ []) → IsSized r → AreFit check kind (before ++ r ∷ []) ⊎ ((f : Refusal) × HasFault check kind (staged_in before) r f)
+  pub next_judged : (before : List Record) (r : Record) → AreFit check kind before → Rising (before ++ r ∷ []) → IsSized r → AreFit check kind (before ++ r ∷ []) ⊎ ((f : Refusal) × RecordHasFault check kind (staged_in before) r f)
   next_judged before r fit rising sized = by (record_judged r sized.id (is_removed r.flags) refl)
     where
-      by : IsFit check kind r ⊎ HasFaultAnywhere r → AreFit check kind (before ++ r ∷ []) ⊎ ((f : Refusal) × HasFault check kind (staged_in before) r f)
+      by : IsFit check kind r ⊎ HasFaultAnywhere r → AreFit check kind (before ++ r ∷ []) ⊎ ((f : Refusal) × RecordHasFault check kind (staged_in before) r f)
       by (inl now) = behind_judged before r fit rising now (is_removed r.flags) refl
       by (inr f) = inr (f.0, f.1 (staged_in before))
 
@@ -259,13 +259,13 @@ module _ (check : Check) (kind : Kind) where
   one_kind r k j a b = same_Some k j (sym a ∙ b)
 
   named_not_misnamed : (r : Record) (k j : EntryKind) (f : NameFault) → named_kind r.mode ≡ Some k → IsMisnamed check 2048 k r.path f → HasPath check r j → ⊥
-  named_not_misnamed r k j f n h p = path_not_misnamed check 2048 k r.path f (subst (λ (i : EntryKind). IsPath check 2048 i r.path) (sym (one_kind r k j n p.0)) p.1) h
+  named_not_misnamed r k j f n h p = path_not_misnamed check 2048 k r.path f (subst (λ (i : EntryKind). IsTreePath check 2048 i r.path) (sym (one_kind r k j n p.0)) p.1) h
 
   one_name : (r : Record) (k j : EntryKind) (f g : NameFault) → named_kind r.mode ≡ Some k → IsMisnamed check 2048 k r.path f → named_kind r.mode ≡ Some j → IsMisnamed check 2048 j r.path g → f ≡ g
   one_name r k j f g n h m i = misnamed_one check 2048 k r.path f g h (subst (λ (l : EntryKind). IsMisnamed check 2048 l r.path g) (sym (one_kind r k j n m)) i)
 
   -- the fault of a record behind others is one
-  pub fault_one : (before : List Staged) (r : Record) → AreApart before → (f g : Refusal) → HasFault check kind before r f → HasFault check kind before r g → f ≡ g
+  pub fault_one : (before : List Staged) (r : Record) → LieApart before → (f g : Refusal) → RecordHasFault check kind before r f → RecordHasFault check kind before r g → f ≡ g
   fault_one before r apart f g (unmerged a1 b1) (unmerged a2 b2) = refl
   fault_one before r apart f g (unmerged a1 b1) (other_mode m2 n2) = absurd (b1 m2.1)
   fault_one before r apart f g (unmerged a1 b1) (misnamed k2 x2 m2 n2 h2) = absurd (b1 m2.1)
@@ -304,7 +304,7 @@ module _ (check : Check) (kind : Kind) where
   fault_one before r apart f g (both t1 a1 i1 c1 l1) (both t2 a2 i2 c2 l2) = ap (λ (p : List ℕ). Both p r.path) (one_file before apart r.path t1 t2 c1 c2 l1 l2)
 
   -- what fits behind others has none
-  pub fit_no_fault : (before : List Record) (r : Record) (f : Refusal) → AreFit check kind (before ++ r ∷ []) → Rising (before ++ r ∷ []) → HasFault check kind (staged_in before) r f → ⊥
+  pub fit_no_fault : (before : List Record) (r : Record) (f : Refusal) → AreFit check kind (before ++ r ∷ []) → Rising (before ++ r ∷ []) → RecordHasFault check kind (staged_in before) r f → ⊥
   fit_no_fault before r f fit rising h = by f (All-contains (IsFit check kind) (before ++ r ∷ []) r fit.each (Contains-push before r)) h
     where
       lies : IsFit check kind r → is_removed r.flags ≡ false → (s : Staged) → Contains (staged_in before) s → LiesIn r.path s → ⊥
@@ -329,7 +329,7 @@ module _ (check : Check) (kind : Kind) where
           split (inl b) = fit.apart.below s x old new b
           split (inr i) = let e : r.path ≡ s.path = fit.apart.inside s x old new i in not_itself s.path (subst (λ (p : List ℕ). path_cmp s.path p ≡ Less) e rise)
 
-      by : (g : Refusal) → IsFit check kind r → HasFault check kind (staged_in before) r g → ⊥
+      by : (g : Refusal) → IsFit check kind r → RecordHasFault check kind (staged_in before) r g → ⊥
       by g now (unmerged a b) = b (now a).0
       by g now (other_mode m n) = not_named r (now m.0).1.0 n (now m.0).1.1.0
       by g now (misnamed k e m n i) = named_not_misnamed r k (now m.0).1.0 e n i (now m.0).1.1

@@ -8,7 +8,7 @@ use Rattle.index_objects.specs.declared.object.tree.EntryKind.{EntryKind}
 use Rattle.index_objects.specs.declared.object.tree.EntryKind.TheVariants as kinds
 use Rattle.index_objects.specs.NameCheck.{refusal_as}
 use Rattle.index_tree_writer.specs.Directory.{IsName}
-use Rattle.index_tree_writer.specs.Refusals.{Check, IsBadName, IsMisnamed, IsPath, of_file, of_directory, beneath, last_name, some_name, no_slash, deep, later_name}
+use Rattle.index_tree_writer.specs.Refusals.{Check, IsBadName, IsMisnamed, IsTreePath, of_file, of_directory, beneath, last_name, some_name, no_slash, deep, later_name}
 use Rattle.index_tree_writer.specs.declared.error.NameFault.{NameFault}
 use Rattle.index_tree_writer.specs.declared.error.NameFault.TheVariants as faults
 use Rattle.index_tree_writer.proofs.PathNames.{NoSlash, bad_front, first_slash, no_slash_in, path_whole, too_deep}
@@ -107,10 +107,10 @@ one_bad check name k faults.TooDeep g a b = absurd a
 abbrev HasMisnamed : Check → ℕ → EntryKind → List ℕ → Type 0
 HasMisnamed check levels k path = (f : NameFault) × IsMisnamed check levels k path f
 
-last_judged : (check : Check) (levels : ℕ) (k : EntryKind) (path : List ℕ) → NoSlash path → IsPath check levels k path ⊎ HasMisnamed check levels k path
+last_judged : (check : Check) (levels : ℕ) (k : EntryKind) (path : List ℕ) → NoSlash path → IsTreePath check levels k path ⊎ HasMisnamed check levels k path
 last_judged check levels k path h = by (tree_or_file k) (good_or_bad check path k h)
   where
-    by : (k ≡ kinds.Tree) ⊎ (k ≡ kinds.Tree → ⊥) → IsGood check path k ⊎ HasBad check path k → IsPath check levels k path ⊎ HasMisnamed check levels k path
+    by : (k ≡ kinds.Tree) ⊎ (k ≡ kinds.Tree → ⊥) → IsGood check path k ⊎ HasBad check path k → IsTreePath check levels k path ⊎ HasMisnamed check levels k path
     by t (inr b) = inr (b.0, last_name levels k path b.0 h b.1)
     by (inr o) (inl g) = inl (of_file levels k path o g.0 g.1)
     by (inl e) (inl g) =
@@ -118,38 +118,38 @@ last_judged check levels k path h = by (tree_or_file k) (good_or_bad check path 
         inr (faults.NoSlash, subst (λ (j : EntryKind). IsMisnamed check levels j path faults.NoSlash) (sym e) (no_slash levels path g.0 passes))
 
 module _ (check : Check) (k : EntryKind) (path name rest : List ℕ) (e : path ≡ name ++ 47 ∷ rest) (cut : NoSlash name) where
-  top_judged : IsPath check zero k path ⊎ HasMisnamed check zero k path
+  top_judged : IsTreePath check zero k path ⊎ HasMisnamed check zero k path
   top_judged = by (good_or_bad check name kinds.Tree cut)
     where
-      by : IsGood check name kinds.Tree ⊎ HasBad check name kinds.Tree → IsPath check zero k path ⊎ HasMisnamed check zero k path
+      by : IsGood check name kinds.Tree ⊎ HasBad check name kinds.Tree → IsTreePath check zero k path ⊎ HasMisnamed check zero k path
       by (inr b) = inr (b.0, bad_front check k path name rest e zero b.0 cut b.1)
       by (inl g) = inr (faults.TooDeep, too_deep check k path name rest e zero refl g.0 g.1)
 
-  below_judged : (l : ℕ) → IsPath check l k rest ⊎ HasMisnamed check l k rest → IsPath check (suc l) k path ⊎ HasMisnamed check (suc l) k path
+  below_judged : (l : ℕ) → IsTreePath check l k rest ⊎ HasMisnamed check l k rest → IsTreePath check (suc l) k path ⊎ HasMisnamed check (suc l) k path
   below_judged l again = by (good_or_bad check name kinds.Tree cut)
     where
-      later : (k ≢ kinds.Tree) ⊎ (rest ≢ []) → IsGood check name kinds.Tree → IsPath check l k rest ⊎ HasMisnamed check l k rest → IsPath check (suc l) k path ⊎ HasMisnamed check (suc l) k path
-      later o g (inl p) = inl (subst (λ (x : List ℕ). IsPath check (suc l) k x) (sym e) (beneath l k name rest g.0 g.1 p))
+      later : (k ≢ kinds.Tree) ⊎ (rest ≢ []) → IsGood check name kinds.Tree → IsTreePath check l k rest ⊎ HasMisnamed check l k rest → IsTreePath check (suc l) k path ⊎ HasMisnamed check (suc l) k path
+      later o g (inl p) = inl (subst (λ (x : List ℕ). IsTreePath check (suc l) k x) (sym e) (beneath l k name rest g.0 g.1 p))
       later o g (inr b) = inr (b.0, subst (λ (x : List ℕ). IsMisnamed check (suc l) k x b.0) (sym e) (later_name l k name rest b.0 g.0 g.1 o b.1))
 
-      good : (k ≡ kinds.Tree) ⊎ (k ≡ kinds.Tree → ⊥) → (rest ≡ []) ⊎ (rest ≡ [] → ⊥) → IsGood check name kinds.Tree → IsPath check (suc l) k path ⊎ HasMisnamed check (suc l) k path
+      good : (k ≡ kinds.Tree) ⊎ (k ≡ kinds.Tree → ⊥) → (rest ≡ []) ⊎ (rest ≡ [] → ⊥) → IsGood check name kinds.Tree → IsTreePath check (suc l) k path ⊎ HasMisnamed check (suc l) k path
       good (inr o) n g = later (inl o) g again
       good (inl t) (inr n) g = later (inr n) g again
       good (inl t) (inl z) g = inl (path_whole check k path name rest e (suc l) (λ q. absurd (omega (arith, q))) g.0 g.1 t z)
 
-      by : IsGood check name kinds.Tree ⊎ HasBad check name kinds.Tree → IsPath check (suc l) k path ⊎ HasMisnamed check (suc l) k path
+      by : IsGood check name kinds.Tree ⊎ HasBad check name kinds.Tree → IsTreePath check (suc l) k path ⊎ HasMisnamed check (suc l) k path
       by (inr b) = inr (b.0, bad_front check k path name rest e (suc l) b.0 cut b.1)
       by (inl g) = good (tree_or_file k) (none_or_some rest) g
 
-pub path_judged : (check : Check) (levels : ℕ) (k : EntryKind) (path : List ℕ) → IsPath check levels k path ⊎ HasMisnamed check levels k path
+pub path_judged : (check : Check) (levels : ℕ) (k : EntryKind) (path : List ℕ) → IsTreePath check levels k path ⊎ HasMisnamed check levels k path
 path_judged check zero k path = by (cut_path path)
   where
-    by : NoSlash path ⊎ IsCutAt path → IsPath check zero k path ⊎ HasMisnamed check zero k path
+    by : NoSlash path ⊎ IsCutAt path → IsTreePath check zero k path ⊎ HasMisnamed check zero k path
     by (inl h) = last_judged check zero k path h
     by (inr s) = top_judged check k path s.0 s.1 s.3 s.2
 path_judged check (suc l) k path = by (path_judged check l k) (cut_path path)
   where
-    by : ((p : List ℕ) → IsPath check l k p ⊎ HasMisnamed check l k p) → NoSlash path ⊎ IsCutAt path → IsPath check (suc l) k path ⊎ HasMisnamed check (suc l) k path
+    by : ((p : List ℕ) → IsTreePath check l k p ⊎ HasMisnamed check l k p) → NoSlash path ⊎ IsCutAt path → IsTreePath check (suc l) k path ⊎ HasMisnamed check (suc l) k path
     by again (inl h) = last_judged check (suc l) k path h
     by again (inr s) = below_judged check k path s.0 s.1 s.3 s.2 l (again s.1)
 
@@ -223,7 +223,7 @@ misnamed_one check (suc n) k path f g a b = by (λ p. misnamed_one check n k p f
         (fronted check (suc n) k path s.0 s.1 f s.3 s.2 a) (fronted check (suc n) k path s.0 s.1 g s.3 s.2 b)
 
 -- what is made of names has no fault
-pub path_not_misnamed : (check : Check) (levels : ℕ) (k : EntryKind) (path : List ℕ) (f : NameFault) → IsPath check levels k path → IsMisnamed check levels k path f → ⊥
+pub path_not_misnamed : (check : Check) (levels : ℕ) (k : EntryKind) (path : List ℕ) (f : NameFault) → IsTreePath check levels k path → IsMisnamed check levels k path f → ⊥
 path_not_misnamed check levels k path f (of_file l j name t n r) m = by (lone check l j name f n.component m)
   where
     by : IsLone check j name f → ⊥

@@ -7,7 +7,7 @@ use Rattle.index_parts.specs.declared.hash.Kind.{Kind}
 use Rattle.index_entries.specs.Order.{IsStrictlyOrdered}
 use Rattle.index_entries.specs.Record.{IsSized, Record}
 use Rattle.index_tree_writer.specs.Directory.{IsTreeOf, Items}
-use Rattle.index_tree_writer.specs.Refusals.{AreFit, Check, HasFault, IsRefused, Refusal, TooMany, too_many, first}
+use Rattle.index_tree_writer.specs.Refusals.{AreFit, Check, RecordHasFault, AreRefused, Refusal, TooMany, too_many, first}
 use Rattle.index_tree_writer.specs.Staged.{staged_in}
 use Rattle.index_tree_writer.specs.WritingSteps.{IsReady}
 use Rattle.index_tree_writer.proofs.OneTree.{same_items}
@@ -33,7 +33,7 @@ module _ (check : Check) (kind : Kind) where
     behind : List Record
     is : rs ≡ before ++ r ∷ behind
     fit : AreFit check kind before
-    fault : HasFault check kind (staged_in before) r f
+    fault : RecordHasFault check kind (staged_in before) r f
 
   abbrev IsJudged : List Record → Type 0
   IsJudged rs = AreFit check kind rs ⊎ ((f : Refusal) × HasFirst rs f)
@@ -45,7 +45,7 @@ module _ (check : Check) (kind : Kind) where
       same : (before ++ r ∷ []) ++ behind ≡ before ++ r ∷ behind
       same = append_assoc before (r ∷ []) behind
 
-      by : (AreFit check kind (before ++ r ∷ []) → Rising ((before ++ r ∷ []) ++ behind) → All IsSized behind → IsJudged ((before ++ r ∷ []) ++ behind)) → AreFit check kind (before ++ r ∷ []) ⊎ ((f : Refusal) × HasFault check kind (staged_in before) r f) → IsJudged (before ++ r ∷ behind)
+      by : (AreFit check kind (before ++ r ∷ []) → Rising ((before ++ r ∷ []) ++ behind) → All IsSized behind → IsJudged ((before ++ r ∷ []) ++ behind)) → AreFit check kind (before ++ r ∷ []) ⊎ ((f : Refusal) × RecordHasFault check kind (staged_in before) r f) → IsJudged (before ++ r ∷ behind)
       by again (inl now) = subst IsJudged same (again now (subst Rising (sym same) rising) (All-tail IsSized r behind sized))
       by again (inr f) = inr (f.0, record { before = before; r = r; behind = behind; is = refl; fit = fit; fault = f.1 })
 
@@ -86,16 +86,16 @@ module _ (check : Check) (kind : Kind) where
       by (later m p) = later m (ap (λ (l : List Record). w ∷ l) p ∙ ap (λ (r : Record). r ∷ (c ++ y ∷ m)) head)
 
   -- what fits has no fault in it
-  no_fault_in : (rs before : List Record) (r : Record) (m : List Record) (f : Refusal) → Rising rs → AreFit check kind rs → rs ≡ before ++ r ∷ m → HasFault check kind (staged_in before) r f → ⊥
+  no_fault_in : (rs before : List Record) (r : Record) (m : List Record) (f : Refusal) → Rising rs → AreFit check kind rs → rs ≡ before ++ r ∷ m → RecordHasFault check kind (staged_in before) r f → ⊥
   no_fault_in rs before r m f rising fit is h =
       let parts : rs ≡ (before ++ r ∷ []) ++ m = is ∙ sym (append_assoc before (r ∷ []) m) in
       fit_no_fault check kind before r f (fit_front check kind (before ++ r ∷ []) m (subst (AreFit check kind) parts fit)) (rising_front (before ++ r ∷ []) m (subst Rising parts rising)) h
 
-  fit_or_refused : (rs : List Record) (f : Refusal) → IsStrictlyOrdered rs → length rs < 2 ^ 31 → AreFit check kind rs → IsRefused check kind rs f → ⊥
+  fit_or_refused : (rs : List Record) (f : Refusal) → IsStrictlyOrdered rs → length rs < 2 ^ 31 → AreFit check kind rs → AreRefused check kind rs f → ⊥
   fit_or_refused rs f ordered few fit (too_many many) = omega (arith, few, many)
   fit_or_refused rs f ordered few fit (first before r behind g few' is front fault) = no_fault_in rs before r behind g ordered.less fit is fault
 
-  one_refusal : (rs : List Record) (f g : Refusal) → IsStrictlyOrdered rs → IsRefused check kind rs f → IsRefused check kind rs g → f ≡ g
+  one_refusal : (rs : List Record) (f g : Refusal) → IsStrictlyOrdered rs → AreRefused check kind rs f → AreRefused check kind rs g → f ≡ g
   one_refusal rs f g ordered (too_many many) (too_many more) = refl
   one_refusal rs f g ordered (too_many many) (first c y d j few is fit fault) = absurd (omega (arith, few, many))
   one_refusal rs f g ordered (first a x b i few is fit fault) (too_many many) = absurd (omega (arith, few, many))
@@ -105,7 +105,7 @@ module _ (check : Check) (kind : Kind) where
       rising front back r e = rising_front front (r ∷ back) (subst Rising e ordered.less)
 
       by : AreTwo a c x y → i ≡ j
-      by (same e s) = fault_one check kind (staged_in a) x fit.apart i j fault (subst (λ (r : Record). HasFault check kind (staged_in a) r j) (sym s) (subst (λ (l : List Record). HasFault check kind (staged_in l) y j) (sym e) fault'))
+      by (same e s) = fault_one check kind (staged_in a) x fit.apart i j fault (subst (λ (r : Record). RecordHasFault check kind (staged_in a) r j) (sym s) (subst (λ (l : List Record). RecordHasFault check kind (staged_in l) y j) (sym e) fault'))
       by (earlier m e) = absurd (no_fault_in c a x m i (rising c d y q) fit' e fault)
       by (later m e) = absurd (no_fault_in a c y m j (rising a b x p) fit e fault')
 

@@ -16,14 +16,15 @@ use Rattle.index_objects.specs.declared.object.tree.EntryKind.TheVariants as kin
 use Rattle.index_entries.specs.Order.{path_cmp}
 use Rattle.index_entries.specs.TreeOrder.{IsGitOrdered, sorted_name}
 use Rattle.index_tree_writer.specs.Directory.{Item, Items, leaf, directory, no_more, next, IsName, IsItem, AreItems, IsDirectory, IsTreeOf, entries, entry_of, item_leaves, leaves, key}
-use Rattle.index_tree_writer.specs.Refusals.{Begins, Check, IsInside, IsPath, of_file, of_directory, beneath}
-use Rattle.index_tree_writer.specs.Staged.{Staged, under}
+use Rattle.index_tree_writer.specs.Refusals.{BeginsWith, Check, IsInside, IsTreePath, of_file, of_directory, beneath}
+use Rattle.index_tree_writer.specs.Staged.{Staged}
 use Rattle.index_tree_writer.specs.WritingSteps.{Ahead, IsComponent, IsLeaf, IsReady}
 use Rattle.index_tree_writer.proofs.Aparts.{not_after}
 use Rattle.index_tree_writer.proofs.Begun.{leaf_sorted}
 use Rattle.index_tree_writer.proofs.OneTree.{HasFirst, dir_leaves, first_of_items, slashed, tail_ordered}
 use Rattle.index_tree_writer.proofs.PathNames.{NoSlash, ahead_from, first_slash, no_slash_in, path_some}
 use Rattle.index_tree_writer.proofs.Ready.{ahead_directory, pairs_head, ready_back, ready_behind, ready_front}
+use Rattle.index_tree_writer.proofs.Pushes.{under}
 
 abbrev Rises : Staged → Staged → Type 0
 Rises s t = path_cmp s.path t.path ≡ Less
@@ -137,7 +138,7 @@ leaf_begins name m x kinds.Commit h g e = absurd (no_slash_in m name x g e)
 
 -- a first item that isn't the directory of a name has no first leaf in it
 first_stops : (kind : Kind) (name rest : List ℕ) (x : Item) (back : List Staged) → NoSlash name → IsItem kind x → ((items : Items) → x ≡ directory name items → ⊥) → All (λ t. path_cmp (slashed name ++ rest) t.path ≡ Less) (item_leaves [] x ++ back)
-    → (first : Staged) (others : List Staged) → item_leaves [] x ++ back ≡ first ∷ others → Begins first.path (slashed name) → ⊥
+    → (first : Staged) (others : List Staged) → item_leaves [] x ++ back ≡ first ∷ others → BeginsWith first.path (slashed name) → ⊥
 first_stops kind name rest (leaf m k id u) back h g other less first others e b =
     let head : here (key m k) k id u ≡ first = cc in
     let path : key m k ≡ name ++ 47 ∷ b.0 = ap (λ (s : Staged). s.path) head ∙ b.1 ∙ append_assoc name (47 ∷ []) b.0 in
@@ -185,7 +186,7 @@ module _ (kind : Kind) (l : ℕ) (name rest : List ℕ) (k : EntryKind) (id : Ob
   directory_listed js inner h = dir_leaves name inner ∙ ap (map (under (slashed name))) h.leaves ∙ ap (λ (x : Staged). x ∷ map (under (slashed name)) js) front
 
   -- a directory that isn't there yet
-  put_directory : (xs : Items) → IsReady kind (suc l) (s ∷ leaves [] xs) → IsDirectory kind xs → ((first : Staged) (others : List Staged) → leaves [] xs ≡ first ∷ others → Begins first.path (slashed name) → ⊥) → HasTree kind (t ∷ []) → HasTree kind (s ∷ leaves [] xs)
+  put_directory : (xs : Items) → IsReady kind (suc l) (s ∷ leaves [] xs) → IsDirectory kind xs → ((first : Staged) (others : List Staged) → leaves [] xs ≡ first ∷ others → BeginsWith first.path (slashed name) → ⊥) → HasTree kind (t ∷ []) → HasTree kind (s ∷ leaves [] xs)
   put_directory xs ready dir stops inner =
       let less : All (λ x. path_cmp (slashed name ++ rest) x.path ≡ Less) (leaves [] xs) = subst (λ (p : List ℕ). All (λ x. path_cmp p x.path ≡ Less) (leaves [] xs)) (sym longer) (pairs_head Rises s (leaves [] xs) ready.rise) in
       put_first kind (directory name inner.0) xs (slashed name) (s ∷ []) (directory_item [] inner.0 inner.1) refl (directory_listed [] inner.0 inner.1)
@@ -258,7 +259,7 @@ grown_beneath kind l k name rest id u named some again (next (directory m js) xs
         (subst (λ (p : List ℕ). All (λ x. path_cmp p x.path ≡ Less) (leaves [] (next (directory m js) xs))) (sym (append_assoc name (47 ∷ []) rest)) (pairs_head Rises (here (name ++ 47 ∷ rest) k id u) (leaves [] (next (directory m js) xs)) ready.rise)))
         (again no_more (ready_alone kind l name rest k id u named some (leaves [] (next (directory m js) xs)) ready) (empty_directory kind))
 
-grown : (kind : Kind) (check : Check) (levels : ℕ) (k : EntryKind) (path : List ℕ) → IsPath check levels k path → (id : ObjectId) (u : Bool) → Grows kind levels k path id u
+grown : (kind : Kind) (check : Check) (levels : ℕ) (k : EntryKind) (path : List ℕ) → IsTreePath check levels k path → (id : ObjectId) (u : Bool) → Grows kind levels k path id u
 grown kind check levels k path (of_file l j name t n r) id u xs ready dir = put_file kind check l j name id u xs t n ready dir
 grown kind check levels k path (of_directory l name n r) id u xs ready dir = put_whole kind (suc l) name id u xs n ready dir
 grown kind check levels k path (beneath l j name rest n r h) id u xs ready dir = grown_beneath kind l j name rest id u n (path_some check l j rest h) (grown kind check l j rest h id u) xs ready dir

@@ -23,13 +23,15 @@ pub record HasOneReading {A : Type 0} (Is : List ℕ → A → Type 0) : Type 0 
 -- all bytes are whole extensions and a tail, in one way
 pub record HasOneWalk : Type 0 where
   pub some : (bytes : List ℕ) → (items : List Item) × ((tail : List ℕ) × IsWalk bytes items tail)
-  pub one : (bytes : List ℕ) (items others : List Item) (tail rest : List ℕ) → IsWalk bytes items tail → IsWalk bytes others rest → (items ≡ others) × (tail ≡ rest)
+  pub one : (bytes : List ℕ) (items others : List Item) (tail rest : List ℕ) → IsWalk bytes items tail
+      → IsWalk bytes others rest → (items ≡ others) × (tail ≡ rest)
 
 -- all bytes begin with a bitmap, in one way, or lack one first part of it
 pub record HasOneBitmap : Type 0 where
   pub some : (bytes : List ℕ) → HasBitmap bytes ⊎ ((fault : Error) × Lacks fault bytes)
   pub apart : (bytes : List ℕ) (fault : Error) → HasBitmap bytes → Lacks fault bytes → ⊥
-  pub one : (bytes : List ℕ) (b c : Bitmap) (rest after : List ℕ) → IsBitmap bytes b rest → IsBitmap bytes c after → (b ≡ c) × (rest ≡ after)
+  pub one : (bytes : List ℕ) (b c : Bitmap) (rest after : List ℕ) → IsBitmap bytes b rest → IsBitmap bytes c after
+      → (b ≡ c) × (rest ≡ after)
   pub one_fault : (bytes : List ℕ) (f g : Error) → Lacks f bytes → Lacks g bytes → f ≡ g
 
 -- ---- written and read again
@@ -39,7 +41,8 @@ pub record TakesAll (reading : Options) : Type 0 where
   pub limit : reading.alloc_limit_bytes ≡ None
   pub checksum : reading.expected_checksum ≡ None
 
--- a file can hold the value, writing it is not refused, and its image doesn't end as if it had an end marker that it hasn't
+-- a file can hold the value, writing it is not refused, and its image doesn't end as if it had an end marker that it
+-- hasn't
 pub record IsFaithful (v : Contents) (options : WriteOptions) : Type 0 where
   pub storable : IsStorable v
   pub writable : IsWritable v options

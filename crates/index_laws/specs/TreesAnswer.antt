@@ -3,15 +3,16 @@ use Rattle.std.specs.Prelude.{◌<◌, ◌^◌, List, length, Result, Ok, Err}
 use Rattle.index_parts.specs.declared.hash.Kind.{Kind}
 use Rattle.index_entries.specs.Record.{Record}
 use Rattle.index_tree_writer.specs.Directory.{Items, IsTreeOf}
-use Rattle.index_tree_writer.specs.Refusals.{AreFit, Check, IsRefused, Refusal}
+use Rattle.index_tree_writer.specs.Refusals.{AreFit, Check, AreRefused, Refusal}
 use Rattle.index_tree_writer.specs.Staged.{staged_in}
 
 -- a directory, from which the objects, their ids and the cached tree follow; or a refusal, which names its paths
 abbrev pub TreesAnswer : Type 0
 TreesAnswer = Result Items Refusal
 
--- Where a cached tree can count the records and none has a fault, the directory whose leaves are what they stage. Else the first
--- refusal.
+-- Where a cached tree can count the records and none has a fault, the directory whose leaves are what they stage. Else
+-- the first refusal.
 abbrev pub IsTreesAnswer : Check → Kind → List Record → TreesAnswer → Type 0
-IsTreesAnswer check kind rs (Ok items) = (length rs < 2 ^ 31) × AreFit check kind rs × IsTreeOf kind (staged_in rs) items
-IsTreesAnswer check kind rs (Err refusal) = IsRefused check kind rs refusal
+IsTreesAnswer check kind rs (Ok items) =
+    (length rs < 2 ^ 31) × AreFit check kind rs × IsTreeOf kind (staged_in rs) items
+IsTreesAnswer check kind rs (Err refusal) = AreRefused check kind rs refusal

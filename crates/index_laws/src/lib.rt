@@ -74,7 +74,7 @@ pub fn written_reads_back()
         (Ok (expected v options time, trailer_checksum v.kind (trailer v options))) }
 {}
 
-/// What a file keeps of what it kept is the same.
+/// What a file stores of what it stored is the same.
 pub fn stored_twice()
     ensures { (v : Contents) (options : WriteOptions)
         → stored (stored v options) options ≡ stored v options }

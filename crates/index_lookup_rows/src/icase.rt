@@ -67,13 +67,13 @@ fn search_path(out: &mut Lines, state: &State, lookup: &AccelerateLookup<'_>, pa
     let (kept, count) = state.search_path_icase(path, false, lookup);
     let (ignored, other) = state.search_path_icase(path, true, lookup);
     let most = most_compared(state.entries().len());
+    compared(out, path, "search_path_icase", count.max(other), most);
     put(
         out,
         path,
         "search_path_icase",
         Both(OrNone(kept), OrNone(ignored)),
     );
-    compared(out, path, "search_path_icase", count.max(other), most);
     let kept = state.entry_by_path_icase(path, false, lookup);
     let ignored = state.entry_by_path_icase(path, true, lookup);
     entries(out, state, path, "entry_by_path_icase", kept, ignored);
@@ -85,21 +85,11 @@ fn search_directory(out: &mut Lines, state: &State, lookup: &AccelerateLookup<'_
     let (kept, count) = state.search_directory_icase(path, false, lookup);
     let (ignored, other) = state.search_directory_icase(path, true, lookup);
     let name = "search_directory_icase";
+    let most = most_compared(lookup.directories(false));
+    compared(out, path, name, count, most);
+    let most = most_compared(lookup.directories(true));
+    compared(out, path, name, other, most);
     put(out, path, name, Both(OrNone(kept), OrNone(ignored)));
-    compared(
-        out,
-        path,
-        name,
-        count,
-        most_compared(lookup.directories(false)),
-    );
-    compared(
-        out,
-        path,
-        name,
-        other,
-        most_compared(lookup.directories(true)),
-    );
     let kept = state.entry_closest_to_directory_or_directory_icase(path, false, lookup);
     let ignored = state.entry_closest_to_directory_or_directory_icase(path, true, lookup);
     let name = "entry_closest_to_directory_or_directory_icase";

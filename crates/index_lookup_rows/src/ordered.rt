@@ -45,20 +45,40 @@ fn searches(out: &mut Lines, state: &State, table: &DirectoryTable<'_>, path: &[
     requires placed { PathsInStorage state.now }
 {
     let most = most_compared(state.entries().len());
-    search(out, state, path, "search_path", most);
+    let found = search(out, state, path, "search_path", most);
+    tell_place(out, state, path, "search_path", found);
     let most = most_by_table(table, state.entries().len(), path);
-    search(out, table, path, "directory_table search_path", most);
+    let found = search(out, table, path, "directory_table search_path", most);
+    tell_place(out, state, path, "directory_table search_path", found);
 }
 
-fn search<S: PathSearch>(out: &mut Lines, searcher: &S, path: &[u8], name: &str, most: usize)
+fn search<S: PathSearch>(
+    out: &mut Lines,
+    searcher: &S,
+    path: &[u8],
+    name: &str,
+    most: usize,
+) -> Result<usize, usize>
     requires { S.can_search searcher.now }
 {
     let (found, count) = searcher.search_path(path);
+    compared(out, path, name, count, most);
+    found
+}
+
+/// Puts the place that was found, where no other entry has the path, or the place that it belongs at.
+fn tell_place(out: &mut Lines, state: &State, path: &[u8], name: &str, found: Result<usize, usize>)
+    requires { PathsInStorage state.now }
+{
+    let of_path = match state.entry_range(path) {
+        Some(range) => range.len(),
+        None => 0,
+    };
     match found {
+        Ok(place) if of_path == 1 => writeln!(out, "{}: {name}: at {place}", Text(path)),
         Ok(_) => put(out, path, name, "found"),
         Err(place) => writeln!(out, "{}: {name}: before {place}", Text(path)),
     }
-    compared(out, path, name, count, most);
 }
 
 /// The most names of directories and paths that a search for the path by way of them may compare.
@@ -86,14 +106,9 @@ fn ranges(out: &mut Lines, state: &State, table: &DirectoryTable<'_>, path: &[u8
         state.prefixed_entries_range(path),
     );
     let (start, count) = state.search_prefix(path);
+    let most = most_compared(state.entries().len());
+    compared(out, path, "search_prefix", count, most);
     put(out, path, "search_prefix", start);
-    compared(
-        out,
-        path,
-        "search_prefix",
-        count,
-        most_compared(state.entries().len()),
-    );
     let closest = state.entry_closest_to_directory_or_directory(path);
     let place = OrNone(place_of(state, closest));
     put(out, path, "entry_closest_to_directory_or_directory", place);

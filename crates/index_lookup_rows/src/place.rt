@@ -43,9 +43,11 @@ pub fn most_compared(len: usize) -> usize {
     digits.saturating_add(1) as usize
 }
 
-/// The line of a search that compared more than it may.
+/// Puts the line of how many paths a search compared: the most that it may, or how many more.
 pub fn compared(out: &mut Lines, path: &[u8], name: &str, count: usize, most: usize) {
-    if count > most {
+    if count <= most {
+        writeln!(out, "{}: {name} comparisons: at most {most}", Text(path));
+    } else {
         writeln!(
             out,
             "{}: {name} comparisons: {count}, not at most {most}",

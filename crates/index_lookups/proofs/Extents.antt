@@ -12,8 +12,8 @@ use Rattle.std.proofs.lemmas.List.Elements.{Contains-get_or}
 use Rattle.index_entries.specs.Record.{Record}
 use Rattle.index_lookups.specs.Closest.{is_directory}
 use Rattle.index_lookups.specs.Folded.{folded, is_same, stands_in_folded, IsNamed}
-use Rattle.index_lookups.specs.NameSteps.{NamedValue, named_value, outer_cmp, IsDirectoryTable, IsTableOf, NamesRise}
-use Rattle.index_lookups.specs.WalkSteps.{AreExtents, SpanValue, is_front, stands_where, start_value}
+use Rattle.index_lookups.specs.NameSteps.{NamedValue, named_at, named_value, outer_cmp, IsDirectoryTable, IsTableOf, NamedValuesRise}
+use Rattle.index_lookups.specs.WalkSteps.{AreExtents, SpanValue, is_parent, stands_where}
 use Rattle.index_lookups.specs.declared.names.Named.{Named}
 use Rattle.index_lookups.proofs.Places.{some_of}
 use Rattle.index_lookups.proofs.RunsFound.{pairs_map}
@@ -22,28 +22,32 @@ use Rattle.index_lookups.proofs.TableMade.{and_both, begins_at, begins_to, conta
 use Rattle.index_lookups.proofs.TableSearch.{any_from, any_place}
 use Rattle.index_lookups.proofs.Walks.{front_slash, front_cases}
 
+-- a directory with its first place
+abbrev pub start_value : SpanValue → NamedValue
+start_value s = named_at s.start s.name
+
 -- ---- which names a record stands in
 
 -- a name that a path goes on behind, with a slash
-below_front : (own : Bool) (P n : List ℕ) → starts_with nat_eq P (n ++ 47 ∷ []) ≡ true → (is_front own P (length n) ≡ true) × (n ≡ take (length n) P)
+below_front : (own : Bool) (P n : List ℕ) → starts_with nat_eq P (n ++ 47 ∷ []) ≡ true → (is_parent own P (length n) ≡ true) × (n ≡ take (length n) P)
 below_front own P n t = let h = begins_at n P 47 t in (front_slash own P (length n) h.1, sym h.2)
 
-last_front : (own : Bool) (P : List ℕ) (m : ℕ) → own ≡ true → m ≡ length P → is_front own P m ≡ true
+last_front : (own : Bool) (P : List ℕ) (m : ℕ) → own ≡ true → m ≡ length P → is_parent own P m ≡ true
 last_front own P m e f =
     let level : (m == length P) ≡ true = grind (arith, nat_tests, f) in
     or_right (get_or P m 0 == 47) (own && (m == length P)) (rw (e, level) refl)
 
-itself_front : (own : Bool) (P n : List ℕ) → own ≡ true → P ≡ n → (is_front own P (length n) ≡ true) × (n ≡ take (length n) P)
+itself_front : (own : Bool) (P n : List ℕ) → own ≡ true → P ≡ n → (is_parent own P (length n) ≡ true) × (n ≡ take (length n) P)
 itself_front own P n o e =
     let len : length n ≡ length P = ap length (sym e) in
     (last_front own P (length n) o len, sym (take_all (length n) P (omega (arith, len)) ∙ e))
 
-name_front : (own ignore_case : Bool) (P n : List ℕ) → (is_front own P (length (folded ignore_case n)) ≡ true) × (folded ignore_case n ≡ take (length (folded ignore_case n)) P) → (is_front own P (length n) ≡ true) × (folded ignore_case n ≡ take (length n) P)
+name_front : (own ignore_case : Bool) (P n : List ℕ) → (is_parent own P (length (folded ignore_case n)) ≡ true) × (folded ignore_case n ≡ take (length (folded ignore_case n)) P) → (is_parent own P (length n) ≡ true) × (folded ignore_case n ≡ take (length n) P)
 name_front own ignore_case P n h =
     let len : length (folded ignore_case n) ≡ length n = folded_length ignore_case n in
-    subst (λ (m : ℕ). (is_front own P m ≡ true) × (folded ignore_case n ≡ take m P)) len h
+    subst (λ (m : ℕ). (is_parent own P m ≡ true) × (folded ignore_case n ≡ take m P)) len h
 
-pub stands_from : (own ignore_case : Bool) (n : List ℕ) (r : Record) → stands_where own ignore_case n r ≡ true → (is_front (own && is_directory r) (folded ignore_case r.path) (length n) ≡ true) × (folded ignore_case n ≡ take (length n) (folded ignore_case r.path))
+pub stands_from : (own ignore_case : Bool) (n : List ℕ) (r : Record) → stands_where own ignore_case n r ≡ true → (is_parent (own && is_directory r) (folded ignore_case r.path) (length n) ≡ true) × (folded ignore_case n ≡ take (length n) (folded ignore_case r.path))
 stands_from false ignore_case n r t = name_front false ignore_case (folded ignore_case r.path) n (below_front false (folded ignore_case r.path) (folded ignore_case n) t)
 stands_from true ignore_case n r t = name_front (is_directory r) ignore_case (folded ignore_case r.path) n (elim (or_cases _ _ t) [
   | inl e ↦ (let both = and_both (is_directory r) (is_same ignore_case r.path n) e in itself_front (is_directory r) (folded ignore_case r.path) (folded ignore_case n) both.0 (same_from (folded ignore_case r.path) (folded ignore_case n) both.1))
@@ -53,7 +57,7 @@ stands_from true ignore_case n r t = name_front (is_directory r) ignore_case (fo
 below_to : (P n : List ℕ) (m : ℕ) → m < length P → get_or P m 0 ≡ 47 → n ≡ take m P → starts_with nat_eq P (n ++ 47 ∷ []) ≡ true
 below_to P n m l e f = ap (λ (xs : List ℕ). starts_with nat_eq P (xs ++ 47 ∷ [])) f ∙ begins_to P m 47 l e
 
-pub stands_to : (own ignore_case : Bool) (n : List ℕ) (r : Record) → is_front (own && is_directory r) (folded ignore_case r.path) (length n) ≡ true → folded ignore_case n ≡ take (length n) (folded ignore_case r.path) → stands_where own ignore_case n r ≡ true
+pub stands_to : (own ignore_case : Bool) (n : List ℕ) (r : Record) → is_parent (own && is_directory r) (folded ignore_case r.path) (length n) ≡ true → folded ignore_case n ≡ take (length n) (folded ignore_case r.path) → stands_where own ignore_case n r ≡ true
 stands_to false ignore_case n r t e = elim (front_cases false (folded ignore_case r.path) (length n) t) [
   | inl h ↦ below_to (folded ignore_case r.path) (folded ignore_case n) (length n) h.0 h.1 e
   | inr h ↦ cc (h.0)
@@ -63,7 +67,7 @@ stands_to true ignore_case n r t e = elim (front_cases (is_directory r) (folded 
   | inr h ↦ or_left (is_directory r && is_same ignore_case r.path n) (starts_with nat_eq (folded ignore_case r.path) (folded ignore_case n ++ 47 ∷ [])) (rw h.0 (same_to (folded ignore_case r.path) (folded ignore_case n) (sym (e ∙ take_all (length n) (folded ignore_case r.path) (omega (arith, h.1))))))
 ]
 
-pub front_folded : (own ignore_case : Bool) (path : List ℕ) (m : ℕ) → is_front own path m ≡ is_front own (folded ignore_case path) m
+pub front_folded : (own ignore_case : Bool) (path : List ℕ) (m : ℕ) → is_parent own path m ≡ is_parent own (folded ignore_case path) m
 front_folded own ignore_case path m = rw (folded_length ignore_case path, slash_same) refl
   where
     slash_same : (get_or path m 0 == 47) ≡ (get_or (folded ignore_case path) m 0 == 47)
@@ -83,13 +87,13 @@ module _ (ignore_case : Bool) (rs : List Record) (ss : List SpanValue) (x : AreE
   falls Equal p e h = cc
   falls Greater p e h = cc
 
-  starts_rise : NamesRise true ignore_case (map start_value ss)
+  starts_rise : NamedValuesRise true ignore_case (map start_value ss)
   starts_rise = pairs_map (λ a b. outer_cmp (folded ignore_case a.name) (folded ignore_case b.name) ≡ Less) start_value ss x.rises
 
   start_of : (j : ℕ) (d : NamedValue) → j < length (map start_value ss) → (s : SpanValue) × Contains ss s × (start_value s ≡ get_or (map start_value ss) j d)
   start_of j d l = contains_map start_value ss (get_or (map start_value ss) j d) (Contains-get_or (map start_value ss) j d l)
 
-  pub table_of_extents : IsTableOf true ignore_case (stands_in_folded ignore_case) rs (map start_value ss) × NamesRise true ignore_case (map start_value ss)
+  pub table_of_extents : IsTableOf true ignore_case (stands_in_folded ignore_case) rs (map start_value ss) × NamedValuesRise true ignore_case (map start_value ss)
   table_of_extents = (
     record {
       within = λ j d l. let s = start_of j d l in subst (λ (k : NamedValue). k.place < length rs) s.2 (omega (arith, x.some s.0 s.1));
@@ -118,7 +122,7 @@ folded_twice false n = refl
 folded_twice true [] = refl
 folded_twice true (x ∷ n) = ap (λ (y : ℕ). y ∷ folded true (folded true n)) (lower_twice x) ∙ ap (λ (ys : List ℕ). to_ascii_lowercase x ∷ ys) (folded_twice true n)
 
-pub named_of : (ignore_case : Bool) (rs : List Record) (ks : List NamedValue) → IsTableOf true ignore_case (stands_in_folded ignore_case) rs ks → NamesRise true ignore_case ks → IsNamed ignore_case rs (sorted (map (λ k. folded ignore_case k.name) ks))
+pub named_of : (ignore_case : Bool) (rs : List Record) (ks : List NamedValue) → IsTableOf true ignore_case (stands_in_folded ignore_case) rs ks → NamedValuesRise true ignore_case ks → IsNamed ignore_case rs (sorted (map (λ k. folded ignore_case k.name) ks))
 named_of ignore_case rs ks t once =
     let f : NamedValue → List ℕ = λ k. folded ignore_case k.name in
     let ns : List (List ℕ) = map f ks in

@@ -11,17 +11,17 @@ use Rattle.std.proofs.lemmas.List.{length-map, take-take, take-map}
 use Rattle.index_entries.specs.Order.{path_cmp}
 use Rattle.index_entries.proofs.Orders.{same_path}
 use Rattle.index_lookups.specs.Folded.{folded}
-use Rattle.index_lookups.specs.NameSteps.{front_cmp}
+use Rattle.index_lookups.specs.NameSteps.{common_cmp}
 
-front_none : (xs ys : List ℕ) → length ys ≡ 0 → front_cmp xs ys ≡ Equal
+front_none : (xs ys : List ℕ) → length ys ≡ 0 → common_cmp xs ys ≡ Equal
 front_none [] ys e = refl
 front_none (x ∷ xs) [] e = refl
 front_none (x ∷ xs) (y ∷ ys) e = absurd (omega arith)
 
-pub front_folded_none : (xs ys : List ℕ) → length ys ≡ 0 → front_cmp xs (folded true ys) ≡ Equal
+pub front_folded_none : (xs ys : List ℕ) → length ys ≡ 0 → common_cmp xs (folded true ys) ≡ Equal
 front_folded_none xs ys e = front_none xs (folded true ys) (length-map ys to_ascii_lowercase ∙ e)
 
-front_first : (xs ys : List ℕ) → length xs ≡ 0 → front_cmp xs ys ≡ Equal
+front_first : (xs ys : List ℕ) → length xs ≡ 0 → common_cmp xs ys ≡ Equal
 front_first [] ys e = refl
 front_first (x ∷ xs) ys e = absurd (omega arith)
 
@@ -36,17 +36,17 @@ then_assoc Equal p q = refl
 then_assoc Greater p q = refl
 
 -- a front of both that is within both decides first
-front_then : (k : ℕ) (xs ys : List ℕ) → k ≤ length xs → k ≤ length ys → front_cmp xs ys ≡ ordering_then (path_cmp (take k xs) (take k ys)) (front_cmp (drop k xs) (drop k ys))
+front_then : (k : ℕ) (xs ys : List ℕ) → k ≤ length xs → k ≤ length ys → common_cmp xs ys ≡ ordering_then (path_cmp (take k xs) (take k ys)) (common_cmp (drop k xs) (drop k ys))
 front_then zero xs ys l u = refl
 front_then (suc k) [] ys l u = absurd (omega arith)
 front_then (suc k) (x ∷ xs) [] l u = absurd (omega arith)
 front_then (suc k) (x ∷ xs) (y ∷ ys) l u =
     ap (ordering_then (nat_cmp x y)) (front_then k xs ys (omega arith) (omega arith))
-    ∙ sym (then_assoc (nat_cmp x y) (path_cmp (take k xs) (take k ys)) (front_cmp (drop k xs) (drop k ys)))
+    ∙ sym (then_assoc (nat_cmp x y) (path_cmp (take k xs) (take k ys)) (common_cmp (drop k xs) (drop k ys)))
 
 -- what both begin with alike decides nothing
-front_behind : (k : ℕ) (xs ys : List ℕ) → k ≤ length xs → k ≤ length ys → take k xs ≡ take k ys → front_cmp xs ys ≡ front_cmp (drop k xs) (drop k ys)
-front_behind k xs ys l u e = front_then k xs ys l u ∙ ap (λ (o : Ordering). ordering_then o (front_cmp (drop k xs) (drop k ys))) ((same_path (take k xs) (take k ys)).1 e)
+front_behind : (k : ℕ) (xs ys : List ℕ) → k ≤ length xs → k ≤ length ys → take k xs ≡ take k ys → common_cmp xs ys ≡ common_cmp (drop k xs) (drop k ys)
+front_behind k xs ys l u e = front_then k xs ys l u ∙ ap (λ (o : Ordering). ordering_then o (common_cmp (drop k xs) (drop k ys))) ((same_path (take k xs) (take k ys)).1 e)
 
 pub nat_below : (m n : ℕ) → m < n → nat_cmp m n ≡ Less
 nat_below m n l = grind (arith, nat_tests, l)
@@ -58,20 +58,20 @@ pub nat_suc : (m n : ℕ) → nat_cmp (suc m) (suc n) ≡ nat_cmp m n
 nat_suc m n = grind (arith, nat_tests)
 
 -- the lengths decide last
-pub path_by_front : (xs ys : List ℕ) → path_cmp xs ys ≡ ordering_then (front_cmp xs ys) (nat_cmp (length xs) (length ys))
+pub path_by_front : (xs ys : List ℕ) → path_cmp xs ys ≡ ordering_then (common_cmp xs ys) (nat_cmp (length xs) (length ys))
 path_by_front [] [] = refl
 path_by_front [] (y ∷ ys) = sym (nat_below 0 (suc (length ys)) (omega arith))
 path_by_front (x ∷ xs) [] = sym (nat_above (suc (length xs)) 0 (omega arith))
 path_by_front (x ∷ xs) (y ∷ ys) =
     ap (ordering_then (nat_cmp x y)) (path_by_front xs ys)
-    ∙ sym (then_assoc (nat_cmp x y) (front_cmp xs ys) (nat_cmp (length xs) (length ys)))
-    ∙ ap (ordering_then (ordering_then (nat_cmp x y) (front_cmp xs ys))) (sym (nat_suc (length xs) (length ys)))
+    ∙ sym (then_assoc (nat_cmp x y) (common_cmp xs ys) (nat_cmp (length xs) (length ys)))
+    ∙ ap (ordering_then (ordering_then (nat_cmp x y) (common_cmp xs ys))) (sym (nat_suc (length xs) (length ys)))
 
 -- the front that both have decides as the names' fronts do
-pub front_of_both : (n : ℕ) (xs ys : List ℕ) → n ≡ min (length xs) (length ys) → path_cmp (take n xs) (take n ys) ≡ front_cmp xs ys
-front_of_both n xs ys e = sym (front_then n xs ys (omega arith) (omega arith) ∙ then_equal (path_cmp (take n xs) (take n ys)) (front_cmp (drop n xs) (drop n ys)) (by (cases_lt (length xs) (length ys))))
+pub front_of_both : (n : ℕ) (xs ys : List ℕ) → n ≡ min (length xs) (length ys) → path_cmp (take n xs) (take n ys) ≡ common_cmp xs ys
+front_of_both n xs ys e = sym (front_then n xs ys (omega arith) (omega arith) ∙ then_equal (path_cmp (take n xs) (take n ys)) (common_cmp (drop n xs) (drop n ys)) (by (cases_lt (length xs) (length ys))))
   where
-    by : (length xs < length ys) ⊎ (length ys ≤ length xs) → front_cmp (drop n xs) (drop n ys) ≡ Equal
+    by : (length xs < length ys) ⊎ (length ys ≤ length xs) → common_cmp (drop n xs) (drop n ys) ≡ Equal
     by (inl l) = front_first (drop n xs) (drop n ys) (omega (arith, length-drop n xs))
     by (inr l) = front_none (drop n xs) (drop n ys) (omega (arith, length-drop n ys))
 
@@ -111,24 +111,24 @@ module _ (a b : List ℕ) (at : ℕ) (o : Ordering) (a_long : at + 8 ≤ length 
   word_is : o ≡ path_cmp (take 8 xs) (take 8 ys)
   word_is = is ∙ ap (λ (zs : List ℕ). path_cmp zs (folded true (take 8 (drop at b)))) (word_folded at a) ∙ ap (path_cmp (take 8 xs)) (word_folded at b)
 
-  front_is : front_cmp (folded true a) (folded true b) ≡ ordering_then o (front_cmp (drop 8 xs) (drop 8 ys))
+  front_is : common_cmp (folded true a) (folded true b) ≡ ordering_then o (common_cmp (drop 8 xs) (drop 8 ys))
   front_is =
       front_behind at (folded true a) (folded true b) (omega (arith, length-map a to_ascii_lowercase)) (omega (arith, length-map b to_ascii_lowercase)) same
       ∙ front_then 8 xs ys (omega (arith, xs_long)) (omega (arith, ys_long))
-      ∙ ap (λ (p : Ordering). ordering_then p (front_cmp (drop 8 xs) (drop 8 ys))) (sym word_is)
+      ∙ ap (λ (p : Ordering). ordering_then p (common_cmp (drop 8 xs) (drop 8 ys))) (sym word_is)
 
-  pub word_decides : is_ne o ≡ true → o ≡ front_cmp (folded true a) (folded true b)
-  word_decides e = sym (front_is ∙ other_decides o (front_cmp (drop 8 xs) (drop 8 ys)) e)
+  pub word_decides : is_ne o ≡ true → o ≡ common_cmp (folded true a) (folded true b)
+  word_decides e = sym (front_is ∙ other_decides o (common_cmp (drop 8 xs) (drop 8 ys)) e)
 
   pub word_same : is_ne o ≡ false → take (at + 8) (folded true a) ≡ take (at + 8) (folded true b)
   word_same e =
       let alike : take 8 xs ≡ take 8 ys = (same_path (take 8 xs) (take 8 ys)).0 (sym word_is ∙ is_equal o e) in
       take-add at 8 (folded true a) ∙ ap (λ (zs : List ℕ). zs ++ take 8 xs) same ∙ ap (λ (zs : List ℕ). take at (folded true b) ++ zs) alike ∙ sym (take-add at 8 (folded true b))
 
-  pub last_decides : at + 8 ≡ min (length a) (length b) → o ≡ front_cmp (folded true a) (folded true b)
-  last_decides e = sym (front_is ∙ then_equal o (front_cmp (drop 8 xs) (drop 8 ys)) (by (cases_lt (length a) (length b))))
+  pub last_decides : at + 8 ≡ min (length a) (length b) → o ≡ common_cmp (folded true a) (folded true b)
+  last_decides e = sym (front_is ∙ then_equal o (common_cmp (drop 8 xs) (drop 8 ys)) (by (cases_lt (length a) (length b))))
     where
-      by : (length a < length b) ⊎ (length b ≤ length a) → front_cmp (drop 8 xs) (drop 8 ys) ≡ Equal
+      by : (length a < length b) ⊎ (length b ≤ length a) → common_cmp (drop 8 xs) (drop 8 ys) ≡ Equal
       by (inl l) = front_first (drop 8 xs) (drop 8 ys) (omega (arith, length-drop 8 xs, xs_long))
       by (inr l) = front_none (drop 8 xs) (drop 8 ys) (omega (arith, length-drop 8 ys, ys_long))
 

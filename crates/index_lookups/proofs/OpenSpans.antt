@@ -137,30 +137,30 @@ pub step_is : (own : Bool) (visit : NamedValue) (shared from : ℕ) (live closed
     → (length mid ≡ 0 → from ≡ 0) → (0 < length mid → HoldsAt (λ s. from ≡ suc (min (length s.name) (length visit.name))) mid (length mid - 1))
     → went ≡ map (extended own visit.name visit.place) mid → live' ≡ went ++ opened own visit.name visit.place from (suc (length visit.name)) → IsStep own visit shared live closed live' closed'
 step_is own visit shared from live closed mid went live' closed' h none last goes opens = record {
-  kept = h.kept;
+  open_count = h.open_count;
   from = from;
   within = h.within;
   short = λ some d. omega (arith, h.short some d);
   long = λ k d l. omega (arith, h.long k d l);
   first = λ e. none (omega (arith, len));
   last = λ some d.
-      let level : length mid - 1 ≡ h.kept - 1 = omega (arith, len) in
-      let read : get_or mid (length mid - 1) d ≡ get_or live (h.kept - 1) d = ap (λ (i : ℕ). get_or mid i d) level ∙ ap (λ (xs : List SpanValue). get_or xs (h.kept - 1) d) h.live_is ∙ get_or-take h.kept live (h.kept - 1) d (omega arith) in
+      let level : length mid - 1 ≡ h.open_count - 1 = omega (arith, len) in
+      let read : get_or mid (length mid - 1) d ≡ get_or live (h.open_count - 1) d = ap (λ (i : ℕ). get_or mid i d) level ∙ ap (λ (xs : List SpanValue). get_or xs (h.open_count - 1) d) h.live_is ∙ get_or-take h.open_count live (h.open_count - 1) d (omega arith) in
       subst (λ (s : SpanValue). from ≡ suc (min (length s.name) (length visit.name))) read (last (omega (arith, len)) d);
   closed_is = h.closed_is;
   open_is = opens ∙ ap (λ (xs : List SpanValue). xs ++ opened own visit.name visit.place from (suc (length visit.name))) (goes ∙ ap (map (extended own visit.name visit.place)) h.live_is);
 }
   where
-    len : length mid ≡ h.kept
-    len = ap length h.live_is ∙ omega (arith, length-take h.kept live, h.within)
+    len : length mid ≡ h.open_count
+    len = ap length h.live_is ∙ omega (arith, length-take h.open_count live, h.within)
 
--- nothing is kept of what is closed down to the first byte
+-- nothing is open_count of what is closed down to the first byte
 pub closed_all : (live closed live' closed' : List SpanValue) → IsClosing 0 live closed live' closed' → closed' ≡ closed ++ reverse (drop 0 live)
-closed_all live closed live' closed' h = by (cases_lt 0 h.kept)
+closed_all live closed live' closed' h = by (cases_lt 0 h.open_count)
   where
-    by : (0 < h.kept) ⊎ (h.kept ≤ 0) → closed' ≡ closed ++ reverse (drop 0 live)
+    by : (0 < h.open_count) ⊎ (h.open_count ≤ 0) → closed' ≡ closed ++ reverse (drop 0 live)
     by (inl some) = absurd (omega (arith, h.short some (get_or live 0 (some_of live 0 (omega (arith, h.within))))))
-    by (inr none) = let e : h.kept ≡ 0 = omega arith in h.closed_is ∙ ap (λ (k : ℕ). closed ++ reverse (drop k live)) e
+    by (inr none) = let e : h.open_count ≡ 0 = omega arith in h.closed_is ∙ ap (λ (k : ℕ). closed ++ reverse (drop k live)) e
 
 pub ok_then : {T E : Type 0} (r : Result T E) (P Q : T → Type 0) → ((v : T) → P v → Q v) → IfOk r P → IfOk r Q
 ok_then (Ok v) P Q f h = f v h

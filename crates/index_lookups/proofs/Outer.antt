@@ -10,7 +10,7 @@ use Rattle.std.proofs.lemmas.Cmp.{back_total, lists_total, nat_cmp_total, tied_i
 use Rattle.index_entries.specs.Order.{path_cmp}
 use Rattle.index_entries.specs.Shared.{shared_len}
 use Rattle.index_entries.proofs.Orders.{paths_total, same_path}
-use Rattle.index_lookups.specs.NameSteps.{front_cmp, outer_cmp, name_order}
+use Rattle.index_lookups.specs.NameSteps.{common_cmp, outer_cmp, name_order}
 use Rattle.index_lookups.proofs.Fronts.{folded_len, nat_below, nat_above, nat_suc, path_by_front, then_assoc}
 use Rattle.index_lookups.specs.Folded.{folded}
 
@@ -44,18 +44,18 @@ same_name true a b = (outer_same a b, λ e. ap (λ (x : List ℕ). outer_cmp x b
 same_name false a b = same_path a b
 
 -- the longer stands first, where the first bytes decide nothing
-pub outer_by_front : (xs ys : List ℕ) → outer_cmp xs ys ≡ ordering_then (front_cmp xs ys) (nat_cmp (length ys) (length xs))
+pub outer_by_front : (xs ys : List ℕ) → outer_cmp xs ys ≡ ordering_then (common_cmp xs ys) (nat_cmp (length ys) (length xs))
 outer_by_front [] [] = refl
 outer_by_front [] (y ∷ ys) = sym (nat_above (suc (length ys)) 0 (omega arith))
 outer_by_front (x ∷ xs) [] = sym (nat_below 0 (suc (length xs)) (omega arith))
 outer_by_front (x ∷ xs) (y ∷ ys) =
     ap (ordering_then (nat_cmp x y)) (outer_by_front xs ys)
-    ∙ sym (then_assoc (nat_cmp x y) (front_cmp xs ys) (nat_cmp (length ys) (length xs)))
-    ∙ ap (ordering_then (ordering_then (nat_cmp x y) (front_cmp xs ys))) (sym (nat_suc (length ys) (length xs)))
+    ∙ sym (then_assoc (nat_cmp x y) (common_cmp xs ys) (nat_cmp (length ys) (length xs)))
+    ∙ ap (ordering_then (ordering_then (nat_cmp x y) (common_cmp xs ys))) (sym (nat_suc (length ys) (length xs)))
 
-pub order_by_front : (outer : Bool) (xs ys : List ℕ) (front sizes o : Ordering) → front ≡ front_cmp xs ys → o ≡ ordering_then front sizes → (outer ≡ true → sizes ≡ nat_cmp (length ys) (length xs)) → (outer ≡ false → sizes ≡ nat_cmp (length xs) (length ys)) → o ≡ name_order outer xs ys
-order_by_front true xs ys front sizes o d e f g = e ∙ ap (λ (p : Ordering). ordering_then p sizes) d ∙ ap (ordering_then (front_cmp xs ys)) (f refl) ∙ sym (outer_by_front xs ys)
-order_by_front false xs ys front sizes o d e f g = e ∙ ap (λ (p : Ordering). ordering_then p sizes) d ∙ ap (ordering_then (front_cmp xs ys)) (g refl) ∙ sym (path_by_front xs ys)
+pub order_by_front : (outer : Bool) (xs ys : List ℕ) (front sizes o : Ordering) → front ≡ common_cmp xs ys → o ≡ ordering_then front sizes → (outer ≡ true → sizes ≡ nat_cmp (length ys) (length xs)) → (outer ≡ false → sizes ≡ nat_cmp (length xs) (length ys)) → o ≡ name_order outer xs ys
+order_by_front true xs ys front sizes o d e f g = e ∙ ap (λ (p : Ordering). ordering_then p sizes) d ∙ ap (ordering_then (common_cmp xs ys)) (f refl) ∙ sym (outer_by_front xs ys)
+order_by_front false xs ys front sizes o d e f g = e ∙ ap (λ (p : Ordering). ordering_then p sizes) d ∙ ap (ordering_then (common_cmp xs ys)) (g refl) ∙ sym (path_by_front xs ys)
 
 -- ---- what the first bytes say
 
@@ -69,14 +69,14 @@ step_stays x y z o Greater front path new d e f g h = absurd (h refl)
 step_stays x y z Greater p front path new d e f g h = cc
 
 -- a name whose first bytes stand below a path stands below each later path
-pub front_stays : (t P Q : List ℕ) → front_cmp t P ≡ Less → path_cmp P Q ≢ Greater → front_cmp t Q ≡ Less
+pub front_stays : (t P Q : List ℕ) → common_cmp t P ≡ Less → path_cmp P Q ≢ Greater → common_cmp t Q ≡ Less
 front_stays [] P Q e h = cc
 front_stays (x ∷ t) [] Q e h = cc
 front_stays (x ∷ t) (y ∷ P) [] e h = absurd (h refl)
-front_stays (x ∷ t) (y ∷ P) (z ∷ Q) e h = step_stays x y z (nat_cmp x y) (nat_cmp y z) (front_cmp t P) (path_cmp P Q) (front_cmp t Q) refl refl (front_stays t P Q) e h
+front_stays (x ∷ t) (y ∷ P) (z ∷ Q) e h = step_stays x y z (nat_cmp x y) (nat_cmp y z) (common_cmp t P) (path_cmp P Q) (common_cmp t Q) refl refl (front_stays t P Q) e h
 
 -- a front of a path that reaches behind what the next path shares with it stands below that path
-pub front_left : (t P Q : List ℕ) → t ≡ take (length t) P → length t ≤ length P → shared_len P Q < length t → path_cmp P Q ≢ Greater → front_cmp t Q ≡ Less
+pub front_left : (t P Q : List ℕ) → t ≡ take (length t) P → length t ≤ length P → shared_len P Q < length t → path_cmp P Q ≢ Greater → common_cmp t Q ≡ Less
 front_left [] P Q e w l h = absurd (omega arith)
 front_left (x ∷ t) [] Q e w l h = absurd (omega arith)
 front_left (x ∷ t) (y ∷ P) [] e w l h = absurd (h refl)
@@ -88,7 +88,7 @@ front_left (x ∷ t) (y ∷ P) (z ∷ Q) e w l h = by (front_left t P Q) (y == z
     tails : t ≡ take (length t) P
     tails = cc
 
-    by : (t ≡ take (length t) P → length t ≤ length P → shared_len P Q < length t → path_cmp P Q ≢ Greater → front_cmp t Q ≡ Less) → (b : Bool) → (y == z) ≡ b → (o : Ordering) → nat_cmp y z ≡ o → front_cmp (x ∷ t) (z ∷ Q) ≡ Less
+    by : (t ≡ take (length t) P → length t ≤ length P → shared_len P Q < length t → path_cmp P Q ≢ Greater → common_cmp t Q ≡ Less) → (b : Bool) → (y == z) ≡ b → (o : Ordering) → nat_cmp y z ≡ o → common_cmp (x ∷ t) (z ∷ Q) ≡ Less
     by later true d o f =
         let shorter : shared_len P Q < length t = let k : shared_len (y ∷ P) (z ∷ Q) ≡ suc (shared_len P Q) = rw d refl in omega arith in
         let level : nat_cmp y z ≡ Equal = grind (arith, nat_tests, d) in
@@ -99,13 +99,13 @@ front_left (x ∷ t) (y ∷ P) (z ∷ Q) e w l h = by (front_left t P Q) (y == z
     by later false d Greater f = absurd (h (rw f refl))
 
 -- and before each front of it
-pub outer_of_front : (t P : List ℕ) (m : ℕ) → front_cmp t P ≡ Less → outer_cmp t (take m P) ≡ Less
+pub outer_of_front : (t P : List ℕ) (m : ℕ) → common_cmp t P ≡ Less → outer_cmp t (take m P) ≡ Less
 outer_of_front [] P m e = cc
 outer_of_front (x ∷ t) [] m e = cc
 outer_of_front (x ∷ t) (y ∷ P) zero e = refl
 outer_of_front (x ∷ t) (y ∷ P) (suc m) e = by (outer_of_front t P m) (nat_cmp x y) refl e
   where
-    by : (front_cmp t P ≡ Less → outer_cmp t (take m P) ≡ Less) → (o : Ordering) → nat_cmp x y ≡ o → ordering_then o (front_cmp t P) ≡ Less → ordering_then (nat_cmp x y) (outer_cmp t (take m P)) ≡ Less
+    by : (common_cmp t P ≡ Less → outer_cmp t (take m P) ≡ Less) → (o : Ordering) → nat_cmp x y ≡ o → ordering_then o (common_cmp t P) ≡ Less → ordering_then (nat_cmp x y) (outer_cmp t (take m P)) ≡ Less
     by later Less f g = rw f refl
     by later Equal f g = rw f (later g)
     by later Greater f g = cc

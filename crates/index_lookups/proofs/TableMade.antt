@@ -15,7 +15,12 @@ use Rattle.std.proofs.lemmas.List.Sorted.{Contains-permutation, IsPermutation-sy
 use Rattle.index_entries.specs.Record.{Record}
 use Rattle.index_lookups.specs.Closest.{is_directory}
 use Rattle.index_lookups.specs.Folded.{folded, is_same, stands_in_folded}
-use Rattle.index_lookups.specs.NameSteps.{NamedValue, named_at, named_cmp, named_from, path_names, AreNamedIn, IsTableOf}
+use Rattle.index_lookups.specs.NameSteps.{NamedValue, named_at, named_cmp, named_from, path_names, IsTableOf}
+
+-- names of records with their places: no other, and each with the place of a record that has it and stands no later
+pub record AreNamedIn (names : Record → List (List ℕ)) (rs : List Record) (ks : List NamedValue) : Type 0 where
+  pub sound : (k : NamedValue) → Contains ks k → (k.place < length rs) × ((q : Record) → Contains (names (get_or rs k.place q)) k.name)
+  pub complete : (i : ℕ) (q : Record) (n : List ℕ) → i < length rs → Contains (names (get_or rs i q)) n → (k : NamedValue) × Contains ks k × (k.name ≡ n) × (k.place ≤ i)
 
 -- ---- elements of what is put together
 

@@ -17,7 +17,7 @@ use Rattle.index_lookups.specs.declared.range.Wanted.TheVariants.{Directory}
 use Rattle.index_lookups.specs.Closest.{is_directory}
 use Rattle.index_lookups.specs.Folded.{folded}
 use Rattle.index_lookups.specs.NameSteps.{NamedValue}
-use Rattle.index_lookups.specs.WalkSteps.{AreExtents, AreVisits, IsStep, SpanValue, is_front, stands_where}
+use Rattle.index_lookups.specs.WalkSteps.{AreExtents, AreVisits, IsStep, SpanValue, is_parent, stands_where}
 use Rattle.index_lookups.proofs.Extents.{front_folded, stands_from, stands_to}
 use Rattle.index_lookups.proofs.Places.{some_of}
 use Rattle.index_lookups.proofs.TableMade.{contains_none, contains_one, folded_length, folded_take}
@@ -70,10 +70,10 @@ module _ (own ignore_case : Bool) (rs : List Record) (vs : List NamedValue) (vis
       | inr l ↦ subst (λ (xs : List ℕ). path_cmp xs (folded ignore_case visit.name) ≢ Greater) (folded_none ignore_case ∙ ap (folded ignore_case) (sym (before.first (omega arith)))) (none_rises (folded ignore_case visit.name))
     ]
 
-    to : (n : List ℕ) → is_front b (folded ignore_case visit.name) (length n) ≡ true → folded ignore_case n ≡ take (length n) (folded ignore_case visit.name) → StandsAt own ignore_case rs n visit.place
+    to : (n : List ℕ) → is_parent b (folded ignore_case visit.name) (length n) ≡ true → folded ignore_case n ≡ take (length n) (folded ignore_case visit.name) → StandsAt own ignore_case rs n visit.place
     to n t e q = stands_to own ignore_case n (get_or rs visit.place q) (rw (← told q, each.1 q) t) (rw (each.1 q) e)
 
-    back : (n : List ℕ) → StandsAt own ignore_case rs n visit.place → (is_front b (folded ignore_case visit.name) (length n) ≡ true) × (folded ignore_case n ≡ take (length n) (folded ignore_case visit.name))
+    back : (n : List ℕ) → StandsAt own ignore_case rs n visit.place → (is_parent b (folded ignore_case visit.name) (length n) ≡ true) × (folded ignore_case n ≡ take (length n) (folded ignore_case visit.name))
     back n h =
         let z : Record = some_of rs visit.place each.0 in
         let r : Record = get_or rs visit.place (some_of rs visit.place each.0) in

@@ -27,4 +27,5 @@ stands_in directory r = is_itself directory r || is_below directory r
 
 -- where records stand at the directory, the first that is a directory; else the first below it
 abbrev pub closest : List ℕ → List Record → Option ℕ
-closest directory rs = if list_any (is_at directory) rs then position (is_itself directory) rs else position (is_below directory) rs
+closest directory rs =
+    if list_any (is_at directory) rs then position (is_itself directory) rs else position (is_below directory) rs

@@ -29,7 +29,8 @@ folded_place ignore_case path rs = position (is_at_folded ignore_case path) rs
 -- the record is the directory itself, or its path goes on behind the directory and a slash
 abbrev pub stands_in_folded : Bool → List ℕ → Record → Bool
 stands_in_folded ignore_case directory r =
-    (is_directory r && is_same ignore_case r.path directory) || starts_with nat_eq (folded ignore_case r.path) (folded ignore_case directory ++ 47 ∷ [])
+    (is_directory r && is_same ignore_case r.path directory) || starts_with nat_eq (folded ignore_case r.path)
+    (folded ignore_case directory ++ 47 ∷ [])
 
 -- the place of the first record that is the directory or below it
 abbrev pub folded_closest : Bool → List ℕ → List Record → Option ℕ
@@ -39,4 +40,5 @@ folded_closest ignore_case directory rs = position (stands_in_folded ignore_case
 pub record IsNamed (ignore_case : Bool) (rs : List Record) (names : List (List ℕ)) : Type 0 where
   pub once : AllPairs (λ a b. path_cmp a b ≡ Less) names
   pub in_case : All (λ name. folded ignore_case name ≡ name) names
-  pub each : (name : List ℕ) → Contains names (folded ignore_case name) ↔ (list_any (stands_in_folded ignore_case name) rs ≡ true)
+  pub each : (name : List ℕ) → Contains names (folded ignore_case name)
+      ↔ (list_any (stands_in_folded ignore_case name) rs ≡ true)

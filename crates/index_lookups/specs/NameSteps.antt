@@ -24,10 +24,10 @@ abbrev pub named_at : ℕ → List ℕ → NamedValue
 named_at place name = record { name = name; place = place }
 
 -- where the first bytes of two names stand to one another, as many as both have
-abbrev pub front_cmp : List ℕ → List ℕ → Ordering
-front_cmp [] ys = Equal
-front_cmp (x ∷ xs) [] = Equal
-front_cmp (x ∷ xs) (y ∷ ys) = ordering_then (nat_cmp x y) (front_cmp xs ys)
+abbrev pub common_cmp : List ℕ → List ℕ → Ordering
+common_cmp [] ys = Equal
+common_cmp (x ∷ xs) [] = Equal
+common_cmp (x ∷ xs) (y ∷ ys) = ordering_then (nat_cmp x y) (common_cmp xs ys)
 
 -- where a name stands to another, where it stands behind all that goes on after it
 abbrev pub outer_cmp : List ℕ → List ℕ → Ordering
@@ -40,11 +40,13 @@ name_order true a b = outer_cmp a b
 
 -- by name in one of these orders, with case ignored where asked, and then by place
 abbrev pub named_cmp : Bool → Bool → NamedValue → NamedValue → Ordering
-named_cmp outer ignore_case a b = ordering_then (name_order outer (folded ignore_case a.name) (folded ignore_case b.name)) (nat_cmp a.place b.place)
+named_cmp outer ignore_case a b =
+    ordering_then (name_order outer (folded ignore_case a.name) (folded ignore_case b.name)) (nat_cmp a.place b.place)
 
 -- where the names of a table stand to a name, with case ignored where asked
 abbrev pub name_answers : Bool → Bool → List Named → List ℕ → List Ordering
-name_answers outer ignore_case names name = map (λ k. name_order outer (folded ignore_case k.name) (folded ignore_case name)) (map named_value names)
+name_answers outer ignore_case names name =
+    map (λ k. name_order outer (folded ignore_case k.name) (folded ignore_case name)) (map named_value names)
 
 -- a record's path alone
 abbrev pub path_names : Record → List (List ℕ)
@@ -60,30 +62,31 @@ abbrev pub visits : Option (Bor (List Named)) → List Record → List NamedValu
 visits None rs = named_from path_names 0 rs
 visits (Some names) rs = map named_value names.now
 
--- names of records with their places: no other, and each with the place of a record that has it and stands no later
-pub record AreNamedIn (names : Record → List (List ℕ)) (rs : List Record) (ks : List NamedValue) : Type 0 where
-  pub sound : (k : NamedValue) → Contains ks k → (k.place < length rs) × ((q : Record) → Contains (names (slice_index_or rs k.place q)) k.name)
-  pub complete : (i : ℕ) (q : Record) (n : List ℕ) → i < length rs → Contains (names (slice_index_or rs i q)) n → (k : NamedValue) × Contains ks k × (k.name ≡ n) × (k.place ≤ i)
-
 -- a table by which the records that pass the test of a name are found
-pub record IsTableOf (outer ignore_case : Bool) (test : List ℕ → Record → Bool) (rs : List Record) (ks : List NamedValue) : Type 0 where
+pub record IsTableOf (outer ignore_case : Bool) (test : List ℕ → Record → Bool) (rs : List Record)
+    (ks : List NamedValue) : Type 0 where
   pub within : All (λ k. k.place < length rs) ks
-  pub sound : (j : ℕ) (d : NamedValue) (q : Record) → j < length ks → test (slice_index_or ks j d).name (slice_index_or rs (slice_index_or ks j d).place q) ≡ true
+  pub sound : (j : ℕ) (d : NamedValue) (q : Record) → j < length ks
+      → test (slice_index_or ks j d).name (slice_index_or rs (slice_index_or ks j d).place q) ≡ true
   pub complete : (name : List ℕ) (i : ℕ) (q : Record) → i < length rs → test name (slice_index_or rs i q) ≡ true
       → (k : NamedValue) × Contains ks k × (folded ignore_case k.name ≡ folded ignore_case name) × (k.place ≤ i)
   pub alike : (a b : List ℕ) (r : Record) → folded ignore_case a ≡ folded ignore_case b → test a r ≡ test b r
   pub ordered : AllPairs (λ a b. named_cmp outer ignore_case a b ≢ Greater) ks
 
 -- the names rise, each once
-abbrev pub NamesRise : Bool → Bool → List NamedValue → Type 0
-NamesRise outer ignore_case ks = AllPairs (λ a b. name_order outer (folded ignore_case a.name) (folded ignore_case b.name) ≡ Less) ks
+abbrev pub NamedValuesRise : Bool → Bool → List NamedValue → Type 0
+NamedValuesRise outer ignore_case ks =
+    AllPairs (λ a b. name_order outer (folded ignore_case a.name) (folded ignore_case b.name) ≡ Less) ks
 
--- the tables of paths and of directories, with case kept or ignored, that records have
+-- the tables of paths and of directories, with case respected or ignored, that records have
 abbrev pub IsPathTable : Bool → List Record → List Named → Type 0
-IsPathTable ignore_case rs names = IsTableOf false ignore_case (is_at_folded ignore_case) rs (map named_value names) × (length names ≡ length rs)
+IsPathTable ignore_case rs names =
+    IsTableOf false ignore_case (is_at_folded ignore_case) rs (map named_value names) × (length names ≡ length rs)
 
 abbrev pub IsDirectoryTable : Bool → List Record → List Named → Type 0
-IsDirectoryTable ignore_case rs names = IsTableOf true ignore_case (stands_in_folded ignore_case) rs (map named_value names) × NamesRise true ignore_case (map named_value names)
+IsDirectoryTable ignore_case rs names =
+    IsTableOf true ignore_case (stands_in_folded ignore_case) rs (map named_value names)
+    × NamedValuesRise true ignore_case (map named_value names)
 
 -- the four tables that records have
 pub record AreNames (rs : List Record) (paths folded_paths directories folded_directories : List Named) : Type 0 where

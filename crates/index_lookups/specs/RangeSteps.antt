@@ -19,4 +19,5 @@ is_wanted_at path wanted r = is_at path r && is_wanted wanted r.mode (record_sta
 
 -- where none from low up to end passes, none behind passes either
 abbrev pub IsEnoughUpto : {X : Type 0} → (X → Bool) → List X → ℕ → ℕ → Type 0
-IsEnoughUpto test xs low end = AllWithin (λ x. test x ≡ false) xs low end → AllWithin (λ x. test x ≡ false) xs end (length xs)
+IsEnoughUpto test xs low end =
+    AllWithin (λ x. test x ≡ false) xs low end → AllWithin (λ x. test x ≡ false) xs end (length xs)

@@ -28,7 +28,8 @@ last_slash path = slash_upto (length path) path
 abbrev pub search_bound : Option ℕ → List ℕ → List Record → ℕ → ℕ
 search_bound None path rs dirs = digits (length rs) + 1
 search_bound (Some slash) path rs dirs =
-    if list_any (is_below (take slash path)) rs then digits dirs + digits (count_by (is_below (take slash path)) rs) + 2 else digits dirs + digits (length rs) + 2
+    if list_any (is_below (take slash path)) rs then digits dirs + digits (count_by (is_below (take slash path)) rs) + 2
+    else digits dirs + digits (length rs) + 2
 
 -- by way of the directories of these records a search of the path compares so many names and paths
 pub record IsBounded (rs : List Record) (path : List ℕ) (count : ℕ) : Type 0 where

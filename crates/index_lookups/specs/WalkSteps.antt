@@ -19,8 +19,8 @@ abbrev pub span_value : Span → SpanValue
 span_value s = record { name = s.name.now; start = s.start; end = s.end }
 
 -- so many bytes of a path are a directory that it stands below or, with `own`, the one that it stands for
-abbrev pub is_front : Bool → List ℕ → ℕ → Bool
-is_front own path n = (slice_index path n == 47) || (own && (n == length path))
+abbrev pub is_parent : Bool → List ℕ → ℕ → Bool
+is_parent own path n = (slice_index path n == 47) || (own && (n == length path))
 
 -- the directory with a place more, where that stands in it
 abbrev pub widened : Bool → ℕ → SpanValue → SpanValue
@@ -29,55 +29,62 @@ widened false place s = s
 
 -- the directory with the place of a path more, where that stands in it
 abbrev pub extended : Bool → List ℕ → ℕ → SpanValue → SpanValue
-extended own path place s = widened (is_front own path (length s.name)) place s
+extended own path place s = widened (is_parent own path (length s.name)) place s
 
 -- the directories of a path at a place that have so many bytes or more, and fewer than n
 abbrev pub opened : Bool → List ℕ → ℕ → ℕ → ℕ → List SpanValue
 opened own path place from zero = []
-opened own path place from (suc n) = cond (nat_lt n from) [] (opened own path place from n ++ cond (is_front own path n) (record { name = take n path; start = place; end = place + 1 } ∷ []) [])
+opened own path place from (suc n) =
+    cond (nat_lt n from) []
+    (opened own path place from n ++ cond (is_parent own path n)
+    (record { name = take n path; start = place; end = place + 1 } ∷ []) [])
 
 -- the record stands below the directory or, with `own`, for it
 abbrev pub stands_where : Bool → Bool → List ℕ → Record → Bool
 stands_where true ignore_case name r = stands_in_folded ignore_case name r
-stands_where false ignore_case name r = starts_with nat_eq (folded ignore_case r.path) (folded ignore_case name ++ 47 ∷ [])
+stands_where false ignore_case name r =
+    starts_with nat_eq (folded ignore_case r.path) (folded ignore_case name ++ 47 ∷ [])
 
 -- those of the open directories that have so many bytes or more are closed, from the last on
 pub record IsClosing (len : ℕ) (live closed live' closed' : List SpanValue) : Type 0 where
-  pub kept : ℕ
-  pub within : kept ≤ length live
-  pub short : 0 < kept → HoldsAt (λ s. length s.name < len) live (kept - 1)
-  pub long : All (λ s. len ≤ length s.name) (drop kept live)
-  pub live_is : live' ≡ take kept live
-  pub closed_is : closed' ≡ closed ++ reverse (drop kept live)
+  pub open_count : ℕ
+  pub within : open_count ≤ length live
+  pub short : 0 < open_count → HoldsAt (λ s. length s.name < len) live (open_count - 1)
+  pub long : All (λ s. len ≤ length s.name) (drop open_count live)
+  pub live_is : live' ≡ take open_count live
+  pub closed_is : closed' ≡ closed ++ reverse (drop open_count live)
 
 -- from one path to the next: what is closed, what goes on, and what is opened
-pub record IsStep (own : Bool) (visit : NamedValue) (shared : ℕ) (live closed live' closed' : List SpanValue) : Type 0 where
-  pub kept : ℕ
+pub record IsStep (own : Bool) (visit : NamedValue) (shared : ℕ) (live closed live' closed' : List SpanValue)
+    : Type 0 where
+  pub open_count : ℕ
   pub from : ℕ
-  pub within : kept ≤ length live
-  pub short : 0 < kept → HoldsAt (λ s. length s.name ≤ shared) live (kept - 1)
-  pub long : All (λ s. shared < length s.name) (drop kept live)
-  pub first : kept ≡ 0 → from ≡ 0
-  pub last : 0 < kept → HoldsAt (λ s. from ≡ suc (min (length s.name) (length visit.name))) live (kept - 1)
-  pub closed_is : closed' ≡ closed ++ reverse (drop kept live)
-  pub open_is : live' ≡ map (extended own visit.name visit.place) (take kept live) ++ opened own visit.name visit.place from (suc (length visit.name))
+  pub within : open_count ≤ length live
+  pub short : 0 < open_count → HoldsAt (λ s. length s.name ≤ shared) live (open_count - 1)
+  pub long : All (λ s. shared < length s.name) (drop open_count live)
+  pub first : open_count ≡ 0 → from ≡ 0
+  pub last : 0 < open_count → HoldsAt (λ s. from ≡ suc (min (length s.name) (length visit.name))) live (open_count - 1)
+  pub closed_is : closed' ≡ closed ++ reverse (drop open_count live)
+  pub open_is : live' ≡ map (extended own visit.name visit.place)
+      (take open_count live) ++ opened own visit.name visit.place from (suc (length visit.name))
 
 -- each record once, with its path and its place, in the order of the paths, with case ignored where asked
 pub record AreVisits (ignore_case : Bool) (rs : List Record) (vs : List NamedValue) : Type 0 where
   pub len : length vs ≡ length rs
-  pub each : (v : NamedValue) → Contains vs v → (v.place < length rs) × ((q : Record) → (slice_index_or rs v.place q).path ≡ v.name)
+  pub each : (v : NamedValue) → Contains vs v → (v.place < length rs)
+      × ((q : Record) → (slice_index_or rs v.place q).path ≡ v.name)
   pub whole : (i : ℕ) → i < length rs → (v : NamedValue) × Contains vs v × (v.place ≡ i)
   pub ordered : AllPairs (λ a b. path_cmp (folded ignore_case a.name) (folded ignore_case b.name) ≢ Greater) vs
 
 -- the directories that records stand in, each once with its first and its last place
 pub record AreExtents (own ignore_case : Bool) (rs : List Record) (ss : List SpanValue) : Type 0 where
   pub some : (s : SpanValue) → Contains ss s → (s.start < s.end) × (s.end ≤ length rs)
-  pub first : (s : SpanValue) (q : Record) → Contains ss s → stands_where own ignore_case s.name (slice_index_or rs s.start q) ≡ true
-  pub last : (s : SpanValue) (q : Record) → Contains ss s → stands_where own ignore_case s.name (slice_index_or rs (s.end - 1) q) ≡ true
-  pub covers : (name : List ℕ) (i : ℕ) → i < length rs → ((q : Record) → stands_where own ignore_case name (slice_index_or rs i q) ≡ true)
-      → (s : SpanValue) × Contains ss s × (folded ignore_case s.name ≡ folded ignore_case name) × (s.start ≤ i) × (i < s.end)
+  pub first : (s : SpanValue) (q : Record) → Contains ss s
+      → stands_where own ignore_case s.name (slice_index_or rs s.start q) ≡ true
+  pub last : (s : SpanValue) (q : Record) → Contains ss s
+      → stands_where own ignore_case s.name (slice_index_or rs (s.end - 1) q) ≡ true
+  pub covers : (name : List ℕ) (i : ℕ) → i < length rs
+      → ((q : Record) → stands_where own ignore_case name (slice_index_or rs i q) ≡ true)
+      → (s : SpanValue) × Contains ss s × (folded ignore_case s.name ≡ folded ignore_case name) × (s.start ≤ i)
+      × (i < s.end)
   pub rises : AllPairs (λ a b. outer_cmp (folded ignore_case a.name) (folded ignore_case b.name) ≡ Less) ss
-
--- a directory with its first place
-abbrev pub start_value : SpanValue → NamedValue
-start_value s = named_at s.start s.name

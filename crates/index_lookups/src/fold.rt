@@ -5,7 +5,7 @@ ghost use Rattle.std.specs.Char.{to_ascii_lowercase};
 ghost use Rattle.std.specs.Int.{to_be_bytes, w64};
 ghost use Rattle.index_entries.specs.Order.{path_cmp};
 ghost use Rattle.index_lookups.specs.Folded.{folded};
-ghost use Rattle.index_lookups.specs.NameSteps.{front_cmp};
+ghost use Rattle.index_lookups.specs.NameSteps.{common_cmp};
 
 use std::cmp::Ordering;
 
@@ -54,7 +54,7 @@ fn compare_words(a: &[u8], b: &[u8], at: usize) -> Ordering
 
 /// Where the first bytes of two names stand to one another, as many as both have, byte by byte.
 fn compare_bytes(a: &[u8], b: &[u8]) -> Ordering
-    ensures { result ≡ front_cmp (folded true a.now) (folded true b.now) }
+    ensures { result ≡ common_cmp (folded true a.now) (folded true b.now) }
 {
     let mut rest = b;
     for byte in a {
@@ -72,7 +72,7 @@ fn compare_bytes(a: &[u8], b: &[u8]) -> Ordering
 
 /// The same by words. The last word reaches back over bytes that are known to be the same.
 pub(crate) fn compare_fronts(a: &[u8], b: &[u8]) -> Ordering
-    ensures { result ≡ front_cmp (folded true a.now) (folded true b.now) }
+    ensures { result ≡ common_cmp (folded true a.now) (folded true b.now) }
 {
     let end = a.len().min(b.len());
     if end < WORD_LEN {

@@ -14,7 +14,7 @@ use index_entries::slice::EntrySlice;
 use std::alloc::{AllocError, Global};
 use std::marker::Model;
 
-/// The paths and directories of entries in their orders, with case kept and with case ignored. It borrows the
+/// The paths and directories of entries in their orders, with case respected and with case ignored. It borrows the
 /// entries that it was made from.
 #[derive(Drop)]
 pub struct AccelerateLookup<'a> {

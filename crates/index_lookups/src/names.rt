@@ -6,7 +6,7 @@ ghost use Rattle.std.specs.declared.cmp.Ordering.TheVariants.{Greater};
 ghost use Rattle.index_lookups.specs.Digits.{digits};
 ghost use Rattle.index_entries.specs.Record.{Record};
 ghost use Rattle.index_lookups.specs.Folded.{folded};
-ghost use Rattle.index_lookups.specs.NameSteps.{IsPathTable, IsTableOf, front_cmp, name_answers, name_order, named_cmp, named_from, named_value, path_names};
+ghost use Rattle.index_lookups.specs.NameSteps.{IsPathTable, IsTableOf, common_cmp, name_answers, name_order, named_cmp, named_from, named_value, path_names};
 ghost use Rattle.index_lookups.specs.WalkSteps.{AreVisits};
 
 use crate::fold::compare_fronts;
@@ -17,7 +17,7 @@ use std::cmp::Ordering;
 
 /// Where the first bytes of two names stand to one another, as many as both have, with case ignored where asked.
 fn compare_starts(a: &[u8], b: &[u8], ignore_case: bool) -> Ordering
-    ensures { result ≡ front_cmp (folded ignore_case a.now) (folded ignore_case b.now) }
+    ensures { result ≡ common_cmp (folded ignore_case a.now) (folded ignore_case b.now) }
 {
     if ignore_case {
         return compare_fronts(a, b);

@@ -49,7 +49,8 @@ pub(crate) fn part_within<R: Ordered>(
     requires inside { end ≤ length (R.answers places.now) }
     ensures from { start ≤ result.0 }
     ensures upto { result.0 ≤ end }
-    ensures parts { IsRising (R.answers places.now) → IsAround after (R.answers places.now) start end
+    ensures parts { IsRising (R.answers places.now)
+        → IsAround after (R.answers places.now) start end
         → IsPartedAt after (R.answers places.now) result.0 }
     ensures count { result.1 ≤ digits (end - start) }
     ensures at_least_one { start < end → 1 ≤ result.1 }

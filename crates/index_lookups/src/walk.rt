@@ -6,7 +6,7 @@ ghost use Rattle.index_entries.specs.Shared.{shared_len};
 ghost use Rattle.index_lookups.specs.Folded.{folded};
 ghost use Rattle.std.specs.Prelude.{slice_index_or};
 ghost use Rattle.index_lookups.specs.NameSteps.{IsDirectoryTable, NamedValue, named_value, visits};
-ghost use Rattle.index_lookups.specs.WalkSteps.{AreExtents, AreVisits, IsClosing, IsStep, extended, is_front, opened, span_value};
+ghost use Rattle.index_lookups.specs.WalkSteps.{AreExtents, AreVisits, IsClosing, IsStep, extended, is_parent, opened, span_value};
 
 use crate::names::Named;
 use crate::range::{Wanted, is_wanted};
@@ -23,8 +23,8 @@ pub(crate) struct Span<'a> {
 }
 
 /// Whether so many bytes of a path are a directory that it stands below or, with `own`, the one that it stands for.
-fn is_front(path: &[u8], len: usize, own: bool) -> bool
-    ensures { result ≡ is_front own path.now len }
+fn is_parent(path: &[u8], len: usize, own: bool) -> bool
+    ensures { result ≡ is_parent own path.now len }
 {
     if len < path.len() {
         path[len] == b'/'
@@ -72,7 +72,7 @@ fn extend(live: &mut Vec<Span<'_>>, path: &[u8], own: bool, place: usize)
 {
     for i in 0..live.len() {
         let span = live[i];
-        if is_front(path, span.name.len(), own) {
+        if is_parent(path, span.name.len(), own) {
             live[i] = Span {
                 name: span.name,
                 start: span.start.min(place),
@@ -95,7 +95,7 @@ fn open_fronts<'a>(
         ++ opened own path.now place from (suc (length path.now))) }
 {
     for len in from..path.len() + 1 {
-        if is_front(path, len, own) {
+        if is_parent(path, len, own) {
             live.push(Span {
                 name: &path[..len],
                 start: place,

@@ -226,7 +226,7 @@ kept_all storage words old new m = record {
   items = m.items;
   listed = m.listed;
   sound = rw (length-map old (record_in storage)) m.sound;
-  kept = kept_marked storage (listed_places m.items) 0 old new m.marked.len (λ k d l. let zeroth : 0 + k ≡ k = omega arith in rw zeroth (m.marked.each k d l));
+  retained = kept_marked storage (listed_places m.items) 0 old new m.marked.len (λ k d l. let zeroth : 0 + k ≡ k = omega arith in rw zeroth (m.marked.each k d l));
 }
 
 pub marked_placed : (len : ℕ) (places : List ℕ) (old new : List Entry) → AreRemovedAt places old new → All (IsPlaced len) old → All (IsPlaced len) new
@@ -283,7 +283,7 @@ module _ (delete_words replace_words : List ℕ) (shared split mid all : List Re
     replace = rep.items;
     listed = record { of_delete = k.listed; of_replace = rep.listed };
     sound = rw (rep.sound, candidates_are) k.sound;
-    permutation = rw (candidates_are, ← k.kept) permutation;
+    permutation = rw (candidates_are, ← k.retained) permutation;
     sorted = sorted;
-    stable = rw (candidates_are, ← k.kept) stable;
+    stable = rw (candidates_are, ← k.retained) stable;
   }

@@ -1,4 +1,5 @@
--- The merge of a split index's entries into those of its shared index (gitformat-index, "Split index"), over lists of records.
+-- The merge of a split index's entries into those of its shared index (gitformat-index, "Split index"), over lists of
+-- records.
 use Rattle.std.specs.Prelude.{◌≡◌, ℕ, ◌+◌, ◌==◌, ◌||◌, nat_le, not, List, [], ◌∷◌, ◌++◌, length, drop, codes, Option, Some, None, Result, Ok, Err, if◌then◌else◌, option_and_then, slice_get}
 use Rattle.std.specs.List.{list_any, position_from}
 use Rattle.std.specs.List.Sorted.{IsPermutation, IsSorted, IsStable}
@@ -34,10 +35,12 @@ candidates_from split replace i (r ∷ rs) = candidate split replace i r ∷ can
 abbrev pub candidates : List Record → List Record → List ℕ → List Record
 candidates shared split replace = candidates_from split replace 0 shared ++ drop (length replace) split
 
--- those at no delete position and without the mark REMOVE, the first at i
+-- those at no delete position and not marked REMOVE, the first at i
 abbrev pub retained_from : List ℕ → ℕ → List Record → List Record
 retained_from delete i [] = []
-retained_from delete i (r ∷ rs) = if list_any (λ p. p == i) delete || is_removed r.flags then retained_from delete (i + 1) rs else r ∷ retained_from delete (i + 1) rs
+retained_from delete i (r ∷ rs) =
+    if list_any (λ p. p == i) delete || is_removed r.flags then retained_from delete (i + 1) rs
+    else r ∷ retained_from delete (i + 1) rs
 
 -- ---- the faults, as texts
 
@@ -47,32 +50,45 @@ first_of (Some fault) o = Some fault
 
 -- what is wrong with replacing a shared record by a split one, if there is one left
 abbrev pub record_fault : Record → Option Record → Option (List ℕ)
-record_fault r None = if is_removed r.flags then Some (codes "entry is marked as both replace and delete") else Some (codes "replace bitmap length exceeds split index length - more entries in bitmap than found in split index")
+record_fault r None =
+    if is_removed r.flags then Some (codes "entry is marked as both replace and delete")
+    else Some
+    (codes "replace bitmap length exceeds split index length - more entries in bitmap than found in split index")
 record_fault r (Some s) =
     if is_removed r.flags then Some (codes "entry is marked as both replace and delete")
-    else (if not (length s.path == 0) then Some (codes "paths in split index entries that are for replacement should be empty")
+    else (if not (length s.path == 0)
+    then Some (codes "paths in split index entries that are for replacement should be empty")
     else (if length r.path == 0 then Some (codes "paths in shared index entries that are replaced should not be empty")
     else None))
 
 -- the same of a place, which may have no shared record
 abbrev pub place_fault : Option Record → Option Record → Option (List ℕ)
-place_fault None s = Some (codes "replace bitmap length exceeds shared index length - more entries in bitmap than found in shared index")
+place_fault None s =
+    Some (codes "replace bitmap length exceeds shared index length - more entries in bitmap than found in shared index")
 place_fault (Some r) s = record_fault r s
 
 -- the first fault of the replace positions, of which the first takes split record j
 abbrev pub replace_fault : List Record → List Record → ℕ → List (Result ℕ Malformed) → Option (List ℕ)
 replace_fault shared split j [] = None
-replace_fault shared split j (Ok place ∷ items) = first_of (place_fault (slice_get shared place) (slice_get split j)) (replace_fault shared split (j + 1) items)
+replace_fault shared split j (Ok place ∷ items) =
+    first_of (place_fault (slice_get shared place) (slice_get split j)) (replace_fault shared split (j + 1) items)
 replace_fault shared split j (Err fault ∷ items) = Some (codes "replace bitmap is malformed")
 
 -- the first fault of the delete positions among so many candidates
 abbrev pub delete_fault : ℕ → List (Result ℕ Malformed) → Option (List ℕ)
 delete_fault n [] = None
-delete_fault n (Ok place ∷ items) = if nat_le n place then Some (codes "delete bitmap length exceeds shared index length - more entries in bitmap than found in shared index") else delete_fault n items
+delete_fault n (Ok place ∷ items) =
+    if nat_le n place
+    then Some
+    (codes "delete bitmap length exceeds shared index length - more entries in bitmap than found in shared index")
+    else delete_fault n items
 delete_fault n (Err fault ∷ items) = Some (codes "delete bitmap is malformed")
 
-abbrev pub merge_fault : List Record → List Record → List (Result ℕ Malformed) → List (Result ℕ Malformed) → Option (List ℕ)
-merge_fault shared split delete replace = first_of (replace_fault shared split 0 replace) (delete_fault (length (candidates shared split (listed_places replace))) delete)
+abbrev pub merge_fault : List Record → List Record → List (Result ℕ Malformed) → List (Result ℕ Malformed)
+    → Option (List ℕ)
+merge_fault shared split delete replace =
+    first_of (replace_fault shared split 0 replace)
+    (delete_fault (length (candidates shared split (listed_places replace))) delete)
 
 -- ---- the merge
 
@@ -81,18 +97,21 @@ pub record AreListed (delete_words replace_words : List ℕ) (delete replace : L
   pub of_delete : ListPlaces delete delete_words
   pub of_replace : ListPlaces replace replace_words
 
--- the bitmaps have no fault, and the records are the kept candidates, stably ordered by path and stage
+-- the bitmaps have no fault, and the records are the retained candidates, stably ordered by path and stage
 pub record IsMerge (delete_words replace_words : List ℕ) (shared split merged : List Record) : Type 0 where
   pub delete : List (Result ℕ Malformed)
   pub replace : List (Result ℕ Malformed)
   pub listed : AreListed delete_words replace_words delete replace
   pub sound : merge_fault shared split delete replace ≡ None
-  pub permutation : IsPermutation (retained_from (listed_places delete) 0 (candidates shared split (listed_places replace))) merged
+  pub permutation : IsPermutation
+      (retained_from (listed_places delete) 0 (candidates shared split (listed_places replace))) merged
   pub sorted : IsSorted record_cmp merged
-  pub stable : IsStable record_cmp (retained_from (listed_places delete) 0 (candidates shared split (listed_places replace))) merged
+  pub stable : IsStable record_cmp
+      (retained_from (listed_places delete) 0 (candidates shared split (listed_places replace))) merged
 
 -- the bitmaps have this first fault
-pub record IsMergeFault (delete_words replace_words : List ℕ) (shared split : List Record) (fault : List ℕ) : Type 0 where
+pub record IsMergeFault (delete_words replace_words : List ℕ) (shared split : List Record) (fault : List ℕ)
+    : Type 0 where
   pub delete : List (Result ℕ Malformed)
   pub replace : List (Result ℕ Malformed)
   pub listed : AreListed delete_words replace_words delete replace

@@ -45,7 +45,7 @@ changed_at f (suc k) (x ∷ xs) = x ∷ changed_at f k xs
 
 -- ---- deleting
 
--- The entry at i, marked where i is one of these places: no other entry gets the mark or changes.
+-- The entry at i, marked where i is one of these places: no other entry is marked or changes.
 pub record IsRemovedAt (places : List ℕ) (i : ℕ) (old new : Entry) : Type 0 where
   pub removed : is_removed new.flags.0 ≡ (list_any (λ p. p == i) places || is_removed old.flags.0)
   pub same : list_any (λ p. p == i) places ≡ false → new ≡ old
@@ -54,7 +54,8 @@ pub record IsRemovedAt (places : List ℕ) (i : ℕ) (old new : Entry) : Type 0 
 -- as many entries, each marked where it is at one of these places
 pub record AreRemovedAt (places : List ℕ) (old new : List Entry) : Type 0 where
   pub len : length new ≡ length old
-  pub each : (k : ℕ) (d : Entry) → k < length old → IsRemovedAt places k (slice_index_or old k d) (slice_index_or new k d)
+  pub each : (k : ℕ) (d : Entry) → k < length old
+      → IsRemovedAt places k (slice_index_or old k d) (slice_index_or new k d)
 
 -- no delete position has a fault, and each of them is marked
 pub record RemovesAt (words : List ℕ) (old new : List Entry) : Type 0 where
@@ -63,12 +64,12 @@ pub record RemovesAt (words : List ℕ) (old new : List Entry) : Type 0 where
   pub sound : delete_fault (length old) items ≡ None
   pub marked : AreRemovedAt (listed_places items) old new
 
--- no delete position has a fault, and those records are kept
+-- no delete position has a fault, and the records at no such position are retained
 pub record Keeps (words : List ℕ) (old new : List Record) : Type 0 where
   pub items : List (Result ℕ Malformed)
   pub listed : ListPlaces items words
   pub sound : delete_fault (length old) items ≡ None
-  pub kept : new ≡ retained_from (listed_places items) 0 old
+  pub retained : new ≡ retained_from (listed_places items) 0 old
 
 pub record IsDeleteFault (words : List ℕ) (n : ℕ) (fault : List ℕ) : Type 0 where
   pub items : List (Result ℕ Malformed)

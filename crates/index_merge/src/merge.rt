@@ -57,7 +57,8 @@ fn fault_alone(entry: &Entry) -> &'static str
     if entry.is_removed() {
         return "entry is marked as both replace and delete";
     }
-    "replace bitmap length exceeds split index length - more entries in bitmap than found in split index"
+    "replace bitmap length exceeds split index length - \
+    more entries in bitmap than found in split index"
 }
 
 /// What is wrong with replacing an entry by another.
@@ -127,7 +128,8 @@ fn replace_at(
 {
     if place >= shared.len() as u64 {
         return Err(Error::Corrupt(
-            "replace bitmap length exceeds shared index length - more entries in bitmap than found in shared index",
+            "replace bitmap length exceeds shared index length - \
+            more entries in bitmap than found in shared index",
         ));
     }
     let at = place as usize;
@@ -240,7 +242,8 @@ fn mark_deleted(entries: &mut Vec<Entry>, delete: &ewah::Vec) -> Result<(), Erro
         };
         if place >= entries.len() as u64 {
             return Err(Error::Corrupt(
-                "delete bitmap length exceeds shared index length - more entries in bitmap than found in shared index",
+                "delete bitmap length exceeds shared index length - \
+                more entries in bitmap than found in shared index",
             ));
         }
         mark_at(entries, place as usize);
@@ -258,7 +261,7 @@ fn drop_removed(entries: &mut Vec<Entry>)
 /// Drops the entries at the places of the bitmap, and those that are marked `REMOVE`.
 fn keep_others(entries: &mut Vec<Entry>, storage: &[u8], delete: &ewah::Vec) -> Result<(), Error>
     requires { All (IsPlaced (length storage.now)) entries.old.items }
-    ensures kept { OnOk result
+    ensures retained { OnOk result
         (Keeps (bitmap delete.now).words (records_in storage.now entries.old.items)
         (records_in storage.now entries.new.items)) }
     ensures placed { OnOk result (All (IsPlaced (length storage.now)) entries.new.items) }

@@ -38,11 +38,14 @@ whole seconds = if int_lt seconds (pos 0) then None else Some (unsigned_abs seco
 
 -- the time as it is, where its seconds have 32 bits
 abbrev pub exact_time : FileTime → Option Time
-exact_time time = whole (seconds_of time) >>= λ seconds. if nat_lt seconds (2 ^ 32) then Some (record { secs = seconds; nsecs = nanoseconds_of time }) else None
+exact_time time =
+    whole (seconds_of time) >>= λ seconds. if nat_lt seconds (2 ^ 32)
+    then Some (record { secs = seconds; nsecs = nanoseconds_of time }) else None
 
 -- the time with the low 32 bits of its seconds, where it isn't before 1970
 abbrev pub low_time : FileTime → Option Time
-low_time time = option_map (λ seconds. record { secs = seconds % 2 ^ 32; nsecs = nanoseconds_of time }) (whole (seconds_of time))
+low_time time =
+    option_map (λ seconds. record { secs = seconds % 2 ^ 32; nsecs = nanoseconds_of time }) (whole (seconds_of time))
 
 -- a value that is there, or its want
 abbrev pub IsGiven : Option Time → Result Time OutOfRange → Type 0

@@ -37,4 +37,6 @@ is_racy_by Equal later = later
 is_racy_by Greater later = false
 
 abbrev pub is_racy : Stat → FileTime → Options → Bool
-is_racy s time o = is_racy_by (int_cmp (seconds_of time) (pos s.mtime.secs)) (not (nanoseconds_count o) || nat_le (nanoseconds_of time) s.mtime.nsecs)
+is_racy s time o =
+    is_racy_by (int_cmp (seconds_of time) (pos s.mtime.secs))
+    (not (nanoseconds_count o) || nat_le (nanoseconds_of time) s.mtime.nsecs)

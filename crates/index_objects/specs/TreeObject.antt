@@ -40,7 +40,8 @@ NoTreeEntry kind bytes = (e : TreeEntry) (rest : List ℕ) → IsTreeEntry kind 
 -- bytes are these entries, one after another, and the rest
 abbrev pub AreTreeEntries : Kind → List ℕ → List TreeEntry → List ℕ → Type 0
 AreTreeEntries kind bytes [] rest = bytes ≡ rest
-AreTreeEntries kind bytes (e ∷ es) rest = (after : List ℕ) × IsTreeEntry kind bytes e after × AreTreeEntries kind after es rest
+AreTreeEntries kind bytes (e ∷ es) rest =
+    (after : List ℕ) × IsTreeEntry kind bytes e after × AreTreeEntries kind after es rest
 
 -- bytes are the object of a tree with these entries
 abbrev pub IsTreeObject : Kind → List ℕ → List TreeEntry → Type 0

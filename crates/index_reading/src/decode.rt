@@ -156,23 +156,23 @@ pub struct Declared {
     pub paths: usize,
 }
 
-/// What the header at the front of a file of so many bytes declares, whose end marker names this offset, or which has
-/// none. None where the header is at fault, or the count passes what such a file can hold or the limit.
+/// What the header declares, the head of a file of so many bytes, whose end marker names this offset, or which has none.
+/// None where the header is at fault, or the count passes what such a file can hold or the limit.
 pub fn declared_by(
-    front: &[u8],
+    head: &[u8],
     len: usize,
     offset: Option<usize>,
     object_hash: Kind,
     options: Options,
 ) -> Option<Declared>
-    ensures header { IfSome result (λ x. header_of object_hash front.now ≡ Ok x.version) }
-    ensures count { IfSome result (λ x. x.count ≡ count_of front.now) }
+    ensures header { IfSome result (λ x. header_of object_hash head.now ≡ Ok x.version) }
+    ensures count { IfSome result (λ x. x.count ≡ count_of head.now) }
     ensures fits { IfSome result
         (λ x. nat_lt (most_entries len offset object_hash x.version) x.count ≡ false) }
     ensures small { IfSome result (λ x. is_too_large options.alloc_limit_bytes x.count len offset
         object_hash x.version ≡ false) }
 {
-    let (version, count, _) = header::decode(front, object_hash).ok()?;
+    let (version, count, _) = header::decode(head, object_hash).ok()?;
     if count as usize > entries::max_entries_possible(len, offset, object_hash, version) {
         return None;
     }
@@ -201,7 +201,7 @@ fn read_behind_header(
     paths: usize,
     bytes: &[u8],
 ) -> Result<(Parts, Option<ObjectId>), Error>
-    ensures body { Says parts_contents result
+    ensures behind { Says parts_contents result
         (IsBehindHeader read_as.object_hash read_as.timestamp read_as.options read_as.version
         count bytes.now) }
     ensures placed { IfOk result (λ x. PartsInStorage x.0) }

@@ -3,7 +3,7 @@
 ghost use Rattle.gix_index.specs.File.{state_of};
 ghost use Rattle.gix_index.specs.State.{PathsInStorage};
 
-use crate::fronts::ranges;
+use crate::ranges::ranges;
 use gix_index::hash::io::{Out, Plain};
 use gix_index::write::{Error, Options, VersionChoice};
 use gix_index::{File, State};

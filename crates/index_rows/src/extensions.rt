@@ -1,6 +1,6 @@
 //! The rows about the content of one extension.
 
-use crate::fronts::content_fronts;
+use crate::ranges::ranges;
 use crate::show::{extension, untracked};
 use gix_index::ewah;
 use gix_index::extension::{
@@ -10,6 +10,7 @@ use gix_index::extension::{
 use gix_index::hash::Kind;
 use index_row_kit::show::{Bytes, OrNone, Text};
 use index_row_kit::{Fault, Lines, Words, refusal};
+use std::alloc::Global;
 
 /// Which reader is called.
 #[derive(Clone, Copy)]
@@ -145,12 +146,39 @@ impl Call {
     }
 }
 
-/// `content-fronts`: what a reader answers to each front of an extension's content.
-pub fn fronts(words: &mut Words<'_>, out: &mut Lines) -> Result<(), Fault> {
+/// The names of the lines that are told of an extension's content.
+const CONTENT_NAMES: [&str; 8] = [
+    "fault",
+    "tree",
+    "link",
+    "resolve_undo",
+    "untracked",
+    "fs_monitor",
+    "offsets",
+    "num_bits",
+];
+
+/// `content-fronts`: what a reader answers to each prefix of an extension's content.
+pub fn prefixes(words: &mut Words<'_>, out: &mut Lines) -> Result<(), Fault> {
     let reader = words.next("a reader")?;
     let reader = Call::named(reader).ok_or(Fault::Wrong("a reader"))?;
     let kind = words.kind()?;
-    content_fronts(out, reader, kind, &words.bytes()?)
+    let texts = texts_of(out.alloc(), reader, kind, &words.bytes()?)?;
+    for name in &CONTENT_NAMES {
+        ranges(out, &texts, name);
+    }
+    Ok(())
+}
+
+/// What the reader answers to each prefix, from no bytes to all of them.
+fn texts_of(alloc: Global, reader: Call, kind: Kind, bytes: &[u8]) -> Result<Vec<String>, Fault> {
+    let mut texts = Vec::new(alloc);
+    for len in 0..=bytes.len() {
+        let mut lines = Lines::new(alloc);
+        reader.answer_content(kind, &bytes[..len], &mut lines)?;
+        texts.push(lines.end()?)?;
+    }
+    Ok(texts)
 }
 
 fn monitor(out: &mut Lines, bytes: &[u8]) -> Result<(), Fault> {

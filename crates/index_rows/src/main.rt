@@ -9,8 +9,10 @@ mod cuts;
 mod entries;
 mod extensions;
 mod files;
-mod fronts;
 mod numbers;
+mod prefixes;
+mod ranges;
+mod reading;
 mod show;
 mod states;
 
@@ -29,7 +31,7 @@ impl Answer for Rows {
             return files::at(words, out);
         }
         if call == "content-fronts" {
-            return extensions::fronts(words, out);
+            return extensions::prefixes(words, out);
         }
         if let Some(call) = extensions::Call::named(call) {
             return call.answer(words, out);

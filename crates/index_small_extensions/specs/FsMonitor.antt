@@ -1,5 +1,5 @@
--- The file system monitor (gitformat-index, "File System Monitor cache"): how far its answer reaches, and which entries may
--- have changed.
+-- The file system monitor (gitformat-index, "File System Monitor cache"): how far its answer reaches, and which entries
+-- may have changed.
 use Rattle.std.specs.Prelude.{◌≡◌, ◌≢◌, ℕ, List, [], ◌∷◌, ◌++◌, All, length}
 use Rattle.bstr.specs.Owned.{bstring_bytes}
 use Rattle.index_bitmaps.specs.Bitmap.{Bitmap, bitmap, IsBitmap}
@@ -29,7 +29,8 @@ monitor_of m = record { token = token_value m.token; dirty = bitmap m.entry_dirt
 -- bytes are a token of the version: in 1 the nanoseconds in eight bytes, in 2 the text up to a NUL
 pub data IsToken (version : ℕ) (bytes : List ℕ) (token : TokenValue) : Type 0 where
   version_1 : version ≡ 1 → length bytes ≡ 8 → token ≡ nanoseconds (be bytes) → IsToken version bytes token
-  version_2 : (text : List ℕ) → version ≡ 2 → bytes ≡ text ++ 0 ∷ [] → All (λ b. b ≢ 0) text → token ≡ opaque text → IsToken version bytes token
+  version_2 : (text : List ℕ) → version ≡ 2 → bytes ≡ text ++ 0 ∷ [] → All (λ b. b ≢ 0) text → token ≡ opaque text
+      → IsToken version bytes token
 
 -- bytes are the version in four bytes, a token, the size of a bitmap in four, and the bitmap, which has just that size
 pub record IsMonitor (bytes : List ℕ) (m : Monitor) : Type 0 where

@@ -20,7 +20,8 @@ pub record IsEntryBlock (bytes : List ℕ) (o : Offset) (rest : List ℕ) : Type
 -- bytes are these blocks, one after another, and the rest
 abbrev pub AreEntryBlocks : List ℕ → List Offset → List ℕ → Type 0
 AreEntryBlocks bytes [] rest = bytes ≡ rest
-AreEntryBlocks bytes (o ∷ blocks) rest = (after : List ℕ) × IsEntryBlock bytes o after × AreEntryBlocks after blocks rest
+AreEntryBlocks bytes (o ∷ blocks) rest =
+    (after : List ℕ) × IsEntryBlock bytes o after × AreEntryBlocks after blocks rest
 
 -- bytes are the version, 1, in four bytes, and one or more blocks
 pub record IsTable (bytes : List ℕ) (blocks : List Offset) : Type 0 where
@@ -36,8 +37,10 @@ pub record HasTable (bytes : List ℕ) : Type 0 where
   pub blocks : List Offset
   pub is_table : IsTable bytes blocks
 
--- Bytes from the first extension to the end of a file: the table in the first extension with the table's signature, or None where
--- there is none, it is malformed, or the bytes are fewer than the trailer's.
+-- Bytes from the first extension to the end of a file: the table in the first extension with the table's signature, or
+-- None where there is none, it is malformed, or the bytes are fewer than the trailer's.
 pub data IsFound (kind : Kind) (bytes : List ℕ) (found : Option (List Offset)) : Type 0 where
   short : length bytes < id_len kind → found ≡ None → IsFound kind bytes found
-  walked : (extensions trailer : List ℕ) (items : List Item) (tail : List ℕ) → bytes ≡ extensions ++ trailer → length trailer ≡ id_len kind → IsWalk extensions items tail → IsValue IsTable (first_content (codes "IEOT") items) found → IsFound kind bytes found
+  walked : (extensions trailer : List ℕ) (items : List Item) (tail : List ℕ) → bytes ≡ extensions ++ trailer
+      → length trailer ≡ id_len kind → IsWalk extensions items tail
+      → IsValue IsTable (first_content (codes "IEOT") items) found → IsFound kind bytes found

@@ -19,10 +19,11 @@ path_stages p = record { name = bstring_bytes p.name; stages = p.stages }
 -- A mode's text and the bytes of an id are a stage. A mode of 0 says that there is none, and has no id.
 pub data IsStage (kind : Kind) (text id : List ℕ) (stage : Option Stage) : Type 0 where
   absent : IsMode text 0 → id ≡ [] → stage ≡ None → IsStage kind text id stage
-  present : (mode : ℕ) → IsMode text mode → mode ≢ 0 → length id ≡ id_len kind → stage ≡ Some (record { mode = mode; id = make_id kind id }) → IsStage kind text id stage
+  present : (mode : ℕ) → IsMode text mode → mode ≢ 0 → length id ≡ id_len kind
+      → stage ≡ Some (record { mode = mode; id = make_id kind id }) → IsStage kind text id stage
 
--- Bytes are a path, and the rest: the name up to a NUL, three modes, each up to a NUL, and the ids of those that aren't 0, in
--- the order of the modes.
+-- Bytes are a path, and the rest: the name up to a NUL, three modes, each up to a NUL, and the ids of those that aren't
+-- 0, in the order of the modes.
 pub record IsResolvePath (kind : Kind) (bytes : List ℕ) (p : PathStages) (rest : List ℕ) : Type 0 where
   pub base : List ℕ
   pub ours : List ℕ
@@ -30,7 +31,8 @@ pub record IsResolvePath (kind : Kind) (bytes : List ℕ) (p : PathStages) (rest
   pub base_id : List ℕ
   pub ours_id : List ℕ
   pub theirs_id : List ℕ
-  pub parts : bytes ≡ p.name ++ 0 ∷ (base ++ 0 ∷ (ours ++ 0 ∷ (theirs ++ 0 ∷ (base_id ++ (ours_id ++ (theirs_id ++ rest))))))
+  pub parts : bytes ≡ p.name ++ 0 ∷
+      (base ++ 0 ∷ (ours ++ 0 ∷ (theirs ++ 0 ∷ (base_id ++ (ours_id ++ (theirs_id ++ rest))))))
   pub name_apart : All (λ b. b ≢ 0) p.name
   pub base_stage : Option Stage
   pub ours_stage : Option Stage
@@ -48,7 +50,8 @@ pub record HasResolvePath (kind : Kind) (bytes : List ℕ) : Type 0 where
 -- bytes are these paths, one after another, and the rest
 abbrev pub AreResolvePaths : Kind → List ℕ → List PathStages → List ℕ → Type 0
 AreResolvePaths kind bytes [] rest = bytes ≡ rest
-AreResolvePaths kind bytes (p ∷ paths) rest = (after : List ℕ) × IsResolvePath kind bytes p after × AreResolvePaths kind after paths rest
+AreResolvePaths kind bytes (p ∷ paths) rest =
+    (after : List ℕ) × IsResolvePath kind bytes p after × AreResolvePaths kind after paths rest
 
 -- bytes are these paths, and nothing behind them
 abbrev pub IsResolveUndo : Kind → List ℕ → List PathStages → Type 0

@@ -7,7 +7,7 @@ ghost use Rattle.index_small_extensions.specs.OffsetTable.{HasTable, IsEntryBloc
 
 use index_extensions::{Iter, Signature};
 use index_parts::hash::Kind;
-use index_parts::util::read_u32;
+use index_parts::read;
 use std::alloc::{AllocError, Global};
 
 /// The signature.
@@ -38,7 +38,7 @@ pub fn decode(alloc: Global, data: &[u8]) -> Result<Option<Vec<Offset>>, AllocEr
         (λ found. IsRead IsTable «data».now (option_map (λ v. v.items) found)) }
     ensures memory { IfErr result (λ _. HasTable «data».now) }
 {
-    let Some((version, rest)) = read_u32(data) else {
+    let Some((version, rest)) = read::u32(data) else {
         return Ok(None);
     };
     if version != VERSION || rest.is_empty() {
@@ -98,8 +98,8 @@ fn entry_block_of(bytes: &[u8]) -> Option<(Offset, &[u8])>
     ensures found { IfSome result (λ x. IsEntryBlock bytes.now x.0 x.1.now) }
     ensures none { IfNone result (length bytes.now < 8) }
 {
-    let (from_beginning_of_file, rest) = read_u32(bytes)?;
-    let (num_entries, rest) = read_u32(rest)?;
+    let (from_beginning_of_file, rest) = read::u32(bytes)?;
+    let (num_entries, rest) = read::u32(rest)?;
     Some((
         Offset {
             from_beginning_of_file,

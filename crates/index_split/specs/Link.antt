@@ -41,15 +41,24 @@ pub record StartsWithId (kind : Kind) (bytes : List ℕ) (id : ObjectId) (rest :
 
 -- bytes are a link: an id, and nothing, or two bitmaps and nothing more
 pub data IsLink (kind : Kind) (bytes : List ℕ) (l : LinkValue) : Type 0 where
-  alone : (id : ObjectId) → StartsWithId kind bytes id [] → l ≡ record { shared = id; bitmaps = None } → IsLink kind bytes l
-  split : (id : ObjectId) (maps after : List ℕ) (b : BitmapPair) → StartsWithId kind bytes id maps → IsBitmap maps b.delete after → IsBitmap after b.replace [] → l ≡ record { shared = id; bitmaps = Some b } → IsLink kind bytes l
+  alone : (id : ObjectId) → StartsWithId kind bytes id [] → l ≡ record { shared = id; bitmaps = None }
+      → IsLink kind bytes l
+  split : (id : ObjectId) (maps after : List ℕ) (b : BitmapPair) → StartsWithId kind bytes id maps
+      → IsBitmap maps b.delete after → IsBitmap after b.replace [] → l ≡ record { shared = id; bitmaps = Some b }
+      → IsLink kind bytes l
 
 -- the first fault of bytes that are no link
 pub data IsLinkFault (kind : Kind) (bytes : List ℕ) (fault : LinkFault) : Type 0 where
-  short : length bytes < id_len kind → fault ≡ Corrupt (codes "link extension too short to read share index checksum") → IsLinkFault kind bytes fault
-  no_delete : (id : ObjectId) (maps : List ℕ) (error : BitmapError) → StartsWithId kind bytes id maps → maps ≢ [] → Lacks error maps → fault ≡ BitmapDecode error (codes "delete") → IsLinkFault kind bytes fault
-  no_replace : (id : ObjectId) (maps after : List ℕ) (delete : Bitmap) (error : BitmapError) → StartsWithId kind bytes id maps → IsBitmap maps delete after → Lacks error after → fault ≡ BitmapDecode error (codes "replace") → IsLinkFault kind bytes fault
-  garbage : (id : ObjectId) (maps after rest : List ℕ) (b : BitmapPair) → StartsWithId kind bytes id maps → IsBitmap maps b.delete after → IsBitmap after b.replace rest → rest ≢ [] → fault ≡ Corrupt (codes "garbage trailing link extension") → IsLinkFault kind bytes fault
+  short : length bytes < id_len kind → fault ≡ Corrupt (codes "link extension too short to read share index checksum")
+      → IsLinkFault kind bytes fault
+  no_delete : (id : ObjectId) (maps : List ℕ) (error : BitmapError) → StartsWithId kind bytes id maps → maps ≢ []
+      → Lacks error maps → fault ≡ BitmapDecode error (codes "delete") → IsLinkFault kind bytes fault
+  no_replace : (id : ObjectId) (maps after : List ℕ) (delete : Bitmap) (error : BitmapError)
+      → StartsWithId kind bytes id maps → IsBitmap maps delete after → Lacks error after
+      → fault ≡ BitmapDecode error (codes "replace") → IsLinkFault kind bytes fault
+  garbage : (id : ObjectId) (maps after rest : List ℕ) (b : BitmapPair) → StartsWithId kind bytes id maps
+      → IsBitmap maps b.delete after → IsBitmap after b.replace rest → rest ≢ []
+      → fault ≡ Corrupt (codes "garbage trailing link extension") → IsLinkFault kind bytes fault
 
 pub record HasLink (kind : Kind) (bytes : List ℕ) : Type 0 where
   pub value : LinkValue

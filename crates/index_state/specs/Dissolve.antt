@@ -28,20 +28,26 @@ pub record IsDissolved (l : LinkValue) (shared old new : Contents) : Type 0 wher
 
 -- the first fault of a link between two indexes: the shared one links on, or a bitmap doesn't fit them
 pub data IsDissolveFault (l : LinkValue) (shared split : Contents) (fault : LinkFault) : Type 0 where
-  nested : IsSome shared.extensions.link → fault ≡ Corrupt (codes "shared index has a link of its own") → IsDissolveFault l shared split fault
-  broken : (b : BitmapPair) (text : List ℕ) → shared.extensions.link ≡ None → l.bitmaps ≡ Some b → IsMergeFault b.delete.words b.replace.words shared.records split.records text → fault ≡ Corrupt text → IsDissolveFault l shared split fault
+  nested : IsSome shared.extensions.link → fault ≡ Corrupt (codes "shared index has a link of its own")
+      → IsDissolveFault l shared split fault
+  broken : (b : BitmapPair) (text : List ℕ) → shared.extensions.link ≡ None → l.bitmaps ≡ Some b
+      → IsMergeFault b.delete.words b.replace.words shared.records split.records text → fault ≡ Corrupt text
+      → IsDissolveFault l shared split fault
 
 -- an error says the first fault; want of memory says nothing
 abbrev pub SaysDissolve : Error → LinkValue → Contents → Contents → Type 0
 SaysDissolve e l shared split = IfSome (link_fault e) (IsDissolveFault l shared split)
 
--- what becomes of a split index by a link and the shared index: an Ok merged both, an error says the first fault and changed nothing
+-- what becomes of a split index by a link and the shared index: an Ok merged both, an error says the first fault and
+-- changed nothing
 pub record Dissolves (l : LinkValue) (shared old new : State) (r : Result (Unit {0}) Error) : Type 0 where
   pub dissolved : OnOk r (IsDissolved l (contents shared) (contents old) (contents new))
   pub without_bitmaps : l.bitmaps ≡ None → IsUnchanged old new
   pub no_memory : l.bitmaps ≡ None → (contents shared).extensions.link ≡ None → IsOk r
   pub placed : PathsInStorage new
-  pub ids : (kind : Kind) → IdsAreOf kind (entries_of old) → IdsAreOf kind (entries_of shared) → IdsAreOf kind (entries_of new)
-  pub storable : IsStorable (contents old) → IsStorable (contents shared) → (contents shared).kind ≡ (contents old).kind → IsStorable (contents new)
+  pub ids : (kind : Kind) → IdsAreOf kind (entries_of old) → IdsAreOf kind (entries_of shared)
+      → IdsAreOf kind (entries_of new)
+  pub storable : IsStorable (contents old) → IsStorable (contents shared) → (contents shared).kind ≡ (contents old).kind
+      → IsStorable (contents new)
   pub fault : IfErr r (λ e. SaysDissolve e l (contents shared) (contents old))
   pub unchanged : OnErr r (IsUnchanged old new)

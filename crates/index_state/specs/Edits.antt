@@ -57,7 +57,8 @@ without_resolve_undo c = record c { extensions = record c.extensions { resolve_u
 abbrev pub with_record : Contents → Record → Contents
 with_record c r = record c { records = c.records ++ r ∷ [] }
 
--- One more entry stands at the end, with this record, and its path at the end of the storage. All but the entries stays.
+-- One more entry stands at the end, with this record, and its path at the end of the storage. All but the entries
+-- stays.
 pub record AddsEntry (old new : State) (r : Record) : Type 0 where
   pub entry : Entry
   pub entries : entries_of new ≡ entries_of old ++ entry ∷ []
@@ -84,10 +85,13 @@ LendsEntries s r = Lends state.the_row (Array entry.the_row 0) s r (with_entries
 abbrev pub with_entry_at : State → ℕ → Entry → State
 with_entry_at s i e = record s { parts = parts_with_entry_at s.parts i e }
 
--- the state ends with the last entry behind the loan where one with the path and the stage stands; without a loan it ends as it was
+-- the state ends with the last entry behind the loan where one with the path and the stage stands; without a loan it
+-- ends as it was
 abbrev pub LendsEntryAt : List ℕ → ℕ → MutBor State → Option (MutBor Entry) → Fml
 LendsEntryAt path stage s r =
-    LendsSo state.the_row entry.the_row s r (λ last e. OnSome r ((i : ℕ) × IsKeyAt path stage (records s.now) i × (last ≡ with_entry_at s.now i e))) (λ last. IsUnchanged s.now last)
+    LendsSo state.the_row entry.the_row s r
+    (λ last e. OnSome r ((i : ℕ) × IsKeyAt path stage (records s.now) i × (last ≡ with_entry_at s.now i e)))
+    (λ last. IsUnchanged s.now last)
 
 -- the state with this cached tree; all else stays
 abbrev pub with_tree : State → Tree → State

@@ -18,14 +18,18 @@ use Rattle.index_state.specs.declared.verify.entries.Error.TheVariants.{OutOfOrd
 -- the error has this place, and the paths and stages of two records: the one before it, and its own
 abbrev pub NamesBoth : ℕ → Record → Record → Error → Type 0
 NamesBoth place previous current (OutOfOrder index path stage previous_path previous_stage) =
-    (index ≡ place) × (bstring_bytes path ≡ current.path) × (stage ≡ stage_of current.flags) × (bstring_bytes previous_path ≡ previous.path) × (previous_stage ≡ stage_of previous.flags)
+    (index ≡ place) × (bstring_bytes path ≡ current.path) × (stage ≡ stage_of current.flags)
+    × (bstring_bytes previous_path ≡ previous.path) × (previous_stage ≡ stage_of previous.flags)
 NamesBoth place previous current Memory = ⊥
 
--- The error names the first place that doesn't increase, with its record and the one before it. Want of memory comes only where
--- there is such a place.
+-- The error names the first place that doesn't increase, with its record and the one before it. Want of memory comes
+-- only where there is such a place.
 abbrev pub SaysFall : List Record → Error → Type 0
 SaysFall rs (OutOfOrder index path stage previous_path previous_stage) =
-    IsFirstFall rs (Some index) × ((d : Record) → NamesBoth index (slice_index_or rs (index - 1) d) (slice_index_or rs index d) (OutOfOrder index path stage previous_path previous_stage))
+    IsFirstFall rs (Some index)
+    × ((d : Record)
+    → NamesBoth index (slice_index_or rs (index - 1) d) (slice_index_or rs index d)
+    (OutOfOrder index path stage previous_path previous_stage))
 SaysFall rs Memory = IsStrictlyOrdered rs → ⊥
 
 -- ---- extensions
@@ -34,14 +38,14 @@ SaysFall rs Memory = IsStrictlyOrdered rs → ⊥
 abbrev pub AreSoundExtensions : ℕ → Option Node → Type 0
 AreSoundExtensions entries tree = IfSome tree (λ t. IsSoundTree t × CountsAtMost entries t)
 
--- the first fault of the tree, with a store's trees where these are looked at, or else the first node in preorder that counts more
--- than so many entries
+-- the first fault of the tree, with a store's trees where these are looked at, or else the first node in preorder that
+-- counts more than so many entries
 abbrev pub extensions_fault : ℕ → Option Trees → Option Node → Option TreeFault
 extensions_fault entries looked None = None
 extensions_fault entries looked (Some t) = or_else (first_fault looked t) (excess_in entries t)
 
--- What is answered where a store's trees are looked at. Ok: the cached tree agrees with them too. An error is the first fault, or want
--- of memory for an object; where there is no cached tree, there is none.
+-- What is answered where a store's trees are looked at. Ok: the cached tree agrees with them too. An error is the first
+-- fault, or want of memory for an object; where there is no cached tree, there is none.
 abbrev pub JudgesExtensions : ℕ → Trees → Option Node → Result (Unit {0}) TreeError → Type 0
 JudgesExtensions entries trees None r = IsOk r
 JudgesExtensions entries trees (Some t) (Ok u) = AreSoundExtensions entries (Some t) × Agrees trees t

@@ -26,7 +26,7 @@ impl From<Parts> for State {
 
 impl State {
     /// Reads an index from all bytes of its file, and gives it with the trailer's id, or None where the trailer is
-    /// null. The timestamp is kept.
+    /// null. The state has the timestamp.
     ///
     /// Of several faults the first is given, in this order: [`Error::Header`] for a file that is too short, has another
     /// signature, a version that can't be read, or a count of entries that its length can't hold;

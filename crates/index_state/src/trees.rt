@@ -6,7 +6,7 @@ ghost use Rattle.index_entries.specs.Order.{IsStrictlyOrdered};
 ghost use Rattle.index_tree_writer.specs.Cached.{IsCached};
 ghost use Rattle.index_tree_writer.specs.Directory.{IsTreeOf, Items, objects};
 ghost use Rattle.index_tree_writer.specs.Objects.{with_objects};
-ghost use Rattle.index_tree_writer.specs.Refusals.{AreFit, IsRefused, SaysFault};
+ghost use Rattle.index_tree_writer.specs.Refusals.{AreFit, AreRefused, SaysTreesFault};
 ghost use Rattle.index_tree_writer.specs.Staged.{staged_in};
 ghost use Rattle.index_tree_writer.specs.TreeIds.{AreRight, SaysTreeIds, any_name};
 ghost use Rattle.index_state.specs.Edits.{with_cached_tree};
@@ -47,8 +47,8 @@ impl State {
         ensures fit { IfOk result
             (λ _. AreFit (C.refusal check.now) (contents self.now).kind (records self.now)) }
         ensures few { IfOk result (λ _. length (records self.now) < 2 ^ 31) }
-        ensures fault { IfErr result (λ e. SaysFault e (λ n. S.fault sink.new ≡ Some n)
-            (λ f. IsRefused (C.refusal check.now) (contents self.now).kind (records self.now) f
+        ensures fault { IfErr result (λ e. SaysTreesFault e (λ n. S.fault sink.new ≡ Some n)
+            (λ f. AreRefused (C.refusal check.now) (contents self.now).kind (records self.now) f
             × (sink.new ≡ sink.old))) }
     {
         write_trees(alloc, self.parts.object_hash, &self.slice(), check, sink)

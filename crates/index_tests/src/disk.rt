@@ -1,7 +1,7 @@
-//! A file that is looked at again after the index was written to it.
+//! A file that is looked at again after the index was written to it, and one whose lock another holds.
 
 use gix_index::entry::{FileTime, Flags, Mode, Stage, Stat};
-use gix_index::file::verify;
+use gix_index::file::{verify, write};
 use gix_index::hash::{Kind, ObjectId};
 use gix_index::write::Options;
 use gix_index::{File, State};
@@ -54,5 +54,20 @@ fn a_file_is_verified(rt: HostRuntime) -> Result<(), Fail> {
     assert_eq!(rt; file.checksum(), None);
     fs::remove_file(&rt, "verified")?;
     assert_eq!(rt; verify_told(&rt, &file), "intact");
+    Ok(())
+}
+
+#[test]
+fn a_held_lock_changes_nothing(rt: HostRuntime) -> Result<(), Fail> {
+    let mut file = file_of(rt.alloc(), "held")?;
+    let before = file.clone()?;
+    fs::write(&rt, "held.lock", b"".as_slice())?;
+    assert!(rt; file.paths_in_storage());
+    let answer = file.write(&rt, rt.alloc(), Options::default());
+    assert!(rt; matches!(answer, Err(write::Error::AcquireLock(_))));
+    assert!(rt; file.entries() == before.entries());
+    assert_eq!(rt; file.version(), before.version());
+    assert_eq!(rt; file.checksum(), None);
+    fs::remove_file(&rt, "held.lock")?;
     Ok(())
 }

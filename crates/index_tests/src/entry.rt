@@ -1,7 +1,7 @@
-//! The sets of all flags.
+//! The sets of all flags, and what stats are compared by where nothing is said.
 
 use gix_index::bitflags::Flags as _;
-use gix_index::entry::{Flags, at_rest};
+use gix_index::entry::{FileTime, Flags, Stat, at_rest, stat};
 
 #[test]
 fn all_flags(rt: HostRuntime) {
@@ -9,4 +9,16 @@ fn all_flags(rt: HostRuntime) {
     assert_eq!(rt; at_rest::FlagsExtended::all().bits(), 0x6000);
     let both = Flags::INTENT_TO_ADD | Flags::SKIP_WORKTREE;
     assert_eq!(rt; at_rest::FlagsExtended::all().to_flags(), Some(both));
+}
+
+/// Nanoseconds don't count by default.
+#[test]
+fn a_stat_of_the_second_of_the_index_is_racy(rt: HostRuntime) {
+    let mut seen = Stat::default();
+    seen.mtime.secs = 5;
+    let options = stat::Options::default();
+    let later = FileTime::new(5, 9).unwrap_or(FileTime::EPOCH);
+    assert!(rt; seen.is_racy(later, options));
+    let next = FileTime::new(6, 0).unwrap_or(FileTime::EPOCH);
+    assert!(rt; !seen.is_racy(next, options));
 }

@@ -1,4 +1,4 @@
--- Paths that begin with others, and what is kept of leaves that a later path may begin with.
+-- Paths that begin with others, and the leaves that a later path may begin with.
 use Rattle.std.proofs.Common.{◌≡◌, ◌⊎◌, inl, inr, ℕ, List, [], ◌∷◌, ◌++◌, Bool, true, false, All, AllPairs, Contains, length, take, drop, get_or, eqb, refl, sym, ap, subst, ◌∙◌, append_assoc, arith}
 use Rattle.std.specs.Ordering.{nat_cmp, ordering_then}
 use Rattle.std.specs.declared.cmp.Ordering.{Ordering}
@@ -14,25 +14,37 @@ use Rattle.std.proofs.lemmas.Map.Lookups.{exact_unsigned}
 use Rattle.std.proofs.lemmas.Slice.Eq.{starts_is}
 use Rattle.index_objects.specs.declared.object.tree.EntryKind.TheVariants as kinds
 use Rattle.index_entries.specs.Order.{path_cmp}
-use Rattle.index_tree_writer.specs.ApartSteps.{EndsWith, Follows, IsKept}
-use Rattle.index_tree_writer.specs.Refusals.{Begins, IsBelow, IsInside, LiesIn}
+use Rattle.index_tree_writer.specs.ApartSteps.{EndsWith}
+use Rattle.index_tree_writer.specs.Refusals.{BeginsWith, IsBelow, IsInside, LieApart, LiesIn}
 use Rattle.index_tree_writer.specs.Staged.{Staged}
+
+-- each of these paths stands before the path
+abbrev pub Follows : List Staged → List ℕ → Type 0
+Follows ss q = (s : Staged) → Contains ss s → path_cmp s.path q ≡ Less
+
+-- Of what is staged so far, these may begin later paths: what isn't among them begins none; each of them begins those
+-- behind it; and none lies in another.
+pub record MayBegin (ss fs : List Staged) : Type 0 where
+  pub past : (s : Staged) → Contains ss s → Contains fs s ⊎ ((q : List ℕ) → Follows ss q → BeginsWith q s.path → ⊥)
+  pub known : (f : Staged) → Contains fs f → Contains ss f
+  pub chain : AllPairs (λ f g. BeginsWith g.path f.path × (path_cmp f.path g.path ≡ Less)) fs
+  pub apart : LieApart ss
 
 abbrev pub Path : Type 0
 Path = List ℕ
 
 -- ---- a path that begins with another
 
-pub begins_from : (p f : Path) (r : Bool) → r ≡ pointwise eqb f (take (length f) p) → r ≡ true → Begins p f
+pub begins_from : (p f : Path) (r : Bool) → r ≡ pointwise eqb f (take (length f) p) → r ≡ true → BeginsWith p f
 begins_from p f r e t = (drop (length f) p, (starts_is Decides-eqb p f r e).0 t)
 
-pub not_begins : (p f : Path) (r : Bool) → r ≡ pointwise eqb f (take (length f) p) → r ≡ false → Begins p f → ⊥
+pub not_begins : (p f : Path) (r : Bool) → r ≡ pointwise eqb f (take (length f) p) → r ≡ false → BeginsWith p f → ⊥
 not_begins p f r e t b = let yes : r ≡ true = (starts_is Decides-eqb p f r e).1 b.0 b.1 in absurd (cc (yes, t))
 
-pub below_begins : (p f : Path) → IsBelow p f → Begins p f
+pub below_begins : (p f : Path) → IsBelow p f → BeginsWith p f
 below_begins p f b = (47 ∷ b.0, b.1)
 
-pub lies_begins : (q : Path) (s : Staged) → LiesIn q s → Begins q s.path
+pub lies_begins : (q : Path) (s : Staged) → LiesIn q s → BeginsWith q s.path
 lies_begins q s (inl b) = below_begins q s.path b
 lies_begins q s (inr b) = b.1
 
@@ -41,7 +53,7 @@ not_lies q s n m (inl b) = n b
 not_lies q s n m (inr b) = m b.0
 
 -- what stands between a path and one that begins with it begins with it too
-pub between : (p q r : Path) → path_cmp p q ≡ Less → path_cmp q r ≡ Less → Begins r p → Begins q p
+pub between : (p q r : Path) → path_cmp p q ≡ Less → path_cmp q r ≡ Less → BeginsWith r p → BeginsWith q p
 between [] q r e d b = (q, refl)
 between (x ∷ p) [] r e d b = absurd cc
 between (x ∷ p) (y ∷ q) [] e d b = absurd cc
@@ -53,7 +65,7 @@ between (x ∷ p) (y ∷ q) (z ∷ r) e d b = by (between p q r) (nat_cmp x y) r
     rest : r ≡ p ++ b.0
     rest = cc (b.1)
 
-    same : (path_cmp p q ≡ Less → path_cmp q r ≡ Less → Begins r p → Begins q p) → x ≡ y → path_cmp p q ≡ Less → Begins (y ∷ q) (x ∷ p)
+    same : (path_cmp p q ≡ Less → path_cmp q r ≡ Less → BeginsWith r p → BeginsWith q p) → x ≡ y → path_cmp p q ≡ Less → BeginsWith (y ∷ q) (x ∷ p)
     same again s less =
         let turned : ordering_then (nat_cmp y z) (path_cmp q r) ≡ Less = d in
         let tie : nat_cmp y z ≡ Equal = subst (λ (i : ℕ). nat_cmp y i ≡ Equal) (sym s ∙ sym first) (tied_itself nat_cmp_total y) in
@@ -68,13 +80,13 @@ between (x ∷ p) (y ∷ q) (z ∷ r) e d b = by (between p q r) (nat_cmp x y) r
         let wrong : Greater ≡ Less = subst (λ (o : Ordering). ordering_then o (path_cmp q r) ≡ Less) more turned in
         absurd cc
 
-    by : (path_cmp p q ≡ Less → path_cmp q r ≡ Less → Begins r p → Begins q p) → (o : Ordering) → nat_cmp x y ≡ o → ordering_then o (path_cmp p q) ≡ Less → Begins (y ∷ q) (x ∷ p)
+    by : (path_cmp p q ≡ Less → path_cmp q r ≡ Less → BeginsWith r p → BeginsWith q p) → (o : Ordering) → nat_cmp x y ≡ o → ordering_then o (path_cmp p q) ≡ Less → BeginsWith (y ∷ q) (x ∷ p)
     by again Less is less = absurd (above is)
     by again Greater is less = absurd cc
     by again Equal is less = same again (exact_unsigned x y is) less
 
 -- a path doesn't stand before one that it begins with
-pub not_after : (p q : Path) → path_cmp p q ≡ Less → Begins p q → ⊥
+pub not_after : (p q : Path) → path_cmp p q ≡ Less → BeginsWith p q → ⊥
 not_after p [] e b = by p e
   where
     by : (l : Path) → path_cmp l [] ≡ Less → ⊥
@@ -106,7 +118,7 @@ below_or_same p top q t s a b h = by t a
 no_element : (x : Staged) → Contains [] x → ⊥
 no_element x c = absurd (omega (arith, c.1))
 
-pub kept_none : IsKept [] []
+pub kept_none : MayBegin [] []
 kept_none = record {
   past = λ p c. absurd (no_element p c);
   known = λ f c. absurd (no_element f c);
@@ -130,16 +142,16 @@ pairs_last R xs y x h c =
     subst (λ (z : Staged). R x z) (last_at xs y x) (subst (λ (z : Staged). R z (get_or (xs ++ y ∷ []) (length xs) x)) a (h c.0 (length xs) x c.1 (omega (arith, length-append xs (y ∷ [])))))
 
 abbrev Chained : Staged → Staged → Type 0
-Chained f g = Begins g.path f.path × (path_cmp f.path g.path ≡ Less)
+Chained f g = BeginsWith g.path f.path × (path_cmp f.path g.path ≡ Less)
 
 -- what is kept before a path, and that it begins with the last of them, but doesn't lie in that
 abbrev pub Last : List Staged → Path → Type 0
-Last fs q = (fs ≡ []) ⊎ EndsWith fs (λ f. Begins q f.path × (LiesIn q f → ⊥))
+Last fs q = (fs ≡ []) ⊎ EndsWith fs (λ f. BeginsWith q f.path × (LiesIn q f → ⊥))
 
 apart_itself : (p q : Path) → path_cmp p q ≡ Less → q ≡ p → ⊥
 apart_itself p q e s = let less : path_cmp p p ≡ Less = subst (λ (x : Path). path_cmp p x ≡ Less) s e in let tie = tied_itself nat_list_cmp_total p in absurd (cc (tie, less))
 
-module _ (ss fs kept gone : List Staged) (x : Staged) (h : IsKept ss fs) (parts : fs ≡ kept ++ gone) (taken : All (λ f. Begins x.path f.path → ⊥) gone) (last : Last kept x.path) (rise : Follows ss x.path) where
+module _ (ss fs kept gone : List Staged) (x : Staged) (h : MayBegin ss fs) (parts : fs ≡ kept ++ gone) (taken : All (λ f. BeginsWith x.path f.path → ⊥) gone) (last : Last kept x.path) (rise : Follows ss x.path) where
   abbrev q : Path
   q = x.path
 
@@ -150,12 +162,12 @@ module _ (ss fs kept gone : List Staged) (x : Staged) (h : IsKept ss fs) (parts 
   chained = pairs_front Chained kept gone (subst (AllPairs Chained) parts h.chain)
 
   -- the path begins with each that is kept
-  begins_each : Last kept q → (f : Staged) → Contains kept f → Begins q f.path
+  begins_each : Last kept q → (f : Staged) → Contains kept f → BeginsWith q f.path
   begins_each (inl e) f c = absurd (no_element f (subst (λ (l : List Staged). Contains l f) e c))
   begins_each (inr e) f c = by (Contains-push_cases e.0 e.1 f (subst (λ (l : List Staged). Contains l f) e.2 c))
     where
-      by : Contains e.0 f ⊎ (e.1 ≡ f) → Begins q f.path
-      by (inr s) = subst (λ (g : Staged). Begins q g.path) s e.3.0
+      by : Contains e.0 f ⊎ (e.1 ≡ f) → BeginsWith q f.path
+      by (inr s) = subst (λ (g : Staged). BeginsWith q g.path) s e.3.0
       by (inl d) =
           let up = (pairs_last Chained e.0 e.1 f (subst (AllPairs Chained) e.2 chained) d).0 in
           (up.0 ++ e.3.0.0, e.3.0.1 ∙ ap (λ (l : Path). l ++ e.3.0.0) up.1 ∙ append_assoc f.path up.0 e.3.0.0)
@@ -185,27 +197,27 @@ module _ (ss fs kept gone : List Staged) (x : Staged) (h : IsKept ss fs) (parts 
     where
       held : Contains kept p ⊎ Contains gone p → ⊥
       held (inl d) = not_in_kept last p d b
-      held (inr d) = All-contains (λ f. Begins q f.path → ⊥) gone p taken d (lies_begins q p b)
+      held (inr d) = All-contains (λ f. BeginsWith q f.path → ⊥) gone p taken d (lies_begins q p b)
 
-      by : Contains fs p ⊎ ((r : Path) → Follows ss r → Begins r p.path → ⊥) → ⊥
+      by : Contains fs p ⊎ ((r : Path) → Follows ss r → BeginsWith r p.path → ⊥) → ⊥
       by (inl d) = held (Contains-append_cases kept gone p (subst (λ (l : List Staged). Contains l p) parts d))
       by (inr d) = d q rise (lies_begins q p b)
 
   before : (r : Path) → Follows (ss ++ x ∷ []) r → Follows ss r
   before r f p c = f p (Contains-append_left ss (x ∷ []) p c)
 
-  past_more : (p : Staged) → Contains (ss ++ x ∷ []) p → Contains (kept ++ x ∷ []) p ⊎ ((r : Path) → Follows (ss ++ x ∷ []) r → Begins r p.path → ⊥)
+  past_more : (p : Staged) → Contains (ss ++ x ∷ []) p → Contains (kept ++ x ∷ []) p ⊎ ((r : Path) → Follows (ss ++ x ∷ []) r → BeginsWith r p.path → ⊥)
   past_more p c = by (Contains-push_cases ss x p c)
     where
-      held : Contains ss p → Contains kept p ⊎ Contains gone p → Contains (kept ++ x ∷ []) p ⊎ ((r : Path) → Follows (ss ++ x ∷ []) r → Begins r p.path → ⊥)
+      held : Contains ss p → Contains kept p ⊎ Contains gone p → Contains (kept ++ x ∷ []) p ⊎ ((r : Path) → Follows (ss ++ x ∷ []) r → BeginsWith r p.path → ⊥)
       held a (inl d) = inl (Contains-append_left kept (x ∷ []) p d)
-      held a (inr d) = inr (λ r f b. All-contains (λ f. Begins q f.path → ⊥) gone p taken d (between p.path q r (rise p a) (f x (Contains-push ss x)) b))
+      held a (inr d) = inr (λ r f b. All-contains (λ f. BeginsWith q f.path → ⊥) gone p taken d (between p.path q r (rise p a) (f x (Contains-push ss x)) b))
 
-      old : Contains ss p → Contains fs p ⊎ ((r : Path) → Follows ss r → Begins r p.path → ⊥) → Contains (kept ++ x ∷ []) p ⊎ ((r : Path) → Follows (ss ++ x ∷ []) r → Begins r p.path → ⊥)
+      old : Contains ss p → Contains fs p ⊎ ((r : Path) → Follows ss r → BeginsWith r p.path → ⊥) → Contains (kept ++ x ∷ []) p ⊎ ((r : Path) → Follows (ss ++ x ∷ []) r → BeginsWith r p.path → ⊥)
       old a (inl d) = held a (Contains-append_cases kept gone p (subst (λ (l : List Staged). Contains l p) parts d))
       old a (inr d) = inr (λ r f b. d r (before r f) b)
 
-      by : Contains ss p ⊎ (x ≡ p) → Contains (kept ++ x ∷ []) p ⊎ ((r : Path) → Follows (ss ++ x ∷ []) r → Begins r p.path → ⊥)
+      by : Contains ss p ⊎ (x ≡ p) → Contains (kept ++ x ∷ []) p ⊎ ((r : Path) → Follows (ss ++ x ∷ []) r → BeginsWith r p.path → ⊥)
       by (inl a) = old a (h.past p a)
       by (inr s) = inl (subst (Contains (kept ++ x ∷ [])) s (Contains-push kept x))
 
@@ -234,10 +246,10 @@ module _ (ss fs kept gone : List Staged) (x : Staged) (h : IsKept ss fs) (parts 
       by : Contains ss p ⊎ (x ≡ p) → Contains ss u ⊎ (x ≡ u) → u.path ≡ p.path
       by (inl c) (inl d) = h.apart.inside p u c d inside
       by (inl c) (inr s) = absurd (not_in p c (inr (subst (λ (y : Staged). IsInside y.path p) (sym s) inside)))
-      by (inr s) (inl d) = absurd (not_after u.path q (rise u d) (subst (λ (y : Staged). Begins u.path y.path) (sym s) inside.1))
+      by (inr s) (inl d) = absurd (not_after u.path q (rise u d) (subst (λ (y : Staged). BeginsWith u.path y.path) (sym s) inside.1))
       by (inr s) (inr t) = ap (λ (y : Staged). y.path) (sym t ∙ s)
 
-  pub kept_more : IsKept (ss ++ x ∷ []) (kept ++ x ∷ [])
+  pub kept_more : MayBegin (ss ++ x ∷ []) (kept ++ x ∷ [])
   kept_more = record {
     past = past_more;
     known = known_more;

@@ -15,12 +15,12 @@ use Rattle.index_entries.specs.Order.{path_cmp}
 use Rattle.index_entries.specs.TreeOrder.{IsGitOrdered, sorted_name}
 use Rattle.index_cached_tree.specs.Tree.{Node, node, node_of, nodes_from}
 use Rattle.index_tree_writer.specs.Cached.{AreItemNodes, AreNodes, IsCached, IsNodeWhere, leaf_nodes}
-use Rattle.index_tree_writer.specs.Directory.{Item, Items, leaf, directory, no_more, IsName, IsItem, content, count_of, directory_bytes, directory_object, item_bytes, leaf_bytes, entries, entry_of, items_id, item_leaves, leaves, item_objects, objects, objects_below, key}
+use Rattle.index_tree_writer.specs.Directory.{Item, Items, leaf, directory, no_more, IsName, IsItem, content, leaf_count, directory_bytes, directory_object, item_bytes, leaf_bytes, entries, entry_of, items_id, item_leaves, leaves, item_objects, objects, objects_below, key}
 use Rattle.index_tree_writer.specs.Objects.{Taken, tree_id, with_objects}
-use Rattle.index_tree_writer.specs.Staged.{Staged, under}
-use Rattle.index_tree_writer.specs.WritingSteps.{Ahead, IsBegun, IsFinished, IsMadeNode, any_later}
+use Rattle.index_tree_writer.specs.Staged.{Staged}
+use Rattle.index_tree_writer.specs.WritingSteps.{Ahead, IsBegunDirectory, IsFinished, IsMadeNode, any_later}
 use Rattle.index_tree_writer.specs.declared.write.Made.{Made}
-use Rattle.index_tree_writer.proofs.Pushes.{push, leaves_push, content_push, objects_push, entries_push, nodes_push, made_push, leaves_under}
+use Rattle.index_tree_writer.proofs.Pushes.{push, leaves_push, content_push, objects_push, entries_push, nodes_push, made_push, leaves_under, under}
 
 with_none : (known : Taken) → with_objects known [] ≡ known
 with_none None = refl
@@ -33,7 +33,7 @@ with_both (Some taken) a b = ap Some (append_assoc taken a b)
 abbrev Follows : List ℕ → TreeEntry → Type 0
 Follows last e = (s : List ℕ) → path_cmp last s ≡ Less → path_cmp (sorted_name e) s ≡ Less
 
-pub begun_none : (kind : Kind) (left : List Staged) (m : Made) (old : Taken) → m.bytes.items ≡ [] → m.children.items ≡ [] → m.count ≡ 0 → m.later ≡ false → All (Ahead []) left → IsBegun kind [] left m old old
+pub begun_none : (kind : Kind) (left : List Staged) (m : Made) (old : Taken) → m.bytes.items ≡ [] → m.children.items ≡ [] → m.count ≡ 0 → m.later ≡ false → All (Ahead []) left → IsBegunDirectory kind [] left m old old
 begun_none kind left m old b n c l a = record {
   items = no_more;
   made = tt;
@@ -62,11 +62,11 @@ any_later-append [] b = refl
 any_later-append (s ∷ a) b = ap (λ (x : Bool). s.later || x) (any_later-append a b) ∙ sym (or_assoc s.later (any_later a) (any_later b))
 
 -- one more item, whose sorted name follows
-pub begun_push : (kind : Kind) (staged left : List Staged) (m : Made) (old new : Taken) (h : IsBegun kind staged left m old new)
+pub begun_push : (kind : Kind) (staged left : List Staged) (m : Made) (old new : Taken) (h : IsBegunDirectory kind staged left m old new)
     → (x : Item) (shown : List ℕ) (more left_then : List Staged) (n : Made) (newer : Taken) (us : List Node) → IsItem kind x → sorted_name (entry_of kind x) ≡ shown → path_cmp h.last shown ≡ Less → All (Ahead shown) left_then
     → item_leaves [] x ≡ more → n.bytes.items ≡ m.bytes.items ++ item_bytes kind x → map node_of n.children.items ≡ map node_of m.children.items ++ us → AreItemNodes kind x us
     → n.count ≡ m.count + length more → n.later ≡ m.later || any_later more → newer ≡ with_objects new (item_objects kind x)
-    → IsBegun kind (staged ++ more) left_then n old newer
+    → IsBegunDirectory kind (staged ++ more) left_then n old newer
 begun_push kind staged left m old new h x shown more left_then n newer us made is follows ahead listed bytes children nodes count later stored =
     let less : (k : ℕ) (d : TreeEntry) → k < length (entries kind h.items) → path_cmp (sorted_name (get_or (entries kind h.items) k d)) (sorted_name (entry_of kind x)) ≡ Less =
     λ k d within. h.follows k d within (sorted_name (entry_of kind x)) (subst (λ (s : List ℕ). path_cmp h.last s ≡ Less) (sym is) follows) in
@@ -104,11 +104,11 @@ or_false : (b : Bool) → b || false ≡ b
 or_false true = refl
 or_false false = refl
 
-pub begun_leaf : (kind : Kind) (staged left : List Staged) (m : Made) (old new : Taken) (h : IsBegun kind staged left m old new)
+pub begun_leaf : (kind : Kind) (staged left : List Staged) (m : Made) (old new : Taken) (h : IsBegunDirectory kind staged left m old new)
     → (name : List ℕ) (s : Staged) (left_then : List Staged) (n : Made) → IsItem kind (leaf name s.kind s.id s.later) → s.path ≡ key name s.kind → path_cmp h.last s.path ≡ Less → All (Ahead s.path) left_then
     → n.bytes.items ≡ m.bytes.items ++ leaf_bytes name s.kind s.id s.later → map node_of n.children.items ≡ map node_of m.children.items ++ leaf_nodes name s.kind s.id s.later
     → n.count ≡ m.count + 1 → n.later ≡ m.later || s.later
-    → IsBegun kind (staged ++ s ∷ []) left_then n old new
+    → IsBegunDirectory kind (staged ++ s ∷ []) left_then n old new
 begun_leaf kind staged left m old new h name s left_then n made is follows ahead bytes children count later =
     begun_push kind staged left m old new h (leaf name s.kind s.id s.later) s.path (s ∷ []) left_then n new (leaf_nodes name s.kind s.id s.later) made (leaf_sorted name s.kind s.id s.later kind ∙ sym is) follows ahead
     (ap (λ (p : List ℕ). record { path = p; kind = s.kind; id = s.id; later = s.later } ∷ []) (sym is)) bytes children refl count (later ∙ ap (λ (b : Bool). m.later || b) (sym (or_false s.later))) (sym (with_none new))
@@ -119,10 +119,10 @@ some_leaves : (items : Items) (staged : List Staged) → leaves [] items ≡ sta
 some_leaves items staged e some nothing = some (sym e ∙ ap (leaves []) nothing)
 
 -- what is made of a directory
-pub finished_cached : (kind : Kind) (staged left : List Staged) (m : Made) (old new : Taken) (h : IsBegun kind staged left m old new) → (name : List ℕ) (t : Node) → IsFinished kind name m t → IsCached kind name h.items t
+pub finished_cached : (kind : Kind) (staged left : List Staged) (m : Made) (old new : Taken) (h : IsBegunDirectory kind staged left m old new) → (name : List ℕ) (t : Node) → IsFinished kind name m t → IsCached kind name h.items t
 finished_cached kind staged left m old new h name t f =
     let same : tree_id kind m.bytes.items ≡ items_id kind h.items = ap (tree_id kind) h.is_content in
-    let number : (if m.later then None else Some m.count) ≡ count_of (leaves [] h.items) = rw (h.later, h.count) (ap count_of (sym h.listed)) in
+    let number : (if m.later then None else Some m.count) ≡ leaf_count (leaves [] h.items) = rw (h.later, h.count) (ap leaf_count (sym h.listed)) in
     (map node_of m.children.items, h.nodes, (f.0, f.1, f.2, f.3 ∙ ap (λ (i : ObjectId). node name i (if m.later then None else Some m.count) (nodes_from f.0)) same ∙ ap (λ (n : Option ℕ). node name (items_id kind h.items) n (nodes_from f.0)) number))
 
 node_where : (bytes other : List ℕ) (P Q : Node → Type 0) (ts : List Node) → bytes ≡ other → ((t : Node) → P t → Q t) → IsNodeWhere bytes P ts → IsNodeWhere other Q ts
@@ -132,12 +132,12 @@ node_where bytes other P Q ts e f h = subst (λ (l : List ℕ). IsNodeWhere l Q 
     by [] g = g
     by (b ∷ l) g = (g.0, g.1, f g.0 g.2)
 
-pub begun_directory : (kind : Kind) (staged left : List Staged) (m : Made) (old new : Taken) (h : IsBegun kind staged left m old new)
+pub begun_directory : (kind : Kind) (staged left : List Staged) (m : Made) (old new : Taken) (h : IsBegunDirectory kind staged left m old new)
     → (name shown : List ℕ) (inner later left_then : List Staged) (i n : Made) (middle newer : Taken) (us : List Node) → IsName name → shown ≡ name ++ 47 ∷ [] → path_cmp h.last shown ≡ Less → All (Ahead shown) left_then
-    → inner ≢ [] → map (under shown) inner ≡ later → IsBegun kind inner [] i new middle
+    → inner ≢ [] → map (under shown) inner ≡ later → IsBegunDirectory kind inner [] i new middle
     → n.bytes.items ≡ m.bytes.items ++ directory_bytes kind name i.bytes.items → map node_of n.children.items ≡ map node_of m.children.items ++ us → IsMadeNode kind name i us
     → n.count ≡ m.count + i.count → n.later ≡ m.later || i.later → newer ≡ with_objects middle (directory_object kind i.bytes.items)
-    → IsBegun kind (staged ++ later) left_then n old newer
+    → IsBegunDirectory kind (staged ++ later) left_then n old newer
 begun_directory kind staged left m old new h name shown inner later left_then i n middle newer us named is follows ahead some listed w bytes children nodes count flag stored =
     let x : Item = directory name w.items in
     let made : IsItem kind x = (named, some_leaves w.items inner w.listed some, w.made, w.ordered) in
@@ -156,12 +156,12 @@ begun_directory kind staged left m old new h name shown inner later left_then i 
     later_under (s ∷ ss) = ap (λ (b : Bool). s.later || b) (later_under ss)
 
 -- its own object behind those below it
-pub begun_root : (kind : Kind) (staged left : List Staged) (m : Made) (old new : Taken) (h : IsBegun kind staged left m old new) (newer : Taken) → newer ≡ with_objects new ((tree_id kind m.bytes.items, m.bytes.items) ∷ []) → newer ≡ with_objects old (objects kind h.items)
+pub begun_root : (kind : Kind) (staged left : List Staged) (m : Made) (old new : Taken) (h : IsBegunDirectory kind staged left m old new) (newer : Taken) → newer ≡ with_objects new ((tree_id kind m.bytes.items, m.bytes.items) ∷ []) → newer ≡ with_objects old (objects kind h.items)
 begun_root kind staged left m old new h newer e =
     e ∙ ap (λ (k : Taken). with_objects k ((tree_id kind m.bytes.items, m.bytes.items) ∷ [])) h.stored ∙ with_both old (objects_below kind h.items) ((tree_id kind m.bytes.items, m.bytes.items) ∷ [])
     ∙ ap (λ (b : List ℕ). with_objects old (objects_below kind h.items ++ (tree_id kind b, b) ∷ [])) h.is_content
 
 -- ---- the same by equal parts
 
-pub begun_same : (kind : Kind) (old new : Taken) (m : Made) (s q left left_then : List Staged) → q ≡ s → left_then ≡ left → IsBegun kind s left m old new → IsBegun kind q left_then m old new
-begun_same kind old new m s q left left_then es el h = subst (λ (x : List Staged). IsBegun kind x left_then m old new) (sym es) (subst (λ (x : List Staged). IsBegun kind s x m old new) (sym el) h)
+pub begun_same : (kind : Kind) (old new : Taken) (m : Made) (s q left left_then : List Staged) → q ≡ s → left_then ≡ left → IsBegunDirectory kind s left m old new → IsBegunDirectory kind q left_then m old new
+begun_same kind old new m s q left left_then es el h = subst (λ (x : List Staged). IsBegunDirectory kind x left_then m old new) (sym es) (subst (λ (x : List Staged). IsBegunDirectory kind s x m old new) (sym el) h)

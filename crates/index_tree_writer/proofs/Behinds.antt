@@ -5,10 +5,11 @@ use Rattle.std.proofs.lemmas.Bool.{eqb-true, eqb-false, eq-eqb, ne_eqb}
 use Rattle.std.specs.Option.{option_and_then, option_map}
 use Rattle.std.proofs.lemmas.List.Elements.{All-cons, All-head, All-tail, All-nil, filter_map-append}
 use Rattle.std.proofs.lemmas.Option.{same_Some}
-use Rattle.index_tree_writer.specs.Staged.{Staged, under}
+use Rattle.index_tree_writer.specs.Staged.{Staged}
 use Rattle.index_tree_writer.specs.TreeIds.{behind, behind_all, moved, staged_at}
 use Rattle.index_tree_writer.proofs.OneTree.{Within, slashed}
 use Rattle.index_tree_writer.proofs.PathNames.{NoSlash}
+use Rattle.index_tree_writer.proofs.Pushes.{under}
 
 -- ---- one name
 

@@ -25,14 +25,14 @@ use Rattle.index_entries.specs.Order.{IsStrictlyOrdered, path_cmp, record_cmp, r
 use Rattle.index_entries.specs.Record.{Record}
 use Rattle.index_entries.specs.Slice.{IsRecordOf}
 use Rattle.index_entries.specs.declared.Entry.{Entry}
-use Rattle.index_tree_writer.specs.ApartSteps.{EndsWith, Follows, IsKept, Keeps, LiesInOne}
-use Rattle.index_tree_writer.specs.Refusals.{Begins, Check, HasFault, HasPath, IsFit, IsMisnamed, IsPath, IsRefused, LiesIn, Refusal, SaysFault, Unmerged, Mode, Path, OtherKind, NullId, Both, unmerged, other_mode, misnamed, other_kind, null_id, both, first}
+use Rattle.index_tree_writer.specs.ApartSteps.{EndsWith, AreBeginnings, LiesInOne}
+use Rattle.index_tree_writer.specs.Refusals.{BeginsWith, Check, RecordHasFault, HasPath, IsFit, IsMisnamed, IsTreePath, AreRefused, LiesIn, Refusal, SaysTreesFault, Unmerged, Mode, Path, OtherKind, NullId, Both, unmerged, other_mode, misnamed, other_kind, null_id, both, first}
 use Rattle.index_tree_writer.specs.Staged.{Staged, is_intended, staged_entry, staged_in, staged_of}
 use Rattle.index_tree_writer.specs.declared.error.Error.{Error}
 use Rattle.index_tree_writer.specs.declared.error.Error.TheVariants as errors
 use Rattle.index_tree_writer.specs.declared.error.NameFault.{NameFault}
 use Rattle.index_tree_writer.specs.declared.leaf.Leaf.{Leaf}
-use Rattle.index_tree_writer.proofs.Aparts.{Last, kept_more, pairs_last}
+use Rattle.index_tree_writer.proofs.Aparts.{Last, kept_more, pairs_last, MayBegin, Follows}
 use Rattle.index_tree_writer.proofs.Ranges.{no_record, one_of}
 
 -- ---- what a mode stands for
@@ -69,31 +69,31 @@ module _ (check : Check) (kind : Kind) (before : List Staged) (r : Record) (e : 
   merged : is_removed e.flags.0 ≡ false → stage_number e.flags.0 ≡ 0 → (is_removed r.flags ≡ false) × (stage_number r.flags ≡ 0)
   merged a b = (flagged (λ (f : ℕ). is_removed f ≡ false) a, flagged (λ (f : ℕ). stage_number f ≡ 0) b)
 
-  pub is_unmerged : is_removed e.flags.0 ≡ false → stage_number e.flags.0 ≢ 0 → HasFault check kind before r (Unmerged text)
-  is_unmerged a b = subst (λ (t : List ℕ). HasFault check kind before r (Unmerged t)) (sym named) (unmerged (flagged (λ (f : ℕ). is_removed f ≡ false) a) (flagged (λ (f : ℕ). stage_number f ≢ 0) b))
+  pub is_unmerged : is_removed e.flags.0 ≡ false → stage_number e.flags.0 ≢ 0 → RecordHasFault check kind before r (Unmerged text)
+  is_unmerged a b = subst (λ (t : List ℕ). RecordHasFault check kind before r (Unmerged t)) (sym named) (unmerged (flagged (λ (f : ℕ). is_removed f ≡ false) a) (flagged (λ (f : ℕ). stage_number f ≢ 0) b))
 
-  pub is_other_mode : is_removed e.flags.0 ≡ false → stage_number e.flags.0 ≡ 0 → named_kind e.mode.0 ≡ None → HasFault check kind before r (Mode text e.mode.0)
-  is_other_mode a b n = subst (λ (t : List ℕ). HasFault check kind before r (Mode t e.mode.0)) (sym named)
-      (subst (λ (m : ℕ). HasFault check kind before r (Mode r.path m)) is.mode (other_mode (merged a b) (subst (λ (m : ℕ). named_kind m ≡ None) (sym is.mode) n)))
+  pub is_other_mode : is_removed e.flags.0 ≡ false → stage_number e.flags.0 ≡ 0 → named_kind e.mode.0 ≡ None → RecordHasFault check kind before r (Mode text e.mode.0)
+  is_other_mode a b n = subst (λ (t : List ℕ). RecordHasFault check kind before r (Mode t e.mode.0)) (sym named)
+      (subst (λ (m : ℕ). RecordHasFault check kind before r (Mode r.path m)) is.mode (other_mode (merged a b) (subst (λ (m : ℕ). named_kind m ≡ None) (sym is.mode) n)))
 
-  pub is_misnamed : (k : EntryKind) (f : NameFault) → is_removed e.flags.0 ≡ false → stage_number e.flags.0 ≡ 0 → named_kind e.mode.0 ≡ Some k → IsMisnamed check 2048 k path f → HasFault check kind before r (Path text f)
-  is_misnamed k f a b n h = subst (λ (t : List ℕ). HasFault check kind before r (Path t f)) (sym named)
+  pub is_misnamed : (k : EntryKind) (f : NameFault) → is_removed e.flags.0 ≡ false → stage_number e.flags.0 ≡ 0 → named_kind e.mode.0 ≡ Some k → IsMisnamed check 2048 k path f → RecordHasFault check kind before r (Path text f)
+  is_misnamed k f a b n h = subst (λ (t : List ℕ). RecordHasFault check kind before r (Path t f)) (sym named)
       (misnamed k f (merged a b) (subst (λ (m : ℕ). named_kind m ≡ Some k) (sym is.mode) n) (subst (λ (p : List ℕ). IsMisnamed check 2048 k p f) (sym at) h))
 
-  has_path : (k : EntryKind) → named_kind e.mode.0 ≡ Some k → IsPath check 2048 k path → HasPath check r k
-  has_path k n h = (subst (λ (m : ℕ). named_kind m ≡ Some k) (sym is.mode) n, subst (IsPath check 2048 k) (sym at) h)
+  has_path : (k : EntryKind) → named_kind e.mode.0 ≡ Some k → IsTreePath check 2048 k path → HasPath check r k
+  has_path k n h = (subst (λ (m : ℕ). named_kind m ≡ Some k) (sym is.mode) n, subst (IsTreePath check 2048 k) (sym at) h)
 
-  pub is_other_kind : (k : EntryKind) → is_removed e.flags.0 ≡ false → stage_number e.flags.0 ≡ 0 → named_kind e.mode.0 ≡ Some k → IsPath check 2048 k path → id_kind e.id ≢ kind → HasFault check kind before r (OtherKind text)
-  is_other_kind k a b n h o = subst (λ (t : List ℕ). HasFault check kind before r (OtherKind t)) (sym named)
+  pub is_other_kind : (k : EntryKind) → is_removed e.flags.0 ≡ false → stage_number e.flags.0 ≡ 0 → named_kind e.mode.0 ≡ Some k → IsTreePath check 2048 k path → id_kind e.id ≢ kind → RecordHasFault check kind before r (OtherKind text)
+  is_other_kind k a b n h o = subst (λ (t : List ℕ). RecordHasFault check kind before r (OtherKind t)) (sym named)
       (other_kind k (merged a b) (has_path k n h) (subst (λ (i : ObjectId). id_kind i ≢ kind) (sym is.id) o))
 
-  pub is_null_id : (k : EntryKind) → is_removed e.flags.0 ≡ false → stage_number e.flags.0 ≡ 0 → named_kind e.mode.0 ≡ Some k → IsPath check 2048 k path → id_kind e.id ≡ kind → is_null (id_bytes e.id) ≢ false → HasFault check kind before r (NullId text)
-  is_null_id k a b n h o z = subst (λ (t : List ℕ). HasFault check kind before r (NullId t)) (sym named)
+  pub is_null_id : (k : EntryKind) → is_removed e.flags.0 ≡ false → stage_number e.flags.0 ≡ 0 → named_kind e.mode.0 ≡ Some k → IsTreePath check 2048 k path → id_kind e.id ≡ kind → is_null (id_bytes e.id) ≢ false → RecordHasFault check kind before r (NullId text)
+  is_null_id k a b n h o z = subst (λ (t : List ℕ). RecordHasFault check kind before r (NullId t)) (sym named)
       (null_id k (merged a b) (has_path k n h) (subst (λ (i : ObjectId). id_kind i ≡ kind) (sym is.id) o) (subst (λ (i : ObjectId). is_null (id_bytes i) ≢ false) (sym is.id) z))
 
 -- ---- errors
 
-pub says_weaker : (e : Error) (S : ℕ → Type 0) (P Q : Refusal → Type 0) → ((f : Refusal) → P f → Q f) → SaysFault e S P → SaysFault e S Q
+pub says_weaker : (e : Error) (S : ℕ → Type 0) (P Q : Refusal → Type 0) → ((f : Refusal) → P f → Q f) → SaysTreesFault e S P → SaysTreesFault e S Q
 says_weaker errors.TooManyEntries S P Q h s = h _ s
 says_weaker (errors.Unmerged path) S P Q h s = h _ s
 says_weaker (errors.Mode path mode) S P Q h s = h _ s
@@ -155,8 +155,8 @@ module _ (check : Check) (kind : Kind) where
 
 -- ---- one entry more
 
-pub keeps_from : (k : ℕ) (path : List ℕ) (ls : List Leaf) → All (λ f. Begins path f.path.now → ⊥) (drop k ls) → (k ≡ 0) ⊎ EndsWith (take k ls) (λ f. Begins path f.path.now)
-    → ((init : List Leaf) (last : Leaf) → take k ls ≡ init ++ last ∷ [] → LiesIn path (staged_of last) → ⊥) → Keeps k path ls
+pub keeps_from : (k : ℕ) (path : List ℕ) (ls : List Leaf) → All (λ f. BeginsWith path f.path.now → ⊥) (drop k ls) → (k ≡ 0) ⊎ EndsWith (take k ls) (λ f. BeginsWith path f.path.now)
+    → ((init : List Leaf) (last : Leaf) → take k ls ≡ init ++ last ∷ [] → LiesIn path (staged_of last) → ⊥) → AreBeginnings k path ls
 keeps_from k path ls taken (inl z) none = record { taken = taken; last = inl (ap (λ (n : ℕ). take n ls) z) }
 keeps_from k path ls taken (inr e) none = record { taken = taken; last = inr (e.0, e.1, e.2, (e.3, none e.0 e.1 e.2)) }
 
@@ -173,10 +173,10 @@ module _ (check : Check) (kind : Kind) (rs : List Record) (i : ℕ) (lt : i < le
   pub staged_more : (x : Option Staged) → HoldsAt (λ r. x ≡ staged_entry r) rs i → staged_in (take (i + 1) rs) ≡ staged_in (take i rs) ++ option_to_list x
   staged_more x h = ap staged_in more ∙ filter_map-append staged_entry (take i rs) (r ∷ []) ∙ ap (λ (l : List Staged). staged_in (take i rs) ++ l) (one_of r x (h no_record))
 
-  pub kept_none_more : (ls : List Leaf) (o : Option Leaf) → o ≡ None → HoldsAt (λ r. option_map staged_of o ≡ staged_entry r) rs i → IsKept (staged_in (take i rs)) (map staged_of ls) → IsKept (staged_in (take (i + 1) rs)) (map staged_of ls)
+  pub kept_none_more : (ls : List Leaf) (o : Option Leaf) → o ≡ None → HoldsAt (λ r. option_map staged_of o ≡ staged_entry r) rs i → MayBegin (staged_in (take i rs)) (map staged_of ls) → MayBegin (staged_in (take (i + 1) rs)) (map staged_of ls)
   kept_none_more ls o z h kept =
       let same : staged_in (take (i + 1) rs) ≡ staged_in (take i rs) = staged_more (option_map staged_of o) h ∙ ap (λ (p : Option Leaf). staged_in (take i rs) ++ option_to_list (option_map staged_of p)) z ∙ append-nil (staged_in (take i rs)) in
-      subst (λ (l : List Staged). IsKept l (map staged_of ls)) (sym same) kept
+      subst (λ (l : List Staged). MayBegin l (map staged_of ls)) (sym same) kept
 
   ordered_front : (n : ℕ) → IsStrictlyOrdered rs → AllPairs (λ r q. record_cmp r q ≡ Less) (take n rs)
   ordered_front n o a b d low within =
@@ -186,43 +186,43 @@ module _ (check : Check) (kind : Kind) (rs : List Record) (i : ℕ) (lt : i < le
       subst (λ (q : Record). record_cmp (get_or (take n rs) a d) q ≡ Less) (sym y) (subst (λ (q : Record). record_cmp q (get_or rs b d) ≡ Less) (sym x) (o.less a b d low (omega (arith, within, length-take n rs))))
 
   module _ (ordered : IsStrictlyOrdered rs) (fit : All (IsFit check kind) (take i rs)) (now : HoldsAt (IsFit check kind) rs i) (ls : List Leaf) (o : Option Leaf) (leaf : Leaf) (is : o ≡ Some leaf)
-      (h : HoldsAt (λ r. option_map staged_of o ≡ staged_entry r) rs i) (kept : IsKept (staged_in (take i rs)) (map staged_of ls)) where
+      (h : HoldsAt (λ r. option_map staged_of o ≡ staged_entry r) rs i) (kept : MayBegin (staged_in (take i rs)) (map staged_of ls)) where
     staged : staged_in (take (i + 1) rs) ≡ staged_in (take i rs) ++ staged_of leaf ∷ []
     staged = staged_more (option_map staged_of o) h ∙ ap (λ (p : Option Leaf). staged_in (take i rs) ++ option_to_list (option_map staged_of p)) is
 
     follows : Follows (staged_in (take i rs)) leaf.path.now
     follows s c = pairs_last Rises (staged_in (take i rs)) (staged_of leaf) s (subst (AllPairs Rises) staged (staged_rise check kind (take (i + 1) rs) (ordered_front (i + 1) ordered) (fit_more fit now))) c
 
-    last_of : (k : ℕ) → Keeps k leaf.path.now ls → Last (map staged_of (take k ls)) leaf.path.now
+    last_of : (k : ℕ) → AreBeginnings k leaf.path.now ls → Last (map staged_of (take k ls)) leaf.path.now
     last_of k n = by n.last
       where
-        by : (take k ls ≡ []) ⊎ EndsWith (take k ls) (λ f. Begins leaf.path.now f.path.now × (LiesIn leaf.path.now (staged_of f) → ⊥)) → Last (map staged_of (take k ls)) leaf.path.now
+        by : (take k ls ≡ []) ⊎ EndsWith (take k ls) (λ f. BeginsWith leaf.path.now f.path.now × (LiesIn leaf.path.now (staged_of f) → ⊥)) → Last (map staged_of (take k ls)) leaf.path.now
         by (inl e) = inl (ap (map staged_of) e)
         by (inr e) = inr (map staged_of e.0, staged_of e.1, ap (map staged_of) e.2 ∙ map-append staged_of e.0 (e.1 ∷ []), e.3)
 
-    pub kept_leaf : (k : ℕ) (new : List Leaf) → Keeps k leaf.path.now ls → new ≡ take k ls ++ leaf ∷ [] → IsKept (staged_in (take (i + 1) rs)) (map staged_of new)
+    pub kept_leaf : (k : ℕ) (new : List Leaf) → AreBeginnings k leaf.path.now ls → new ≡ take k ls ++ leaf ∷ [] → MayBegin (staged_in (take (i + 1) rs)) (map staged_of new)
     kept_leaf k new n e =
         let parts : map staged_of ls ≡ map staged_of (take k ls) ++ map staged_of (drop k ls) = ap (map staged_of) (sym (take-append-drop k ls)) ∙ map-append staged_of (take k ls) (drop k ls) in
-        let gone : All (λ f. Begins leaf.path.now f.path → ⊥) (map staged_of (drop k ls)) = All-map (λ f. Begins leaf.path.now f.path → ⊥) staged_of (drop k ls) n.taken in
+        let gone : All (λ f. BeginsWith leaf.path.now f.path → ⊥) (map staged_of (drop k ls)) = All-map (λ f. BeginsWith leaf.path.now f.path → ⊥) staged_of (drop k ls) n.taken in
         let grown = kept_more (staged_in (take i rs)) (map staged_of ls) (map staged_of (take k ls)) (map staged_of (drop k ls)) (staged_of leaf) kept parts gone (last_of k n) follows in
         let fs : map staged_of new ≡ map staged_of (take k ls) ++ staged_of leaf ∷ [] = ap (map staged_of) e ∙ map-append staged_of (take k ls) (leaf ∷ []) in
-        subst (λ (l : List Staged). IsKept l (map staged_of new)) (sym staged) (subst (IsKept (staged_in (take i rs) ++ staged_of leaf ∷ [])) (sym fs) grown)
+        subst (λ (l : List Staged). MayBegin l (map staged_of new)) (sym staged) (subst (MayBegin (staged_in (take i rs) ++ staged_of leaf ∷ [])) (sym fs) grown)
 
   split : rs ≡ take i rs ++ r ∷ drop (i + 1) rs
   split =
       let n : suc i ≡ i + 1 = omega arith in
       sym (take-append-drop i rs) ∙ ap (λ (l : List Record). take i rs ++ l) (drop-cons rs i no_record lt ∙ ap (λ (k : ℕ). r ∷ drop k rs) n)
 
-  pub first_fault : (fs : List Staged) (f : Refusal) → length rs < 2 ^ 31 → All (IsFit check kind) (take i rs) → IsKept (staged_in (take i rs)) fs → HasFault check kind (staged_in (take i rs)) r f → IsRefused check kind rs f
+  pub first_fault : (fs : List Staged) (f : Refusal) → length rs < 2 ^ 31 → All (IsFit check kind) (take i rs) → MayBegin (staged_in (take i rs)) fs → RecordHasFault check kind (staged_in (take i rs)) r f → AreRefused check kind rs f
   first_fault fs f few fit kept fault = first (take i rs) r (drop (i + 1) rs) f few split (record { each = fit; apart = kept.apart }) fault
 
   contains_map : (ls : List Leaf) (l : Leaf) → Contains ls l → Contains (map staged_of ls) (staged_of l)
   contains_map ls l c = (c.0, omega (arith, c.1, length-map ls staged_of), get_or-map staged_of ls c.0 l (staged_of l) c.1 ∙ ap staged_of c.2)
 
   pub both_fault : (ls : List Leaf) (o : Option Leaf) (leaf : Leaf) (f : Refusal) → o ≡ Some leaf → HoldsAt (λ r. option_map staged_of o ≡ staged_entry r) rs i → HoldsAt (IsFit check kind) rs i
-      → IsKept (staged_in (take i rs)) (map staged_of ls) → LiesInOne leaf.path.now ls f → HasFault check kind (staged_in (take i rs)) r f
+      → MayBegin (staged_in (take i rs)) (map staged_of ls) → LiesInOne leaf.path.now ls f → RecordHasFault check kind (staged_in (take i rs)) r f
   both_fault ls o leaf f is h now kept lies =
       let s = some_staged r (staged_of leaf) (sym (h no_record) ∙ ap (option_map staged_of) is) in
       let c = kept.known (staged_of lies.0) (contains_map ls lies.0 lies.1) in
-      subst (HasFault check kind (staged_in (take i rs)) r) (ap (Both lies.0.path.now) (sym s.0) ∙ sym lies.3)
+      subst (RecordHasFault check kind (staged_in (take i rs)) r) (ap (Both lies.0.path.now) (sym s.0) ∙ sym lies.3)
       (both (staged_of lies.0) s.1 (now no_record) c (subst (λ (p : List ℕ). LiesIn p (staged_of lies.0)) s.0 lies.2))

@@ -16,23 +16,24 @@ use Rattle.index_entries.specs.TreeOrder.{IsGitOrdered, sorted_name}
 use Rattle.index_cached_tree.specs.Tree.{Node, node, none, name_of}
 use Rattle.index_tree_writer.specs.Cached.{AreItemNodes, AreNodes, IsNodeOver, IsNodeWhere, leaf_nodes}
 use Rattle.index_tree_writer.specs.Directory.{Item, Items, leaf, directory, no_more, next, IsItem, AreItems, content, directory_bytes, entries, entry_of, item_bytes, item_leaves, key, leaf_bytes, leaves}
-use Rattle.index_tree_writer.specs.Objects.{entry_bytes, mode_text, tree_id}
+use Rattle.index_tree_writer.specs.Objects.{tree_entry_bytes, tree_mode_text, tree_id}
 use Rattle.index_parts.specs.Id.{id_bytes}
-use Rattle.index_tree_writer.specs.Staged.{Staged, under}
+use Rattle.index_tree_writer.specs.Staged.{Staged}
 use Rattle.index_tree_writer.specs.TreeIds.{staged_at}
-use Rattle.index_tree_writer.specs.TreeIdsSteps.{Gives, its_tree, whole}
+use Rattle.index_tree_writer.specs.TreeIdsSteps.{GivesNode, its_tree, whole}
 use Rattle.index_tree_writer.proofs.Behinds.{Outside, at_append, at_itself, at_none, at_under}
 use Rattle.index_tree_writer.proofs.Begun.{leaf_sorted}
 use Rattle.index_tree_writer.proofs.OneTree.{all_within, dir_leaves, first_of_items, items_apart, others_apart, slashed, tail_ordered}
 use Rattle.index_tree_writer.proofs.PathNames.{NoSlash, first_slash, no_slash_in}
+use Rattle.index_tree_writer.proofs.Pushes.{under}
 
 -- ---- where a directory has no bytes, all in it is only intended to be added
 
 abbrev pub Later : Staged → Type 0
 Later s = s.later ≡ true
 
-entry_some : (name : List ℕ) (k : EntryKind) (id : ObjectId) → entry_bytes name k id ≡ [] → ⊥
-entry_some name k id e = omega (arith, ap length e, length-append (mode_text k) (32 ∷ (name ++ 0 ∷ id_bytes id)))
+entry_some : (name : List ℕ) (k : EntryKind) (id : ObjectId) → tree_entry_bytes name k id ≡ [] → ⊥
+entry_some name k id e = omega (arith, ap length e, length-append (tree_mode_text k) (32 ∷ (name ++ 0 ∷ id_bytes id)))
 
 leaf_later : (name : List ℕ) (k : EntryKind) (id : ObjectId) (later : Bool) → leaf_bytes name k id later ≡ [] → later ≡ true
 leaf_later name k id true e = refl
@@ -72,7 +73,7 @@ abbrev pub NotNamed : List ℕ → Node → Type 0
 NotNamed name t = name_of t ≢ name
 
 abbrev pub GivesNamed : Kind → List (List ℕ) → List ℕ → List Staged → Node → Type 0
-GivesNamed kind names name below t = name_of t ≡ name → Gives kind names below (Some t)
+GivesNamed kind names name below t = name_of t ≡ name → GivesNode kind names below (Some t)
 
 -- what is below a name is given the node that has it, or no node where all is only intended to be added
 pub record GivesIn (kind : Kind) (names : List (List ℕ)) (name : List ℕ) (below : List Staged) (ts : List Node) : Type 0 where
@@ -149,7 +150,7 @@ module _ (kind : Kind) (names : List (List ℕ)) (some : names ≢ []) (name : L
       full : below ≢ []
       full e = let f = first_of_items kind items h.2 h.1 in let clash : [] ≡ f.first ∷ f.others = sym e ∙ is ∙ f.is in absurd cc
 
-      given : (t : Node) → IsNodeOf n items t → Gives kind names below (Some t)
+      given : (t : Node) → IsNodeOf n items t → GivesNode kind names below (Some t)
       given t p = its_tree n items t (record { directory = record { made = h.2; ordered = h.3 }; leaves = sym is }) (inr full) p
 
       by : ((content kind items ≡ []) × (ts ≡ [])) ⊎ ((t : Node) × (ts ≡ t ∷ []) × IsNodeOf n items t) → GivesIn kind names name below ts
@@ -179,7 +180,7 @@ module _ (kind : Kind) (names : List (List ℕ)) (some : names ≢ []) (name : L
 
   -- ---- items
 
-  none_given : (t : Node) → Gives kind names [] (Some t) → ⊥
+  none_given : (t : Node) → GivesNode kind names [] (Some t) → ⊥
   none_given t (its_tree n items u is (inl e) nodes) = some e
   none_given t (its_tree n items u is (inr e) nodes) = e refl
   none_given t (whole n id u e z) = absurd cc
@@ -197,7 +198,7 @@ module _ (kind : Kind) (names : List (List ℕ)) (some : names ≢ []) (name : L
   before_none : (a b : List Staged) (front back : List Node) → b ≡ [] → GivesIn kind names name a front → GivesIn kind names name b back → GivesIn kind names name (a ++ b) (front ++ back)
   before_none a b front back e g h =
       let same : a ++ b ≡ a = ap (λ (l : List Staged). a ++ l) e ∙ append-nil a in
-      let clash : (t : Node) → GivesNamed kind names name b t → GivesNamed kind names name a t = λ t f z. absurd (none_given t (subst (λ (l : List Staged). Gives kind names l (Some t)) e (f z))) in
+      let clash : (t : Node) → GivesNamed kind names name b t → GivesNamed kind names name a t = λ t f z. absurd (none_given t (subst (λ (l : List Staged). GivesNode kind names l (Some t)) e (f z))) in
       subst (λ (l : List Staged). GivesIn kind names name l (front ++ back)) (sym same) (record {
         some = All-append (GivesNamed kind names name a) front back g.some (All-weaker (GivesNamed kind names name b) (GivesNamed kind names name a) clash back h.some);
         later = λ o. g.later (all_front front back o);

@@ -14,10 +14,10 @@ use Rattle.index_objects.specs.declared.object.tree.EntryKind.TheVariants as kin
 use Rattle.index_entries.specs.Order.{path_cmp}
 use Rattle.index_entries.specs.TreeOrder.{IsGitOrdered, sorted_name}
 use Rattle.index_tree_writer.specs.Directory.{Item, Items, leaf, directory, no_more, next, IsItem, AreItems, entries, entry_of, item_leaves, leaves, key}
-use Rattle.index_tree_writer.specs.Staged.{Staged, under}
+use Rattle.index_tree_writer.specs.Staged.{Staged}
 use Rattle.index_tree_writer.proofs.Begun.{leaf_sorted}
 use Rattle.index_tree_writer.proofs.PathNames.{NoSlash, first_slash, no_slash_in}
-use Rattle.index_tree_writer.proofs.Pushes.{leaves_under}
+use Rattle.index_tree_writer.proofs.Pushes.{leaves_under, under}
 
 -- ---- paths that begin with a component and more, or with that alone
 

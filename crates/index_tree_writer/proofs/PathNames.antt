@@ -14,9 +14,9 @@ use Rattle.index_entries.specs.Order.{path_cmp}
 use Rattle.std.proofs.lemmas.Map.Lookups.{exact_bytes}
 use Rattle.index_objects.specs.NameCheck.{refusal_as}
 use Rattle.index_tree_writer.specs.Directory.{IsName, key}
-use Rattle.index_tree_writer.specs.Refusals.{Begins, Check, IsBadName, IsMisnamed, IsPath, of_file, of_directory, beneath, some_name, deep, later_name}
+use Rattle.index_tree_writer.specs.Refusals.{BeginsWith, Check, IsBadName, IsMisnamed, IsTreePath, of_file, of_directory, beneath, some_name, deep, later_name}
 use Rattle.index_tree_writer.specs.Staged.{Staged}
-use Rattle.index_tree_writer.specs.WritingSteps.{Ahead, IsComponent, IsSplit}
+use Rattle.index_tree_writer.specs.WritingSteps.{Ahead, IsComponent, IsPathSplit}
 use Rattle.index_tree_writer.specs.declared.error.NameFault.{NameFault}
 use Rattle.index_tree_writer.specs.declared.error.NameFault.TheVariants as faults
 use Rattle.index_tree_writer.proofs.Aparts.{between}
@@ -54,8 +54,8 @@ some_from l r e t z = eqb-false (length l) 0 (sym e ∙ t) (ap length z)
 
 -- ---- a path that is split
 
-pub split_some : (path name : List ℕ) (o : Option (Bor (List ℕ))) (r : Bor (List ℕ)) → o ≡ Some r → IsSplit path name (option_map (λ r. r.now) o) → path ≡ name ++ 47 ∷ r.now
-split_some path name o r e h = subst (λ (p : Option (Bor (List ℕ))). IsSplit path name (option_map (λ r. r.now) p)) e h
+pub split_some : (path name : List ℕ) (o : Option (Bor (List ℕ))) (r : Bor (List ℕ)) → o ≡ Some r → IsPathSplit path name (option_map (λ r. r.now) o) → path ≡ name ++ 47 ∷ r.now
+split_some path name o r e h = subst (λ (p : Option (Bor (List ℕ))). IsPathSplit path name (option_map (λ r. r.now) p)) e h
 
 module _ (check : Check) (k : EntryKind) (path name rest : List ℕ) (e : path ≡ name ++ 47 ∷ rest) where
   pub bad_front : (levels : ℕ) (f : NameFault) → NoSlash name → IsBadName check name kinds.Tree f → IsMisnamed check levels k path f
@@ -69,16 +69,16 @@ module _ (check : Check) (k : EntryKind) (path name rest : List ℕ) (e : path �
       let same : suc (levels - 1) ≡ levels = omega (arith, z) in
       subst (λ (l : ℕ). IsMisnamed check l k path f) same (subst (λ (p : List ℕ). IsMisnamed check (suc (levels - 1)) k p f) (sym e) (later_name (levels - 1) k name rest f n r o h))
 
-  pub path_later : (levels : ℕ) → (levels ≡ 0 → ⊥) → IsName name → refusal_as check name kinds.Tree ≡ None → IsPath check (levels - 1) k rest → IsPath check levels k path
+  pub path_later : (levels : ℕ) → (levels ≡ 0 → ⊥) → IsName name → refusal_as check name kinds.Tree ≡ None → IsTreePath check (levels - 1) k rest → IsTreePath check levels k path
   path_later levels z n r h =
       let same : suc (levels - 1) ≡ levels = omega (arith, z) in
-      subst (λ (l : ℕ). IsPath check l k path) same (subst (λ (p : List ℕ). IsPath check (suc (levels - 1)) k p) (sym e) (beneath (levels - 1) k name rest n r h))
+      subst (λ (l : ℕ). IsTreePath check l k path) same (subst (λ (p : List ℕ). IsTreePath check (suc (levels - 1)) k p) (sym e) (beneath (levels - 1) k name rest n r h))
 
-  pub path_whole : (levels : ℕ) → (levels ≡ 0 → ⊥) → IsName name → refusal_as check name kinds.Tree ≡ None → k ≡ kinds.Tree → rest ≡ [] → IsPath check levels k path
+  pub path_whole : (levels : ℕ) → (levels ≡ 0 → ⊥) → IsName name → refusal_as check name kinds.Tree ≡ None → k ≡ kinds.Tree → rest ≡ [] → IsTreePath check levels k path
   path_whole levels z n r t nothing =
       let same : suc (levels - 1) ≡ levels = omega (arith, z) in
       let is : path ≡ name ++ 47 ∷ [] = e ∙ ap (λ (l : List ℕ). name ++ 47 ∷ l) nothing in
-      subst (λ (j : EntryKind). IsPath check levels j path) (sym t) (subst (λ (l : ℕ). IsPath check l kinds.Tree path) same (subst (λ (p : List ℕ). IsPath check (suc (levels - 1)) kinds.Tree p) (sym is) (of_directory (levels - 1) name n r)))
+      subst (λ (j : EntryKind). IsTreePath check levels j path) (sym t) (subst (λ (l : ℕ). IsTreePath check l kinds.Tree path) same (subst (λ (p : List ℕ). IsTreePath check (suc (levels - 1)) kinds.Tree p) (sym is) (of_directory (levels - 1) name n r)))
 
   pub later_some : (levels : ℕ) → (levels ≡ 0 → ⊥) → IsName name → refusal_as check name kinds.Tree ≡ None → (k ≢ kinds.Tree) ⊎ (rest ≢ []) → (o : Option NameFault)
       → IfSome o (IsMisnamed check (levels - 1) k rest) → IfSome o (IsMisnamed check levels k path)
@@ -100,7 +100,7 @@ slash_behind tail name shown h longer = by h.is
     by (inl e) = e
     by (inr e) = absurd (omega (arith, longer, ap length e.0, ap length e.1))
 
-pub path_some : (check : Check) (levels : ℕ) (k : EntryKind) (p : List ℕ) → IsPath check levels k p → p ≢ []
+pub path_some : (check : Check) (levels : ℕ) (k : EntryKind) (p : List ℕ) → IsTreePath check levels k p → p ≢ []
 path_some check levels k p (of_file l j name t n r) e = n.some e
 path_some check levels k p (of_directory l name n r) e = absurd (omega (arith, ap length e, length-append name (47 ∷ [])))
 path_some check levels k p (beneath l j name rest n r h) e = absurd (omega (arith, ap length e, length-append name (47 ∷ rest)))
@@ -113,7 +113,7 @@ key_file name kinds.Link h = refl
 key_file name kinds.Commit h = refl
 
 -- the name of a leaf
-pub leaf_name : (check : Check) (levels : ℕ) (k : EntryKind) (tail name : List ℕ) → IsPath check levels k tail → IsComponent tail name tail → IsName name × (tail ≡ key name k)
+pub leaf_name : (check : Check) (levels : ℕ) (k : EntryKind) (tail name : List ℕ) → IsTreePath check levels k tail → IsComponent tail name tail → IsName name × (tail ≡ key name k)
 leaf_name check levels k tail name (of_file l j n t m r) c = by c.is
   where
     by : (n ≡ name ++ 47 ∷ []) ⊎ ((n ≡ name) × (n ≡ name)) → IsName name × (n ≡ key name j)
@@ -134,15 +134,15 @@ leaf_name check levels k tail name (beneath l j n rest m r h) c = by c.is
 pub record IsBehind (check : Check) (levels : ℕ) (k : EntryKind) (name rest : List ℕ) : Type 0 where
   pub named : IsName name
   pub more : 0 < levels
-  pub path : IsPath check (levels - 1) k rest
+  pub path : IsTreePath check (levels - 1) k rest
 
-pub path_behind : (check : Check) (levels : ℕ) (k : EntryKind) (path name rest : List ℕ) → path ≡ name ++ 47 ∷ rest → NoSlash name → rest ≢ [] → IsPath check levels k path → IsBehind check levels k name rest
+pub path_behind : (check : Check) (levels : ℕ) (k : EntryKind) (path name rest : List ℕ) → path ≡ name ++ 47 ∷ rest → NoSlash name → rest ≢ [] → IsTreePath check levels k path → IsBehind check levels k name rest
 path_behind check levels k path name rest e s some (of_file l j n t m r) = absurd (no_slash_in n name rest m.component e)
 path_behind check levels k path name rest e s some (of_directory l n m r) = absurd (some (sym (first_slash n name [] rest m.component s e).1))
 path_behind check levels k path name rest e s some (beneath l j n more m r h) =
     let f = first_slash n name more rest m.component s e in
     let one : l ≡ suc l - 1 = omega arith in
-    record { named = subst IsName f.0 m; more = omega arith; path = subst (λ (i : ℕ). IsPath check i j rest) one (subst (IsPath check l j) f.1 h) }
+    record { named = subst IsName f.0 m; more = omega arith; path = subst (λ (i : ℕ). IsTreePath check i j rest) one (subst (IsTreePath check l j) f.1 h) }
 
 -- ---- what is ahead
 
@@ -154,7 +154,7 @@ turned p q e = nat_list_cmp_total.antisymm q p ∙ rw e refl
 
 -- the last name, with a slash or without, and how a path may follow it
 abbrev pub Leaves : List ℕ → List ℕ → Type 0
-Leaves last q = NoSlash last ⊎ ((n : List ℕ) × (last ≡ n ++ 47 ∷ []) × NoSlash n × (Begins q last → ⊥))
+Leaves last q = NoSlash last ⊎ ((n : List ℕ) × (last ≡ n ++ 47 ∷ []) × NoSlash n × (BeginsWith q last → ⊥))
 
 pub ahead_from : (last : List ℕ) (s : Staged) → path_cmp last s.path ≡ Less → Leaves last s.path → Ahead last s
 ahead_from last s less h name shown c = by (path_cmp last shown) refl
@@ -162,10 +162,10 @@ ahead_from last s less h name shown c = by (path_cmp last shown) refl
     q : List ℕ
     q = s.path
 
-    starts : Begins q shown
+    starts : BeginsWith q shown
     starts = (c.rest, c.parts)
 
-    inside : Begins last shown → path_cmp shown last ≡ Less → (shown ≡ name ++ 47 ∷ []) ⊎ ((shown ≡ name) × (q ≡ name)) → Leaves last q → ⊥
+    inside : BeginsWith last shown → path_cmp shown last ≡ Less → (shown ≡ name ++ 47 ∷ []) ⊎ ((shown ≡ name) × (q ≡ name)) → Leaves last q → ⊥
     inside b lt (inr e) l = not_itself last last (nat_list_cmp_total.trans last q last less (subst (λ (x : List ℕ). path_cmp x last ≡ Less) (e.0 ∙ sym e.1) lt)) refl
     inside b lt (inl e) (inl none) = no_slash_in last name b.0 none (b.1 ∙ ap (λ (x : List ℕ). x ++ b.0) e ∙ append_assoc name (47 ∷ []) b.0)
     inside b lt (inl e) (inr d) =
@@ -176,7 +176,7 @@ ahead_from last s less h name shown c = by (path_cmp last shown) refl
     same : last ≡ shown → (shown ≡ name ++ 47 ∷ []) ⊎ ((shown ≡ name) × (q ≡ name)) → Leaves last q → ⊥
     same e (inr i) l = not_itself last q less (e ∙ i.0 ∙ sym i.1)
     same e (inl i) (inl none) = no_slash_in last name [] none (e ∙ i)
-    same e (inl i) (inr d) = d.3 (subst (Begins q) (sym e) starts)
+    same e (inl i) (inr d) = d.3 (subst (BeginsWith q) (sym e) starts)
 
     by : (o : Ordering) → path_cmp last shown ≡ o → path_cmp last shown ≡ Less
     by Less e = e

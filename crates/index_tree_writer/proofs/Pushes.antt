@@ -1,4 +1,4 @@
--- Items with one more at their end, and the leaves below a front.
+-- Items with one more at their end, and the leaves behind a prefix.
 use Rattle.std.proofs.Common.{◌≡◌, ℕ, List, [], ◌∷◌, ◌++◌, map, refl, sym, ap, ◌∙◌, append_assoc}
 use Rattle.std.proofs.lemmas.List.{append-nil, map-append}
 use Rattle.index_objects.specs.TreeObject.{TreeEntry}
@@ -8,7 +8,11 @@ use Rattle.index_objects.specs.declared.object.tree.EntryKind.TheVariants as kin
 use Rattle.index_cached_tree.specs.Tree.{Node}
 use Rattle.index_tree_writer.specs.Cached.{AreItemNodes, AreNodes}
 use Rattle.index_tree_writer.specs.Directory.{Item, Items, leaf, directory, no_more, next, IsItem, AreItems, content, item_bytes, entries, entry_of, item_leaves, leaves, item_objects, objects_below, key}
-use Rattle.index_tree_writer.specs.Staged.{Staged, under}
+use Rattle.index_tree_writer.specs.Staged.{Staged}
+
+-- the same with a prefix
+abbrev pub under : List ℕ → Staged → Staged
+under prefix s = record { path = prefix ++ s.path; kind = s.kind; id = s.id; later = s.later }
 
 abbrev pub push : Items → Item → Items
 push no_more x = next x no_more

@@ -8,8 +8,9 @@ use Rattle.std.proofs.lemmas.List.Elements.{filter_map-append}
 use Rattle.std.proofs.lemmas.List.Prefix.{front_rest}
 use Rattle.index_parts.specs.declared.hash.ObjectId.TheVariants as ids
 use Rattle.index_entries.specs.Record.{Record}
-use Rattle.index_tree_writer.specs.Staged.{Staged, cut, staged_entry, staged_in, under}
+use Rattle.index_tree_writer.specs.Staged.{Staged, cut, staged_entry, staged_in}
 use Rattle.index_tree_writer.specs.WritingSteps.{Goes, staged_below}
+use Rattle.index_tree_writer.proofs.Pushes.{under}
 
 -- what a read past the end gives
 abbrev pub no_record : Record

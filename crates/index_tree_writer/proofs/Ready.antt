@@ -10,11 +10,12 @@ use Rattle.std.proofs.lemmas.List.Elements.{All-cons, All-head, All-tail, All-ni
 use Rattle.index_parts.specs.declared.hash.Kind.{Kind}
 use Rattle.index_entries.specs.Order.{path_cmp}
 use Rattle.index_tree_writer.specs.Directory.{IsName}
-use Rattle.index_tree_writer.specs.Refusals.{Begins, IsInside}
-use Rattle.index_tree_writer.specs.Staged.{Staged, under}
+use Rattle.index_tree_writer.specs.Refusals.{BeginsWith, IsInside}
+use Rattle.index_tree_writer.specs.Staged.{Staged}
 use Rattle.index_tree_writer.specs.WritingSteps.{Ahead, IsLeaf, IsReady}
 use Rattle.index_tree_writer.proofs.Aparts.{between}
 use Rattle.index_tree_writer.proofs.PathNames.{NoSlash, IsBehind, ahead_from, path_behind}
+use Rattle.index_tree_writer.proofs.Pushes.{under}
 
 -- ---- parts
 
@@ -112,7 +113,7 @@ module _ (kind : Kind) (levels : ℕ) (name shown : List ℕ) (is : shown ≡ na
 
 -- behind a directory: what doesn't begin with it follows it
 pub ahead_directory : (name shown rest : List ℕ) (left : List Staged) → shown ≡ name ++ 47 ∷ [] → NoSlash name → All (λ s. path_cmp (shown ++ rest) s.path ≡ Less) left → AllPairs (λ s t. path_cmp s.path t.path ≡ Less) left
-    → ((first : Staged) (others : List Staged) → left ≡ first ∷ others → Begins first.path shown → ⊥) → All (Ahead shown) left
+    → ((first : Staged) (others : List Staged) → left ≡ first ∷ others → BeginsWith first.path shown → ⊥) → All (Ahead shown) left
 ahead_directory name shown rest [] is slash less rise stops = All-nil (Ahead shown)
 ahead_directory name shown rest (s ∷ ss) is slash less rise stops = All-cons (Ahead shown) s ss (first) others
   where
@@ -133,7 +134,7 @@ ahead_directory name shown rest (s ∷ ss) is slash less rise stops = All-cons (
     at_first : path_cmp shown s.path ≡ Less
     at_first = below s.path (All-head (λ s. path_cmp (shown ++ rest) s.path ≡ Less) s ss less)
 
-    no_first : Begins s.path shown → ⊥
+    no_first : BeginsWith s.path shown → ⊥
     no_first = stops s ss refl
 
     first : Ahead shown s

@@ -20,7 +20,7 @@ use Rattle.index_cached_tree.specs.declared.Tree.{Tree}
 use Rattle.index_cached_tree.specs.declared.Tree.TheViews.{out-Tree}
 use Rattle.index_cached_tree.proofs.Spelled.{node_of-out}
 use Rattle.index_tree_writer.specs.TreeIds.{staged_at}
-use Rattle.index_tree_writer.specs.TreeIdsSteps.{Gives, IsChildOf, IsGiving, children_of, its_tree, nothing, whole}
+use Rattle.index_tree_writer.specs.TreeIdsSteps.{GivesNode, IsChildOf, IsGiving, children_of, its_tree, nothing, whole}
 use Rattle.index_tree_writer.proofs.Gives.{NotNamed}
 use Rattle.index_tree_writer.proofs.Spots.{same_nodes}
 
@@ -104,7 +104,7 @@ sorted_children given ts h e = by given h.3 e
     empty : none ≡ nodes_from ts → IsSorted name_cmp ts
     empty z = subst (IsSorted name_cmp) (same_nodes [] ts z) (λ k d low within. absurd (omega (arith, within)))
 
-    by : (given : Option Node) → Gives h.0 h.2 (staged_at h.2 h.1) given → children_of given ≡ nodes_from ts → IsSorted name_cmp ts
+    by : (given : Option Node) → GivesNode h.0 h.2 (staged_at h.2 h.1) given → children_of given ≡ nodes_from ts → IsSorted name_cmp ts
     by None (nothing some later) z = empty z
     by (Some t) (its_tree n items u is some nodes) z = subst (IsSorted name_cmp) (same_nodes nodes.2.0 ts (ap (λ (x : Node). children_of (Some x)) (sym nodes.2.3) ∙ z)) nodes.2.2
     by (Some t) (whole n id u is w) z = empty (ap (λ (x : Node). children_of (Some x)) (sym w) ∙ z)

@@ -16,13 +16,13 @@ use Rattle.index_cached_tree.specs.declared.Tree.{Tree}
 use Rattle.index_cached_tree.specs.declared.Tree.TheViews.{out-Tree}
 use Rattle.index_cached_tree.proofs.Sounds.{cut_at}
 use Rattle.index_cached_tree.proofs.Spelled.{node_of-out}
-use Rattle.index_tree_writer.specs.Directory.{Items, IsTreeOf, no_more, next, count_of, items_id, leaves}
+use Rattle.index_tree_writer.specs.Directory.{Items, IsTreeOf, no_more, next, leaf_count, items_id, leaves}
 use Rattle.index_entries.specs.Record.{Record}
 use Rattle.index_tree_writer.specs.Cached.{IsCached}
 use Rattle.index_tree_writer.specs.Refusals.{AreFit}
 use Rattle.index_tree_writer.specs.Staged.{Staged, staged_in}
-use Rattle.index_tree_writer.specs.TreeIds.{any_name, moved, AreRight, GivesNone, IsFirstWrong, IsGiven, IsRight, Names, SaysTreeIds, Spot, joined, spots, spots_below, staged_at}
-use Rattle.index_tree_writer.specs.TreeIdsSteps.{Gives, GivesAt, IsAmong, IsChildOf, IsSaid, SaysFirst, SaysSpot, children_of, fronts, its_tree, nothing, tells, whole}
+use Rattle.index_tree_writer.specs.TreeIds.{any_name, moved, AreRight, GivesNone, IsFirstWrong, GivesId, IsRight, Names, SaysTreeIds, Spot, joined, spots, spots_below, staged_at}
+use Rattle.index_tree_writer.specs.TreeIdsSteps.{GivesNode, GivesAt, IsAmong, IsChildOf, IsSaid, SaysFirst, SaysSpot, children_of, parent_path, its_tree, nothing, tells, whole}
 use Rattle.index_tree_writer.specs.declared.tree_ids.Error.{Error}
 use Rattle.index_tree_writer.specs.declared.tree_ids.Error.TheVariants as errors
 use Rattle.index_tree_writer.proofs.Behinds.{at_first, at_more, at_root, in_front}
@@ -42,7 +42,7 @@ not_whole kind below (next x xs) id t e =
     let head : f.first ≡ record { path = []; kind = kinds.Tree; id = id; later = false } = cc in
     f.some (ap (λ (s : Staged). s.path) head)
 
-pub one_given : (kind : Kind) (staged : List Staged) (names : List (List ℕ)) (i j : ObjectId) (c d : ℕ) → IsGiven kind staged names i c → IsGiven kind staged names j d → (i ≡ j) × (c ≡ d)
+pub one_given : (kind : Kind) (staged : List Staged) (names : List (List ℕ)) (i j : ObjectId) (c d : ℕ) → GivesId kind staged names i c → GivesId kind staged names j d → (i ≡ j) × (c ≡ d)
 one_given kind staged names i j c d (inl a) (inl b) =
     let same : a.items ≡ b.items = same_items kind a.items b.items a.is_tree.directory.made a.is_tree.directory.ordered b.is_tree.directory.made b.is_tree.directory.ordered (a.is_tree.leaves ∙ sym b.is_tree.leaves) in
     (a.is_id ∙ ap (items_id kind) same ∙ sym b.is_id, same_Some c d (sym a.counted ∙ b.counted))
@@ -63,16 +63,16 @@ tells_none : (n : List ℕ) (id : ObjectId) (o : Option ℕ) (cs : Nodes) → te
 tells_none n id None cs e = refl
 tells_none n id (Some d) cs e = absurd cc
 
-pub told_given : (kind : Kind) (staged : List Staged) (names : List (List ℕ)) (given : Option Node) (i : ObjectId) (c : ℕ) → GivesAt kind staged names given → tells given ≡ Some (i, c) → IsGiven kind staged names i c
+pub told_given : (kind : Kind) (staged : List Staged) (names : List (List ℕ)) (given : Option Node) (i : ObjectId) (c : ℕ) → GivesAt kind staged names given → tells given ≡ Some (i, c) → GivesId kind staged names i c
 told_given kind staged names None i c (nothing some later) e = absurd cc
 told_given kind staged names (Some t) i c (its_tree n items u is some nodes) e =
-    let p = tells_some n (items_id kind items) i (count_of (leaves [] items)) c (nodes_from nodes.2.0) (ap (λ (x : Node). tells (Some x)) (sym nodes.2.3) ∙ e) in
-    inl (record { items = items; is_tree = is; some = some; is_id = sym p.0; counted = ap count_of (sym is.leaves) ∙ p.1 })
+    let p = tells_some n (items_id kind items) i (leaf_count (leaves [] items)) c (nodes_from nodes.2.0) (ap (λ (x : Node). tells (Some x)) (sym nodes.2.3) ∙ e) in
+    inl (record { items = items; is_tree = is; some = some; is_id = sym p.0; counted = ap leaf_count (sym is.leaves) ∙ p.1 })
 told_given kind staged names (Some t) i c (whole n id u is z) e =
     let p = tells_some n id i (Some 1) c none (ap (λ (x : Node). tells (Some x)) (sym z) ∙ e) in
     inr (is ∙ ap (λ (x : ObjectId). record { path = []; kind = kinds.Tree; id = x; later = false } ∷ []) p.0, sym (same_Some 1 c p.1))
 
-later_uncounted : (ss : List Staged) → ss ≢ [] → All Later ss → count_of ss ≡ None
+later_uncounted : (ss : List Staged) → ss ≢ [] → All Later ss → leaf_count ss ≡ None
 later_uncounted [] some h = absurd (some refl)
 later_uncounted (s ∷ ss) some h = let e : s.later ≡ true = All-head Later s ss h in rw e refl
 
@@ -84,25 +84,25 @@ none_told kind staged names None (nothing some later) e i c (inl (a)) = by a.som
     by (inr full) = let clash : None ≡ Some c = sym (later_uncounted (staged_at names staged) full later) ∙ a.counted in absurd cc
 none_told kind staged names None (nothing some later) e i c (inr b) = let t : false ≡ true = All-head Later (record { path = []; kind = kinds.Tree; id = i; later = false }) [] (subst (All Later) b.0 later) in absurd cc
 none_told kind staged names (Some t) (its_tree n items u is some nodes) e i c (inl a) =
-    let o : count_of (leaves [] items) ≡ None = tells_none n (items_id kind items) (count_of (leaves [] items)) (nodes_from nodes.2.0) (ap (λ (x : Node). tells (Some x)) (sym nodes.2.3) ∙ e) in
-    let clash : None ≡ Some c = sym o ∙ ap count_of is.leaves ∙ a.counted in
+    let o : leaf_count (leaves [] items) ≡ None = tells_none n (items_id kind items) (leaf_count (leaves [] items)) (nodes_from nodes.2.0) (ap (λ (x : Node). tells (Some x)) (sym nodes.2.3) ∙ e) in
+    let clash : None ≡ Some c = sym o ∙ ap leaf_count is.leaves ∙ a.counted in
     absurd cc
 none_told kind staged names (Some t) (its_tree n items u is some nodes) e i c (inr b) = not_whole kind (staged_at names staged) items i is b.0
 none_told kind staged names (Some t) (whole n id u is z) e i c h = let o : Some 1 ≡ None = tells_none n id (Some 1) none (ap (λ (x : Node). tells (Some x)) (sym z) ∙ e) in absurd cc
 
 -- ---- a path, and its front
 
-joined_front : (name : List ℕ) (names : List (List ℕ)) → fronts (name ∷ names) ≡ joined (name ∷ names) ++ 47 ∷ []
+joined_front : (name : List ℕ) (names : List (List ℕ)) → parent_path (name ∷ names) ≡ joined (name ∷ names) ++ 47 ∷ []
 joined_front name [] = refl
 joined_front name (n ∷ names) = ap (λ (l : List ℕ). name ++ 47 ∷ l) (joined_front n names) ∙ sym (append_assoc name (47 ∷ joined (n ∷ names)) (47 ∷ []))
 
-fronts_append : (names : List (List ℕ)) (name : List ℕ) → fronts (names ++ name ∷ []) ≡ fronts names ++ (name ++ 47 ∷ [])
+fronts_append : (names : List (List ℕ)) (name : List ℕ) → parent_path (names ++ name ∷ []) ≡ parent_path names ++ (name ++ 47 ∷ [])
 fronts_append [] name = refl
-fronts_append (n ∷ names) name = ap (λ (l : List ℕ). n ++ 47 ∷ l) (fronts_append names name) ∙ sym (append_assoc n (47 ∷ fronts names) (name ++ 47 ∷ []))
+fronts_append (n ∷ names) name = ap (λ (l : List ℕ). n ++ 47 ∷ l) (fronts_append names name) ∙ sym (append_assoc n (47 ∷ parent_path names) (name ++ 47 ∷ []))
 
 -- a name and a slash more
-pub front_more : (names : List (List ℕ)) (name front named : List ℕ) → front ≡ fronts names → named ≡ front ++ name → named ++ 47 ∷ [] ≡ fronts (names ++ name ∷ [])
-front_more names name front named f e = ap (λ (l : List ℕ). l ++ 47 ∷ []) (e ∙ ap (λ (l : List ℕ). l ++ name) f) ∙ append_assoc (fronts names) name (47 ∷ []) ∙ sym (fronts_append names name)
+pub front_more : (names : List (List ℕ)) (name front named : List ℕ) → front ≡ parent_path names → named ≡ front ++ name → named ++ 47 ∷ [] ≡ parent_path (names ++ name ∷ [])
+front_more names name front named f e = ap (λ (l : List ℕ). l ++ 47 ∷ []) (e ∙ ap (λ (l : List ℕ). l ++ name) f) ∙ append_assoc (parent_path names) name (47 ∷ []) ∙ sym (fronts_append names name)
 
 -- what was put behind a front is taken off
 pub front_back : (front named slashed deep short initial name : List ℕ) (n : ℕ) → short ≡ take n deep → deep ≡ slashed → slashed ≡ named ++ 47 ∷ [] → named ≡ front ++ name → front ≡ initial → n ≡ length initial → short ≡ initial
@@ -113,7 +113,7 @@ front_back front named slashed deep short initial name n s d l e f len =
 init_of : (x : List ℕ) → take (length (x ++ 47 ∷ []) - 1) (x ++ 47 ∷ []) ≡ x
 init_of x = let n : length (x ++ 47 ∷ []) - 1 ≡ length x = omega (arith, length-append x (47 ∷ [])) in ap (λ (k : ℕ). take k (x ++ 47 ∷ [])) n ∙ take-append_seam x (47 ∷ [])
 
-pub path_of_front : (names : List (List ℕ)) (front : List ℕ) → front ≡ fronts names → joined names ≡ take (length front - 1) front
+pub path_of_front : (names : List (List ℕ)) (front : List ℕ) → front ≡ parent_path names → joined names ≡ take (length front - 1) front
 path_of_front [] front e = rw e refl
 path_of_front (n ∷ names) front e =
     let f : front ≡ joined (n ∷ names) ++ 47 ∷ [] = e ∙ joined_front n names in
@@ -122,7 +122,7 @@ path_of_front (n ∷ names) front e =
 -- ---- one node
 
 pub spot_said : (kind : Kind) (staged : List Staged) (names : List (List ℕ)) (given : Option Node) (front : List ℕ) (id : ObjectId) (count : ℕ) (e : Error) → IsSaid given front id count e → (tells given ≡ Some (id, count) → ⊥)
-    → GivesAt kind staged names given → front ≡ fronts names → SaysSpot kind staged (record { names = names; id = id; count = Some count }) e
+    → GivesAt kind staged names given → front ≡ parent_path names → SaysSpot kind staged (record { names = names; id = id; count = Some count }) e
 spot_said kind staged names given front id count (errors.Other path i n other number) s wrong g f = (
   λ r. let o = one_given kind staged names other id number count (told_given kind staged names given other number g s.3) r in wrong (s.3 ∙ ap (λ (x : ObjectId). Some (x, number)) o.0 ∙ ap (λ (c : ℕ). Some (id, c)) o.1),
   (path_of_front names front f ∙ sym s.0, sym s.1, ap Some (sym s.2)),
@@ -162,12 +162,12 @@ module _ (kind : Kind) (staged : List Staged) (names : List (List ℕ)) (name : 
   abbrev below : List Staged
   below = staged_at names staged
 
-  no_child : (ts : List Node) (found : Option Node) → none ≡ nodes_from ts → IsAmong ts name found → All Later (staged_at (name ∷ []) below) → Gives kind (names ++ name ∷ []) (staged_at (name ∷ []) below) found
+  no_child : (ts : List Node) (found : Option Node) → none ≡ nodes_from ts → IsAmong ts name found → All Later (staged_at (name ∷ []) below) → GivesNode kind (names ++ name ∷ []) (staged_at (name ∷ []) below) found
   no_child ts None e h l = nothing (snoc_some names name) l
   no_child ts (Some t) e h l = let z : ts ≡ [] = same_nodes ts [] (sym e) in let c = subst (λ (l : List Node). Contains l t) z h.0 in absurd (All-contains (λ _. ⊥) [] t (All-nil (λ _. ⊥)) c)
 
   a_child : (us vs ts : List Node) (found : Option Node) → IsPermutation us vs → nodes_from vs ≡ nodes_from ts → IsAmong ts name found → GivesIn kind (names ++ name ∷ []) name (staged_at (name ∷ []) below) us
-      → Gives kind (names ++ name ∷ []) (staged_at (name ∷ []) below) found
+      → GivesNode kind (names ++ name ∷ []) (staged_at (name ∷ []) below) found
   a_child us vs ts None p e h g = nothing (snoc_some names name) (g.later (all_us us vs p (subst (All (NotNamed name)) (sym (same_nodes vs ts e)) h)))
     where
       all_us : (us vs : List Node) → IsPermutation us vs → All (NotNamed name) vs → All (NotNamed name) us
@@ -176,7 +176,7 @@ module _ (kind : Kind) (staged : List Staged) (names : List (List ℕ)) (name : 
       let c : Contains us t = Contains-permutation vs us t (IsPermutation-sym us vs p) (subst (λ (l : List Node). Contains l t) (sym (same_nodes vs ts e)) h.0) in
       All-contains (GivesNamed kind (names ++ name ∷ []) name (staged_at (name ∷ []) below)) us t g.some c h.1
 
-  by_case : (given found : Option Node) (ts : List Node) → Gives kind names below given → children_of given ≡ nodes_from ts → IsAmong ts name found → Gives kind (names ++ name ∷ []) (staged_at (name ∷ []) below) found
+  by_case : (given found : Option Node) (ts : List Node) → GivesNode kind names below given → children_of given ≡ nodes_from ts → IsAmong ts name found → GivesNode kind (names ++ name ∷ []) (staged_at (name ∷ []) below) found
   by_case None found ts (nothing some later) e h = no_child ts found e h (at_later name below later)
   by_case (Some t) found ts (its_tree n items u is some nodes) e h =
       let g = items_give kind (names ++ name ∷ []) (snoc_some names name) name items nodes.0 is.directory.made is.directory.ordered nodes.1 in
@@ -186,7 +186,7 @@ module _ (kind : Kind) (staged : List Staged) (names : List (List ℕ)) (name : 
       no_child ts found (ap (λ (x : Node). children_of (Some x)) (sym z) ∙ e) h (subst (λ (l : List Staged). All Later (staged_at (name ∷ []) l)) (sym is) (All-nil Later))
 
   pub child_given : (given found : Option Node) → GivesAt kind staged names given → IsChildOf given name found → GivesAt kind staged (names ++ name ∷ []) found
-  child_given given found g h = subst (λ (l : List Staged). Gives kind (names ++ name ∷ []) l found) (sym (at_more names name staged)) (by_case given found h.0 g h.1 h.2)
+  child_given given found g h = subst (λ (l : List Staged). GivesNode kind (names ++ name ∷ []) l found) (sym (at_more names name staged)) (by_case given found h.0 g h.1 h.2)
 
 -- ---- a node, and all below it
 
@@ -216,7 +216,7 @@ module _ (kind : Kind) (staged : List Staged) where
   )
 
   says_within : (e : Error) (a b c : List Spot) → All Right a → SaysFirst kind staged b e → SaysFirst kind staged (a ++ (b ++ c)) e
-  says_within (errors.Other path id count other number) a b c h w = wrong_within (λ s. Names (bstring_bytes path) id count s × IsGiven kind staged s.names other number) a b c h w
+  says_within (errors.Other path id count other number) a b c h w = wrong_within (λ s. Names (bstring_bytes path) id count s × GivesId kind staged s.names other number) a b c h w
   says_within (errors.Ungiven path id count) a b c h w = wrong_within (λ s. Names (bstring_bytes path) id count s × GivesNone kind staged s.names) a b c h w
   says_within (errors.Entries fault) a b c h w = w
   says_within errors.Memory a b c h w = w
@@ -283,7 +283,7 @@ says_whole kind rs t (errors.Entries fault) fit w = absurd w
 says_whole kind rs t errors.Memory fit w = tt
 
 pub root_fault : (r : Result (Unit {0}) Error) (kind : Kind) (rs : List Record) (given : Option Node) (t : Node) (front : List ℕ)
-    → IfErr r (λ e. (k : Kind) (ss : List Staged) (names : List (List ℕ)) → GivesAt k ss names given → front ≡ fronts names → SaysFirst k ss (spots names t) e)
+    → IfErr r (λ e. (k : Kind) (ss : List Staged) (names : List (List ℕ)) → GivesAt k ss names given → front ≡ parent_path names → SaysFirst k ss (spots names t) e)
     → front ≡ [] → AreFit any_name kind rs → GivesAt kind (staged_in rs) [] given → IfErr r (SaysTreeIds kind rs t)
 root_fault (Ok u) kind rs given t front h f fit g = tt
 root_fault (Err e) kind rs given t front h f fit g = says_whole kind rs t e fit (h kind (staged_in rs) [] g f)

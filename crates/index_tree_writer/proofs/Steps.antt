@@ -14,16 +14,17 @@ use Rattle.index_entries.specs.Order.{path_cmp}
 use Rattle.index_entries.specs.Record.{Record}
 use Rattle.index_tree_writer.specs.Cached.{IsNodeWhere, leaf_nodes}
 use Rattle.index_tree_writer.specs.Directory.{IsName, directory_bytes, directory_object, key, leaf_bytes}
-use Rattle.index_tree_writer.specs.Refusals.{Begins, IsInside}
-use Rattle.index_tree_writer.specs.Staged.{Staged, cut, staged_entry, staged_in, staged_of, under}
+use Rattle.index_tree_writer.specs.Refusals.{BeginsWith, IsInside}
+use Rattle.index_tree_writer.specs.Staged.{Staged, cut, staged_entry, staged_in, staged_of}
 use Rattle.index_tree_writer.specs.Objects.{Taken, with_objects}
-use Rattle.index_tree_writer.specs.WritingSteps.{Ahead, Goes, IsBegun, IsComponent, IsLeaf, IsMadeNode, IsReady, StopsAt, staged_below}
+use Rattle.index_tree_writer.specs.WritingSteps.{Ahead, Goes, IsBegunDirectory, IsComponent, IsLeaf, IsMadeNode, IsReady, StopsAt, staged_below}
 use Rattle.index_tree_writer.specs.declared.leaf.Leaf.{Leaf}
 use Rattle.index_tree_writer.specs.declared.write.Made.{Made}
 use Rattle.index_tree_writer.proofs.Begun.{begun_directory, begun_leaf, begun_same}
 use Rattle.index_tree_writer.proofs.PathNames.{Leaves, NoSlash, ahead_from, leaf_name, path_some, some_from, slash_behind, whole_component}
 use Rattle.index_tree_writer.proofs.Ranges.{below_few, below_parts, cut_under, no_record, one_of, range_none, range_one, range_parts, staged_at}
 use Rattle.index_tree_writer.proofs.Ready.{ahead_directory, named_behind, pairs_head, ready_back, ready_behind, ready_front}
+use Rattle.index_tree_writer.proofs.Pushes.{under}
 
 pub node_some : (bytes : List ℕ) (r : Bool) → r ≡ (length bytes == 0) → r ≡ false → (P : Node → Type 0) (t : Node) → P t → IsNodeWhere bytes P (t ∷ [])
 node_some [] r e z P t h = absurd (some_from {X = ℕ} [] r e z (refl))
@@ -56,7 +57,7 @@ module _ (rs : List Record) (front a : ℕ) (o : Option Leaf) (lt : a < length r
   some_below leaf z = one_below ∙ ap (λ (p : Option Leaf). map (cut front) (option_to_list (option_map staged_of p))) z
 
 -- whether it goes on so
-pub goes_yes : (front : ℕ) (shown : List ℕ) (r : Record) (o : Option Leaf) (leaf : Leaf) → o ≡ Some leaf → option_map staged_of o ≡ staged_entry r → Begins (drop front leaf.path.now) shown → All (Goes front shown) (staged_in (r ∷ []))
+pub goes_yes : (front : ℕ) (shown : List ℕ) (r : Record) (o : Option Leaf) (leaf : Leaf) → o ≡ Some leaf → option_map staged_of o ≡ staged_entry r → BeginsWith (drop front leaf.path.now) shown → All (Goes front shown) (staged_in (r ∷ []))
 goes_yes front shown r o leaf is e b =
     let listed : staged_in (r ∷ []) ≡ staged_of leaf ∷ [] = one_of r (option_map staged_of o) e ∙ ap (λ (p : Option Leaf). option_to_list (option_map staged_of p)) is in
     subst (All (Goes front shown)) (sym listed) (All-cons (Goes front shown) (staged_of leaf) [] b (All-nil (Goes front shown)))
@@ -97,13 +98,13 @@ ahead_none kind levels left h = λ k d within name shown c. let l = h.each k d w
 
 module _ (rs : List Record) (kind : Kind) (front start at end levels : ℕ) (old new : Taken) (m : Made) (low : start ≤ at) (lt : at < end) (within : end ≤ length rs)
     (ready : IsReady kind levels (staged_below front (slice_range rs start end)))
-    (begun : IsBegun kind (staged_below front (slice_range rs start at)) (staged_below front (slice_range rs at end)) m old new)
+    (begun : IsBegunDirectory kind (staged_below front (slice_range rs start at)) (staged_below front (slice_range rs at end)) m old new)
     (o : Option Leaf) (h : HoldsAt (λ r. option_map staged_of o ≡ staged_entry r) rs at) where
   inside : at < length rs
   inside = omega arith
 
   -- what is left of a record that stages nothing
-  pub begun_skip : o ≡ None → IsBegun kind (staged_below front (slice_range rs start (at + 1))) (staged_below front (slice_range rs (at + 1) end)) m old new
+  pub begun_skip : o ≡ None → IsBegunDirectory kind (staged_below front (slice_range rs start (at + 1))) (staged_below front (slice_range rs (at + 1) end)) m old new
   begun_skip z =
       let nothing = none_below rs front at o inside h z in
       let done : staged_below front (slice_range rs start (at + 1)) ≡ staged_below front (slice_range rs start at) =
@@ -162,9 +163,9 @@ module _ (rs : List Record) (kind : Kind) (front start at end levels : ℕ) (old
       done = below_parts front rs start at (at + 1) low (omega arith) ∙ ap (λ (l : List Staged). staged_below front (slice_range rs start at) ++ l) (some_below rs front at o inside h leaf is)
 
       pub begun_more : (n : Made) → n.bytes.items ≡ m.bytes.items ++ leaf_bytes name leaf.kind leaf.id leaf.later → map node_of n.children.items ≡ map node_of m.children.items ++ leaf_nodes name leaf.kind leaf.id leaf.later
-          → n.count ≡ m.count + 1 → n.later ≡ m.later || leaf.later → IsBegun kind (staged_below front (slice_range rs start (at + 1))) behind n old new
+          → n.count ≡ m.count + 1 → n.later ≡ m.later || leaf.later → IsBegunDirectory kind (staged_below front (slice_range rs start (at + 1))) behind n old new
       begun_more n bytes children count later =
-          subst (λ (l : List Staged). IsBegun kind l behind n old new) (sym done)
+          subst (λ (l : List Staged). IsBegunDirectory kind l behind n old new) (sym done)
           (begun_leaf kind (staged_below front (slice_range rs start at)) (staged_below front (slice_range rs at end)) m old new begun name s behind n (named.0, at_leaf.of_kind, at_leaf.len) named.1
           (subst (λ (l : List ℕ). path_cmp begun.last l ≡ Less) (sym whole) follows) ahead bytes children count later)
 
@@ -203,7 +204,7 @@ module _ (rs : List Record) (kind : Kind) (front start at end levels : ℕ) (old
       pub front_fits : front + length shown ≤ length leaf.path.now
       front_fits = omega (arith, long, ap length tailed, length-drop front leaf.path.now)
 
-      ahead_stop : (staged_below front (slice_range rs stop end) ≡ []) ⊎ HoldsAt (StopsAt front shown) rs stop → (stop < end) ⊎ (stop ≡ end) → (head : Staged) (more : List Staged) → staged_below front (slice_range rs stop end) ≡ head ∷ more → Begins head.path shown → ⊥
+      ahead_stop : (staged_below front (slice_range rs stop end) ≡ []) ⊎ HoldsAt (StopsAt front shown) rs stop → (stop < end) ⊎ (stop ≡ end) → (head : Staged) (more : List Staged) → staged_below front (slice_range rs stop end) ≡ head ∷ more → BeginsWith head.path shown → ⊥
       ahead_stop (inl z) place head rest e b = absurd (cc (z, e))
       ahead_stop (inr f) (inr z) head rest e b = absurd (cc (ap (staged_below front) (ap (slice_range rs stop) (sym z) ∙ range_none rs stop), e))
       ahead_stop (inr f) (inl l) head rest e b =
@@ -212,7 +213,7 @@ module _ (rs : List Record) (kind : Kind) (front start at end levels : ℕ) (old
           let whole : cut front g.0 ∷ staged_below front (slice_range rs (stop + 1) end) ≡ head ∷ rest =
           sym (below_parts front rs stop (stop + 1) end (omega arith) (omega arith) ∙ ap (λ (l : List Staged). map (cut front) l ++ staged_below front (slice_range rs (stop + 1) end)) one) ∙ e in
           let same : cut front g.0 ≡ head = cc in
-          g.2 (subst (λ (t : Staged). Begins t.path shown) (sym same) b)
+          g.2 (subst (λ (t : Staged). BeginsWith t.path shown) (sym same) b)
 
       behind_stop : behind ≡ staged_below front (slice_range rs (at + 1) stop) ++ staged_below front (slice_range rs stop end)
       behind_stop = below_parts front rs (at + 1) stop end (omega arith) high
@@ -230,20 +231,20 @@ module _ (rs : List Record) (kind : Kind) (front start at end levels : ℕ) (old
           order : (stop < end) ⊎ (stop ≡ end)
           order = nat_below_or_same stop end high
 
-          by : (stop ≡ end) ⊎ HoldsAt (StopsAt front shown) rs stop → (head : Staged) (rest : List Staged) → staged_below front (slice_range rs stop end) ≡ head ∷ rest → Begins head.path shown → ⊥
+          by : (stop ≡ end) ⊎ HoldsAt (StopsAt front shown) rs stop → (head : Staged) (rest : List Staged) → staged_below front (slice_range rs stop end) ≡ head ∷ rest → BeginsWith head.path shown → ⊥
           by (inl z) = ahead_stop (inl (ap (staged_below front) (ap (slice_range rs stop) (sym z) ∙ range_none rs stop))) order
           by (inr g) = ahead_stop (inr g) order
 
-      pub begun_over : (stop ≡ end) ⊎ HoldsAt (StopsAt front shown) rs stop → (i n : Made) (middle newer : Taken) → IsBegun kind (staged_below (front + length shown) (slice_range rs at stop)) [] i new middle
+      pub begun_over : (stop ≡ end) ⊎ HoldsAt (StopsAt front shown) rs stop → (i n : Made) (middle newer : Taken) → IsBegunDirectory kind (staged_below (front + length shown) (slice_range rs at stop)) [] i new middle
           → n.bytes.items ≡ m.bytes.items ++ directory_bytes kind name i.bytes.items → (us : List Node) × (map node_of n.children.items ≡ map node_of m.children.items ++ us) × IsMadeNode kind name i us
           → n.count ≡ m.count + i.count → n.later ≡ m.later || i.later → newer ≡ with_objects middle (directory_object kind i.bytes.items)
-          → IsBegun kind (staged_below front (slice_range rs start stop)) (staged_below front (slice_range rs stop end)) n old newer
+          → IsBegunDirectory kind (staged_below front (slice_range rs start stop)) (staged_below front (slice_range rs stop end)) n old newer
       begun_over f i n middle newer w bytes nodes count later stored =
-          subst (λ (l : List Staged). IsBegun kind l (staged_below front (slice_range rs stop end)) n old newer) (sym (below_parts front rs start at stop low (omega arith)))
+          subst (λ (l : List Staged). IsBegunDirectory kind l (staged_below front (slice_range rs stop end)) n old newer) (sym (below_parts front rs start at stop low (omega arith)))
           (begun_directory kind (staged_below front (slice_range rs start at)) (staged_below front (slice_range rs at end)) m old new begun name shown (staged_below (front + length shown) (slice_range rs at stop)) (staged_below front (slice_range rs at stop))
           (staged_below front (slice_range rs stop end)) i n middle newer nodes.0 a_level.0 slashed follows (ahead_dir f) (λ z. absurd (cc (inner_is, z))) listed w bytes nodes.1 nodes.2 count later stored)
 
-      pub counts_fit : length rs < 2 ^ 31 → (i : Made) (middle : Taken) → IsBegun kind (staged_below (front + length shown) (slice_range rs at stop)) [] i new middle → m.count + i.count < 2 ^ 31
+      pub counts_fit : length rs < 2 ^ 31 → (i : Made) (middle : Taken) → IsBegunDirectory kind (staged_below (front + length shown) (slice_range rs at stop)) [] i new middle → m.count + i.count < 2 ^ 31
       counts_fit few i middle w = omega (arith, few, begun.count, w.count, below_few front rs start at (omega arith), below_few (front + length shown) rs at stop (omega arith))
 
   pub count_fits : length rs < 2 ^ 31 → m.count < 2 ^ 31

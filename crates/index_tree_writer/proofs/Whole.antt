@@ -14,7 +14,7 @@ use Rattle.index_objects.specs.declared.object.tree.EntryKind.{EntryKind}
 use Rattle.index_entries.specs.EntryImage.{is_removed}
 use Rattle.index_entries.specs.Order.{IsStrictlyOrdered, path_cmp}
 use Rattle.index_entries.specs.Record.{Record}
-use Rattle.index_tree_writer.specs.Refusals.{AreFit, Check, IsFit, IsInside, IsPath}
+use Rattle.index_tree_writer.specs.Refusals.{AreFit, Check, IsFit, IsInside, IsTreePath}
 use Rattle.index_tree_writer.specs.Staged.{Staged, cut, is_intended, staged_entry, staged_in}
 use Rattle.index_tree_writer.specs.WritingSteps.{IsLeaf, IsReady, staged_below}
 use Rattle.index_tree_writer.proofs.Checked.{staged_rise}
@@ -38,7 +38,7 @@ module _ (check : Check) (kind : Kind) where
           let fit = h f in
           let kind_is : fit.1.0 ≡ k = same_Some fit.1.0 k (sym fit.1.1.0 ∙ n) in
           subst (IsLeaf kind 2048) (same_Some (record { path = r.path; kind = k; id = r.id; later = is_intended r.flags }) x d)
-          (record { check = check; path = subst (λ (j : EntryKind). IsPath check 2048 j r.path) kind_is fit.1.1.1; of_kind = fit.2.0; len = fit.2.1 })
+          (record { check = check; path = subst (λ (j : EntryKind). IsTreePath check 2048 j r.path) kind_is fit.1.1.1; of_kind = fit.2.0; len = fit.2.1 })
 
   each_leaf : (rs : List Record) → All (IsFit check kind) rs → All (IsLeaf kind 2048) (staged_in rs)
   each_leaf [] h = All-nil (IsLeaf kind 2048)

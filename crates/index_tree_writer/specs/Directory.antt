@@ -9,7 +9,7 @@ use Rattle.index_parts.specs.declared.hash.ObjectId.{ObjectId}
 use Rattle.index_objects.specs.declared.object.tree.EntryKind.{EntryKind}
 use Rattle.index_objects.specs.declared.object.tree.EntryKind.TheVariants as kinds
 use Rattle.index_entries.specs.TreeOrder.{IsGitOrdered}
-use Rattle.index_tree_writer.specs.Objects.{entry_bytes, tree_id}
+use Rattle.index_tree_writer.specs.Objects.{tree_entry_bytes, tree_id}
 use Rattle.index_tree_writer.specs.Staged.{Staged}
 
 mutual
@@ -35,28 +35,29 @@ key name kinds.Commit = name
 
 abbrev mutual
   pub item_leaves : List ℕ → Item → List Staged
-  item_leaves front (leaf name kind id later) = record { path = front ++ key name kind; kind = kind; id = id; later = later } ∷ []
-  item_leaves front (directory name items) = leaves (front ++ key name kinds.Tree) items
+  item_leaves prefix (leaf name kind id later) =
+      record { path = prefix ++ key name kind; kind = kind; id = id; later = later } ∷ []
+  item_leaves prefix (directory name items) = leaves (prefix ++ key name kinds.Tree) items
 
-  -- what is no directory in it and below, in order; the paths have a front
+  -- what is no directory in it and below, in order; the paths have a prefix
   pub leaves : List ℕ → Items → List Staged
-  leaves front no_more = []
-  leaves front (next x xs) = item_leaves front x ++ leaves front xs
+  leaves prefix no_more = []
+  leaves prefix (next x xs) = item_leaves prefix x ++ leaves prefix xs
 
 -- how many leaves there are, where all of them stand in trees
-abbrev pub count_of : List Staged → Option ℕ
-count_of staged = if list_any (λ s. s.later) staged then None else Some (length staged)
+abbrev pub leaf_count : List Staged → Option ℕ
+leaf_count staged = if list_any (λ s. s.later) staged then None else Some (length staged)
 
 -- ---- its objects
 
 -- the entry for a directory with these bytes; without bytes nothing in it stands in a tree, nor does it
 abbrev pub directory_bytes : Kind → List ℕ → List ℕ → List ℕ
 directory_bytes kind name [] = []
-directory_bytes kind name (b ∷ bytes) = entry_bytes name kinds.Tree (tree_id kind (b ∷ bytes))
+directory_bytes kind name (b ∷ bytes) = tree_entry_bytes name kinds.Tree (tree_id kind (b ∷ bytes))
 
 -- the entry for a leaf, where it stands in a tree
 abbrev pub leaf_bytes : List ℕ → EntryKind → ObjectId → Bool → List ℕ
-leaf_bytes name k id later = if later then [] else entry_bytes name k id
+leaf_bytes name k id later = if later then [] else tree_entry_bytes name k id
 
 abbrev mutual
   pub item_bytes : Kind → Item → List ℕ
@@ -111,7 +112,8 @@ pub record IsName (name : List ℕ) : Type 0 where
 abbrev mutual
   pub IsItem : Kind → Item → Type 0
   IsItem kind (leaf name k id later) = IsName name × (id_kind id ≡ kind) × (length (id_bytes id) ≡ id_len kind)
-  IsItem kind (directory name items) = IsName name × (items ≢ no_more) × AreItems kind items × IsGitOrdered (entries kind items)
+  IsItem kind (directory name items) =
+      IsName name × (items ≢ no_more) × AreItems kind items × IsGitOrdered (entries kind items)
 
   pub AreItems : Kind → Items → Type 0
   AreItems kind no_more = Unit {0}

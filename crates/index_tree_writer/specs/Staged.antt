@@ -1,5 +1,5 @@
 -- What of an index stands in its trees (git-write-tree).
-use Rattle.std.specs.Prelude.{ℕ, ◌==◌, List, ◌++◌, drop, Bool, bit_and, Option, None, if◌then◌else◌}
+use Rattle.std.specs.Prelude.{ℕ, ◌==◌, List, drop, Bool, bit_and, Option, None, if◌then◌else◌}
 use Rattle.std.specs.List.{filter_map}
 use Rattle.std.specs.Option.{option_map}
 use Rattle.index_parts.specs.declared.hash.ObjectId.{ObjectId}
@@ -25,7 +25,8 @@ is_intended flags = bit_and flags 0x20000000 == 0x20000000
 abbrev pub staged_entry : Record → Option Staged
 staged_entry r =
     if is_removed r.flags then None
-    else option_map (λ k. record { path = r.path; kind = k; id = r.id; later = is_intended r.flags }) (named_kind r.mode)
+    else option_map (λ k. record { path = r.path; kind = k; id = r.id; later = is_intended r.flags })
+    (named_kind r.mode)
 
 -- what records stage, in their order
 abbrev pub staged_in : List Record → List Staged
@@ -34,10 +35,6 @@ staged_in rs = filter_map staged_entry rs
 abbrev pub staged_of : Leaf → Staged
 staged_of l = record { path = l.path.now; kind = l.kind; id = l.id; later = l.later }
 
--- the same without so many bytes at the front of the path
+-- the same without a prefix of so many bytes
 abbrev pub cut : ℕ → Staged → Staged
 cut n s = record { path = drop n s.path; kind = s.kind; id = s.id; later = s.later }
-
--- the same with bytes in front of the path
-abbrev pub under : List ℕ → Staged → Staged
-under front s = record { path = front ++ s.path; kind = s.kind; id = s.id; later = s.later }

@@ -8,9 +8,9 @@ use Rattle.index_parts.specs.declared.hash.Kind.{Kind}
 use Rattle.index_parts.specs.declared.hash.ObjectId.{ObjectId}
 use Rattle.index_objects.specs.declared.object.tree.EntryKind.TheVariants as kinds
 use Rattle.index_cached_tree.specs.Tree.{Node, Nodes, node, none, more, name_of}
-use Rattle.index_tree_writer.specs.Directory.{Items, IsTreeOf, count_of, items_id}
+use Rattle.index_tree_writer.specs.Directory.{Items, IsTreeOf, leaf_count, items_id}
 use Rattle.index_entries.specs.Record.{Record}
-use Rattle.index_tree_writer.specs.Refusals.{AreFit, Check, IsRefused, SaysFault}
+use Rattle.index_tree_writer.specs.Refusals.{AreFit, Check, AreRefused, SaysTreesFault}
 use Rattle.index_tree_writer.specs.Staged.{Staged, staged_in}
 use Rattle.index_tree_writer.specs.declared.tree_ids.Error.{Error}
 use Rattle.index_tree_writer.specs.declared.tree_ids.Error.TheVariants as errors
@@ -38,26 +38,29 @@ staged_at names staged = filter_map (λ s. option_map (moved s) (behind_all name
 
 -- ---- what entries give
 
--- These have a directory, and each of them stands in a tree: so they give its id, and how many they are. But for the root, some are
--- there.
-pub record IsMadeOf (kind : Kind) (names : List (List ℕ)) (below : List Staged) (id : ObjectId) (count : ℕ) : Type 0 where
+-- These have a directory, and each of them stands in a tree: so they give its id, and how many they are. But for the
+-- root, some are there.
+pub record IsMadeOf (kind : Kind) (names : List (List ℕ)) (below : List Staged) (id : ObjectId) (count : ℕ)
+    : Type 0 where
   pub items : Items
   pub is_tree : IsTreeOf kind below items
   pub some : (names ≡ []) ⊎ (below ≢ [])
   pub is_id : id ≡ items_id kind items
-  pub counted : count_of below ≡ Some count
+  pub counted : leaf_count below ≡ Some count
 
 -- one entry stands for the whole directory, and so counts as one
-abbrev pub IsWhole : List Staged → ObjectId → ℕ → Type 0
-IsWhole below id count = (below ≡ record { path = []; kind = kinds.Tree; id = id; later = false } ∷ []) × (count ≡ 1)
+abbrev pub IsWholeDirectory : List Staged → ObjectId → ℕ → Type 0
+IsWholeDirectory below id count =
+    (below ≡ record { path = []; kind = kinds.Tree; id = id; later = false } ∷ []) × (count ≡ 1)
 
 -- the id and the count that entries give the directory that is reached by these names
-abbrev pub IsGiven : Kind → List Staged → List (List ℕ) → ObjectId → ℕ → Type 0
-IsGiven kind staged names id count = IsMadeOf kind names (staged_at names staged) id count ⊎ IsWhole (staged_at names staged) id count
+abbrev pub GivesId : Kind → List Staged → List (List ℕ) → ObjectId → ℕ → Type 0
+GivesId kind staged names id count =
+    IsMadeOf kind names (staged_at names staged) id count ⊎ IsWholeDirectory (staged_at names staged) id count
 
 -- they give it no id with a count
 abbrev pub GivesNone : Kind → List Staged → List (List ℕ) → Type 0
-GivesNone kind staged names = (id : ObjectId) (count : ℕ) → IsGiven kind staged names id count → ⊥
+GivesNone kind staged names = (id : ObjectId) (count : ℕ) → GivesId kind staged names id count → ⊥
 
 -- ---- nodes
 
@@ -70,7 +73,8 @@ pub record Spot : Type 0 where
 abbrev mutual
   -- a node that is reached by these names, and then all below it, in preorder
   pub spots : List (List ℕ) → Node → List Spot
-  spots names (node name id count children) = record { names = names; id = id; count = count } ∷ spots_below names children
+  spots names (node name id count children) =
+      record { names = names; id = id; count = count } ∷ spots_below names children
 
   pub spots_below : List (List ℕ) → Nodes → List Spot
   spots_below names none = []
@@ -78,7 +82,7 @@ abbrev mutual
 
 -- where it has a count, its id and its count are those that the entries give
 abbrev pub IsRight : Kind → List Staged → Spot → Type 0
-IsRight kind staged s = IfSome s.count (λ count. IsGiven kind staged s.names s.id count)
+IsRight kind staged s = IfSome s.count (λ count. GivesId kind staged s.names s.id count)
 
 -- each node is right; the root is reached by no name
 abbrev pub AreRight : Kind → List Staged → Node → Type 0
@@ -89,7 +93,8 @@ AreRight kind staged t = All (IsRight kind staged) (spots [] t)
 -- the first of these that isn't right is such
 abbrev pub IsFirstWrong : Kind → List Staged → List Spot → (Spot → Type 0) → Type 0
 IsFirstWrong kind staged ss P =
-    (before : List Spot) × (s : Spot) × (after : List Spot) × (ss ≡ before ++ s ∷ after) × All (IsRight kind staged) before × (IsRight kind staged s → ⊥) × P s
+    (before : List Spot) × (s : Spot) × (after : List Spot) × (ss ≡ before ++ s ∷ after)
+    × All (IsRight kind staged) before × (IsRight kind staged s → ⊥) × P s
 
 -- the names as one path; that of the root is empty
 abbrev pub joined : List (List ℕ) → List ℕ
@@ -105,12 +110,16 @@ Names path id count s = (joined s.names ≡ path) × (s.id ≡ id) × (s.count �
 abbrev pub any_name : Check
 any_name = λ name symlink. None
 
--- Where no entry has a fault, the first node that isn't right, and what the entries give instead, or that they give nothing; else the
--- fault of the entries.
+-- Where no entry has a fault, the first node that isn't right, and what the entries give instead, or that they give
+-- nothing; else the fault of the entries.
 abbrev pub SaysTreeIds : Kind → List Record → Node → Error → Type 0
 SaysTreeIds kind rs t (errors.Other path id count given number) =
-    AreFit any_name kind rs × IsFirstWrong kind (staged_in rs) (spots [] t) (λ s. Names (bstring_bytes path) id count s × IsGiven kind (staged_in rs) s.names given number)
+    AreFit any_name kind rs
+    × IsFirstWrong kind (staged_in rs) (spots [] t)
+    (λ s. Names (bstring_bytes path) id count s × GivesId kind (staged_in rs) s.names given number)
 SaysTreeIds kind rs t (errors.Ungiven path id count) =
-    AreFit any_name kind rs × IsFirstWrong kind (staged_in rs) (spots [] t) (λ s. Names (bstring_bytes path) id count s × GivesNone kind (staged_in rs) s.names)
-SaysTreeIds kind rs t (errors.Entries fault) = SaysFault fault (λ n. ⊥) (IsRefused any_name kind rs)
+    AreFit any_name kind rs
+    × IsFirstWrong kind (staged_in rs) (spots [] t)
+    (λ s. Names (bstring_bytes path) id count s × GivesNone kind (staged_in rs) s.names)
+SaysTreeIds kind rs t (errors.Entries fault) = SaysTreesFault fault (λ n. ⊥) (AreRefused any_name kind rs)
 SaysTreeIds kind rs t errors.Memory = Unit {0}

@@ -1,5 +1,5 @@
 -- How a node that entries give stands for a directory. Public clauses cite none of these.
-use Rattle.std.specs.Prelude.{◌≡◌, ◌≢◌, ◌⊎◌, ℕ, List, [], ◌∷◌, ◌-◌, ◌++◌, All, Contains, false, true, length, map, take, Option, Some, None}
+use Rattle.std.specs.Prelude.{◌≡◌, ◌≢◌, ◌⊎◌, ℕ, List, [], ◌∷◌, ◌-◌, ◌++◌, All, Contains, false, true, length, take, Option, Some, None}
 use Rattle.bstr.specs.Owned.{bstring_bytes}
 use Rattle.index_parts.specs.declared.hash.Kind.{Kind}
 use Rattle.index_parts.specs.declared.hash.ObjectId.{ObjectId}
@@ -8,22 +8,25 @@ use Rattle.index_objects.specs.declared.object.tree.EntryKind.TheVariants as kin
 use Rattle.index_tree_writer.specs.Cached.{IsCached}
 use Rattle.index_tree_writer.specs.Directory.{Items, IsTreeOf}
 use Rattle.index_tree_writer.specs.Staged.{Staged}
-use Rattle.index_tree_writer.specs.TreeIds.{Spot, IsGiven, GivesNone, IsRight, IsFirstWrong, Names, staged_at}
+use Rattle.index_tree_writer.specs.TreeIds.{Spot, GivesId, GivesNone, IsRight, IsFirstWrong, Names, staged_at}
 use Rattle.index_tree_writer.specs.declared.error.Error.{Error as WriteError}
 use Rattle.index_tree_writer.specs.declared.error.Error.TheVariants as writes
 use Rattle.index_tree_writer.specs.declared.tree_ids.Error.{Error}
 use Rattle.index_tree_writer.specs.declared.tree_ids.Error.TheVariants as errors
 
--- What is staged below a directory gives it this node: that of its tree, that of the entry that stands for it, or none, since nothing
--- there stands in a tree.
-pub data Gives (kind : Kind) (names : List (List ℕ)) (below : List Staged) : Option Node → Type 0 where
-  nothing : names ≢ [] → All (λ s. s.later ≡ true) below → Gives kind names below None
-  its_tree : (name : List ℕ) (items : Items) (t : Node) → IsTreeOf kind below items → (names ≡ []) ⊎ (below ≢ []) → IsCached kind name items t → Gives kind names below (Some t)
-  whole : (name : List ℕ) (id : ObjectId) (t : Node) → below ≡ record { path = []; kind = kinds.Tree; id = id; later = false } ∷ [] → t ≡ node name id (Some 1) none → Gives kind names below (Some t)
+-- What is staged below a directory gives it this node: that of its tree, that of the entry that stands for it, or none,
+-- since nothing there stands in a tree.
+pub data GivesNode (kind : Kind) (names : List (List ℕ)) (below : List Staged) : Option Node → Type 0 where
+  nothing : names ≢ [] → All (λ s. s.later ≡ true) below → GivesNode kind names below None
+  its_tree : (name : List ℕ) (items : Items) (t : Node) → IsTreeOf kind below items → (names ≡ []) ⊎ (below ≢ [])
+      → IsCached kind name items t → GivesNode kind names below (Some t)
+  whole : (name : List ℕ) (id : ObjectId) (t : Node)
+      → below ≡ record { path = []; kind = kinds.Tree; id = id; later = false } ∷ [] → t ≡ node name id (Some 1) none
+      → GivesNode kind names below (Some t)
 
 -- the entries give it to the directory that is reached by these names
 abbrev pub GivesAt : Kind → List Staged → List (List ℕ) → Option Node → Type 0
-GivesAt kind staged names given = Gives kind names (staged_at names staged) given
+GivesAt kind staged names given = GivesNode kind names (staged_at names staged) given
 
 -- what some entries give some directory
 abbrev pub IsGiving : Option Node → Type 0
@@ -44,23 +47,27 @@ abbrev pub IsChildOf : Option Node → List ℕ → Option Node → Type 0
 IsChildOf given name found = (ts : List Node) × (children_of given ≡ nodes_from ts) × IsAmong ts name found
 
 -- the path of each of these names, with a slash behind it
-abbrev pub fronts : List (List ℕ) → List ℕ
-fronts [] = []
-fronts (name ∷ names) = name ++ 47 ∷ fronts names
+abbrev pub parent_path : List (List ℕ) → List ℕ
+parent_path [] = []
+parent_path (name ∷ names) = name ++ 47 ∷ parent_path names
 
 -- ---- errors
 
 -- a node that isn't right, and what is said of it
 abbrev pub SaysSpot : Kind → List Staged → Spot → Error → Type 0
-SaysSpot kind staged s (errors.Other path id count given number) = (IsRight kind staged s → ⊥) × Names (bstring_bytes path) id count s × IsGiven kind staged s.names given number
-SaysSpot kind staged s (errors.Ungiven path id count) = (IsRight kind staged s → ⊥) × Names (bstring_bytes path) id count s × GivesNone kind staged s.names
+SaysSpot kind staged s (errors.Other path id count given number) =
+    (IsRight kind staged s → ⊥) × Names (bstring_bytes path) id count s × GivesId kind staged s.names given number
+SaysSpot kind staged s (errors.Ungiven path id count) =
+    (IsRight kind staged s → ⊥) × Names (bstring_bytes path) id count s × GivesNone kind staged s.names
 SaysSpot kind staged s (errors.Entries fault) = ⊥
 SaysSpot kind staged s errors.Memory = Unit {0}
 
 -- the first of these that isn't right, and what is said of it
 abbrev pub SaysFirst : Kind → List Staged → List Spot → Error → Type 0
-SaysFirst kind staged ss (errors.Other path id count given number) = IsFirstWrong kind staged ss (λ s. Names (bstring_bytes path) id count s × IsGiven kind staged s.names given number)
-SaysFirst kind staged ss (errors.Ungiven path id count) = IsFirstWrong kind staged ss (λ s. Names (bstring_bytes path) id count s × GivesNone kind staged s.names)
+SaysFirst kind staged ss (errors.Other path id count given number) =
+    IsFirstWrong kind staged ss (λ s. Names (bstring_bytes path) id count s × GivesId kind staged s.names given number)
+SaysFirst kind staged ss (errors.Ungiven path id count) =
+    IsFirstWrong kind staged ss (λ s. Names (bstring_bytes path) id count s × GivesNone kind staged s.names)
 SaysFirst kind staged ss (errors.Entries fault) = ⊥
 SaysFirst kind staged ss errors.Memory = Unit {0}
 
@@ -84,10 +91,13 @@ tells None = None
 tells (Some (node name id None children)) = None
 tells (Some (node name id (Some count) children)) = Some (id, count)
 
--- The error has this id and count, and what is given, where that has a count. Its path is the front without the slash at the end.
+-- The error has this id and count, and what is given, where that has a count. Its path is that of the
+-- directory, without the slash at the end.
 abbrev pub IsSaid : Option Node → List ℕ → ObjectId → ℕ → Error → Type 0
-IsSaid given front id count (errors.Other path i n given_id given_count) =
-    (bstring_bytes path ≡ take (length front - 1) front) × (i ≡ id) × (n ≡ count) × (tells given ≡ Some (given_id, given_count))
-IsSaid given front id count (errors.Ungiven path i n) = (bstring_bytes path ≡ take (length front - 1) front) × (i ≡ id) × (n ≡ count) × (tells given ≡ None)
-IsSaid given front id count (errors.Entries fault) = ⊥
-IsSaid given front id count errors.Memory = ⊥
+IsSaid given parent id count (errors.Other path i n given_id given_count) =
+    (bstring_bytes path ≡ take (length parent - 1) parent) × (i ≡ id) × (n ≡ count)
+    × (tells given ≡ Some (given_id, given_count))
+IsSaid given parent id count (errors.Ungiven path i n) =
+    (bstring_bytes path ≡ take (length parent - 1) parent) × (i ≡ id) × (n ≡ count) × (tells given ≡ None)
+IsSaid given parent id count (errors.Entries fault) = ⊥
+IsSaid given parent id count errors.Memory = ⊥

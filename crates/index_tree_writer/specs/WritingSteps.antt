@@ -5,7 +5,6 @@ use Rattle.std.specs.List.Sorted.{IsPermutation, IsSorted}
 use Rattle.std.specs.declared.cmp.Ordering.TheVariants.{Less}
 use Rattle.index_parts.specs.Id.{id_bytes, id_kind, id_len}
 use Rattle.index_parts.specs.declared.hash.Kind.{Kind}
-use Rattle.index_parts.specs.declared.hash.ObjectId.{ObjectId}
 use Rattle.index_entries.specs.Order.{path_cmp}
 use Rattle.index_entries.specs.Record.{Record}
 use Rattle.index_entries.specs.TreeOrder.{IsGitOrdered, sorted_name}
@@ -13,11 +12,11 @@ use Rattle.index_cached_tree.specs.Tree.{Node, name_cmp, node, node_of, nodes_fr
 use Rattle.index_tree_writer.specs.Cached.{AreNodes, IsNodeWhere}
 use Rattle.index_tree_writer.specs.Directory.{Items, AreItems, content, entries, leaves, objects_below}
 use Rattle.index_tree_writer.specs.Objects.{Taken, tree_id, with_objects}
-use Rattle.index_tree_writer.specs.Refusals.{Begins, Check, IsInside, IsPath}
+use Rattle.index_tree_writer.specs.Refusals.{BeginsWith, Check, IsInside, IsTreePath}
 use Rattle.index_tree_writer.specs.Staged.{Staged, cut, staged_entry, staged_in}
 use Rattle.index_tree_writer.specs.declared.write.Made.{Made}
 
--- the first component at the front of a path's rest, without the slash behind it and with it
+-- the first component of a path's rest, without the slash behind it and with it
 pub record IsComponent (tail name shown : List ℕ) : Type 0 where
   pub component : All (λ b. b ≢ 47) name
   pub is : (shown ≡ name ++ 47 ∷ []) ⊎ ((shown ≡ name) × (tail ≡ name))
@@ -25,33 +24,33 @@ pub record IsComponent (tail name shown : List ℕ) : Type 0 where
   pub parts : tail ≡ shown ++ rest
 
 -- a path in two: its first name, and what is behind the slash, if there is one
-abbrev pub IsSplit : List ℕ → List ℕ → Option (List ℕ) → Type 0
-IsSplit path name None = path ≡ name
-IsSplit path name (Some rest) = path ≡ name ++ 47 ∷ rest
+abbrev pub IsPathSplit : List ℕ → List ℕ → Option (List ℕ) → Type 0
+IsPathSplit path name None = path ≡ name
+IsPathSplit path name (Some rest) = path ≡ name ++ 47 ∷ rest
 
--- what records stage, below a front of so many bytes
+-- what records stage, without a prefix of so many bytes
 abbrev pub staged_below : ℕ → List Record → List Staged
-staged_below front rs = map (cut front) (staged_in rs)
+staged_below prefix_len rs = map (cut prefix_len) (staged_in rs)
 
 abbrev pub paths : List Staged → List (List ℕ)
 paths ss = map (λ s. s.path) ss
 
 -- behind so many bytes of the path stand these
 abbrev pub Goes : ℕ → List ℕ → Staged → Type 0
-Goes front shown s = Begins (drop front s.path) shown
+Goes prefix_len shown s = BeginsWith (drop prefix_len s.path) shown
 
 -- the record stages what has other bytes there
 abbrev pub StopsAt : ℕ → List ℕ → Record → Type 0
-StopsAt front shown r = (s : Staged) × (staged_entry r ≡ Some s) × (Goes front shown s → ⊥)
+StopsAt prefix_len shown r = (s : Staged) × (staged_entry r ≡ Some s) × (Goes prefix_len shown s → ⊥)
 
--- a leaf below a front: its path is made of names, and its id is of the kind
+-- a leaf behind a prefix: its path is made of names, and its id is of the kind
 pub record IsLeaf (kind : Kind) (levels : ℕ) (s : Staged) : Type 0 where
   pub check : Check
-  pub path : IsPath check levels s.kind s.path
+  pub path : IsTreePath check levels s.kind s.path
   pub of_kind : id_kind s.id ≡ kind
   pub len : length (id_bytes s.id) ≡ id_len kind
 
--- what is staged below a front has trees
+-- what is staged behind a prefix has trees
 pub record IsReady (kind : Kind) (levels : ℕ) (ss : List Staged) : Type 0 where
   pub each : All (IsLeaf kind levels) ss
   pub rise : AllPairs (λ s t. path_cmp s.path t.path ≡ Less) ss
@@ -77,12 +76,13 @@ IsMadeNode kind name m ts = IsNodeWhere m.bytes.items (IsFinished kind name m) t
 
 -- A directory is begun: the bytes, the nodes and the number of some items, with the objects below them behind those
 -- before; the names of what is left follow.
-pub record IsBegun (kind : Kind) (staged left : List Staged) (m : Made) (old new : Taken) : Type 0 where
+pub record IsBegunDirectory (kind : Kind) (staged left : List Staged) (m : Made) (old new : Taken) : Type 0 where
   pub items : Items
   pub made : AreItems kind items
   pub ordered : IsGitOrdered (entries kind items)
   pub last : List ℕ
-  pub follows : All (λ e. (s : List ℕ) → path_cmp last s ≡ Less → path_cmp (sorted_name e) s ≡ Less) (entries kind items)
+  pub follows : All (λ e. (s : List ℕ) → path_cmp last s ≡ Less → path_cmp (sorted_name e) s ≡ Less)
+      (entries kind items)
   pub ahead : All (Ahead last) left
   pub listed : leaves [] items ≡ staged
   pub is_content : m.bytes.items ≡ content kind items

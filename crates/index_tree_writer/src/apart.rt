@@ -2,7 +2,7 @@
 
 ghost use Rattle.std.specs.Prelude.{◌≡◌, ◌≤◌, ◌⊎◌, ◌++◌, [], ◌∷◌, None, IfSome, List, true, false, All, take, drop, length};
 ghost use Rattle.index_tree_writer.specs.ApartSteps.{EndsWith};
-ghost use Rattle.index_tree_writer.specs.Refusals.{Begins, LiesIn};
+ghost use Rattle.index_tree_writer.specs.Refusals.{BeginsWith, LiesIn};
 ghost use Rattle.index_tree_writer.specs.Staged.{staged_of};
 ghost use Rattle.index_tree_writer.specs.declared.leaf.Leaf.{Leaf};
 
@@ -24,18 +24,18 @@ fn lies_in(path: &[u8], leaf: &Leaf<'_>) -> bool
 }
 
 /// How many of these are left where those at the end are taken off with which the path doesn't begin.
-pub(crate) fn fronts_of(files: &[Leaf<'_>], path: &[u8]) -> usize
+pub(crate) fn beginnings_of(files: &[Leaf<'_>], path: &[u8]) -> usize
     ensures within { result ≤ length files.now }
-    ensures taken { All (λ f. Begins path.now f.path.now → ⊥) (drop result files.now) }
+    ensures taken { All (λ f. BeginsWith path.now f.path.now → ⊥) (drop result files.now) }
     ensures last { (result ≡ 0)
-        ⊎ EndsWith (take result files.now) (λ f. Begins path.now f.path.now) }
+        ⊎ EndsWith (take result files.now) (λ f. BeginsWith path.now f.path.now) }
 {
-    let mut kept = files.len();
-    while kept > 0 {
-        if path.starts_with(files[kept - 1].path) {
-            return kept;
+    let mut count = files.len();
+    while count > 0 {
+        if path.starts_with(files[count - 1].path) {
+            return count;
         }
-        kept -= 1;
+        count -= 1;
     }
     0
 }

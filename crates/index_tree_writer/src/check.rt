@@ -4,11 +4,11 @@ ghost use Rattle.std.specs.Prelude.{◌≡◌, ◌↔◌, ◌<◌, ◌^◌, ◌+
 ghost use Rattle.std.specs.List.{HoldsAt};
 ghost use Rattle.index_parts.specs.Id.{id_bytes, id_kind, id_len};
 ghost use Rattle.index_entries.specs.Order.{IsStrictlyOrdered};
-ghost use Rattle.index_tree_writer.specs.ApartSteps.{Keeps, LiesInOne};
-ghost use Rattle.index_tree_writer.specs.Refusals.{AreFit, HasFault, IsFit, IsRefused, SaysFault};
+ghost use Rattle.index_tree_writer.specs.ApartSteps.{AreBeginnings, LiesInOne};
+ghost use Rattle.index_tree_writer.specs.Refusals.{AreFit, RecordHasFault, IsFit, AreRefused, SaysTreesFault};
 ghost use Rattle.index_tree_writer.specs.Staged.{Staged};
 
-use crate::apart::{fronts_of, last_above};
+use crate::apart::{beginnings_of, last_above};
 use crate::error::{Error, NameFault};
 use crate::leaf::{Leaf, is_removed, leaf_at};
 use crate::names::fault_of;
@@ -40,9 +40,9 @@ fn check_entry<C: ComponentCheck>(
     requires { place < length entries.now }
     ensures fit { IfOk result
         (λ _. HoldsAt (IsFit (C.refusal check.now) kind) entries.now place) }
-    ensures fault { IfErr result (λ e. SaysFault e (λ n. ⊥)
+    ensures fault { IfErr result (λ e. SaysTreesFault e (λ n. ⊥)
         (λ f. HoldsAt (λ r. (before : List Staged)
-        → HasFault (C.refusal check.now) kind before r f) entries.now place)) }
+        → RecordHasFault (C.refusal check.now) kind before r f) entries.now place)) }
 {
     let entry = entries.entry(place);
     if is_removed(entry) {
@@ -79,15 +79,15 @@ fn check_entry<C: ComponentCheck>(
     Ok(())
 }
 
-/// Fails where the path of a leaf lies in another. Those that a later path may begin with are kept.
+/// Fails where the path of a leaf lies in another. Those stay that a later path may begin with.
 fn check_apart<'a>(alloc: Global, files: &mut Vec<Leaf<'a>>, leaf: Leaf<'a>) -> Result<(), Error>
-    ensures kept { OnOk result ((k : ℕ) × Keeps k leaf.entry.path.now files.old.items
+    ensures beginnings { OnOk result ((k : ℕ) × AreBeginnings k leaf.entry.path.now files.old.items
         × (files.new.items ≡ take k files.old.items ++ leaf.entry ∷ [])) }
-    ensures fault { IfErr result (λ e. SaysFault e (λ n. ⊥)
+    ensures fault { IfErr result (λ e. SaysTreesFault e (λ n. ⊥)
         (LiesInOne leaf.entry.path.now files.old.items)) }
 {
-    let kept = fronts_of(files, leaf.path);
-    files.truncate(kept);
+    let count = beginnings_of(files, leaf.path);
+    files.truncate(count);
     if let Some(file) = last_above(files, leaf.path) {
         return Err(Error::Both {
             file: BString::from_slice(alloc, file.path)?,
@@ -108,8 +108,8 @@ pub(crate) fn check_entries<C: ComponentCheck>(
     requires { IsStrictlyOrdered entries.now }
     ensures fit { IfOk result (λ _. AreFit (C.refusal check.now) kind entries.now) }
     ensures few { IfOk result (λ _. length entries.now < 2 ^ 31) }
-    ensures fault { IfErr result (λ e. SaysFault e (λ n. ⊥)
-        (IsRefused (C.refusal check.now) kind entries.now)) }
+    ensures fault { IfErr result (λ e. SaysTreesFault e (λ n. ⊥)
+        (AreRefused (C.refusal check.now) kind entries.now)) }
 {
     if entries.len() >= 1 << 31 {
         return Err(Error::TooManyEntries);

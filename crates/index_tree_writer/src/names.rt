@@ -4,8 +4,8 @@ ghost use Rattle.std.specs.Prelude.{◌≡◌, ◌≢◌, ℕ, All, None, IfSome
 ghost use Rattle.std.specs.Option.{option_map};
 ghost use Rattle.index_objects.specs.NameCheck.{refusal_as};
 ghost use Rattle.index_tree_writer.specs.Directory.{IsName};
-ghost use Rattle.index_tree_writer.specs.Refusals.{IsBadName, IsMisnamed, IsPath};
-ghost use Rattle.index_tree_writer.specs.WritingSteps.{IsComponent, IsSplit};
+ghost use Rattle.index_tree_writer.specs.Refusals.{IsBadName, IsMisnamed, IsTreePath};
+ghost use Rattle.index_tree_writer.specs.WritingSteps.{IsComponent, IsPathSplit};
 
 use crate::error::NameFault;
 use crate::leaf::is_tree;
@@ -41,7 +41,7 @@ pub(crate) fn component_of(tail: &[u8]) -> Component<'_>
 /// A path in two: its first name, and what is behind the slash, if there is one.
 fn split_name(path: &[u8]) -> (&[u8], Option<&[u8]>)
     ensures name { All (λ b. b ≢ 47) result.0.now }
-    ensures parts { IsSplit path.now result.0.now (option_map (λ r. r.now) result.1) }
+    ensures parts { IsPathSplit path.now result.0.now (option_map (λ r. r.now) result.1) }
 {
     match path.iter().position(|b| *b == b'/') {
         Some(at) => {
@@ -76,7 +76,7 @@ fn name_fault<C: ComponentCheck>(check: &C, name: &[u8], kind: EntryKind) -> Opt
 fn last_fault<C: ComponentCheck>(check: &C, kind: EntryKind, name: &[u8]) -> Option<NameFault>
     requires { All (λ b. b ≢ 47) name.now }
     ensures none { result ≡ None
-        → (levels : ℕ) → IsPath (C.refusal check.now) levels kind name.now }
+        → (levels : ℕ) → IsTreePath (C.refusal check.now) levels kind name.now }
     ensures some { IfSome result
         (λ f. (levels : ℕ) → IsMisnamed (C.refusal check.now) levels kind name.now f) }
 {
@@ -89,14 +89,14 @@ fn last_fault<C: ComponentCheck>(check: &C, kind: EntryKind, name: &[u8]) -> Opt
     None
 }
 
-/// What is wrong with the names of a path behind a front, below which so many directories may lie, if anything is.
+/// What is wrong with the names of a path behind a prefix, below which so many directories may lie, if anything is.
 pub(crate) fn fault_of<C: ComponentCheck>(
     check: &C,
     levels: u32,
     kind: EntryKind,
     path: &[u8],
 ) -> Option<NameFault>
-    ensures none { result ≡ None → IsPath (C.refusal check.now) levels kind path.now }
+    ensures none { result ≡ None → IsTreePath (C.refusal check.now) levels kind path.now }
     ensures some { IfSome result (IsMisnamed (C.refusal check.now) levels kind path.now) }
 {
     let (name, behind) = split_name(path);

@@ -1,7 +1,7 @@
 //! The object of a tree.
 
 ghost use Rattle.std.specs.Prelude.{◌≡◌, ◌++◌, OnOk, OnErr};
-ghost use Rattle.index_tree_writer.specs.Objects.{mode_text, entry_bytes, tree_id};
+ghost use Rattle.index_tree_writer.specs.Objects.{tree_mode_text, tree_entry_bytes, tree_id};
 
 use index_objects::object::tree::EntryKind;
 use index_parts::hash::{Hasher, Kind, ObjectId};
@@ -9,8 +9,8 @@ use itoa::Buffer;
 use std::alloc::AllocError;
 
 /// The mode in octal digits.
-fn mode_text(kind: EntryKind) -> &'static [u8]
-    ensures { result.now ≡ mode_text kind }
+fn tree_mode_text(kind: EntryKind) -> &'static [u8]
+    ensures { result.now ≡ tree_mode_text kind }
 {
     match kind {
         EntryKind::Tree => b"40000",
@@ -28,9 +28,10 @@ pub(crate) fn push_entry(
     kind: EntryKind,
     id: &ObjectId,
 ) -> Result<(), AllocError>
-    ensures { OnOk result (bytes.new.items ≡ bytes.old.items ++ entry_bytes name.now kind id.now) }
+    ensures { OnOk result (bytes.new.items
+        ≡ bytes.old.items ++ tree_entry_bytes name.now kind id.now) }
 {
-    bytes.extend_from_slice(mode_text(kind))?;
+    bytes.extend_from_slice(tree_mode_text(kind))?;
     bytes.extend_from_slice(b" ")?;
     bytes.extend_from_slice(name)?;
     bytes.extend_from_slice(b"\0")?;

@@ -7,8 +7,8 @@ use index_parts::hash::ObjectId;
 
 /// What takes the objects of trees, as an object store or a list does.
 pub trait Sink {
-    // The trees that it took, each by its id and its bytes, in turn; None of a sink of which no clause can tell, as one on
-    // a disk, or one that keeps nothing.
+    // The trees that it took, each by its id and its bytes, in turn; None of a sink of which no clause can tell, as one
+    // on a disk, or one that stores nothing.
     ghost stored: { Self → Taken };
 
     // The number of what is wrong, once it has refused a tree.

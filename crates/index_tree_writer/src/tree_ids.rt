@@ -11,7 +11,7 @@ ghost use Rattle.index_cached_tree.specs.Tree.{name_of, node_of};
 ghost use Rattle.index_tree_writer.specs.Refusals.{AreFit};
 ghost use Rattle.index_tree_writer.specs.Staged.{Staged, staged_in};
 ghost use Rattle.index_tree_writer.specs.TreeIds.{AreRight, IsRight, SaysTreeIds, any_name, spots};
-ghost use Rattle.index_tree_writer.specs.TreeIdsSteps.{GivesAt, IsChildOf, IsGiving, IsPassedOn, IsSaid, SaysFirst, SaysSpot, fronts, tells};
+ghost use Rattle.index_tree_writer.specs.TreeIdsSteps.{GivesAt, IsChildOf, IsGiving, IsPassedOn, IsSaid, SaysFirst, SaysSpot, parent_path, tells};
 ghost use Rattle.index_tree_writer.specs.declared.tree_ids.Error.TheVariants.{Memory};
 
 use crate::Error as WriteError;
@@ -30,7 +30,9 @@ use thiserror::Error;
 #[derive(Debug, Drop, Error)]
 pub enum Error {
     /// A node has another id, or another count, than the entries below its directory give.
-    #[error("the cached tree has the tree {id} with {count} entries for the directory {path:?}, but its entries give the tree {given_id} with {given_count}")]
+    #[error("the cached tree has the tree {id} with {count} entries \
+         for the directory {path:?}, but its entries \
+         give the tree {given_id} with {given_count}")]
     Other {
         /// The directory's path; that of the root is empty.
         path: BString,
@@ -44,7 +46,9 @@ pub enum Error {
         given_count: u32,
     },
     /// A node has a count, but nothing stands below its directory, or something there is only intended to be added.
-    #[error("the cached tree has the tree {id} with {count} entries for the directory {path:?}, but no entry is there, or one is only intended to be added")]
+    #[error("the cached tree has the tree {id} with {count} entries \
+         for the directory {path:?}, but no entry is there, \
+         or one is only intended to be added")]
     Ungiven {
         /// The directory's path.
         path: BString,
@@ -121,18 +125,18 @@ fn child_of<'a>(given: Option<&'a Tree>, name: &[u8]) -> Option<&'a Tree>
     Some(&children[at])
 }
 
-/// What is said of a node in front of which stands a front, and that isn't right.
+/// What is said of a node that isn't right, below a directory of this path.
 fn wrong(
     alloc: Global,
     given: Option<&Tree>,
-    front: &[u8],
+    parent: &[u8],
     id: ObjectId,
     count: u32,
 ) -> Result<Error, AllocError>
     ensures { IfOk result
-        (IsSaid (option_map (λ t. node_of t.now) given.entry) front.now id count) }
+        (IsSaid (option_map (λ t. node_of t.now) given.entry) parent.now id count) }
 {
-    let (path, _) = front.split_at(front.len().saturating_sub(1));
+    let (path, _) = parent.split_at(parent.len().saturating_sub(1));
     let path = BString::from_slice(alloc, path)?;
     if let Some(given) = given
         && let Some(given_count) = given.num_entries
@@ -163,7 +167,7 @@ fn is_given(given: Option<&Tree>, id: &ObjectId, count: u32) -> bool
 fn check_node(
     alloc: Global,
     given: Option<&Tree>,
-    front: &[u8],
+    parent: &[u8],
     id: ObjectId,
     count: Option<u32>,
 ) -> Result<(), Error>
@@ -173,7 +177,7 @@ fn check_node(
     ensures fault { IfErr result (λ e.
         (kind : Kind) (staged : List Staged) (names : List (List ℕ))
         → GivesAt kind staged names (option_map (λ t. node_of t.now) given.entry)
-        → front.now ≡ fronts names
+        → parent.now ≡ parent_path names
         → SaysSpot kind staged (record { names = names; id = id; count = count }) e) }
 {
     let Some(count) = count else {
@@ -182,35 +186,35 @@ fn check_node(
     if is_given(given, &id, count) {
         return Ok(());
     }
-    Err(wrong(alloc, given, front, id, count)?)
+    Err(wrong(alloc, given, parent, id, count)?)
 }
 
 /// Fails at the first node, each before all below it, that has a count, and another id or count than what is given to
-/// its directory. The names that lead to the node stand in front, each with a slash.
+/// its directory. The path has the names that lead to the node, each with a slash.
 fn check_nodes(
     alloc: Global,
     given: Option<&Tree>,
-    front: &mut Vec<u8>,
+    parent: &mut Vec<u8>,
     tree: &Tree,
 ) -> Result<(), Error>
-    ensures front { OnOk result (front.new.items ≡ front.old.items) }
+    ensures parent { OnOk result (parent.new.items ≡ parent.old.items) }
     ensures ok { IfOk result (λ _. (kind : Kind) (staged : List Staged) (names : List (List ℕ))
         → GivesAt kind staged names (option_map (λ t. node_of t.now) given.entry)
         → All (IsRight kind staged) (spots names (node_of tree.now))) }
     ensures fault { IfErr result (λ e.
         (kind : Kind) (staged : List Staged) (names : List (List ℕ))
         → GivesAt kind staged names (option_map (λ t. node_of t.now) given.entry)
-        → front.old.items ≡ fronts names
+        → parent.old.items ≡ parent_path names
         → SaysFirst kind staged (spots names (node_of tree.now)) e) }
 {
-    check_node(alloc, given, front, tree.id, tree.num_entries)?;
-    let len = front.len();
+    check_node(alloc, given, parent, tree.id, tree.num_entries)?;
+    let len = parent.len();
     for child in &tree.children {
         let name = child.name.as_slice();
-        front.extend_from_slice(name)?;
-        front.extend_from_slice(b"/")?;
-        check_nodes(alloc, child_of(given, name), front, child)?;
-        front.truncate(len);
+        parent.extend_from_slice(name)?;
+        parent.extend_from_slice(b"/")?;
+        check_nodes(alloc, child_of(given, name), parent, child)?;
+        parent.truncate(len);
     }
     Ok(())
 }
@@ -234,6 +238,6 @@ pub fn verify_tree_ids(
         Ok(given) => given,
         Err(fault) => return Err(no_trees(fault)),
     };
-    let mut front = Vec::new(alloc);
-    check_nodes(alloc, Some(&given), &mut front, tree)
+    let mut parent = Vec::new(alloc);
+    check_nodes(alloc, Some(&given), &mut parent, tree)
 }

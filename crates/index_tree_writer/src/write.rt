@@ -10,9 +10,9 @@ ghost use Rattle.index_cached_tree.specs.declared.Tree.TheViews.{out-Tree};
 ghost use Rattle.index_tree_writer.specs.Cached.{IsCached, leaf_nodes};
 ghost use Rattle.index_tree_writer.specs.Directory.{IsTreeOf, Items, directory_bytes, directory_object, leaf_bytes, objects};
 ghost use Rattle.index_tree_writer.specs.Objects.{tree_id, with_objects};
-ghost use Rattle.index_tree_writer.specs.Refusals.{AreFit, Begins, IsRefused, SaysFault};
+ghost use Rattle.index_tree_writer.specs.Refusals.{AreFit, BeginsWith, AreRefused, SaysTreesFault};
 ghost use Rattle.index_tree_writer.specs.Staged.{Staged, staged_in};
-ghost use Rattle.index_tree_writer.specs.WritingSteps.{Goes, IsBegun, IsFinished, IsMadeNode, IsReady, StopsAt, staged_below};
+ghost use Rattle.index_tree_writer.specs.WritingSteps.{Goes, IsBegunDirectory, IsFinished, IsMadeNode, IsReady, StopsAt, staged_below};
 
 use crate::check::{MAX_LEVELS, check_entries};
 use crate::error::Error;
@@ -39,40 +39,47 @@ struct Made {
     later: bool,
 }
 
-/// The path of a leaf without so many bytes at its front.
-fn tail_of<'a>(leaf: &Leaf<'a>, front: usize) -> &'a [u8]
-    ensures { result.now ≡ drop front leaf.now.path.now }
+/// The path of a leaf without a prefix of so many bytes.
+fn tail_of<'a>(leaf: &Leaf<'a>, prefix_len: usize) -> &'a [u8]
+    ensures { result.now ≡ drop prefix_len leaf.now.path.now }
 {
-    let (_, tail) = leaf.path.split_at(front.min(leaf.path.len()));
+    let (_, tail) = leaf.path.split_at(prefix_len.min(leaf.path.len()));
     tail
 }
 
-/// Whether the path of the entry at an index goes on like this behind a front, or the entry stages nothing.
-fn goes_on(entries: &EntrySlice<'_>, place: usize, front: usize, shown: &[u8]) -> bool
+/// Whether the path of the entry at an index goes on like this behind a prefix, or the entry stages nothing.
+fn goes_on(entries: &EntrySlice<'_>, place: usize, prefix_len: usize, shown: &[u8]) -> bool
     requires { place < length entries.now }
-    ensures yes { IsTrue result → HoldsAt (λ r. All (Goes front shown.now) (staged_in (r ∷ [])))
-        entries.now place }
-    ensures no { result ≡ false → HoldsAt (StopsAt front shown.now) entries.now place }
+    ensures yes { IsTrue result
+        → HoldsAt (λ r. All (Goes prefix_len shown.now) (staged_in (r ∷ []))) entries.now place }
+    ensures no { result ≡ false → HoldsAt (StopsAt prefix_len shown.now) entries.now place }
 {
     match leaf_at(entries, place) {
-        Some(leaf) => tail_of(&leaf, front).starts_with(shown),
+        Some(leaf) => tail_of(&leaf, prefix_len).starts_with(shown),
         None => true,
     }
 }
 
-/// Up to where the paths of the entries from an index on go on like this behind a front.
-fn end_of(entries: &EntrySlice<'_>, start: usize, end: usize, front: usize, shown: &[u8]) -> usize
+/// Up to where the paths of the entries from an index on go on like this behind a prefix.
+fn end_of(
+    entries: &EntrySlice<'_>,
+    start: usize,
+    end: usize,
+    prefix_len: usize,
+    shown: &[u8],
+) -> usize
     requires some { start < end }
     requires within { end ≤ length entries.now }
-    requires first { HoldsAt (λ r. All (Goes front shown.now) (staged_in (r ∷ [])))
+    requires first { HoldsAt (λ r. All (Goes prefix_len shown.now) (staged_in (r ∷ [])))
         entries.now start }
     ensures more { start < result }
     ensures within { result ≤ end }
-    ensures run { All (Goes front shown.now) (staged_in (slice_range entries.now start result)) }
-    ensures stops { (result ≡ end) ⊎ HoldsAt (StopsAt front shown.now) entries.now result }
+    ensures run { All (Goes prefix_len shown.now)
+        (staged_in (slice_range entries.now start result)) }
+    ensures stops { (result ≡ end) ⊎ HoldsAt (StopsAt prefix_len shown.now) entries.now result }
 {
     for place in start + 1..end {
-        if !goes_on(entries, place, front, shown) {
+        if !goes_on(entries, place, prefix_len, shown) {
             return place;
         }
     }
@@ -117,7 +124,7 @@ impl Made {
             ++ leaf_nodes name.now leaf.now.kind leaf.now.id leaf.now.later) }
         ensures count { OnOk result (self.new.count ≡ self.old.count + 1) }
         ensures later { OnOk result (self.new.later ≡ self.old.later || leaf.now.later) }
-        ensures fault { IfErr result (λ e. SaysFault e (λ n. ⊥) (λ f. ⊥)) }
+        ensures fault { IfErr result (λ e. SaysTreesFault e (λ n. ⊥) (λ f. ⊥)) }
     {
         self.count += 1;
         if leaf.later {
@@ -151,7 +158,8 @@ impl Made {
         ensures later { OnOk result (self.new.later ≡ self.old.later || inner.later) }
         ensures stored { OnOk result (S.stored sink.new
             ≡ with_objects (S.stored sink.old) (directory_object kind inner.bytes.items)) }
-        ensures fault { IfErr result (λ e. SaysFault e (λ n. S.fault sink.new ≡ Some n) (λ f. ⊥)) }
+        ensures fault { IfErr result
+            (λ e. SaysTreesFault e (λ n. S.fault sink.new ≡ Some n) (λ f. ⊥)) }
     {
         self.count += inner.count;
         self.later = self.later || inner.later;
@@ -176,7 +184,8 @@ impl Made {
         ensures node { IfOk result (λ t. IsFinished kind name.now self (node_of t)) }
         ensures stored { OnOk result (S.stored sink.new ≡ with_objects (S.stored sink.old)
             ((tree_id kind self.bytes.items, self.bytes.items) ∷ [])) }
-        ensures fault { IfErr result (λ e. SaysFault e (λ n. S.fault sink.new ≡ Some n) (λ f. ⊥)) }
+        ensures fault { IfErr result
+            (λ e. SaysTreesFault e (λ n. S.fault sink.new ≡ Some n) (λ f. ⊥)) }
     {
         let mut children = self.children;
         sort_siblings(&mut children);
@@ -210,51 +219,55 @@ fn sort_siblings(siblings: &mut Vec<Tree>)
     siblings.sort_unstable_by(|a, b| compare_names(a, b));
 }
 
-/// The directory of the entries from an index to another, whose paths have a front of so many bytes. The objects of the
-/// directories below it go into the sink.
+/// The entries from an index to another, whose paths have a prefix of so many bytes.
+#[derive(Clone, Copy)]
+struct Run {
+    start: usize,
+    end: usize,
+    prefix_len: usize,
+}
+
+/// The directory of a run of entries, below which so many levels may lie. The objects of the directories below it go
+/// into the sink.
 ///
 /// The call keeps little on the stack, since it is as deep as the directories.
 fn directory_of<S: Sink>(
     alloc: Global,
     kind: Kind,
     entries: &EntrySlice<'_>,
-    start: usize,
-    end: usize,
-    front: usize,
+    run: Run,
     levels: u32,
     sink: &mut S,
 ) -> Result<Made, Error>
-    requires order { start ≤ end }
-    requires within { end ≤ length entries.now }
+    requires order { run.start ≤ run.end }
+    requires within { run.end ≤ length entries.now }
     requires few { length entries.now < 2 ^ 31 }
-    requires ready { IsReady kind levels (staged_below front (slice_range entries.now start end)) }
-    ensures made { IfOk result (λ m. IsBegun kind
-        (staged_below front (slice_range entries.now start end)) [] m
+    requires ready { IsReady kind levels
+        (staged_below run.prefix_len (slice_range entries.now run.start run.end)) }
+    ensures made { IfOk result (λ m. IsBegunDirectory kind
+        (staged_below run.prefix_len (slice_range entries.now run.start run.end)) [] m
         (S.stored sink.old) (S.stored sink.new)) }
-    ensures fault { IfErr result (λ e. SaysFault e (λ n. S.fault sink.new ≡ Some n) (λ f. ⊥)) }
+    ensures fault { IfErr result
+        (λ e. SaysTreesFault e (λ n. S.fault sink.new ≡ Some n) (λ f. ⊥)) }
 {
     let mut made = Made::new(alloc);
-    let mut at = start;
-    while at < end {
+    let mut at = run.start;
+    while at < run.end {
         let Some(leaf) = leaf_at(entries, at) else {
             at += 1;
             continue;
         };
-        let tail = tail_of(&leaf, front);
+        let tail = tail_of(&leaf, run.prefix_len);
         let component = component_of(tail);
         let shown = component.shown;
         if shown.len() < tail.len() {
-            let stop = end_of(entries, at, end, front, shown);
-            let inner = directory_of(
-                alloc,
-                kind,
-                entries,
-                at,
-                stop,
-                front + shown.len(),
-                levels - 1,
-                sink,
-            )?;
+            let stop = end_of(entries, at, run.end, run.prefix_len, shown);
+            let below = Run {
+                start: at,
+                end: stop,
+                prefix_len: run.prefix_len + shown.len(),
+            };
+            let inner = directory_of(alloc, kind, entries, below, levels - 1, sink)?;
             made.push_directory(alloc, kind, component.name, inner, sink)?;
             at = stop;
         } else {
@@ -279,11 +292,16 @@ pub fn write_trees<S: Sink, C: ComponentCheck>(
         × (S.stored sink.new ≡ with_objects (S.stored sink.old) (objects kind items))) }
     ensures fit { IfOk result (λ _. AreFit (C.refusal check.now) kind entries.now) }
     ensures few { IfOk result (λ _. length entries.now < 2 ^ 31) }
-    ensures fault { IfErr result (λ e. SaysFault e (λ n. S.fault sink.new ≡ Some n)
-        (λ f. IsRefused (C.refusal check.now) kind entries.now f × (sink.new ≡ sink.old))) }
+    ensures fault { IfErr result (λ e. SaysTreesFault e (λ n. S.fault sink.new ≡ Some n)
+        (λ f. AreRefused (C.refusal check.now) kind entries.now f × (sink.new ≡ sink.old))) }
 {
     check_entries(alloc, kind, check, entries)?;
-    let made = directory_of(alloc, kind, entries, 0, entries.len(), 0, MAX_LEVELS, sink)?;
+    let whole = Run {
+        start: 0,
+        end: entries.len(),
+        prefix_len: 0,
+    };
+    let made = directory_of(alloc, kind, entries, whole, MAX_LEVELS, sink)?;
     let root = made.finish(alloc, kind, b"", sink)?;
     Ok(root)
 }

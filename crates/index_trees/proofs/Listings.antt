@@ -12,7 +12,7 @@ use Rattle.index_objects.specs.declared.object.tree.EntryKind.TheVariants as kin
 use Rattle.index_entries.specs.Record.{Record}
 use Rattle.index_objects.specs.NameCheck.{refusal_as}
 use Rattle.index_trees.specs.Leaves.{LeavesAnswer, LeavesFault, InvalidComponent, SaysLeaves, Yields, with_leaves, leaf_of, refusal_of, whole_tree, ended, refused, leaf, below, stopped}
-use Rattle.index_trees.specs.LeafSteps.{EntriesComeTo, IsRefused, IsSomeTree, ListsAll, ListsFault, ListsUpTo, listed_records}
+use Rattle.index_trees.specs.LeafSteps.{EntriesComeTo, IsRefusedName, IsSomeTree, ListsAll, ListsFault, ListsUpTo, listed_records}
 use Rattle.index_trees.proofs.WalkLoops.{IsListing}
 use Rattle.index_trees.specs.declared.error.Error.{Error}
 use Rattle.index_trees.specs.declared.error.Error.TheVariants as errors
@@ -73,7 +73,7 @@ module _ (check : List ℕ → Bool → Option ℕ) (kind : Kind) (old now : Lis
         let l = last_bytes kind left e after first in
         (h.passed ++ l.0, h.parts ∙ ap (λ (b : List ℕ). h.passed ++ b) l.1 ∙ sym (append_assoc h.passed l.0 after))
 
-    pub listing_refused : (path : List ℕ) (k : EntryKind) (f : LeavesFault) → k ≡ kind_of_mode e.mode → path ≡ prefix ++ e.name → IsRefused check path e.name k f → ListsFault check kind old prefix bytes f
+    pub listing_refused : (path : List ℕ) (k : EntryKind) (f : LeavesFault) → k ≡ kind_of_mode e.mode → path ≡ prefix ++ e.name → IsRefusedName check path e.name k f → ListsFault check kind old prefix bytes f
     listing_refused path k f same is r = λ find n.
         let refuses : refusal_of check e ≡ Some r.0 = subst (λ (x : EntryKind). refusal_as check e.name x ≡ Some r.0) same r.1 in
         let fault : InvalidComponent (prefix ++ e.name) r.0 ≡ f = sym (r.2 ∙ ap (λ (p : List ℕ). InvalidComponent p r.0) is) in

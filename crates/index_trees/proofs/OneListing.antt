@@ -14,7 +14,7 @@ use Rattle.index_objects.specs.declared.object.tree.EntryKind.TheVariants as kin
 use Rattle.index_objects.proofs.TreeLists.{listed_in, lists_some}
 use Rattle.index_objects.proofs.TreeObjects.{malformed_behind, one_tree}
 use Rattle.index_entries.specs.Record.{Record}
-use Rattle.index_trees.specs.Leaves.{LeavesAnswer, LeavesFault, TooManyObjects, NotFound, NotATree, Find, Malformed, InvalidComponent, Part, whole_tree, some_entries, IsUnread, missing, failed, other, malformed, Yields, AreLeaves, with_leaves, leaf_of, refusal_of, limit, unread, opened, ended, refused, leaf, below, stopped}
+use Rattle.index_trees.specs.Leaves.{LeavesAnswer, LeavesFault, TooManyObjects, NotFound, NotATree, Find, Malformed, InvalidComponent, Part, whole_tree, some_entries, IsUnreadTree, missing, failed, other, malformed, Yields, AreLeaves, with_leaves, leaf_of, refusal_of, limit, unread, opened, ended, refused, leaf, below, stopped}
 use Rattle.index_trees.specs.LeafSteps.{IsSomeTree}
 
 -- ---- trees that are read, and those that aren't
@@ -35,19 +35,19 @@ not_a_tree id objects.Commit bytes h = refl
 not_a_tree id objects.Tag bytes h = refl
 
 module _ (find : ObjectId → Found) (kind : Kind) (id : ObjectId) where
-  fault_is : (f : LeavesFault) → IsUnread find kind id f → unread_fault id (find id) ≡ Some f
+  fault_is : (f : LeavesFault) → IsUnreadTree find kind id f → unread_fault id (find id) ≡ Some f
   fault_is f (missing e) = ap (unread_fault id) e
   fault_is f (failed number e) = ap (unread_fault id) e
   fault_is f (other k bytes e h) = ap (unread_fault id) e ∙ not_a_tree id k bytes h
   fault_is f (malformed bytes e h) = ap (unread_fault id) e
 
-  one_unread : (f g : LeavesFault) → IsUnread find kind id f → IsUnread find kind id g → f ≡ g
+  one_unread : (f g : LeavesFault) → IsUnreadTree find kind id f → IsUnreadTree find kind id g → f ≡ g
   one_unread f g h k = same_Some f g (sym (fault_is f h) ∙ fault_is g k)
 
   same_bytes : (a b : List ℕ) → find id ≡ object objects.Tree a → find id ≡ object objects.Tree b → a ≡ b
   same_bytes a b e d = cc
 
-  read_or_not : (f : LeavesFault) (bytes : List ℕ) (es : List TreeEntry) → IsUnread find kind id f → find id ≡ object objects.Tree bytes → IsTreeObject kind bytes es → ⊥
+  read_or_not : (f : LeavesFault) (bytes : List ℕ) (es : List TreeEntry) → IsUnreadTree find kind id f → find id ≡ object objects.Tree bytes → IsTreeObject kind bytes es → ⊥
   read_or_not f bytes es (missing e) d h = absurd cc
   read_or_not f bytes es (failed number e) d h = absurd cc
   read_or_not f bytes es (other k found e another) d h = let is : k ≡ objects.Tree = cc in another is

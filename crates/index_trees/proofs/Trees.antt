@@ -7,8 +7,8 @@ use Rattle.index_parts.specs.declared.hash.Kind.{Kind}
 use Rattle.index_parts.specs.declared.hash.ObjectId.{ObjectId}
 use Rattle.index_objects.specs.declared.object.Kind.TheVariants.{Tree}
 use Rattle.index_entries.specs.Record.{Record}
-use Rattle.index_trees.specs.Leaves.{AreLeaves, IsUnread, LeavesAnswer, LeavesFault, TooManyObjects, Yields, with_leaves, limit, unread, whole_tree}
-use Rattle.index_trees.specs.LeafSteps.{Begins, Ends, WalkHasFault, LevelsComeTo, IsPacked, IsSound, IsSomeTree, Reaches, Rise, WalkComesTo, listed_records}
+use Rattle.index_trees.specs.Leaves.{AreLeaves, IsUnreadTree, LeavesAnswer, LeavesFault, TooManyObjects, Yields, with_leaves, limit, unread, whole_tree}
+use Rattle.index_trees.specs.LeafSteps.{BeginsTree, Ends, WalkHasFault, LevelsComeTo, IsPacked, IsSoundWalk, IsSomeTree, Reaches, Rise, WalkComesTo, listed_records}
 use Rattle.index_trees.proofs.WalkLoops.{IsUnderWay}
 use Rattle.index_trees.specs.declared.walk.Level.{Level}
 use Rattle.index_trees.specs.declared.walk.Listed.{Listed}
@@ -36,13 +36,13 @@ module _ (find : ObjectId → Found) (check : List ℕ → Bool → Option ℕ) 
         (levels_fault find check kind w.listed.path.items TooManyObjects w.levels.items))
 
     module _ (k : ℕ) (some : n ≡ suc k) where
-      pub way_unread : (f : LeavesFault) → IsUnread find kind next f → AreLeaves find check root most (Err f)
+      pub way_unread : (f : LeavesFault) → IsUnreadTree find kind next f → AreLeaves find check root most (Err f)
       way_unread f u =
           listing (Err f) (h.leads (Err f) (Err f) (subst (λ (i : ℕ). Yields find check kind i (whole_tree w.listed.path.items next) (Err f)) (sym some) (unread k w.listed.path.items next f u))
           (levels_fault find check kind w.listed.path.items f w.levels.items))
 
-      module _ (new : Walk) (bytes : List ℕ) (found : find next ≡ object Tree bytes) (whole : IsSomeTree kind bytes) (b : Begins w new bytes) where
-        pub way_sound : IsSound kind new
+      module _ (new : Walk) (bytes : List ℕ) (found : find next ≡ object Tree bytes) (whole : IsSomeTree kind bytes) (b : BeginsTree w new bytes) where
+        pub way_sound : IsSoundWalk kind new
         way_sound = record {
           packed = rw b.listed h.sound.packed;
           rise = subst (λ (ls : List Level). Rise kind 0 ls (length new.listed.path.items)) (sym b.levels)

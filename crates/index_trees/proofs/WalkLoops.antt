@@ -4,7 +4,7 @@ use Rattle.index_objects.specs.Object.{Found}
 use Rattle.index_parts.specs.declared.hash.Kind.{Kind}
 use Rattle.index_parts.specs.declared.hash.ObjectId.{ObjectId}
 use Rattle.index_trees.specs.Leaves.{LeavesAnswer, Yields, with_leaves, whole_tree}
-use Rattle.index_trees.specs.LeafSteps.{EntriesComeTo, IsSomeTree, IsSound, WalkComesTo, listed_records}
+use Rattle.index_trees.specs.LeafSteps.{EntriesComeTo, IsSomeTree, IsSoundWalk, WalkComesTo, listed_records}
 use Rattle.index_trees.specs.declared.walk.Listed.{Listed}
 use Rattle.index_trees.specs.declared.walk.Walk.{Walk}
 
@@ -18,6 +18,6 @@ pub record IsListing (check : List ℕ → Bool → Option ℕ) (kind : Kind) (o
 -- A walk from a tree, where so many objects may still be read, comes to the tree with this id. What that and the others come to
 -- is the listing of the first.
 pub record IsUnderWay (find : ObjectId → Found) (check : List ℕ → Bool → Option ℕ) (kind : Kind) (root : ObjectId) (most n : ℕ) (w : Walk) (next : ObjectId) : Type 0 where
-  pub sound : IsSound kind w
+  pub sound : IsSoundWalk kind w
   pub leads : (x r : LeavesAnswer) → Yields find check kind n (whole_tree w.listed.path.items next) x
       → WalkComesTo find check kind w (with_leaves (listed_records w.listed) x) r → Yields find check kind most (whole_tree [] root) r

@@ -5,11 +5,16 @@ use Rattle.index_objects.specs.Object.{Found}
 use Rattle.index_parts.specs.declared.hash.Kind.{Kind}
 use Rattle.index_parts.specs.declared.hash.ObjectId.{ObjectId}
 use Rattle.index_trees.specs.Leaves.{LeavesAnswer, LeavesFault, with_leaves}
-use Rattle.index_trees.specs.LeafSteps.{ComesFrom, WalkHasFault, EntriesComeTo, LevelsComeTo, IsBegun, IsPacked, IsSound, ListsAll, ListsFault, ListsUpTo, Reaches, Rise, listed_records, unlisted}
+use Rattle.index_trees.specs.LeafSteps.{WalkComesTo, WalkHasFault, EntriesComeTo, LevelsComeTo, IsBegun, IsPacked, IsSoundWalk, ListsAll, ListsFault, ListsUpTo, Reaches, Rise, listed_records, unlisted}
 use Rattle.index_trees.specs.declared.walk.Level.{Level}
 use Rattle.index_trees.specs.declared.walk.Next.{Next}
 use Rattle.index_trees.specs.declared.walk.Walk.{Walk}
 use Rattle.index_trees.proofs.Levels.{levels_fault, levels_moved, levels_pop, levels_push, rise_pop, rise_push, rise_wider}
+
+-- what a walk that is under way comes to is what it came to at first
+abbrev pub ComesFrom : (List ℕ → Bool → Option ℕ) → Kind → Walk → Walk → Type 0
+ComesFrom check kind old now =
+    (find : ObjectId → Found) (n : ℕ) (r : LeavesAnswer) → WalkComesTo find check kind now (Ok (listed_records now.listed, n)) r → WalkComesTo find check kind old (Ok (listed_records old.listed, n)) r
 
 -- the last bytes of a list, from a place on
 last_of : (at left : ℕ) (l passed rest : List ℕ) → drop at l ≡ passed ++ rest → left ≡ length rest → drop (length l - left) l ≡ rest
@@ -20,7 +25,7 @@ last_of at left l passed rest is same =
     let n : length prefix ≡ length l - left = omega (arith, len, same) in
     ap (drop (length l - left)) whole ∙ drop_at prefix rest (length l - left) n
 
-module _ (check : List ℕ → Bool → Option ℕ) (kind : Kind) (old now : Walk) (l : Level) (ls : List Level) (popped : now.levels.items ≡ ls ++ l ∷ []) (sound : IsSound kind now) where
+module _ (check : List ℕ → Bool → Option ℕ) (kind : Kind) (old now : Walk) (l : Level) (ls : List Level) (popped : now.levels.items ≡ ls ++ l ∷ []) (sound : IsSoundWalk kind now) where
   abbrev path : List ℕ
   path = now.listed.path.items
 
@@ -44,7 +49,7 @@ module _ (check : List ℕ → Bool → Option ℕ) (kind : Kind) (old now : Wal
     walk_fails f h = λ find n. innermost find n (Err f) (Err f) (h find n) (levels_fault find check kind path f ls)
 
     module _ (new : Walk) (packed : IsPacked new.listed) (same : take l.prefix_len new.listed.path.items ≡ take l.prefix_len now.listed.path.items) (long : l.prefix_len ≤ length new.listed.path.items) where
-      pub walk_goes : new.levels.items ≡ ls → ListsAll check kind now.listed new.listed (take l.prefix_len now.listed.path.items) (unlisted l) → IsSound kind new × ComesFrom check kind old new
+      pub walk_goes : new.levels.items ≡ ls → ListsAll check kind now.listed new.listed (take l.prefix_len now.listed.path.items) (unlisted l) → IsSoundWalk kind new × ComesFrom check kind old new
       walk_goes kept all = (
         record {
           packed = packed;

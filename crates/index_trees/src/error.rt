@@ -24,7 +24,8 @@ pub enum Traversal {
         id: ObjectId,
     },
     /// The store failed.
-    #[error("the object store failed with its fault number {fault} where the tree {id} was looked up")]
+    #[error("the object store failed with its fault number {fault} \
+         where the tree {id} was looked up")]
     Find {
         /// The object.
         id: ObjectId,

@@ -4,7 +4,7 @@ ghost use Rattle.std.specs.Prelude.{◌≡◌, false, IsTrue, IfOk, IfErr};
 ghost use Rattle.index_objects.specs.Object.{object};
 ghost use Rattle.index_objects.specs.TreeObject.{IsMalformedTree};
 ghost use Rattle.index_objects.specs.declared.object.Kind.TheVariants.{Tree};
-ghost use Rattle.index_trees.specs.Leaves.{IsUnread, SaysLeaves};
+ghost use Rattle.index_trees.specs.Leaves.{IsUnreadTree, SaysLeaves};
 ghost use Rattle.index_trees.specs.LeafSteps.{IsSomeTree};
 
 use crate::error::{Error, Traversal};
@@ -37,7 +37,7 @@ pub(crate) fn read_tree<F: Find>(
 ) -> Result<Vec<u8>, Error>
     ensures found { IfOk result (λ bytes. F.found objects.now id ≡ object Tree bytes.items) }
     ensures whole { IfOk result (λ bytes. IsSomeTree kind bytes.items) }
-    ensures fault { IfErr result (λ e. SaysLeaves e (IsUnread (F.found objects.now) kind id)) }
+    ensures fault { IfErr result (λ e. SaysLeaves e (IsUnreadTree (F.found objects.now) kind id)) }
 {
     let mut bytes = Vec::new(alloc);
     match objects.find(&id, &mut bytes) {

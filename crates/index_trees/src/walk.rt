@@ -4,7 +4,7 @@ ghost use Rattle.std.specs.Prelude.{◌≡◌, ◌≤◌, ◌++◌, [], ◌∷�
 ghost use Rattle.index_objects.specs.NameCheck.{refusal_as};
 ghost use Rattle.index_trees.specs.Leaves.{SaysLeaves};
 ghost use Rattle.index_trees.specs.declared.error.Error.TheVariants.{Memory};
-ghost use Rattle.index_trees.specs.LeafSteps.{Begins, WalkHasFault, IsPacked, IsRefused, IsSound, IsSomeTree, ListsOn, ListsFault, EndsOrReaches, last_leaf, listed_records, unlisted};
+ghost use Rattle.index_trees.specs.LeafSteps.{BeginsTree, WalkHasFault, IsPacked, IsRefusedName, IsSoundWalk, IsSomeTree, ListsOn, ListsFault, EndsOrReaches, last_leaf, listed_records, unlisted};
 
 use crate::error::Error;
 use bstr::BString;
@@ -95,7 +95,7 @@ fn check_name<C: ComponentCheck>(
 ) -> Result<(), Error>
     ensures passes { IfOk result (λ _. refusal_as (C.refusal check.now) name.now kind ≡ None) }
     ensures fault { IfErr result
-        (λ e. SaysLeaves e (IsRefused (C.refusal check.now) path.now name.now kind)) }
+        (λ e. SaysLeaves e (IsRefusedName (C.refusal check.now) path.now name.now kind)) }
 {
     if let Some(source) = refusal_of(check, name, kind) {
         let path = BString::from_slice(alloc, path)?;
@@ -179,7 +179,7 @@ impl Walk {
 
     /// Begins a tree's object, whose names come behind the path.
     pub(crate) fn begin(&mut self, bytes: Vec<u8>) -> Result<(), Error>
-        ensures begins { OnOk result (Begins self.old self.new bytes.items) }
+        ensures begins { OnOk result (BeginsTree self.old self.new bytes.items) }
         ensures fault { IfErr result (λ e. e ≡ Memory) }
     {
         let tree = Level {
@@ -198,7 +198,7 @@ impl Walk {
         kind: Kind,
         check: &C,
     ) -> Result<Option<ObjectId>, Error>
-        requires { IsSound kind self.old }
+        requires { IsSoundWalk kind self.old }
         ensures steps { IfOk result (EndsOrReaches (C.refusal check.now) kind self.old self.new) }
         ensures packed { OnOk result (IsPacked self.new.listed) }
         ensures fault { IfErr result

@@ -9,7 +9,7 @@ use Rattle.index_bitmaps.specs.declared.ewah.iter.Malformed.{Malformed}
 use Rattle.index_bitmaps.proofs.BitmapFaults.{no_fault}
 use Rattle.index_bitmaps.proofs.Bitmaps.{one_bitmap}
 use Rattle.index_bitmaps.proofs.Places.{one_listing}
-use Rattle.index_untracked.specs.CacheBitmaps.{DirectoryBitmaps, ListsBelow, AreMarks}
+use Rattle.index_untracked.specs.CacheBitmaps.{DirectoryBitmaps, ListsBelow, AreBitmaps}
 
 abbrev pub oks : List ℕ → List (Result ℕ Malformed)
 oks places = map Ok places
@@ -51,8 +51,8 @@ one_list count bytes a b x y p q =
     let listed : ListPlaces (oks b) p.bitmap.words = subst (λ (m : Bitmap). ListPlaces (oks b) m.words) (sym same.0) q.listed in
     (same_oks a b (one_listing p.bitmap.words (oks a) (oks b) p.listed listed), same.1)
 
-pub one_marks : (count : ℕ) (bytes : List ℕ) (m n : DirectoryBitmaps) (x y : List ℕ) → AreMarks count bytes m x → AreMarks count bytes n y → (m ≡ n) × (x ≡ y)
-one_marks count bytes m n x y p q =
+pub one_bitmaps : (count : ℕ) (bytes : List ℕ) (m n : DirectoryBitmaps) (x y : List ℕ) → AreBitmaps count bytes m x → AreBitmaps count bytes n y → (m ≡ n) × (x ≡ y)
+one_bitmaps count bytes m n x y p q =
     let valid = one_list count bytes m.valid n.valid p.behind_valid q.behind_valid p.is_valid q.is_valid in
     let second : ListsBelow count p.behind_valid n.check_only q.behind_check_only = subst (λ (l : List ℕ). ListsBelow count l n.check_only q.behind_check_only) (sym valid.1) q.is_check_only in
     let check = one_list count p.behind_valid m.check_only n.check_only p.behind_check_only q.behind_check_only p.is_check_only second in

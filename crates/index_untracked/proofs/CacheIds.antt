@@ -8,7 +8,7 @@ use Rattle.index_parts.specs.Id.{id_kind, is_null, make_id}
 use Rattle.index_metadata.specs.declared.entry.stat.Stat.{Stat}
 use Rattle.index_parts.specs.declared.hash.Kind.{Kind}
 use Rattle.index_untracked.specs.Blocks.{DirectoryValue, listed}
-use Rattle.index_untracked.specs.CacheBitmaps.{DirectoryBitmaps, with_marks, value_at}
+use Rattle.index_untracked.specs.CacheBitmaps.{DirectoryBitmaps, with_bitmaps, value_at}
 use Rattle.index_untracked.specs.CachedStat.{cached_stat}
 use Rattle.index_untracked.specs.Untracked.{oid_stat, Cache, AreDirectories, IsCache, CacheIdsAreOf}
 use Rattle.index_untracked.specs.declared.OidStat.{OidStat}
@@ -27,7 +27,7 @@ made_kind : (kind : Kind) (found : Option (List ℕ)) → IfSome (option_map (ma
 made_kind kind None = tt
 made_kind kind (Some id) = id_kind-make_id kind id
 
-marked_kinds : (kind : Kind) (m : DirectoryBitmaps) (stats ids : List (List ℕ)) (n : ℕ) (ds : List DirectoryValue) → AllByRecursion (IdIsOf kind) (map (λ x. with_marks kind m stats ids x.0 x.1) (enumerate_from n ds))
+marked_kinds : (kind : Kind) (m : DirectoryBitmaps) (stats ids : List (List ℕ)) (n : ℕ) (ds : List DirectoryValue) → AllByRecursion (IdIsOf kind) (map (λ x. with_bitmaps kind m stats ids x.0 x.1) (enumerate_from n ds))
 marked_kinds kind m stats ids n [] = tt
 marked_kinds kind m stats ids n (d ∷ ds) = (made_kind kind (value_at m.hash_valid ids n), marked_kinds kind m stats ids (n + 1) ds)
 
@@ -35,12 +35,12 @@ kinds_of : (kind : Kind) (limit : Option ℕ) (count : ℕ) (bytes : List ℕ) (
 kinds_of kind limit zero bytes ds p = subst (AllByRecursion (IdIsOf kind)) (sym p.1) tt
 kinds_of kind limit (suc n) bytes ds p =
     let t = p.is_tail in
-    subst (AllByRecursion (IdIsOf kind)) (sym t.directories_are) (marked_kinds kind t.marks t.stats t.ids 0 (listed 0 p.root))
+    subst (AllByRecursion (IdIsOf kind)) (sym t.directories_are) (marked_kinds kind t.bitmaps t.stats t.ids 0 (listed 0 p.root))
 
 -- all ids of a cache are of the kind that its bytes are read by
 pub ids_of_cache : (kind : Kind) (limit : Option ℕ) (bytes : List ℕ) (c : Cache) → IsCache kind limit bytes c → CacheIdsAreOf kind c
 ids_of_cache kind limit bytes c p = record {
   info = pair_kind kind p.is_preamble.info p.is_preamble.info_id c.preamble.info_exclude p.is_preamble.info_is;
   excludes = pair_kind kind p.is_preamble.excludes p.is_preamble.excludes_id c.preamble.excludes_file p.is_preamble.excludes_is;
-  directories = kinds_of kind limit p.count p.body c.directories p.are_directories;
+  directories = kinds_of kind limit p.count p.blocks c.directories p.are_directories;
 }

@@ -170,43 +170,43 @@ some_digit (b ∷ bytes) m = omega arith
 
 module _ (kind : Kind) (limit : Option ℕ) (bytes : List ℕ) (c : Cache) (p : IsCache kind limit bytes c) where
   pub preamble_read : preamble_at kind bytes ≡ Some (c.preamble, p.rest)
-  preamble_read = preamble_again kind bytes c.preamble p.rest p.is_preamble (omega (arith, ap length p.parts, length-append p.number p.body, some_digit p.number p.is_number.continued))
+  preamble_read = preamble_again kind bytes c.preamble p.rest p.is_preamble (omega (arith, ap length p.parts, length-append p.number p.blocks, some_digit p.number p.is_number.continued))
 
-  pub directory_count_read : directory_count_at limit p.rest ≡ Some (p.count, p.body)
-  directory_count_read = directory_count_again limit p.rest p.count p.body (record { starts = record { spelling = p.number; parts = p.parts; is_offset = p.is_number }; room = p.room; within = p.within })
+  pub directory_count_read : directory_count_at limit p.rest ≡ Some (p.count, p.blocks)
+  directory_count_read = directory_count_again limit p.rest p.count p.blocks (record { starts = record { spelling = p.number; parts = p.parts; is_offset = p.is_number }; room = p.room; within = p.within })
 
 -- the preamble that was read, and the number behind it
-pub record Agrees (kind : Kind) (limit : Option ℕ) (c : Cache) (f : Preamble) (count : ℕ) (body : List ℕ) : Type 0 where
+pub record Agrees (kind : Kind) (limit : Option ℕ) (c : Cache) (f : Preamble) (count : ℕ) (blocks : List ℕ) : Type 0 where
   pub preamble : c.preamble ≡ f
-  pub are_directories : AreDirectories kind limit count body c.directories
+  pub are_directories : AreDirectories kind limit count blocks c.directories
 
 pub rest_is : (kind : Kind) (limit : Option ℕ) (bytes : List ℕ) (c : Cache) (f : Preamble) (rest : List ℕ) → preamble_at kind bytes ≡ Some (f, rest) → (p : IsCache kind limit bytes c) → (c.preamble ≡ f) × (p.rest ≡ rest)
 rest_is kind limit bytes c f rest e p =
     let same = same_Some {A = Preamble × List ℕ} (c.preamble, p.rest) (f, rest) (sym (preamble_read kind limit bytes c p) ∙ e) in
     (ap (λ (x : Preamble × List ℕ). x.0) same, ap (λ (x : Preamble × List ℕ). x.1) same)
 
-pub agrees : (kind : Kind) (limit : Option ℕ) (bytes : List ℕ) (c : Cache) (f : Preamble) (rest : List ℕ) (count : ℕ) (body : List ℕ) → preamble_at kind bytes ≡ Some (f, rest) → directory_count_at limit rest ≡ Some (count, body) → IsCache kind limit bytes c → Agrees kind limit c f count body
-agrees kind limit bytes c f rest count body e g p =
+pub agrees : (kind : Kind) (limit : Option ℕ) (bytes : List ℕ) (c : Cache) (f : Preamble) (rest : List ℕ) (count : ℕ) (blocks : List ℕ) → preamble_at kind bytes ≡ Some (f, rest) → directory_count_at limit rest ≡ Some (count, blocks) → IsCache kind limit bytes c → Agrees kind limit c f count blocks
+agrees kind limit bytes c f rest count blocks e g p =
     let preamble = rest_is kind limit bytes c f rest e p in
-    let same = same_Some {A = ℕ × List ℕ} (p.count, p.body) (count, body) (sym (directory_count_read kind limit bytes c p) ∙ ap (directory_count_at limit) preamble.1 ∙ g) in
+    let same = same_Some {A = ℕ × List ℕ} (p.count, p.blocks) (count, blocks) (sym (directory_count_read kind limit bytes c p) ∙ ap (directory_count_at limit) preamble.1 ∙ g) in
     record { preamble = preamble.0; are_directories = subst (λ (x : ℕ × List ℕ). AreDirectories kind limit x.0 x.1 c.directories) same p.are_directories }
 
 pub no_count : (kind : Kind) (limit : Option ℕ) (bytes : List ℕ) (c : Cache) (f : Preamble) (rest : List ℕ) → preamble_at kind bytes ≡ Some (f, rest) → directory_count_at limit rest ≡ None → IsCache kind limit bytes c → ⊥
 no_count kind limit bytes c f rest e g p =
     let preamble = rest_is kind limit bytes c f rest e p in
-    let read : directory_count_at limit rest ≡ Some (p.count, p.body) = ap (directory_count_at limit) (sym preamble.1) ∙ directory_count_read kind limit bytes c p in
-    let clash : ◌≡◌ {A = Option (ℕ × List ℕ)} None (Some (p.count, p.body)) = sym g ∙ read in
+    let read : directory_count_at limit rest ≡ Some (p.count, p.blocks) = ap (directory_count_at limit) (sym preamble.1) ∙ directory_count_read kind limit bytes c p in
+    let clash : ◌≡◌ {A = Option (ℕ × List ℕ)} None (Some (p.count, p.blocks)) = sym g ∙ read in
     absurd cc
 
-pub cache_from : (kind : Kind) (limit : Option ℕ) (bytes : List ℕ) (f : Preamble) (rest : List ℕ) (count : ℕ) (body : List ℕ) (ds : List DirectoryValue) → ends_with_nul bytes ≡ true → preamble_at kind bytes ≡ Some (f, rest) → directory_count_at limit rest ≡ Some (count, body) → AreDirectories kind limit count body ds
+pub cache_from : (kind : Kind) (limit : Option ℕ) (bytes : List ℕ) (f : Preamble) (rest : List ℕ) (count : ℕ) (blocks : List ℕ) (ds : List DirectoryValue) → ends_with_nul bytes ≡ true → preamble_at kind bytes ≡ Some (f, rest) → directory_count_at limit rest ≡ Some (count, blocks) → AreDirectories kind limit count blocks ds
     → IsCache kind limit bytes (record { preamble = f; directories = ds })
-cache_from kind limit bytes f rest count body ds last e g d =
+cache_from kind limit bytes f rest count blocks ds last e g d =
     let nul = nul_takes bytes last in
-    let number = directory_count_takes limit rest (count, body) g in
+    let number = directory_count_takes limit rest (count, blocks) g in
     record {
       rest = rest;
       number = number.starts.spelling;
-      body = body;
+      blocks = blocks;
       count = count;
       before = nul.0;
       is_preamble = preamble_takes kind bytes (f, rest) e;
@@ -218,15 +218,15 @@ cache_from kind limit bytes f rest count body ds last e g d =
       last = nul.1;
     }
 
-pub start_from : (kind : Kind) (limit : Option ℕ) (bytes : List ℕ) (f : Preamble) (rest : List ℕ) (count : ℕ) (body : List ℕ) → ends_with_nul bytes ≡ true → preamble_at kind bytes ≡ Some (f, rest) → directory_count_at limit rest ≡ Some (count, body) → HasFirstHead limit count body → HasStart kind limit bytes
-start_from kind limit bytes f rest count body last e g first =
+pub start_from : (kind : Kind) (limit : Option ℕ) (bytes : List ℕ) (f : Preamble) (rest : List ℕ) (count : ℕ) (blocks : List ℕ) → ends_with_nul bytes ≡ true → preamble_at kind bytes ≡ Some (f, rest) → directory_count_at limit rest ≡ Some (count, blocks) → HasFirstHead limit count blocks → HasStart kind limit bytes
+start_from kind limit bytes f rest count blocks last e g first =
     let nul = nul_takes bytes last in
-    let number = directory_count_takes limit rest (count, body) g in
+    let number = directory_count_takes limit rest (count, blocks) g in
     record {
       preamble = f;
       rest = rest;
       number = number.starts.spelling;
-      body = body;
+      blocks = blocks;
       count = count;
       before = nul.0;
       is_preamble = preamble_takes kind bytes (f, rest) e;
@@ -257,6 +257,6 @@ first_there kind limit (suc n) bytes ds p = block_head limit bytes p.root p.rest
 -- bytes are one cache
 pub one_cache : (kind : Kind) (limit : Option ℕ) (bytes : List ℕ) (a b : Cache) → IsCache kind limit bytes a → IsCache kind limit bytes b → a ≡ b
 one_cache kind limit bytes a b p q =
-    let same = agrees kind limit bytes b a.preamble p.rest p.count p.body (preamble_read kind limit bytes a p) (directory_count_read kind limit bytes a p) q in
-    let directories : a.directories ≡ b.directories = one_list kind limit p.count p.body a.directories b.directories p.are_directories same.are_directories in
+    let same = agrees kind limit bytes b a.preamble p.rest p.count p.blocks (preamble_read kind limit bytes a p) (directory_count_read kind limit bytes a p) q in
+    let directories : a.directories ≡ b.directories = one_list kind limit p.count p.blocks a.directories b.directories p.are_directories same.are_directories in
     ap (λ (f : Preamble). record { preamble = f; directories = a.directories }) (sym same.preamble) ∙ ap (λ (d : List DirectoryValue). record { preamble = b.preamble; directories = d }) directories

@@ -12,7 +12,7 @@ use Rattle.index_parts.specs.declared.hash.Kind.{Kind}
 use Rattle.index_bitmaps.proofs.BitmapFaults.{bitmap_or_fault, no_fault}
 use Rattle.index_bitmaps.proofs.Unpackings.{le_or_lt, stand_for_unpacked, one_unpacking}
 use Rattle.index_untracked.specs.Blocks.{DirectoryValue}
-use Rattle.index_untracked.specs.CacheBitmaps.{ListsBelow, DirectoryBitmaps, AreMarks, ArePieces, with_marks, IsTail}
+use Rattle.index_untracked.specs.CacheBitmaps.{ListsBelow, DirectoryBitmaps, AreBitmaps, ArePieces, with_bitmaps, IsTail}
 use Rattle.index_untracked.proofs.BitmapPlaces.{oks, one_list, Lists, bitmap_is}
 use Rattle.index_untracked.proofs.BlockReadings.{decided_by}
 use Rattle.index_untracked.proofs.EqualPieces.{no_pieces, pieces_push, pieces_len}
@@ -84,33 +84,33 @@ module _ (count : ℕ) where
 
   -- ---- three bitmaps
 
-  abbrev MarksAt : List ℕ → Type 0
-  MarksAt bytes = Decided (λ (x : DirectoryBitmaps × List ℕ). AreMarks count bytes x.0 x.1)
+  abbrev BitmapsAt : List ℕ → Type 0
+  BitmapsAt bytes = Decided (λ (x : DirectoryBitmaps × List ℕ). AreBitmaps count bytes x.0 x.1)
 
-  second_of : (bytes middle rest vs : List ℕ) (m : DirectoryBitmaps) → ListsBelow count bytes vs middle → (q : AreMarks count bytes m rest) → ListsBelow count middle m.check_only q.behind_check_only
+  second_of : (bytes middle rest vs : List ℕ) (m : DirectoryBitmaps) → ListsBelow count bytes vs middle → (q : AreBitmaps count bytes m rest) → ListsBelow count middle m.check_only q.behind_check_only
   second_of bytes middle rest vs m p q = subst (λ (l : List ℕ). ListsBelow count l m.check_only q.behind_check_only) (one_list count bytes m.valid vs q.behind_valid middle q.is_valid p).1 q.is_check_only
 
-  third_of : (bytes middle after rest vs cs : List ℕ) (m : DirectoryBitmaps) → ListsBelow count bytes vs middle → ListsBelow count middle cs after → AreMarks count bytes m rest → ListsBelow count after m.hash_valid rest
+  third_of : (bytes middle after rest vs cs : List ℕ) (m : DirectoryBitmaps) → ListsBelow count bytes vs middle → ListsBelow count middle cs after → AreBitmaps count bytes m rest → ListsBelow count after m.hash_valid rest
   third_of bytes middle after rest vs cs m p h q =
       let second = second_of bytes middle rest vs m p q in
       subst (λ (l : List ℕ). ListsBelow count l m.hash_valid rest) (one_list count middle m.check_only cs q.behind_check_only after second h).1 q.is_hash_valid
 
-  marks_third : (bytes middle after vs cs : List ℕ) → ListsBelow count bytes vs middle → ListsBelow count middle cs after → MarksAt bytes
-  marks_third bytes middle after vs cs p h =
-      decided_by (λ (x : List ℕ × List ℕ). ListsBelow count after x.0 x.1) (λ (x : DirectoryBitmaps × List ℕ). AreMarks count bytes x.0 x.1) (list_reading after)
+  bitmaps_third : (bytes middle after vs cs : List ℕ) → ListsBelow count bytes vs middle → ListsBelow count middle cs after → BitmapsAt bytes
+  bitmaps_third bytes middle after vs cs p h =
+      decided_by (λ (x : List ℕ × List ℕ). ListsBelow count after x.0 x.1) (λ (x : DirectoryBitmaps × List ℕ). AreBitmaps count bytes x.0 x.1) (list_reading after)
       (λ x i. inl ((record { valid = vs; check_only = cs; hash_valid = x.0 }, x.1), record { behind_valid = middle; behind_check_only = after; is_valid = p; is_check_only = h; is_hash_valid = i }))
       (λ y q. ((y.0.hash_valid, y.1), third_of bytes middle after y.1 vs cs y.0 p h q))
 
-  marks_second : (bytes middle vs : List ℕ) → ListsBelow count bytes vs middle → MarksAt bytes
-  marks_second bytes middle vs p =
-      decided_by (λ (x : List ℕ × List ℕ). ListsBelow count middle x.0 x.1) (λ (x : DirectoryBitmaps × List ℕ). AreMarks count bytes x.0 x.1) (list_reading middle)
-      (λ x h. marks_third bytes middle x.1 vs x.0 p h)
+  bitmaps_second : (bytes middle vs : List ℕ) → ListsBelow count bytes vs middle → BitmapsAt bytes
+  bitmaps_second bytes middle vs p =
+      decided_by (λ (x : List ℕ × List ℕ). ListsBelow count middle x.0 x.1) (λ (x : DirectoryBitmaps × List ℕ). AreBitmaps count bytes x.0 x.1) (list_reading middle)
+      (λ x h. bitmaps_third bytes middle x.1 vs x.0 p h)
       (λ y q. ((y.0.check_only, q.behind_check_only), second_of bytes middle y.1 vs y.0 p q))
 
-  pub marks_reading : (bytes : List ℕ) → Decided (λ (x : DirectoryBitmaps × List ℕ). AreMarks count bytes x.0 x.1)
-  marks_reading bytes =
-      decided_by (λ (x : List ℕ × List ℕ). ListsBelow count bytes x.0 x.1) (λ (x : DirectoryBitmaps × List ℕ). AreMarks count bytes x.0 x.1) (list_reading bytes)
-      (λ x p. marks_second bytes x.1 x.0 p)
+  pub bitmaps_reading : (bytes : List ℕ) → Decided (λ (x : DirectoryBitmaps × List ℕ). AreBitmaps count bytes x.0 x.1)
+  bitmaps_reading bytes =
+      decided_by (λ (x : List ℕ × List ℕ). ListsBelow count bytes x.0 x.1) (λ (x : DirectoryBitmaps × List ℕ). AreBitmaps count bytes x.0 x.1) (list_reading bytes)
+      (λ x p. bitmaps_second bytes x.1 x.0 p)
       (λ y q. ((y.0.valid, q.behind_valid), q.is_valid))
 
 -- ---- pieces
@@ -138,28 +138,28 @@ module _ (kind : Kind) (bare : List DirectoryValue) (bytes : List ℕ) where
   abbrev TailAt : Type 0
   TailAt = Decided (IsTail kind bare bytes)
 
-  module _ (m : DirectoryBitmaps) (behind : List ℕ) (are_marks : AreMarks (length bare) bytes m behind) where
+  module _ (m : DirectoryBitmaps) (behind : List ℕ) (are_bitmaps : AreBitmaps (length bare) bytes m behind) where
     last_by : (stats : List (List ℕ)) (after : List ℕ) (ids : List (List ℕ)) (rest : List ℕ) → ArePieces 36 (length m.valid) behind stats after → ArePieces (id_len kind) (length m.hash_valid) after ids rest → (length rest ≡ 1) ⊎ (length rest ≡ 1 → ⊥) → TailAt
     last_by stats after ids rest s i (inl one) =
-        let ds : List DirectoryValue = map (λ x. with_marks kind m stats ids x.0 x.1) (enumerate_from 0 bare) in
-        inl (ds, tail_from kind bare bytes m behind stats after ids rest ds are_marks s i one refl)
-    last_by stats after ids rest s i (inr other) = inr (λ ds t. other (one_left kind bare bytes m behind stats after ids rest (pieces_of kind bare bytes m behind ds are_marks t) s i))
+        let ds : List DirectoryValue = map (λ x. with_bitmaps kind m stats ids x.0 x.1) (enumerate_from 0 bare) in
+        inl (ds, tail_from kind bare bytes m behind stats after ids rest ds are_bitmaps s i one refl)
+    last_by stats after ids rest s i (inr other) = inr (λ ds t. other (one_left kind bare bytes m behind stats after ids rest (pieces_of kind bare bytes m behind ds are_bitmaps t) s i))
 
     ids_by : (stats : List (List ℕ)) (after : List ℕ) → ArePieces 36 (length m.valid) behind stats after → (id_len kind * length m.hash_valid ≤ length after) ⊎ (length after < id_len kind * length m.hash_valid) → TailAt
     ids_by stats after s (inl room) =
         let i = some_pieces (id_len kind) (length m.hash_valid) after room in
         last_by stats after i.0.0 i.0.1 s i.1 (same_or_not (length i.0.1) 1)
-    ids_by stats after s (inr few) = inr (λ ds t. few_ids kind bare bytes m behind stats after (pieces_of kind bare bytes m behind ds are_marks t) s few)
+    ids_by stats after s (inr few) = inr (λ ds t. few_ids kind bare bytes m behind stats after (pieces_of kind bare bytes m behind ds are_bitmaps t) s few)
 
     stats_by : (36 * length m.valid ≤ length behind) ⊎ (length behind < 36 * length m.valid) → TailAt
     stats_by (inl room) =
         let s = some_pieces 36 (length m.valid) behind room in
         ids_by s.0.0 s.0.1 s.1 (le_or_lt (id_len kind * length m.hash_valid) (length s.0.1))
-    stats_by (inr few) = inr (λ ds t. few_stats kind bare bytes m behind (pieces_of kind bare bytes m behind ds are_marks t) few)
+    stats_by (inr few) = inr (λ ds t. few_stats kind bare bytes m behind (pieces_of kind bare bytes m behind ds are_bitmaps t) few)
 
   -- bytes are read as what stands behind blocks or not
   pub tail_reading : Decided (IsTail kind bare bytes)
   tail_reading =
-      decided_by (λ (x : DirectoryBitmaps × List ℕ). AreMarks (length bare) bytes x.0 x.1) (IsTail kind bare bytes) (marks_reading (length bare) bytes)
+      decided_by (λ (x : DirectoryBitmaps × List ℕ). AreBitmaps (length bare) bytes x.0 x.1) (IsTail kind bare bytes) (bitmaps_reading (length bare) bytes)
       (λ x p. stats_by x.0 x.1 p (le_or_lt (36 * length x.0.valid) (length x.1)))
-      (λ ds t. ((t.marks, t.behind_marks), t.are_marks))
+      (λ ds t. ((t.bitmaps, t.behind_bitmaps), t.are_bitmaps))

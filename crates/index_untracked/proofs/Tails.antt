@@ -8,13 +8,13 @@ use Rattle.index_parts.specs.declared.hash.Kind.{Kind}
 use Rattle.index_parts.specs.declared.hash.ObjectId.{ObjectId}
 use Rattle.index_untracked.specs.Blocks.{DirectoryValue}
 use Rattle.index_untracked.specs.BitmapSteps.{with_stat, with_exclude, checked, last_at, by_some, by_true, each, IsBare}
-use Rattle.index_untracked.specs.CacheBitmaps.{DirectoryBitmaps, ListsBelow, AreMarks, ArePieces, value_at, with_marks, IsTail}
+use Rattle.index_untracked.specs.CacheBitmaps.{DirectoryBitmaps, ListsBelow, AreBitmaps, ArePieces, value_at, with_bitmaps, IsTail}
 use Rattle.index_untracked.specs.CachedStat.{cached_stat}
 use Rattle.index_extensions.specs.ExtensionValue.{or_else}
 use Rattle.index_bitmaps.proofs.Places.{listed_ascend}
 use Rattle.index_bitmaps.specs.Ascending.{Ascends}
 use Rattle.std.proofs.lemmas.Bool.{eqb-true, ne_eqb}
-use Rattle.index_untracked.proofs.BitmapPlaces.{oks, one_marks}
+use Rattle.index_untracked.proofs.BitmapPlaces.{oks, one_bitmaps}
 use Rattle.index_untracked.proofs.EqualPieces.{pieces_len, one_row_of_pieces}
 
 -- ---- the changes of one directory
@@ -77,17 +77,17 @@ module _ (kind : Kind) (m : DirectoryBitmaps) (stats ids : List (List ℕ)) (val
   abbrev each_from : (ℕ → DirectoryValue → DirectoryValue) → ℕ → List DirectoryValue → List DirectoryValue
   each_from f n ds = map (λ x. f x.0 x.1) (enumerate_from n ds)
 
-  given_from : (n : ℕ) (ds : List DirectoryValue) → AllByRecursion IsBare ds → each_from gives_ids n (each_from gives_stats n (each_from checks n ds)) ≡ map (λ x. with_marks kind m stats ids x.0 x.1) (enumerate_from n ds)
+  given_from : (n : ℕ) (ds : List DirectoryValue) → AllByRecursion IsBare ds → each_from gives_ids n (each_from gives_stats n (each_from checks n ds)) ≡ map (λ x. with_bitmaps kind m stats ids x.0 x.1) (enumerate_from n ds)
   given_from n [] u = refl
   given_from n (d ∷ ds) u =
-      let first : gives_ids n (gives_stats n (checks n d)) ≡ with_marks kind m stats ids n d =
+      let first : gives_ids n (gives_stats n (checks n d)) ≡ with_bitmaps kind m stats ids n d =
       all_are kind (list_any (λ p. eqb p n) m.check_only) (last_at m.valid stats n) (last_at m.hash_valid ids n) d u.0
       ∙ rw (last_is_first 0 m.valid stats n valid_ascend, last_is_first 0 m.hash_valid ids n hash_ascend) refl in
       let others = given_from (n + 1) ds u.1 in
       ap (λ (e : DirectoryValue). e ∷ each_from gives_ids (n + 1) (each_from gives_stats (n + 1) (each_from checks (n + 1) ds))) first
-      ∙ ap (λ (l : List DirectoryValue). with_marks kind m stats ids n d ∷ l) others
+      ∙ ap (λ (l : List DirectoryValue). with_bitmaps kind m stats ids n d ∷ l) others
 
-  pub marked_all : (ds first second third : List DirectoryValue) → AllByRecursion IsBare ds → first ≡ each checks ds → second ≡ each gives_stats first → third ≡ each gives_ids second → third ≡ map (λ x. with_marks kind m stats ids x.0 x.1) (enumerate_from 0 ds)
+  pub marked_all : (ds first second third : List DirectoryValue) → AllByRecursion IsBare ds → first ≡ each checks ds → second ≡ each gives_stats first → third ≡ each gives_ids second → third ≡ map (λ x. with_bitmaps kind m stats ids x.0 x.1) (enumerate_from 0 ds)
   marked_all ds first second third u e f g = g ∙ ap (each gives_ids) f ∙ ap (λ (l : List DirectoryValue). each gives_ids (each gives_stats l)) e ∙ given_from 0 ds u
 
 -- ---- the tail
@@ -98,18 +98,18 @@ one_byte (x ∷ []) e = (x, refl)
 one_byte (x ∷ y ∷ l) e = absurd (omega arith)
 
 module _ (kind : Kind) (bare : List DirectoryValue) (bytes : List ℕ) where
-  pub tail_from : (m : DirectoryBitmaps) (behind : List ℕ) (stats : List (List ℕ)) (after : List ℕ) (ids : List (List ℕ)) (rest : List ℕ) (directories : List DirectoryValue) → AreMarks (length bare) bytes m behind → ArePieces 36 (length m.valid) behind stats after → ArePieces (id_len kind) (length m.hash_valid) after ids rest
-      → length rest ≡ 1 → directories ≡ map (λ x. with_marks kind m stats ids x.0 x.1) (enumerate_from 0 bare) → IsTail kind bare bytes directories
-  tail_from m behind stats after ids rest directories marks s i one are =
+  pub tail_from : (m : DirectoryBitmaps) (behind : List ℕ) (stats : List (List ℕ)) (after : List ℕ) (ids : List (List ℕ)) (rest : List ℕ) (directories : List DirectoryValue) → AreBitmaps (length bare) bytes m behind → ArePieces 36 (length m.valid) behind stats after → ArePieces (id_len kind) (length m.hash_valid) after ids rest
+      → length rest ≡ 1 → directories ≡ map (λ x. with_bitmaps kind m stats ids x.0 x.1) (enumerate_from 0 bare) → IsTail kind bare bytes directories
+  tail_from m behind stats after ids rest directories bitmaps s i one are =
       let last = one_byte rest one in
       record {
-        marks = m;
-        behind_marks = behind;
+        bitmaps = m;
+        behind_bitmaps = behind;
         stats = stats;
         behind_stats = after;
         ids = ids;
         last = last.0;
-        are_marks = marks;
+        are_bitmaps = bitmaps;
         are_stats = s;
         are_ids = subst (λ (l : List ℕ). ArePieces (id_len kind) (length m.hash_valid) after ids l) last.1 i;
         directories_are = are;
@@ -124,15 +124,15 @@ module _ (kind : Kind) (bare : List DirectoryValue) (bytes : List ℕ) where
     pub are_stats : ArePieces 36 (length m.valid) behind stats after
     pub are_ids : ArePieces (id_len kind) (length m.hash_valid) after ids (last ∷ [])
 
-  pub pieces_of : (m : DirectoryBitmaps) (behind : List ℕ) (directories : List DirectoryValue) → AreMarks (length bare) bytes m behind → IsTail kind bare bytes directories → HasPieces m behind
-  pieces_of m behind directories marks t =
-      let same = one_marks (length bare) bytes t.marks m t.behind_marks behind t.are_marks marks in
+  pub pieces_of : (m : DirectoryBitmaps) (behind : List ℕ) (directories : List DirectoryValue) → AreBitmaps (length bare) bytes m behind → IsTail kind bare bytes directories → HasPieces m behind
+  pieces_of m behind directories bitmaps t =
+      let same = one_bitmaps (length bare) bytes t.bitmaps m t.behind_bitmaps behind t.are_bitmaps bitmaps in
       record {
         stats = t.stats;
         after = t.behind_stats;
         ids = t.ids;
         last = t.last;
-        are_stats = subst (λ (l : List ℕ). ArePieces 36 (length m.valid) l t.stats t.behind_stats) same.1 (subst (λ (x : DirectoryBitmaps). ArePieces 36 (length x.valid) t.behind_marks t.stats t.behind_stats) same.0 t.are_stats);
+        are_stats = subst (λ (l : List ℕ). ArePieces 36 (length m.valid) l t.stats t.behind_stats) same.1 (subst (λ (x : DirectoryBitmaps). ArePieces 36 (length x.valid) t.behind_bitmaps t.stats t.behind_stats) same.0 t.are_stats);
         are_ids = subst (λ (x : DirectoryBitmaps). ArePieces (id_len kind) (length x.hash_valid) t.behind_stats t.ids (t.last ∷ [])) same.0 t.are_ids;
       }
 
@@ -154,12 +154,12 @@ module _ (kind : Kind) (bare : List DirectoryValue) (bytes : List ℕ) where
   -- bytes are one tail
   pub one_tail : (a b : List DirectoryValue) → IsTail kind bare bytes a → IsTail kind bare bytes b → a ≡ b
   one_tail a b p q =
-      let same = one_marks (length bare) bytes p.marks q.marks p.behind_marks q.behind_marks p.are_marks q.are_marks in
-      let valid = length p.marks.valid in
-      let behind : ArePieces 36 valid q.behind_marks q.stats q.behind_stats = subst (λ (m : DirectoryBitmaps). ArePieces 36 (length m.valid) q.behind_marks q.stats q.behind_stats) (sym same.0) q.are_stats in
-      let stats = one_row_of_pieces 36 valid p.behind_marks p.stats q.stats p.behind_stats q.behind_stats p.are_stats (subst (λ (l : List ℕ). ArePieces 36 valid l q.stats q.behind_stats) (sym same.1) behind) in
-      let after : ArePieces (id_len kind) (length p.marks.hash_valid) q.behind_stats q.ids (q.last ∷ []) = subst (λ (m : DirectoryBitmaps). ArePieces (id_len kind) (length m.hash_valid) q.behind_stats q.ids (q.last ∷ [])) (sym same.0) q.are_ids in
-      let here : ArePieces (id_len kind) (length p.marks.hash_valid) p.behind_stats q.ids (q.last ∷ []) = subst (λ (l : List ℕ). ArePieces (id_len kind) (length p.marks.hash_valid) l q.ids (q.last ∷ [])) (sym stats.1) after in
-      let ids = one_row_of_pieces (id_len kind) (length p.marks.hash_valid) p.behind_stats p.ids q.ids (p.last ∷ []) (q.last ∷ []) p.are_ids here in
-      let by : DirectoryBitmaps → List (List ℕ) → List (List ℕ) → List DirectoryValue = λ m s i. map (λ x. with_marks kind m s i x.0 x.1) (enumerate_from 0 bare) in
-      p.directories_are ∙ ap (λ (m : DirectoryBitmaps). by m p.stats p.ids) same.0 ∙ ap (λ (s : List (List ℕ)). by q.marks s p.ids) stats.0 ∙ ap (by q.marks q.stats) ids.0 ∙ sym q.directories_are
+      let same = one_bitmaps (length bare) bytes p.bitmaps q.bitmaps p.behind_bitmaps q.behind_bitmaps p.are_bitmaps q.are_bitmaps in
+      let valid = length p.bitmaps.valid in
+      let behind : ArePieces 36 valid q.behind_bitmaps q.stats q.behind_stats = subst (λ (m : DirectoryBitmaps). ArePieces 36 (length m.valid) q.behind_bitmaps q.stats q.behind_stats) (sym same.0) q.are_stats in
+      let stats = one_row_of_pieces 36 valid p.behind_bitmaps p.stats q.stats p.behind_stats q.behind_stats p.are_stats (subst (λ (l : List ℕ). ArePieces 36 valid l q.stats q.behind_stats) (sym same.1) behind) in
+      let after : ArePieces (id_len kind) (length p.bitmaps.hash_valid) q.behind_stats q.ids (q.last ∷ []) = subst (λ (m : DirectoryBitmaps). ArePieces (id_len kind) (length m.hash_valid) q.behind_stats q.ids (q.last ∷ [])) (sym same.0) q.are_ids in
+      let here : ArePieces (id_len kind) (length p.bitmaps.hash_valid) p.behind_stats q.ids (q.last ∷ []) = subst (λ (l : List ℕ). ArePieces (id_len kind) (length p.bitmaps.hash_valid) l q.ids (q.last ∷ [])) (sym stats.1) after in
+      let ids = one_row_of_pieces (id_len kind) (length p.bitmaps.hash_valid) p.behind_stats p.ids q.ids (p.last ∷ []) (q.last ∷ []) p.are_ids here in
+      let by : DirectoryBitmaps → List (List ℕ) → List (List ℕ) → List DirectoryValue = λ m s i. map (λ x. with_bitmaps kind m s i x.0 x.1) (enumerate_from 0 bare) in
+      p.directories_are ∙ ap (λ (m : DirectoryBitmaps). by m p.stats p.ids) same.0 ∙ ap (λ (s : List (List ℕ)). by q.bitmaps s p.ids) stats.0 ∙ ap (by q.bitmaps q.stats) ids.0 ∙ sym q.directories_are

@@ -1,5 +1,5 @@
--- The directory blocks of an untracked cache (gitformat-index, "Untracked cache"): one within another, as plain data, which
--- bytes encode them, and the list of directories that they are.
+-- The directory blocks of an untracked cache (gitformat-index, "Untracked cache"): one within another, as plain data,
+-- which bytes encode them, and the list of directories that they are.
 use Rattle.std.specs.Prelude.{◌≡◌, ℕ, ◌+◌, ◌*◌, ◌/◌, ◌≤◌, max, Bool, false, List, [], ◌∷◌, ◌++◌, length, map, Option, None}
 use Rattle.bstr.specs.Owned.{bstring_bytes}
 use Rattle.index_parts.specs.Numbers.{IsUpTo}
@@ -28,8 +28,8 @@ pub record BlockHead : Type 0 where
   pub subs : ℕ
   pub name : List ℕ
 
--- The two numbers as offset numbers, the name up to a NUL, and the rest. Each number is at most half the number of bytes in the
--- rest. At 24 bytes an untracked name, and at 8 bytes a directory, they are within the limit.
+-- The two numbers as offset numbers, the name up to a NUL, and the rest. Each number is at most half the number of
+-- bytes in the rest. At 24 bytes an untracked name, and at 8 bytes a directory, they are within the limit.
 pub record IsBlockHead (limit : Option ℕ) (bytes : List ℕ) (h : BlockHead) (rest : List ℕ) : Type 0 where
   pub first : List ℕ
   pub second : List ℕ
@@ -56,12 +56,16 @@ abbrev mutual
   -- bytes are a block, with its names and all blocks in it behind its head, and the rest
   pub IsBlock : Option ℕ → List ℕ → Block → List ℕ → Type 0
   IsBlock limit bytes (block name untracked subs) rest =
-      (names : List ℕ) × (nested : List ℕ) × IsBlockHead limit bytes (record { untracked = length untracked; subs = how_many_blocks subs; name = name }) names × SpellNames names untracked nested × AreBlocks limit nested subs rest
+      (names : List ℕ) × (nested : List ℕ)
+      × IsBlockHead limit bytes
+      (record { untracked = length untracked; subs = how_many_blocks subs; name = name }) names
+      × SpellNames names untracked nested × AreBlocks limit nested subs rest
 
   -- bytes are these blocks, one after another, and the rest
   pub AreBlocks : Option ℕ → List ℕ → Blocks → List ℕ → Type 0
   AreBlocks limit bytes none rest = bytes ≡ rest
-  AreBlocks limit bytes (more b bs) rest = (after : List ℕ) × IsBlock limit bytes b after × AreBlocks limit after bs rest
+  AreBlocks limit bytes (more b bs) rest =
+      (after : List ℕ) × IsBlock limit bytes b after × AreBlocks limit after bs rest
 
 abbrev mutual
   -- how many levels lie below a block
@@ -102,7 +106,8 @@ directory_value d = record {
 
 -- a directory of which nothing else is known
 abbrev pub bare_directory : List ℕ → List (List ℕ) → List ℕ → DirectoryValue
-bare_directory name untracked subs = record { name = name; untracked = untracked; subs = subs; stat = None; exclude = None; check_only = false }
+bare_directory name untracked subs =
+    record { name = name; untracked = untracked; subs = subs; stat = None; exclude = None; check_only = false }
 
 -- the places of blocks, the first at this place, where all that is in a block stands behind it
 abbrev pub places_from : ℕ → Blocks → List ℕ
@@ -112,7 +117,8 @@ places_from place (more b bs) = place ∷ places_from (place + block_size b) bs
 abbrev mutual
   -- the directories of a block in preorder, the first at this place
   pub listed : ℕ → Block → List DirectoryValue
-  listed place (block name untracked subs) = bare_directory name untracked (places_from (place + 1) subs) ∷ all_listed (place + 1) subs
+  listed place (block name untracked subs) =
+      bare_directory name untracked (places_from (place + 1) subs) ∷ all_listed (place + 1) subs
 
   pub all_listed : ℕ → Blocks → List DirectoryValue
   all_listed place none = []

@@ -13,7 +13,7 @@ use Rattle.index_untracked.specs.Untracked.{Preamble, oid_stat}
 use Rattle.index_untracked.specs.declared.blocks.BlockHead.{BlockHead as LentBlockHead}
 use Rattle.index_untracked.specs.declared.blocks.Start.{Start as OwnStart}
 use Rattle.index_untracked.specs.declared.preamble.Preamble.{Preamble as LentPreamble}
-use Rattle.index_untracked.specs.declared.marks.DirectoryBitmaps.{DirectoryBitmaps as OwnMarks}
+use Rattle.index_untracked.specs.declared.bitmaps.DirectoryBitmaps.{DirectoryBitmaps as OwnBitmaps}
 
 -- whether the last byte is 0
 abbrev pub ends_with_nul : List ℕ → Bool
@@ -30,11 +30,27 @@ preamble_at kind bytes = do
   info_id ← piece_at (id_len kind) flags.1
   excludes_id ← piece_at (id_len kind) info_id.1
   name ← split_at_byte 0 excludes_id.1
-  Some (record { identifier = identifier.0; info_exclude = oid_stat kind info.0 info_id.0; excludes_file = oid_stat kind excludes.0 excludes_id.0; dir_flags = be flags.0; exclude_filename = name.0 }, name.1)
+  Some (
+    record {
+      identifier = identifier.0;
+      info_exclude = oid_stat kind info.0 info_id.0;
+      excludes_file = oid_stat kind excludes.0 excludes_id.0;
+      dir_flags = be flags.0;
+      exclude_filename = name.0;
+    },
+    name.1,
+  )
 
 -- what a preamble that lends its texts stands for
 abbrev pub lent_preamble : LentPreamble → Preamble
-lent_preamble f = record { identifier = f.identifier.now; info_exclude = f.info_exclude; excludes_file = f.excludes_file; dir_flags = f.dir_flags; exclude_filename = f.exclude_filename.now }
+lent_preamble f =
+    record {
+      identifier = f.identifier.now;
+      info_exclude = f.info_exclude;
+      excludes_file = f.excludes_file;
+      dir_flags = f.dir_flags;
+      exclude_filename = f.exclude_filename.now;
+    }
 
 -- the number of directories
 unfoldable pub directory_count_at : Option ℕ → List ℕ → Option (ℕ × List ℕ)
@@ -45,7 +61,8 @@ directory_count_at limit bytes = do
 -- whether a head may stand before so many bytes
 abbrev pub is_allowed : Option ℕ → BlockHead → ℕ → Bool
 is_allowed limit h left =
-    nat_le h.untracked (left / 2) && (nat_le h.subs (left / 2) && (is_within limit (24 * h.untracked) && is_within limit (8 * h.subs)))
+    nat_le h.untracked (left / 2) &&
+    (nat_le h.subs (left / 2) && (is_within limit (24 * h.untracked) && is_within limit (8 * h.subs)))
 
 abbrev pub allowed : Option ℕ → BlockHead → List ℕ → Option (BlockHead × List ℕ)
 allowed limit h rest = if is_allowed limit h (length rest) then Some (h, rest) else None
@@ -64,7 +81,8 @@ lent_block_head h = record { untracked = h.untracked; subs = h.subs; name = h.na
 -- so many names
 abbrev pub names_at : ℕ → List ℕ → Option (List (List ℕ) × List ℕ)
 names_at zero bytes = Some ([], bytes)
-names_at (suc n) bytes = split_at_byte 0 bytes >>= λ name. names_at n name.1 >>= λ names. Some (name.0 ∷ names.0, names.1)
+names_at (suc n) bytes =
+    split_at_byte 0 bytes >>= λ name. names_at n name.1 >>= λ names. Some (name.0 ∷ names.0, names.1)
 
 -- a block up to its directories
 pub record Start : Type 0 where
@@ -81,5 +99,5 @@ start_at limit bytes = do
 abbrev pub own_start : OwnStart → Start
 own_start s = record { name = bstring_bytes s.name; untracked = map bstring_bytes s.untracked.items; subs = s.subs }
 
-abbrev pub own_marks : OwnMarks → DirectoryBitmaps
-own_marks m = record { valid = m.valid.items; check_only = m.check_only.items; hash_valid = m.hash_valid.items }
+abbrev pub own_bitmaps : OwnBitmaps → DirectoryBitmaps
+own_bitmaps m = record { valid = m.valid.items; check_only = m.check_only.items; hash_valid = m.hash_valid.items }

@@ -1,6 +1,6 @@
--- The stat of a file in an untracked cache. gitformat-index ("Untracked cache") refers to the fields of an entry from the time of
--- change to the file's size, and an entry has its mode among them. git writes and reads 36 bytes, without the mode; so do these
--- definitions.
+-- The stat of a file in an untracked cache. gitformat-index ("Untracked cache") refers to the fields of an entry from
+-- the time of change to the file's size, and an entry has its mode among them. git writes and reads 36 bytes, without
+-- the mode; so do these definitions.
 use Rattle.std.specs.Prelude.{ℕ, List, take, drop}
 use Rattle.index_metadata.specs.Stat.{stat_of}
 use Rattle.index_metadata.specs.declared.entry.stat.Stat.{Stat}

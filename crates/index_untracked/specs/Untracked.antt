@@ -41,8 +41,8 @@ cache_of u = record {
   directories = map directory_value u.directories.items;
 }
 
--- The length of the identifier, the identifier, the stats of info/exclude and of the excludes file, the flags, the ids of the two
--- files, and the name of the exclude files up to a NUL; and the rest.
+-- The length of the identifier, the identifier, the stats of info/exclude and of the excludes file, the flags, the ids
+-- of the two files, and the name of the exclude files up to a NUL; and the rest.
 pub record IsPreamble (kind : Kind) (bytes : List ℕ) (f : Preamble) (rest : List ℕ) : Type 0 where
   pub len : List ℕ
   pub info : List ℕ
@@ -50,7 +50,9 @@ pub record IsPreamble (kind : Kind) (bytes : List ℕ) (f : Preamble) (rest : Li
   pub flags : List ℕ
   pub info_id : List ℕ
   pub excludes_id : List ℕ
-  pub parts : bytes ≡ len ++ (f.identifier ++ (info ++ (excludes ++ (flags ++ (info_id ++ (excludes_id ++ (f.exclude_filename ++ 0 ∷ rest)))))))
+  pub parts : bytes ≡ len ++
+      (f.identifier ++
+      (info ++ (excludes ++ (flags ++ (info_id ++ (excludes_id ++ (f.exclude_filename ++ 0 ∷ rest)))))))
   pub is_len : IsOffset len (length f.identifier)
   pub info_len : length info ≡ 36
   pub excludes_len : length excludes ≡ 36
@@ -62,8 +64,10 @@ pub record IsPreamble (kind : Kind) (bytes : List ℕ) (f : Preamble) (rest : Li
   pub flags_are : f.dir_flags ≡ be flags
   pub name_apart : All (λ b. b ≢ 0) f.exclude_filename
 
--- bytes are one block with all that is in it, of so many blocks in all, at most 2048 levels deep, and what stands behind blocks
-pub record IsNest (kind : Kind) (limit : Option ℕ) (count : ℕ) (bytes : List ℕ) (directories : List DirectoryValue) : Type 0 where
+-- bytes are one block with all that is in it, of so many blocks in all, at most 2048 levels deep, and what stands
+-- behind blocks
+pub record IsNest (kind : Kind) (limit : Option ℕ) (count : ℕ) (bytes : List ℕ) (directories : List DirectoryValue)
+    : Type 0 where
   pub root : Block
   pub rest : List ℕ
   pub is_root : IsBlock limit bytes root rest
@@ -71,26 +75,26 @@ pub record IsNest (kind : Kind) (limit : Option ℕ) (count : ℕ) (bytes : List
   pub size : block_size root ≡ count
   pub is_tail : IsTail kind (listed 0 root) rest directories
 
--- Bytes are so many directories; where there are none, nothing follows their number. gitformat-index has a NUL follow there. git
--- writes none, and reads the number itself, a 0, as the last byte; so do these definitions.
+-- Bytes are so many directories; where there are none, nothing follows their number. gitformat-index has a NUL follow
+-- there. git writes none, and reads the number itself, a 0, as the last byte; so do these definitions.
 abbrev pub AreDirectories : Kind → Option ℕ → ℕ → List ℕ → List DirectoryValue → Type 0
 AreDirectories kind limit zero bytes directories = (bytes ≡ []) × (directories ≡ [])
 AreDirectories kind limit (suc n) bytes directories = IsNest kind limit (suc n) bytes directories
 
--- Bytes are a cache: what it says of itself, the number of directories, and the directories. There is a byte for each directory
--- behind their number, at 152 bytes each they are within the limit, and the last byte is 0.
+-- Bytes are a cache: what it says of itself, the number of directories, and the directories. There is a byte for each
+-- directory behind their number, at 152 bytes each they are within the limit, and the last byte is 0.
 pub record IsCache (kind : Kind) (limit : Option ℕ) (bytes : List ℕ) (c : Cache) : Type 0 where
   pub rest : List ℕ
   pub number : List ℕ
-  pub body : List ℕ
+  pub blocks : List ℕ
   pub count : ℕ
   pub before : List ℕ
   pub is_preamble : IsPreamble kind bytes c.preamble rest
-  pub parts : rest ≡ number ++ body
+  pub parts : rest ≡ number ++ blocks
   pub is_number : IsOffset number count
-  pub room : count ≤ length body
+  pub room : count ≤ length blocks
   pub within : IsWithin limit (152 * count)
-  pub are_directories : AreDirectories kind limit count body c.directories
+  pub are_directories : AreDirectories kind limit count blocks c.directories
   pub last : bytes ≡ before ++ 0 ∷ []
 
 -- the head of the first block stands where directories are declared; else nothing follows their number
@@ -98,20 +102,21 @@ abbrev pub HasFirstHead : Option ℕ → ℕ → List ℕ → Type 0
 HasFirstHead limit zero bytes = bytes ≡ []
 HasFirstHead limit (suc n) bytes = HasBlockHead limit bytes
 
--- bytes are what a cache says of itself, the number of directories, within the limits, and the head of the first, if there is one
+-- bytes are what a cache says of itself, the number of directories, within the limits, and the head of the first, if
+-- there is one
 pub record HasStart (kind : Kind) (limit : Option ℕ) (bytes : List ℕ) : Type 0 where
   pub preamble : Preamble
   pub rest : List ℕ
   pub number : List ℕ
-  pub body : List ℕ
+  pub blocks : List ℕ
   pub count : ℕ
   pub before : List ℕ
   pub is_preamble : IsPreamble kind bytes preamble rest
-  pub parts : rest ≡ number ++ body
+  pub parts : rest ≡ number ++ blocks
   pub is_number : IsOffset number count
-  pub room : count ≤ length body
+  pub room : count ≤ length blocks
   pub within : IsWithin limit (152 * count)
-  pub has_first : HasFirstHead limit count body
+  pub has_first : HasFirstHead limit count blocks
   pub last : bytes ≡ before ++ 0 ∷ []
 
 -- all ids in a cache are of this kind

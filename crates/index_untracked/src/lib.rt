@@ -9,17 +9,17 @@ ghost use Rattle.index_untracked.specs.Blocks.{directory_value};
 ghost use Rattle.index_extensions.specs.ExtensionValue.{IsRead};
 ghost use Rattle.index_untracked.specs.Untracked.{AreDirectories, IsCache, HasFirstHead, HasStart, cache_of};
 
+use bitmaps::read_bitmaps;
 use blocks::read_block;
 use bstr::BString;
 use index_extensions::Signature;
 use index_metadata::entry::Stat;
 use index_parts::hash::{Kind, ObjectId};
-use marks::read_marks;
 use preamble::{directory_count_of, ends_with_nul, preamble_of};
 use std::alloc::{AllocError, Global};
 
+mod bitmaps;
 mod blocks;
-mod marks;
 mod preamble;
 mod stat;
 
@@ -67,7 +67,7 @@ pub struct Directory {
     pub stat: Option<Stat>,
     /// The id of its own file of exclude patterns. None where that isn't valid.
     pub exclude_file_oid: Option<ObjectId>,
-    /// The mark of a directory that was only looked at to learn whether it holds untracked files.
+    /// Whether the directory was only looked at to learn whether it holds untracked files.
     pub check_only: bool,
 }
 
@@ -123,7 +123,7 @@ impl Directory {
         self.exclude_file_oid
     }
 
-    /// The mark of a directory that was only looked at to learn whether it holds untracked files.
+    /// Whether the directory was only looked at to learn whether it holds untracked files.
     pub fn check_only(&self) -> bool
         ensures { result ≡ (directory_value self.now).check_only }
     {
@@ -228,7 +228,7 @@ fn directories_of(
     if directories.len() != count {
         return Ok(None);
     }
-    if !read_marks(alloc, kind, rest, &mut directories)? {
+    if !read_bitmaps(alloc, kind, rest, &mut directories)? {
         return Ok(None);
     }
     Ok(Some(directories))

@@ -1,16 +1,19 @@
 -- What stands at the end of bytes whose front is gone.
-use Rattle.std.proofs.Common.{◌≡◌, ℕ, ◌+◌, ◌-◌, ◌≤◌, List, [], ◌∷◌, ◌++◌, length, take, drop, Bool, true, false, ltb, None, refl, sym, ap, ◌∙◌, arith}
+use Rattle.std.proofs.Common.{◌≡◌, ℕ, ◌+◌, ◌-◌, ◌≤◌, List, [], ◌∷◌, ◌++◌, length, take, drop, Bool, true, false, ltb, Option, Some, None, refl, sym, ap, ◌∙◌, arith}
 use Rattle.std.proofs.lemmas.List.{length-append}
 use Rattle.std.proofs.Math.Seq.{drop-append-add, take-append-add}
 use Rattle.std.proofs.lemmas.Bool.{le-ltb}
 use Rattle.std.specs.List.{starts_with}
-use Rattle.std.specs.Prelude.{nat_eq, MatchBool, ◌&&◌, ◌||◌, not}
+use Rattle.std.specs.Prelude.{nat_eq, MatchBool, ◌&&◌, ◌||◌, not, if◌then◌else◌}
+use Rattle.std.proofs.lemmas.Option.{same_Some}
 use Rattle.index_parts.specs.Id.{id_len, is_null, make_id}
 use Rattle.index_parts.specs.Digest.{digest}
 use Rattle.index_parts.specs.declared.hash.Kind.{Kind}
+use Rattle.index_parts.specs.declared.hash.ObjectId.{ObjectId}
 use Rattle.index_extensions.specs.EndMarker.{IsMarker}
 use Rattle.index_extensions.specs.WalkSteps.{marker_at, marker_start}
 use Rattle.index_extensions.proofs.EndMarks.{marked_none}
+use Rattle.index_format.specs.Answer.{trailer_checksum}
 use Rattle.index_window.specs.Intact.{needs_check, trailer_part, IsIntact}
 
 near_end : (before tail : List ℕ) (n : ℕ) → n ≤ length tail → drop (length (before ++ tail) - n) (before ++ tail) ≡ drop (length tail - n) tail
@@ -63,3 +66,21 @@ not_true false e = refl
 pub or_right : (a b : Bool) → b ≡ true → (a || b) ≡ true
 or_right true b e = refl
 or_right false b e = e
+
+-- ---- a trailer's checksum
+
+none_null : (b : Bool) (x : ObjectId) → (if b then None else Some x) ≡ None → b ≡ true
+none_null true x e = refl
+none_null false x e = absurd cc
+
+some_is : (b : Bool) (x y : ObjectId) → (if b then None else Some x) ≡ Some y → y ≡ x
+some_is true x y e = absurd cc
+some_is false x y e = sym (same_Some x y e)
+
+-- a trailer without a checksum is null
+pub null_trailer : (kind : Kind) (trailer : List ℕ) (o : Option ObjectId) → o ≡ trailer_checksum kind trailer → o ≡ None → is_null trailer ≡ true
+null_trailer kind trailer o e n = none_null (is_null trailer) (make_id kind trailer) (sym e ∙ n)
+
+-- the checksum of any other is the id with its bytes
+pub trailer_is : (kind : Kind) (trailer : List ℕ) (o : Option ObjectId) (id : ObjectId) → o ≡ trailer_checksum kind trailer → o ≡ Some id → id ≡ make_id kind trailer
+trailer_is kind trailer o id e s = some_is (is_null trailer) (make_id kind trailer) id (sym e ∙ s)

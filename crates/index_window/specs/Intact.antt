@@ -1,5 +1,5 @@
--- The digest of a file, compared before its bytes are read (gitformat-index, "Hash checksum over the content of the index file
--- before this checksum").
+-- The digest of a file, compared before its bytes are read (gitformat-index, "Hash checksum over the content of the
+-- index file before this checksum").
 use Rattle.std.specs.Prelude.{◌≡◌, ◌≢◌, ℕ, ◌-◌, ◌&&◌, not, nat_lt, Bool, true, List, length, take, drop, MatchBool}
 use Rattle.index_parts.specs.Digest.{digest}
 use Rattle.index_parts.specs.Id.{id_len, is_null, make_id}
@@ -15,7 +15,8 @@ trailer_part kind bytes = drop (length bytes - id_len kind) bytes
 
 -- the digest is compared: the caller didn't waive it, there is a trailer, and some byte of it isn't zero
 abbrev pub needs_check : Bool → Kind → List ℕ → Bool
-needs_check skip kind bytes = not skip && not (nat_lt (length bytes) (id_len kind)) && not (is_null (trailer_part kind bytes))
+needs_check skip kind bytes =
+    not skip && not (nat_lt (length bytes) (id_len kind)) && not (is_null (trailer_part kind bytes))
 
 -- the digest of the bytes, and the trailer, as ids
 abbrev pub digest_id : Kind → List ℕ → ObjectId
@@ -26,7 +27,8 @@ trailer_id kind bytes = make_id kind (trailer_part kind bytes)
 
 -- where the digest is compared, it is the trailer
 abbrev pub IsIntact : Bool → Kind → List ℕ → Type 0
-IsIntact skip kind bytes = MatchBool (needs_check skip kind bytes) (digest_id kind bytes ≡ trailer_id kind bytes) (Unit {0})
+IsIntact skip kind bytes =
+    MatchBool (needs_check skip kind bytes) (digest_id kind bytes ≡ trailer_id kind bytes) (Unit {0})
 
 -- the digest is compared, and it isn't the trailer
 abbrev pub IsBroken : Bool → Kind → List ℕ → Type 0

@@ -7,8 +7,8 @@ use Rattle.index_entries.specs.Entries.{AreEntries}
 use Rattle.index_entries.specs.Record.{Record, AreBytes}
 use Rattle.index_window.specs.declared.windows.Plan.{Plan}
 
--- where the reading of a file stands: what is left to read, where it is known; the hasher; the bytes at hand; how many of them
--- were decoded; and the records so far
+-- where the reading of a file stands: what is left to read, where it is known; the hasher; the bytes at hand; how many
+-- of them were decoded; and the records so far
 pub record Moment : Type 0 where
   pub left : Option (List ℕ)
   pub hasher : Hasher
@@ -16,8 +16,8 @@ pub record Moment : Type 0 where
   pub decoded : ℕ
   pub records : List Record
 
--- So many bytes more came to hand. Those that left the window were hashed, if they are to be. What was decoded, up to a place in
--- the window, was and is the front of whatever bytes end with the window.
+-- So many bytes more came to hand. Those that left the window were hashed, if they are to be. What was decoded, up to a
+-- place in the window, was and is the front of whatever bytes end with the window.
 pub record IsReadOn (plan : Plan) (old new : Moment) (count : ℕ) : Type 0 where
   pub more : List ℕ
   pub taken : List ℕ
@@ -26,6 +26,8 @@ pub record IsReadOn (plan : Plan) (old new : Moment) (count : ℕ) : Type 0 wher
   pub are_bytes : AreBytes taken
   pub consumed : Consumes old.left new.left more
   pub kind_stays : hasher_kind new.hasher ≡ hasher_kind old.hasher
-  pub hashed : plan.is_hashed ≡ true → (message : List ℕ) → Holds old.hasher message → Holds new.hasher (message ++ taken)
-  pub read : (all : List ℕ) → AreEntries plan.version plan.kind None all old.records (drop old.decoded old.window) → AreEntries plan.version plan.kind None (all ++ more) new.records (drop new.decoded new.window)
+  pub hashed : plan.is_hashed ≡ true → (message : List ℕ) → Holds old.hasher message
+      → Holds new.hasher (message ++ taken)
+  pub read : (all : List ℕ) → AreEntries plan.version plan.kind None all old.records (drop old.decoded old.window)
+      → AreEntries plan.version plan.kind None (all ++ more) new.records (drop new.decoded new.window)
   pub inside : new.decoded ≤ length new.window

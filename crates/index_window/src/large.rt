@@ -11,7 +11,7 @@ use crate::ReadOptions;
 use crate::windows::{KEPT_LEN, lacks_marker, offset_in, windowed};
 use index_format::Parts;
 use index_parts::hash::{Kind, ObjectId};
-use index_parts::read;
+use index_reading::trailer;
 use std::alloc::Global;
 use std::fs::OpenFile;
 use std::io;
@@ -32,7 +32,7 @@ fn end_of<F: Read + Seek>(alloc: Global, file: &mut F, len: u64) -> io::Result<V
 /// Whether the last bytes, of which an id of the kind has as many, are all zero.
 fn ends_in_null(kind: Kind, end: &[u8]) -> bool {
     let len = kind.len_in_bytes();
-    end.len() >= len && read::is_null(&end[end.len() - len..])
+    end.len() >= len && trailer::checksum(kind, &end[end.len() - len..]).is_none()
 }
 
 /// Reads a plain file in windows, and gives the parts of the index in it, and the trailer's id, or None where that is

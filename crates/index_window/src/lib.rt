@@ -1,5 +1,5 @@
 //! Reading an index file from the disk: in windows, where entries are decoded from a window of the file that is used
-//! again, while it is hashed, and only what follows them is kept whole; or whole.
+//! again, while it is hashed, and only what follows them is held whole; or whole.
 #![tactic(auto)]
 
 use index_format::decode;

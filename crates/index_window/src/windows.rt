@@ -21,9 +21,9 @@ use index_entry_reading::entries::{FirstEntries, Read as ReadEntries, entries_in
 use index_extensions::end_of_index_entry;
 use index_format::Parts;
 use index_parts::hash::{Hasher, Kind, ObjectId};
-use index_parts::read;
 use index_parts::util::from_be_u32;
 use index_reading::decode::{Declared, ReadAs, declared_by, read_ending};
+use index_reading::trailer;
 use std::alloc::{AllocError, Global};
 use std::io;
 use std::io::Read;
@@ -31,7 +31,7 @@ use std::io::Read;
 /// How many bytes are read at once.
 const WINDOW_LEN: usize = 262_144;
 
-/// So many of the bytes that were decoded are kept: an end marker and the trailer have room there.
+/// So many of the bytes that were decoded stay in the window: an end marker and the trailer have room there.
 pub const KEPT_LEN: usize = 52;
 
 /// What is read, and whether it is hashed.
@@ -153,7 +153,8 @@ fn read_entries<R: Read>(
 
 /// Whether no end marker stands where one would. It may say no where none stands.
 pub fn lacks_marker(tail: &[u8]) -> bool
-    ensures { result ≡ true → (kind : Kind) (before : List ℕ) → IsMarker kind (before ++ tail.now) None }
+    ensures { result ≡ true → (kind : Kind) (before : List ℕ)
+        → IsMarker kind (before ++ tail.now) None }
 {
     if tail.len() < KEPT_LEN {
         return false;
@@ -180,8 +181,8 @@ fn is_marked(plan: Plan, tail: &[u8]) -> bool
     let Some(offset) = plan.offset else {
         return lacks_marker(tail);
     };
-    let front = plan.len.saturating_sub(tail.len());
-    match end_of_index_entry::decode_behind(front, tail, plan.kind) {
+    let skipped = plan.len.saturating_sub(tail.len());
+    match end_of_index_entry::decode_behind(skipped, tail, plan.kind) {
         Some(found) => found == offset,
         None => false,
     }
@@ -199,11 +200,14 @@ fn is_intact(plan: Plan, mut hasher: Hasher, tail: &[u8], skip_hash: bool) -> bo
         return false;
     }
     let (body, trailer) = tail.split_at(tail.len() - len);
-    if skip_hash || read::is_null(trailer) {
+    if skip_hash {
         return true;
     }
+    let Some(expected) = trailer::checksum(plan.kind, trailer) else {
+        return true;
+    };
     hash_piece(plan, &mut hasher, body);
-    plan.is_hashed && hasher.finalize() == ObjectId::of_kind(plan.kind, trailer)
+    plan.is_hashed && hasher.finalize() == expected
 }
 
 /// The parts of entries that were read, and of what follows them in the window from a place on; and the trailer's id,

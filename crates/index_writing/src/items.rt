@@ -35,7 +35,7 @@ fn put_tree<W: Out>(tree: Option<&Tree>, len: Option<u32>, out: &mut W) -> io::R
     }
 }
 
-/// Writes the mark of a sparse index, where it is one.
+/// Writes the extension of a sparse index, where it is one.
 fn put_sparse<W: Out>(is_sparse: bool, out: &mut W) -> io::Result<()>
     requires { W.failed out.old ≡ false }
     ensures { Puts W.Out out.old out.new result
@@ -47,7 +47,8 @@ fn put_sparse<W: Out>(is_sparse: bool, out: &mut W) -> io::Result<()>
     Ok(())
 }
 
-/// Writes the end marker behind a cached tree, the mark of a sparse index, or both; nothing where none was written.
+/// Writes the end marker behind a cached tree, the extension of a sparse index, or both; nothing where none was
+/// written.
 fn put_marker<W: Out>(
     kind: Kind,
     offset: u32,

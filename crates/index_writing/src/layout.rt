@@ -48,7 +48,7 @@ fn tree_len(len: Option<u32>) -> u64
     }
 }
 
-/// How many bytes the mark of a sparse index takes, where it is one.
+/// How many bytes the extension of a sparse index takes, where it is one.
 fn sparse_len(is_sparse: bool) -> u64
     ensures { result ≡ sparse_len is_sparse }
 {

@@ -110,10 +110,8 @@ fn shared_at<R: Files>(
     };
     let mut options = reading.options;
     options.expected_checksum = Some(id);
-    match read_file(alloc, file, shared, ReadOptions { options, ..reading }) {
-        Ok(index) => Ok(index.into_parts().0),
-        Err(e) => Err(e),
-    }
+    let index = read_file(alloc, file, shared, ReadOptions { options, ..reading })?;
+    Ok(index.into_parts().0)
 }
 
 /// Takes the file's link out, and merges what it links to.
@@ -185,10 +183,8 @@ fn read_opened<R: Files>(
         }
         Err(e) => return Err(read_fault(path, e)),
     };
-    match read_file(alloc, file, path, reading) {
-        Ok(index) => follow(rt, alloc, index, reading),
-        Err(e) => Err(e),
-    }
+    let index = read_file(alloc, file, path, reading)?;
+    follow(rt, alloc, index, reading)
 }
 
 impl File {

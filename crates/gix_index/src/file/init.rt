@@ -144,7 +144,7 @@ impl File {
     /// First the digest of all bytes but the trailer is compared with the trailer: [`decode::Error::Verify`] names
     /// the digest as `actual`. That isn't done with `skip_hash`, where the trailer is null, or where there are fewer
     /// bytes than a trailer has. Then comes what [`State::from_bytes`] answers; its want of memory is
-    /// [`Error::Memory`]. The trailer is kept as the checksum, or None where it is null.
+    /// [`Error::Memory`]. The trailer is the checksum, or None where it is null.
     ///
     /// A split index's link to its shared index isn't followed: such a state has only the entries of its own, some
     /// of them with an empty path, and a file written of it has no link.

@@ -26,7 +26,8 @@ pub enum Error {
     #[error("the index file has fewer bytes than the checksum at its end")]
     TooShort,
     /// The digest of its bytes isn't the checksum.
-    #[error("the index file has changed since it was read or written: its digest is {}, and was {}", .0.actual, .0.expected)]
+    #[error("the index file has changed since it was read or written: \
+         its digest is {}, and was {}", .0.actual, .0.expected)]
     Verify(hash::verify::Error),
     /// A growth was refused.
     #[error("out of memory while reading an index file again")]

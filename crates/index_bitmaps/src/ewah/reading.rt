@@ -5,7 +5,7 @@ ghost use Rattle.index_bitmaps.specs.Bitmap.{bitmap, AreWords, IsBitmap, Lacks, 
 ghost use Rattle.index_bitmaps.specs.declared.ewah.reading.Error.TheVariants.{Memory};
 
 use super::Vec;
-use index_parts::util::{read_u32, read_u64};
+use index_parts::read;
 use std::alloc::{AllocError, AllocFailed, Global};
 use std::vec::Vec as Words;
 use thiserror::Error;
@@ -62,10 +62,10 @@ fn parts_of(bytes: &[u8]) -> Result<Parts<'_>, Error>
     ensures size { IfOk result (λ p. length p.words.now ≡ 8 * p.len) }
     ensures fault { IfErr result (λ e. Lacks e bytes.now) }
 {
-    let Some((num_bits, rest)) = read_u32(bytes) else {
+    let Some((num_bits, rest)) = read::u32(bytes) else {
         return Err(Error::NumBits);
     };
-    let Some((len, rest)) = read_u32(rest) else {
+    let Some((len, rest)) = read::u32(rest) else {
         return Err(Error::Length);
     };
     let size = 8 * len as usize;
@@ -73,7 +73,7 @@ fn parts_of(bytes: &[u8]) -> Result<Parts<'_>, Error>
         return Err(Error::Words);
     }
     let (words, rest) = rest.split_at(size);
-    let Some((_, rest)) = read_u32(rest) else {
+    let Some((_, rest)) = read::u32(rest) else {
         return Err(Error::LastRun);
     };
     Ok(Parts {
@@ -91,7 +91,7 @@ fn words_of(alloc: Global, len: u32, bytes: &[u8]) -> Result<Words<u64>, AllocEr
 {
     let mut words = Words::with_capacity(alloc, len as usize)?;
     let mut rest = bytes;
-    while let Some((word, after)) = read_u64(rest) {
+    while let Some((word, after)) = read::u64(rest) {
         words.push(word)?;
         rest = after;
     }

@@ -88,7 +88,8 @@ pub struct EntryRef<'a> {
 
 /// Bytes of a tree object that no entry begins.
 #[derive(Clone, Copy, Debug, PartialEq, Eq, Error)]
-#[error("the tree object is malformed: an entry is a mode in octal digits, a space, a name, a NUL and an id")]
+#[error("the tree object is malformed: an entry is a mode in octal digits, a space, a name, \
+     a NUL and an id")]
 pub struct Malformed;
 
 /// The entries of a tree object, one after another, without a copy ("Pro Git", "Git Objects").

@@ -52,17 +52,23 @@ impl Display for Text<'_> {
             return write!(f, "{{}}");
         }
         for run in self.0.chunk_by(|byte, next| byte == next) {
-            let is_long = run.len() >= LONG;
-            let shown = if is_long { 1 } else { run.len() };
-            for byte in run.iter().take(shown) {
-                sign(f, *byte)?;
-            }
-            if is_long {
-                write!(f, "{{{}}}", run.len())?;
-            }
+            signs(f, run)?;
         }
         Ok(())
     }
+}
+
+/// The text of equal bytes.
+fn signs<W: Write>(f: &mut fmt::Formatter<W>, run: &[u8]) -> fmt::Result {
+    let is_long = run.len() >= LONG;
+    let shown = if is_long { 1 } else { run.len() };
+    for byte in run.iter().take(shown) {
+        sign(f, *byte)?;
+    }
+    if is_long {
+        write!(f, "{{{}}}", run.len())?;
+    }
+    Ok(())
 }
 
 fn sign<W: Write>(f: &mut fmt::Formatter<W>, byte: u8) -> fmt::Result {

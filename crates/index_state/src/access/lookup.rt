@@ -179,8 +179,7 @@ impl State {
         lookup: &AccelerateLookup<'_>,
     ) -> Option<&Entry>
         requires { lookup.now ≡ records self.now }
-        ensures { option_copied result
-            ≡ option_and_then (slice_get (entries_of self.now))
+        ensures { option_copied result ≡ option_and_then (slice_get (entries_of self.now))
             (folded_place ignore_case path.now (records self.now)) }
     {
         let place = lookup.search_path_icase(path, ignore_case).0?;
@@ -212,8 +211,7 @@ impl State {
         lookup: &AccelerateLookup<'_>,
     ) -> Option<&Entry>
         requires { lookup.now ≡ records self.now }
-        ensures { option_copied result
-            ≡ option_and_then (slice_get (entries_of self.now))
+        ensures { option_copied result ≡ option_and_then (slice_get (entries_of self.now))
             (folded_closest ignore_case directory.now (records self.now)) }
     {
         let place = lookup.search_directory_icase(directory, ignore_case).0?;

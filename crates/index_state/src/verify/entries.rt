@@ -12,7 +12,8 @@ use thiserror::Error;
 #[derive(Debug, Drop, Error)]
 pub enum Error {
     /// An entry isn't above the one before it, by path and then by stage.
-    #[error("entry {current_index}, {current_path:?} of stage {current_stage:?}, follows {previous_path:?} of stage {previous_stage:?}, but entries increase by path and stage")]
+    #[error("entry {current_index}, {current_path:?} of stage {current_stage:?}, follows \
+         {previous_path:?} of stage {previous_stage:?}, but entries increase by path and stage")]
     OutOfOrder {
         /// Its place, counted from 0.
         current_index: usize,

@@ -2,8 +2,8 @@ use Rattle.std.proofs.Common.{map, ◌∙◌, length, sym, ap, subst}
 use Rattle.std.specs.List.Sorted.{IsPermutation}
 use Rattle.std.proofs.lemmas.List.{length-map}
 use Rattle.index_lookups.specs.Folded.{is_at_folded}
-use Rattle.index_lookups.specs.NameSteps.{named_value, path_names, AreNamedIn}
-use Rattle.index_lookups.proofs.TableMade.{keys_are, table_made, path_keys_length, paths_pass, paths_have, paths_alike}
+use Rattle.index_lookups.specs.NameSteps.{named_value, path_names}
+use Rattle.index_lookups.proofs.TableMade.{keys_are, table_made, path_keys_length, paths_pass, paths_have, paths_alike, AreNamedIn}
 use Rattle.index_lookups.proofs.Visits.{visits_sorted}
 use Rattle.index_lookups.proofs.names.path_table.Goals as goal
 

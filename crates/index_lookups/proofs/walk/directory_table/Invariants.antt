@@ -1,6 +1,7 @@
 use Rattle.std.proofs.Common.{◌≡◌, map, take}
 use Rattle.index_lookups.specs.NameSteps.{named_value}
-use Rattle.index_lookups.specs.WalkSteps.{span_value, start_value}
+use Rattle.index_lookups.specs.WalkSteps.{span_value}
+use Rattle.index_lookups.proofs.Extents.{start_value}
 use Rattle.index_lookups.proofs.walk.directory_table.Given as goal
 
 abbrev pub invariant-loop-span : goal.invariant-loop-span

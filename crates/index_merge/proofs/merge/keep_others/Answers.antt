@@ -4,8 +4,8 @@ use Rattle.index_entries.specs.Record.{IsPlaced}
 use Rattle.index_merge.proofs.Merging.{stays, kept_all, marked_placed}
 use Rattle.index_merge.proofs.merge.keep_others.Goals as goal
 
-pub returns-clause-kept : goal.returns-clause-kept
-returns-clause-kept c = rw c.drop_removed.ensures (kept_all c.args.storage.now c.args.delete.now.words.items c.args.entries.now.items c.mark_deleted.new.entries.items c.in_ok-mark_deleted.ensures.marked)
+pub returns-clause-retained : goal.returns-clause-retained
+returns-clause-retained c = rw c.drop_removed.ensures (kept_all c.args.storage.now c.args.delete.now.words.items c.args.entries.now.items c.mark_deleted.new.entries.items c.in_ok-mark_deleted.ensures.marked)
 
 pub returns-clause-placed : goal.returns-clause-placed
 returns-clause-placed c =

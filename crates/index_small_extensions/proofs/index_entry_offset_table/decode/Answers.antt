@@ -3,6 +3,7 @@ use Rattle.std.specs.Option.{option_map}
 use Rattle.std.proofs.lemmas.Bool.{eqb-false, eqb-true}
 use Rattle.std.proofs.lemmas.Result.{IfErr-weaker, IfOk-weaker}
 use Rattle.index_parts.specs.Numbers.{StartsWithNumber}
+use Rattle.index_parts.proofs.Readers.{number_takes}
 use Rattle.index_extensions.specs.ExtensionValue.{IsRead}
 use Rattle.index_small_extensions.specs.OffsetTable.{AreEntryBlocks, IsTable}
 use Rattle.index_small_extensions.specs.declared.index_entry_offset_table.Offset.{Offset}
@@ -17,14 +18,14 @@ table_read bytes n rest s one left None h = λ blocks t. h blocks (table_parts b
 
 pub returns-then-version-ne-VERSION-clause-read : goal.returns-then-version-ne-VERSION-clause-read
 returns-then-version-ne-VERSION-clause-read c = λ blocks h.
-    let t = table_parts c.args.«data».now blocks c.in-Some.version c.in-Some.rest.now h c.in-Some.ensures.found in
+    let t = table_parts c.args.«data».now blocks c.in-Some.version c.in-Some.rest.now h (number_takes 4 c.args.«data».now (c.in-Some.version, c.in-Some.rest.now) (sym c.in-Some.ensures)) in
     elim c.then-version-ne-VERSION.branch [
       | then-version-ne-VERSION-via-then-version-ne-VERSION w ↦ w.if-version-ne-VERSION.true t.0
       | then-version-ne-VERSION-via-else-version-ne-VERSION+then-is_empty w ↦ t.2 (eqb-true _ _ (sym w.if-is_empty.ensures))
     ]
 
 pub returns-clause-read : goal.returns-clause-read
-returns-clause-read c = IfOk-weaker c.entry_blocks_of.result _ _ (λ found h. table_read c.args.«data».now c.in-Some.version c.in-Some.rest.now c.in-Some.ensures.found c.if-version-ne-VERSION.false (eqb-false _ _ (sym c.if-is_empty.ensures)) (option_map (λ v. v.items) found) h) c.entry_blocks_of.ensures.read
+returns-clause-read c = IfOk-weaker c.entry_blocks_of.result _ _ (λ found h. table_read c.args.«data».now c.in-Some.version c.in-Some.rest.now (number_takes 4 c.args.«data».now (c.in-Some.version, c.in-Some.rest.now) (sym c.in-Some.ensures)) c.if-version-ne-VERSION.false (eqb-false _ _ (sym c.if-is_empty.ensures)) (option_map (λ v. v.items) found) h) c.entry_blocks_of.ensures.read
 
 pub returns-clause-memory : goal.returns-clause-memory
-returns-clause-memory c = IfErr-weaker c.entry_blocks_of.result _ _ (λ error h. record { blocks = h.0; is_table = table_from c.args.«data».now h.0 c.in-Some.version c.in-Some.rest.now c.in-Some.ensures.found c.if-version-ne-VERSION.false (eqb-false _ _ (sym c.if-is_empty.ensures)) h.1 }) c.entry_blocks_of.ensures.memory
+returns-clause-memory c = IfErr-weaker c.entry_blocks_of.result _ _ (λ error h. record { blocks = h.0; is_table = table_from c.args.«data».now h.0 c.in-Some.version c.in-Some.rest.now (number_takes 4 c.args.«data».now (c.in-Some.version, c.in-Some.rest.now) (sym c.in-Some.ensures)) c.if-version-ne-VERSION.false (eqb-false _ _ (sym c.if-is_empty.ensures)) h.1 }) c.entry_blocks_of.ensures.memory

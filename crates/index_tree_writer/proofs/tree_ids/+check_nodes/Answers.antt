@@ -18,9 +18,9 @@ returns-in_err-check_nodes-clause-fault t c =
     let found = option_map (λ t. node_of t.now) c.child_of.result in
     let name = c.as_slice-name.result.now in
     let child = child_given kind staged names name given found g (c.child_of.ensures (kind, staged, names, g)) in
-    let front = c.in_ok-extend_from_slice-2.ensures.items ∙ front_more names name c.loop-child.front.items c.extend_from_slice.new.self.items (c.loop-child.invariant.front ∙ f) c.in_ok-extend_from_slice.ensures.items in
+    let parent = c.in_ok-extend_from_slice-2.ensures.items ∙ front_more names name c.loop-child.parent.items c.extend_from_slice.new.self.items (c.loop-child.invariant.parent ∙ f) c.in_ok-extend_from_slice.ensures.items in
     child_fault kind staged names c.args.tree.now c.deref-child-items.result.now c.deref-child-items.ensures.value c.loop-child.child-index (c.loop-child.invariant.right kind staged names g) c.child-item.result c.loop-child-test.true c.child-item.is name c.as_slice-name.ensures
-    c.in_err-check_nodes.field-0.0 (c.in_ok-check_node.ensures.ok kind staged names g) (c.in_err-check_nodes.ensures.fault kind staged (names ++ name ∷ []) child front))
+    c.in_err-check_nodes.field-0.0 (c.in_ok-check_node.ensures.ok kind staged names g) (c.in_err-check_nodes.ensures.fault kind staged (names ++ name ∷ []) child parent))
 
 pub loop-child-preserved : goal.loop-child-preserved
 loop-child-preserved t c =
@@ -28,8 +28,8 @@ loop-child-preserved t c =
     let found = option_map (λ t. node_of t.now) c.child_of.result in
     let name = c.as_slice-name.result.now in
     record {
-      front = front_back c.loop-child.front.items c.extend_from_slice.new.self.items c.extend_from_slice-in-loop-child.new.self.items c.check_nodes.new.front.items c.truncate.new.self.items c.args.front.now.items name c.len-len.result
-          c.truncate.ensures.items c.in_ok-check_nodes.ensures.front c.in_ok-extend_from_slice-2.ensures.items c.in_ok-extend_from_slice.ensures.items c.loop-child.invariant.front (c.len-len.ensures ∙ c.args.front.now.ok.0);
+      parent = front_back c.loop-child.parent.items c.extend_from_slice.new.self.items c.extend_from_slice-in-loop-child.new.self.items c.check_nodes.new.parent.items c.truncate.new.self.items c.args.parent.now.items name c.len-len.result
+          c.truncate.ensures.items c.in_ok-check_nodes.ensures.parent c.in_ok-extend_from_slice-2.ensures.items c.in_ok-extend_from_slice.ensures.items c.loop-child.invariant.parent (c.len-len.ensures ∙ c.args.parent.now.ok.0);
       right = λ kind staged names g.
           let child = child_given kind staged names name given found g (c.child_of.ensures (kind, staged, names, g)) in
           more_right kind staged names c.args.tree.now c.deref-child-items.result.now c.deref-child-items.ensures.value c.loop-child.child-index (c.loop-child.invariant.right kind staged names g) c.child-item.result c.loop-child-test.true c.child-item.is name c.as_slice-name.ensures

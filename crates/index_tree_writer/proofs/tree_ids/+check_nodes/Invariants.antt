@@ -7,9 +7,9 @@ use Rattle.index_tree_writer.specs.TreeIds.{IsRight, spots_below}
 use Rattle.index_tree_writer.specs.TreeIdsSteps.{GivesAt}
 use Rattle.index_tree_writer.proofs.tree_ids.+check_nodes.Given as goal
 
--- the front is as it was, and the children so far are right with all below them
+-- the path is as it was, and the children so far are right with all below them
 abbrev pub invariant-loop-child : goal.invariant-loop-child
 invariant-loop-child l = record {
-  front : l.front.items ≡ l.initial.front.items;
+  parent : l.parent.items ≡ l.initial.parent.items;
   right : (kind : Kind) (staged : List Staged) (names : List (List ℕ)) → GivesAt kind staged names (option_map (λ t. node_of t.now) l.given) → All (IsRight kind staged) (spots_below names (nodes_from (map node_of (take l.child-index l.child-items))));
 }

@@ -6,4 +6,4 @@ use Rattle.index_tree_writer.proofs.write.end_of.Given as goal
 
 -- those so far go on so
 abbrev pub invariant-loop-place : goal.invariant-loop-place
-invariant-loop-place l = All (Goes l.front l.shown) (staged_in (slice_range l.entries l.start l.place))
+invariant-loop-place l = All (Goes l.prefix_len l.shown) (staged_in (slice_range l.entries l.start l.place))

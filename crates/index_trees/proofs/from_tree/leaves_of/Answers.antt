@@ -3,7 +3,7 @@ use Rattle.std.proofs.lemmas.Result.{err_from_is_err_and}
 use Rattle.index_trees.proofs.LeavesOrder.{leaves_ordered}
 use Rattle.index_trees.proofs.Listings.{says_also}
 use Rattle.index_trees.proofs.Trees.{way_begins, way_ends, way_fails, way_limit, way_reaches, way_sound, way_unread}
-use Rattle.index_trees.specs.Leaves.{AreLeaves, IsUnread}
+use Rattle.index_trees.specs.Leaves.{AreLeaves, IsUnreadTree}
 use Rattle.index_trees.specs.LeafSteps.{Ends, WalkHasFault, Reaches, EndsOrReaches}
 use Rattle.index_trees.proofs.from_tree.leaves_of.Goals as goal
 
@@ -26,7 +26,7 @@ returns-in_err-bytes-clause-fault g c =
     let kind = c.kind-kind.result in
     let left : c.args.max_objects - c.loop.counter ≡ suc (c.args.max_objects - (c.loop.counter + 1)) = omega (arith, c.loop-test.true) in
     let p = err_from_is_err_and c.from_residual.result c.from_residual.ensures.1 in
-    rw (p.1, p.2) (says_also c.in_err-bytes.field-0.0 (IsUnread find kind c.loop.next) (λ f. AreLeaves find check c.args.tree.now c.args.max_objects (Err f))
+    rw (p.1, p.2) (says_also c.in_err-bytes.field-0.0 (IsUnreadTree find kind c.loop.next) (λ f. AreLeaves find check c.args.tree.now c.args.max_objects (Err f))
     (λ f u. way_unread find check kind c.args.tree.now c.args.max_objects c.kind-kind.ensures (c.args.max_objects - c.loop.counter) c.loop.walk c.loop.next c.loop.invariant.way _ left f u)
     c.in_err-bytes.ensures.fault)
 

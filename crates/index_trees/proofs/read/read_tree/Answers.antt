@@ -2,7 +2,7 @@ use Rattle.std.proofs.Common.{rules, ℕ, Some, ap, sym, subst, ◌∙◌}
 use Rattle.index_objects.specs.TreeObject.{IsMalformedTree}
 use Rattle.index_objects.specs.declared.object.Kind.TheVariants.{Tree, Blob, Commit, Tag}
 use Rattle.index_trees.proofs.Objects.{found_none, found_some, found_fault}
-use Rattle.index_trees.specs.Leaves.{Find, IsUnread, missing, failed, malformed, other}
+use Rattle.index_trees.specs.Leaves.{Find, IsUnreadTree, missing, failed, malformed, other}
 use Rattle.index_trees.proofs.read.read_tree.Goals as goal
 
 pub returns-in-Ok-None-clause-fault : goal.returns-in-Ok-None-clause-fault
@@ -10,7 +10,7 @@ returns-in-Ok-None-clause-fault g c = missing (found_none (g.F.Find.found c.args
 
 pub returns-in-Err-Fault-clause-fault : goal.returns-in-Err-Fault-clause-fault
 returns-in-Err-Fault-clause-fault g c =
-    subst (λ (number : ℕ). IsUnread (g.F.Find.found c.args.objects.now) c.args.kind c.args.id (Find c.args.id number)) (sym c.in-Err-Fault.fault-is)
+    subst (λ (number : ℕ). IsUnreadTree (g.F.Find.found c.args.objects.now) c.args.kind c.args.id (Find c.args.id number)) (sym c.in-Err-Fault.fault-is)
     (failed c.in-Err-Fault.fault (found_fault (g.F.Find.found c.args.objects.now c.args.id) c.find.new.buf.items c.in-Err-Fault.field-0 c.in-Err-Fault.fault c.in-Err-Fault.field-0-is c.in-Err-Fault.ensures))
 
 pub returns-then-not-is_whole-clause-fault : goal.returns-then-not-is_whole-clause-fault

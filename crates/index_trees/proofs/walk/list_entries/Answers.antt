@@ -7,7 +7,7 @@ use Rattle.index_objects.specs.declared.object.tree.EntryKind.TheVariants as kin
 use Rattle.index_trees.proofs.Levels.{prefix_kept}
 use Rattle.index_trees.proofs.Listings.{listing_ends, listing_leaf, listing_refused, listing_tree, says_also}
 use Rattle.index_trees.specs.Leaves.{leaf_of}
-use Rattle.index_trees.specs.LeafSteps.{IsRefused, ListsFault, last_leaf, listed_records}
+use Rattle.index_trees.specs.LeafSteps.{IsRefusedName, ListsFault, last_leaf, listed_records}
 use Rattle.index_trees.proofs.walk.list_entries.Goals as goal
 
 pub returns-in_default-entry-clause-lists : goal.returns-in_default-entry-clause-lists
@@ -35,7 +35,7 @@ returns-in_err-check_name-clause-fault g c =
     let first : IsTreeEntry kind left (tree_entry_of c.in-Ok.entry) after = gives_entry (kind_of_entries c.loop-entry.entries) kind left after c.in-Some.entry c.in-Ok.entry h.same_kind c.in-Ok.is c.in-Some.ensures.steps.1 in
     let path : c.as_slice.result.now ≡ prefix ++ c.in-Ok.entry.filename.now = c.as_slice.ensures.value ∙ c.in_ok-set_name.ensures.path ∙ ap (λ (l : List ℕ). l ++ c.in-Ok.entry.filename.now) h.prefix in
     let p = err_from_is_err_and c.from_residual-in_err-check_name.result c.from_residual-in_err-check_name.ensures.1 in
-    rw (p.1, p.2) (says_also c.in_err-check_name.field-0.0 (IsRefused check c.as_slice.result.now c.in-Ok.entry.filename.now c.kind-entry_kind.result) (ListsFault check kind c.args.listed.now prefix c.args.bytes.now)
+    rw (p.1, p.2) (says_also c.in_err-check_name.field-0.0 (IsRefusedName check c.as_slice.result.now c.in-Ok.entry.filename.now c.kind-entry_kind.result) (ListsFault check kind c.args.listed.now prefix c.args.bytes.now)
     (λ f. listing_refused check kind c.args.listed.now c.loop-entry.listed prefix c.args.bytes.now left h.listing (tree_entry_of c.in-Ok.entry) after first c.as_slice.result.now c.kind-entry_kind.result f c.kind-entry_kind.ensures path)
     c.in_err-check_name.ensures.fault)
 

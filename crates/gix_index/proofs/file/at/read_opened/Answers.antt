@@ -3,6 +3,3 @@ use Rattle.gix_index.proofs.file.at.read_opened.Goals as goal
 
 pub returns-in-Err-2-clause-fault : goal.returns-in-Err-2-clause-fault
 returns-in-Err-2-clause-fault g c = of_own _ _ _ _ _ (c.read_fault.ensures _ _ _ _)
-
-pub returns-in-Err-read_file-clause-fault : goal.returns-in-Err-read_file-clause-fault
-returns-in-Err-read_file-clause-fault g c = of_own _ _ _ _ _ c.in-Err-read_file.ensures.fault

@@ -1,11 +1,12 @@
 use Rattle.std.proofs.Common.{length}
-use Rattle.index_trees.specs.LeafSteps.{ComesFrom, IsSound}
+use Rattle.index_trees.specs.LeafSteps.{IsSoundWalk}
+use Rattle.index_trees.proofs.Walks.{ComesFrom}
 use Rattle.index_trees.proofs.walk.Walk.next_tree.Given as goal
 
 -- what is left of the walk comes to what it came to at first
 abbrev pub invariant-loop-level : goal.invariant-loop-level
 invariant-loop-level g l = record {
-  sound : IsSound l.fn.kind l.self;
+  sound : IsSoundWalk l.fn.kind l.self;
   comes : ComesFrom (g.C.ComponentCheck.refusal l.check) l.fn.kind l.initial.self l.self;
 }
 
