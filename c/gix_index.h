@@ -1,4 +1,4 @@
-/* The git index for C: tables of its entries, read from the bytes of an index file.
+/* The git index for C: tables of its entries, read from the bytes of an index file and written as such.
  *
  * Link libindex_c.a, and behind it liblibc_c.a (malloc, realloc and free), as gix_index.pc says.
  *
@@ -27,10 +27,10 @@ extern "C" {
 /* ---- Statuses: what a call answers */
 
 #define GIX_INDEX_DONE 0u         /* it did what it says */
-#define GIX_INDEX_REFUSED 1u      /* the bytes are no index of this kind, are damaged, or fail the check: the summary
-                                   * and the text say why */
+#define GIX_INDEX_REFUSED 1u      /* the bytes are no index of this kind, are damaged, or fail the check; or a file
+                                   * can't hold the table: the fault says why */
 #define GIX_INDEX_MEMORY 2u       /* malloc or realloc gave nothing */
-#define GIX_INDEX_NO_ROOM 3u      /* the rows or the bytes for paths don't suffice: the summary says how many it takes */
+#define GIX_INDEX_NO_ROOM 3u      /* the caller's room doesn't suffice: how much it takes is told */
 #define GIX_INDEX_WRONG_NUMBER 4u /* a number that was passed is none of those that the call takes */
 #define GIX_INDEX_NONE 5u         /* nothing in the table is what was asked for */
 
@@ -55,10 +55,11 @@ extern "C" {
 #define GIX_INDEX_STAGE_MASK 0x3000u
 #define GIX_INDEX_EXTENDED 0x4000u     /* the file has a second word of flags of the entry */
 #define GIX_INDEX_ASSUME_VALID 0x8000u
+#define GIX_INDEX_REMOVE 0x20000u /* in memory alone: gix_index_write leaves the row out */
 #define GIX_INDEX_INTENT_TO_ADD 0x20000000u
 #define GIX_INDEX_SKIP_WORKTREE 0x40000000u
 
-/* ---- Faults: what a summary says with GIX_INDEX_REFUSED */
+/* ---- Faults: what is told with GIX_INDEX_REFUSED */
 
 #define GIX_INDEX_FAULT_HEADER 1u    /* no header of an index, or it declares more entries than the bytes can hold */
 #define GIX_INDEX_FAULT_VERSION 2u   /* the version isn't 2, 3 or 4 */
@@ -69,9 +70,13 @@ extern "C" {
 #define GIX_INDEX_FAULT_TRAILER 7u   /* the bytes behind all entries and extensions aren't as many as the trailer has */
 #define GIX_INDEX_FAULT_DIGEST 8u    /* the digest isn't the trailer: damaged, of the other kind, or no index */
 /* (9 is a fault of files, which no call of these opens) */
-#define GIX_INDEX_FAULT_ORDER 10u       /* gix_index_check alone: the entry at the place isn't above the one before it */
+#define GIX_INDEX_FAULT_ORDER 10u       /* gix_index_check, gix_index_write: the entry at the place isn't above the one
+                                         * before it */
 #define GIX_INDEX_FAULT_CACHED_TREE 11u /* gix_index_check alone: the cached tree doesn't hold together, or counts more
                                          * entries than there are */
+#define GIX_INDEX_FAULT_ROW 12u         /* gix_index_write alone: the row at the place can't stand in a file */
+#define GIX_INDEX_FAULT_COUNT 13u       /* gix_index_write alone: there are more rows than 4294967295 */
+#define GIX_INDEX_FAULT_LENGTH 14u      /* gix_index_write alone: the file would have more bytes than 4294967295 */
 
 /* ---- Tables */
 
@@ -112,6 +117,21 @@ typedef struct {
     size_t start;
     size_t end;
 } gix_index_places;
+
+/* How gix_index_write is to write. */
+typedef struct {
+    uint32_t kind;    /* of the ids and of the digest, as each row has it */
+    uint32_t version; /* 4; or 2 or 3, which both ask for 3 where a row has GIX_INDEX_EXTENDED, and else for 2 */
+    bool skip_hash;   /* zeros in place of the digest, as git's index.skipHash asks */
+} gix_index_form;
+
+/* What gix_index_write says beside its status. It is written with each status; what isn't named there is 0. */
+typedef struct {
+    size_t bytes;       /* DONE, NO_ROOM: how many bytes the index has */
+    size_t fault_place; /* REFUSED: the row that the fault names, or 0 */
+    uint32_t fault;     /* REFUSED: ORDER, ROW, COUNT or LENGTH */
+    uint32_t version;   /* DONE, NO_ROOM: 2, 3 or 4 */
+} gix_index_written;
 
 /* ---- Calls */
 
@@ -175,6 +195,26 @@ uint32_t gix_index_find_prefix(const gix_index_row *rows, size_t rows_len, const
  * stands below it. Paths are cut as there, and no memory is taken. */
 size_t gix_index_closest(const gix_index_row *rows, size_t rows_len, const uint8_t *paths, size_t paths_len,
                          const uint8_t *directory, size_t directory_len);
+
+/* Writes a table as all bytes of an index: header, entries, no extension, and the digest behind them. What is written
+ * is read again as the same rows, but for those with GIX_INDEX_REMOVE, which are left out; for bits of the flags that
+ * live in memory alone; and for bits of the mode that no file has.
+ *
+ * It takes rows that strictly increase by path, byte by byte, and then by stage. Each has the kind of the form, and the
+ * stage of its flags; its path lies among paths, and has bytes, and no NUL; its mode isn't GIX_INDEX_DIRECTORY, as the
+ * mark of a sparse index is an extension. Rows may come from anywhere: paths may lie in any order, with others between
+ * them. Of an id of SHA-1 the first 20 bytes count. A link is an extension too: of a table whose summary has has_link
+ * the shared entries are missing, and shouldn't be written.
+ *
+ * DONE: the first told->bytes of bytes are the index. NO_ROOM: the same call with as many bytes as are told has room;
+ * so a call with the length 0 asks for it. REFUSED: the fault is ROW, and the place is the first row that isn't such;
+ * or ORDER, and all are such, and the place is the first that isn't above the one before it; or COUNT, or LENGTH.
+ * MEMORY: malloc or realloc gave nothing. WRONG_NUMBER: the form's kind or version is none. With each status but DONE
+ * bytes is as it was; with DONE, what lies behind the index is.
+ *
+ * gix_index_file.h writes a table to a path, by way of a lock. */
+uint32_t gix_index_write(const gix_index_row *rows, size_t rows_len, const uint8_t *paths, size_t paths_len,
+                         const gix_index_form *form, uint8_t *bytes, size_t bytes_len, gix_index_written *told);
 
 #ifdef __cplusplus
 }

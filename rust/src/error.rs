@@ -1,11 +1,11 @@
-//! Why there is no index.
+//! Why an index isn't read or written.
 
-use crate::raw::Summary;
+use crate::raw::{Summary, Written};
 use std::fmt;
 use std::io;
 use std::path::PathBuf;
 
-/// What is wrong with bytes that are no index, or damaged, or don't pass a check.
+/// What is wrong with bytes that are no index, or damaged, or don't pass a check; or with entries that aren't written.
 #[derive(Clone, Copy, Debug, PartialEq, Eq, Hash)]
 #[non_exhaustive]
 pub enum Fault {
@@ -24,20 +24,27 @@ pub enum Fault {
     /// The digest isn't the trailer.
     Digest,
     /// The entry at this place, counted from 0, isn't above the one before it, by path, then stage.
-    /// [`verify`](crate::verify) alone tells so.
+    /// [`verify`](crate::verify) and [`Index::write_to`](crate::Index::write_to) alone tell so.
     Order(usize),
     /// The cached tree doesn't hold together, or counts more entries than there are. [`verify`](crate::verify) alone
     /// tells so.
     CachedTree,
+    /// The entry at this place, counted from 0, can't be written: its path is empty or has a NUL, or it is a directory
+    /// of a sparse index.
+    Row(usize),
+    /// There are more entries than the 4294967295 that a file can count.
+    Count,
+    /// The file would have more than the 4294967295 bytes that its offsets can reach.
+    Length,
     /// A fault of another number.
     Other(u32),
 }
 
-/// Why there is no index.
+/// Why an index isn't read or written.
 #[derive(Debug)]
 #[non_exhaustive]
 pub enum Error {
-    /// The bytes are no index of this kind, or damaged, or don't pass a check.
+    /// The bytes are no index of this kind, or damaged, or don't pass a check; or the entries can't be written.
     Refused {
         /// What is wrong.
         fault: Fault,
@@ -48,7 +55,14 @@ pub enum Error {
     Memory,
     /// The index has only those entries that its shared index lacks.
     Split,
-    /// The file can't be read.
+    /// An id has another number of bytes than those of the index.
+    Id {
+        /// How many bytes the index's ids have.
+        expected: usize,
+        /// How many bytes it has.
+        actual: usize,
+    },
+    /// The file, or its lock, can't be read or written.
     Io {
         /// Which file.
         path: PathBuf,
@@ -57,21 +71,44 @@ pub enum Error {
     },
 }
 
-impl Error {
-    /// What a call that refused bytes said.
-    pub(crate) fn of(summary: &Summary, text: &[u8]) -> Error {
-        let fault = match summary.fault {
+impl Fault {
+    /// The fault of a number, with the place that it names.
+    fn of(number: u32, place: usize) -> Fault {
+        match number {
             1 => Fault::Header,
             2 => Fault::Version,
-            4 => Fault::Entry(summary.fault_place),
+            4 => Fault::Entry(place),
             5 => Fault::Extension,
             6 => Fault::Link,
             7 => Fault::Trailer,
             8 => Fault::Digest,
-            10 => Fault::Order(summary.fault_place),
+            10 => Fault::Order(place),
             11 => Fault::CachedTree,
+            12 => Fault::Row(place),
+            13 => Fault::Count,
+            14 => Fault::Length,
             number => Fault::Other(number),
+        }
+    }
+}
+
+impl Error {
+    /// What a call that refused entries said.
+    pub(crate) fn of_written(told: &Written) -> Error {
+        let fault = Fault::of(told.fault, told.fault_place);
+        let text = match fault {
+            Fault::Row(place) => format!("entry {place} can't be written: its path, its mode or its stage is at fault"),
+            Fault::Order(place) => format!("entry {place} isn't above the one before it, by path and stage"),
+            Fault::Count => "the index has more entries than the 4294967295 that a file can count".into(),
+            Fault::Length => "the index would take more bytes than the 4294967295 that a file can have".into(),
+            _ => "the index can't be written".into(),
         };
+        Error::Refused { fault, text }
+    }
+
+    /// What a call that refused bytes said.
+    pub(crate) fn of(summary: &Summary, text: &[u8]) -> Error {
+        let fault = Fault::of(summary.fault, summary.fault_place);
         let text = String::from_utf8_lossy(&text[..summary.text_bytes]).into_owned();
         Error::Refused { fault, text }
     }
@@ -81,8 +118,11 @@ impl fmt::Display for Error {
     fn fmt(&self, f: &mut fmt::Formatter<'_>) -> fmt::Result {
         match self {
             Error::Refused { text, .. } => f.write_str(text),
-            Error::Memory => f.write_str("out of memory while reading an index"),
+            Error::Memory => f.write_str("out of memory for an index"),
             Error::Split => f.write_str("the index is split, and its link to a shared index isn't followed"),
+            Error::Id { expected, actual } => {
+                write!(f, "an id has {actual} bytes, and those of the index have {expected}")
+            }
             Error::Io { path, error } => write!(f, "{}: {error}", path.display()),
         }
     }

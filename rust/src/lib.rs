@@ -1,13 +1,16 @@
-//! The git index, read by a static library whose functions are proved to meet their contracts.
+//! The git index, read and written by a static library whose functions are proved to meet their contracts.
 //!
-//! [`Index`] is a copy of the entries of an index file, in memory of its own. Names are those of the crate `gix-index`
-//! where they say the same. What is proved is told in `crates/index_c/README.md`; this crate is not proved: it hands
-//! slices to the library's calls and takes their answers. It has no dependencies, so its errors implement
-//! [`std::error::Error`] by hand.
+//! [`Index`] is a copy of the entries of an index file, in memory of its own, to be searched, changed and written.
+//! Names are those of the crate `gix-index` where they say the same. What is proved is told in
+//! `crates/index_c/README.md`; this crate is not proved: it hands slices to the library's calls and takes their answers.
+//! It has no dependencies, so its errors implement [`std::error::Error`] by hand.
 
+mod edit;
 mod error;
 mod raw;
+pub mod write;
 
+pub use edit::EntryMut;
 pub use error::{Error, Fault};
 use raw::{Places, Row, Summary};
 use std::ops::Range;
@@ -40,7 +43,7 @@ impl Kind {
 }
 
 /// A time of an entry, in the 32 bits of each part that a file stores, since the begin of 1970.
-#[derive(Clone, Copy, Debug, PartialEq, Eq, PartialOrd, Ord, Hash)]
+#[derive(Clone, Copy, Debug, Default, PartialEq, Eq, PartialOrd, Ord, Hash)]
 pub struct Time {
     /// Whole seconds.
     pub secs: u32,
@@ -49,7 +52,7 @@ pub struct Time {
 }
 
 /// The stat numbers of an entry, each in the 32 bits that a file stores (gitformat-index, "Index entry").
-#[derive(Clone, Copy, Debug, PartialEq, Eq, Hash)]
+#[derive(Clone, Copy, Debug, Default, PartialEq, Eq, Hash)]
 pub struct Stat {
     /// When the contents changed last.
     pub mtime: Time,
@@ -87,6 +90,8 @@ pub mod flags {
     pub const EXTENDED: u32 = 0x4000;
     /// The file is taken for unchanged.
     pub const ASSUME_VALID: u32 = 0x8000;
+    /// In memory alone: an index that is written leaves the entry out.
+    pub const REMOVE: u32 = 0x2_0000;
     /// The path is to be added later.
     pub const INTENT_TO_ADD: u32 = 0x2000_0000;
     /// The file isn't wanted in the work tree.
@@ -147,6 +152,7 @@ impl<'a> Entry<'a> {
 pub struct Index {
     rows: Vec<Row>,
     paths: Vec<u8>,
+    kind: Kind,
     version: u32,
     has_link: bool,
 }
@@ -192,7 +198,7 @@ impl Index {
             paths = room(0, said.1.path_bytes)?;
             said = Index::read(bytes, kind, false, &mut rows, &mut paths)?;
             if let (true, summary) = said {
-                return Ok(Index { rows, paths, version: summary.version, has_link: summary.has_link != 0 });
+                return Ok(Index { rows, paths, kind, version: summary.version, has_link: summary.has_link != 0 });
             }
         }
     }
@@ -237,7 +243,12 @@ impl Index {
         }
     }
 
-    /// The version of the file: 2, 3 or 4.
+    /// The kind of the ids.
+    pub fn object_hash(&self) -> Kind {
+        self.kind
+    }
+
+    /// The version of the file that was read: 2, 3 or 4; of a new index 2.
     pub fn version(&self) -> u32 {
         self.version
     }

@@ -48,6 +48,23 @@ pub struct Places {
     pub end: usize,
 }
 
+#[repr(C)]
+#[derive(Clone, Copy)]
+pub struct Form {
+    pub kind: u32,
+    pub version: u32,
+    pub skip_hash: bool,
+}
+
+#[repr(C)]
+#[derive(Clone, Copy, Default)]
+pub struct Written {
+    pub bytes: usize,
+    pub fault_place: usize,
+    pub fault: u32,
+    pub version: u32,
+}
+
 unsafe extern "C" {
     pub fn gix_index_read(
         bytes: *const u8,
@@ -101,4 +118,15 @@ unsafe extern "C" {
         directory: *const u8,
         directory_len: usize,
     ) -> usize;
+
+    pub fn gix_index_write(
+        rows: *const Row,
+        rows_len: usize,
+        paths: *const u8,
+        paths_len: usize,
+        form: *const Form,
+        bytes: *mut u8,
+        bytes_len: usize,
+        told: *mut Written,
+    ) -> u32;
 }

@@ -3,3 +3,4 @@ mod Finds
 mod Prefixes
 mod Refusals
 mod Tables
+mod Writes

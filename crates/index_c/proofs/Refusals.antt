@@ -17,7 +17,7 @@ use Rattle.gix_index.specs.declared.file.File.{File}
 use Rattle.gix_index.specs.declared.file.init.Error.{Error as ReadError}
 use Rattle.gix_index.specs.declared.file.init.Error.TheVariants as reads
 use Rattle.index_c.specs.Faults.{HasNumber, IsNumbered, SaysRefusal, decode_fault, read_status}
-use Rattle.index_c.specs.Reading.{IsRead, IsRefused, default_options}
+use Rattle.index_c.specs.Reading.{BytesReadAs, IsRefusedIndex, table_options}
 use Rattle.index_c.specs.declared.read.Summary.{Summary}
 
 -- an extension's fault, if its error stands for one
@@ -40,14 +40,14 @@ says_refusal (reads.LinkExtension e) P Q f h = h
 says_refusal reads.Memory P Q f h = tt
 
 refused_by : (skip : Bool) (kind : Kind) (bytes : List ℕ) (s : Summary) (o : Option Fault)
-    → MatchOption o ⊥ (λ fault. IsRead skip kind bytes (Err fault))
-    → MatchOption o (Unit {0}) (λ fault. HasNumber fault s.fault s.fault_place) → IsRefused skip kind bytes s
+    → MatchOption o ⊥ (λ fault. BytesReadAs skip kind bytes (Err fault))
+    → MatchOption o (Unit {0}) (λ fault. HasNumber fault s.fault s.fault_place) → IsRefusedIndex skip kind bytes s
 refused_by skip kind bytes s None says numbered = absurd says
 refused_by skip kind bytes s (Some fault) says numbered =
     record { fault = fault; read = says; number = numbered.number_is; place = numbered.place_is }
 
 pub refused_from : (skip : Bool) (kind : Kind) (bytes : List ℕ) (e : ReadError) (s : Summary)
-    → SaysRefusal e (IsRead skip kind bytes) → IsNumbered e s.fault s.fault_place → read_status e ≡ 1 → IsRefused skip kind bytes s
+    → SaysRefusal e (BytesReadAs skip kind bytes) → IsNumbered e s.fault s.fault_place → read_status e ≡ 1 → IsRefusedIndex skip kind bytes s
 refused_from skip kind bytes (reads.Io e) s says numbered is = absurd says
 refused_from skip kind bytes (reads.Decode e) s says numbered is = refused_by skip kind bytes s (decode_fault e) says numbered
 refused_from skip kind bytes (reads.LinkExtension e) s says numbered is = absurd says
@@ -62,12 +62,12 @@ memory_from reads.Memory is = refl
 
 -- the options that read without a limit
 pub options_are : (options : Options) → options.thread_limit ≡ None → options.min_extension_block_in_bytes_for_threading ≡ 0
-    → options.expected_checksum ≡ None → options.alloc_limit_bytes ≡ None → options ≡ default_options
+    → options.expected_checksum ≡ None → options.alloc_limit_bytes ≡ None → options ≡ table_options
 options_are options a b c d = rw (a, b, c, d) refl
 
 -- a reading at the begin of 1970
 read_by : (skip : Bool) (kind : Kind) (bytes : List ℕ) (time : FileTime) (options : Options) (a : Answer) → seconds_of time ≡ pos 0
-    → nanoseconds_of time ≡ 0 → options ≡ default_options → IsFileAnswer skip kind time options bytes a → IsRead skip kind bytes a
+    → nanoseconds_of time ≡ 0 → options ≡ table_options → IsFileAnswer skip kind time options bytes a → BytesReadAs skip kind bytes a
 read_by skip kind bytes time options a seconds nanoseconds e is =
     record {
       time = time;
@@ -77,15 +77,15 @@ read_by skip kind bytes time options a seconds nanoseconds e is =
     }
 
 pub read_of : (skip : Bool) (kind : Kind) (bytes : List ℕ) (time : FileTime) (options : Options) (r : Result File ReadError)
-    → seconds_of time ≡ pos 0 → nanoseconds_of time ≡ 0 → options ≡ default_options → SaysFile r (IsFileAnswer skip kind time options bytes)
-    → IfOk r (λ file. IsRead skip kind bytes (Ok (contents (state_of file), checksum_of file)))
+    → seconds_of time ≡ pos 0 → nanoseconds_of time ≡ 0 → options ≡ table_options → SaysFile r (IsFileAnswer skip kind time options bytes)
+    → IfOk r (λ file. BytesReadAs skip kind bytes (Ok (contents (state_of file), checksum_of file)))
 read_of skip kind bytes time options (Ok file) seconds nanoseconds e is = read_by skip kind bytes time options _ seconds nanoseconds e is
 read_of skip kind bytes time options (Err error) seconds nanoseconds e is = tt
 
 pub refusal_of : (skip : Bool) (kind : Kind) (bytes : List ℕ) (time : FileTime) (options : Options) (r : Result File ReadError)
-    → seconds_of time ≡ pos 0 → nanoseconds_of time ≡ 0 → options ≡ default_options → SaysFile r (IsFileAnswer skip kind time options bytes)
-    → IfErr r (λ error. SaysRefusal error (IsRead skip kind bytes))
+    → seconds_of time ≡ pos 0 → nanoseconds_of time ≡ 0 → options ≡ table_options → SaysFile r (IsFileAnswer skip kind time options bytes)
+    → IfErr r (λ error. SaysRefusal error (BytesReadAs skip kind bytes))
 refusal_of skip kind bytes time options (Ok file) seconds nanoseconds e is = tt
 refusal_of skip kind bytes time options (Err error) seconds nanoseconds e is =
-    says_refusal error (IsFileAnswer skip kind time options bytes) (IsRead skip kind bytes)
+    says_refusal error (IsFileAnswer skip kind time options bytes) (BytesReadAs skip kind bytes)
     (λ a h. read_by skip kind bytes time options a seconds nanoseconds e h) is

@@ -7,7 +7,7 @@ use Rattle.gix_index.specs.EntryType.{Entry}
 use Rattle.gix_index.specs.ObjectId.{ObjectId}
 use Rattle.gix_index.specs.ObjectId.TheVariants.{Sha1, Sha256}
 use Rattle.gix_index.specs.Record.{IsPlaced, IsSized, record_in, records_in}
-use Rattle.index_c.specs.Table.{Holds, IsForward, IsWhole, kind_number, padded_id, records_of, row_id, row_of, spelled}
+use Rattle.index_c.specs.Table.{HoldsRecords, IsForward, IsWholeRow, kind_number, padded_id, records_of, row_id, row_of, spelled}
 use Rattle.index_c.specs.declared.row.Row.{Row}
 
 -- an id has as many bytes as its kind
@@ -39,7 +39,7 @@ spelled_rows storage [] full = refl
 spelled_rows storage (e ∷ es) full =
     rw (spelled_row storage e (All-head IsFull e es full), spelled_rows storage es (All-tail IsFull e es full)) refl
 
-whole_row : (len : ℕ) (e : Entry) → IsFull e → IsPlaced len e → IsWhole len (row_of e)
+whole_row : (len : ℕ) (e : Entry) → IsFull e → IsPlaced len e → IsWholeRow len (row_of e)
 whole_row len e full placed =
     let forward : e.path.start ≤ e.path.end = placed.forward in
     let inside : e.path.end ≤ len = placed.inside in
@@ -50,9 +50,9 @@ whole_row len e full placed =
       inside = omega arith;
     }
 
-whole_rows : (len : ℕ) (es : List Entry) → All IsFull es → All (IsPlaced len) es → All (IsWhole len) (map row_of es)
+whole_rows : (len : ℕ) (es : List Entry) → All IsFull es → All (IsPlaced len) es → All (IsWholeRow len) (map row_of es)
 whole_rows len es full placed =
-    All-map (IsWhole len) row_of es (λ k d lt. whole_row len _ (full k d lt) (placed k d lt))
+    All-map (IsWholeRow len) row_of es (λ k d lt. whole_row len _ (full k d lt) (placed k d lt))
 
 pub forward_all : (len : ℕ) (es : List Entry) → All (IsPlaced len) es → All IsForward es
 forward_all len es placed = λ k d lt. (placed k d lt).forward
@@ -72,7 +72,7 @@ pub holds_from : (es : List Entry) (storage : List ℕ) (rows filled : List Row)
     → length es ≤ length rows → length storage ≤ length paths
     → filled ≡ map row_of es ++ drop (length es) rows
     → spelling ≡ storage ++ drop (length storage) paths
-    → Holds (records_in storage es) (length storage) rows filled paths spelling
+    → HoldsRecords (records_in storage es) (length storage) rows filled paths spelling
 holds_from es storage rows filled paths spelling placed sized rows_fit paths_fit filled_is spelling_is =
     let full : All IsFull es = full_all storage es sized in
     let many : length (records_in storage es) ≡ length es = length-map es (record_in storage) in
@@ -85,7 +85,7 @@ holds_from es storage rows filled paths spelling placed sized rows_fit paths_fit
       rows_fit = omega arith;
       paths_fit = paths_fit;
       spells = rw (front, bytes) (spelled_rows storage es full);
-      whole = All-same (IsWhole (length storage)) _ _ front (whole_rows (length storage) es full placed);
+      whole = All-same (IsWholeRow (length storage)) _ _ front (whole_rows (length storage) es full placed);
       rows_behind = rw filled_is (drop_at (map row_of es) (drop (length es) rows) (length (records_in storage es)) of_rows ∙ ap (λ (n : ℕ). drop n rows) (sym many));
       paths_behind = rw spelling_is (drop_at storage (drop (length storage) paths) (length storage) refl);
     }

@@ -3,3 +3,4 @@ pub mod Faults
 pub mod Finding
 pub mod Reading
 pub mod Table
+pub mod Writing

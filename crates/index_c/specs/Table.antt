@@ -53,7 +53,7 @@ records_of paths rows = map (spelled paths) rows
 
 -- The row says all of its record: the stage beside the flags, the kind beside the id, zeros behind an id of 20 bytes; and its path
 -- lies among so many bytes.
-pub record IsWhole (len : ℕ) (row : Row) : Type 0 where
+pub record IsWholeRow (len : ℕ) (row : Row) : Type 0 where
   pub stage : row.stage ≡ stage_number row.flags
   pub kind : row.kind ≡ kind_number (id_kind (row_id row))
   pub zeros : nat_eq row.kind 1 ≡ true → drop 20 row.id ≡ replicate 12 0
@@ -61,11 +61,11 @@ pub record IsWhole (len : ℕ) (row : Row) : Type 0 where
 
 -- A caller's table, before and after, has these records in its first rows, with their paths in the first bytes for paths; what
 -- lies behind both is as it was.
-pub record Holds (rs : List Record) (len : ℕ) (rows filled : List Row) (paths spelling : List ℕ) : Type 0 where
+pub record HoldsRecords (rs : List Record) (len : ℕ) (rows filled : List Row) (paths spelling : List ℕ) : Type 0 where
   pub rows_fit : length rs ≤ length rows
   pub paths_fit : len ≤ length paths
   pub spells : records_of (take len spelling) (take (length rs) filled) ≡ rs
-  pub whole : All (IsWhole len) (take (length rs) filled)
+  pub whole : All (IsWholeRow len) (take (length rs) filled)
   pub rows_behind : drop (length rs) filled ≡ drop (length rs) rows
   pub paths_behind : drop len spelling ≡ drop len paths
 

@@ -3,8 +3,8 @@
 ghost use Rattle.std.specs.Prelude.{◌≡◌, ◌↔◌, ◌≤◌, ◌⊎◌, IfSome, IsSomeAnd, None};
 ghost use Rattle.gix_index.specs.Intact.{IsIntact};
 ghost use Rattle.gix_index.specs.State.{PathsInStorage, contents};
-ghost use Rattle.index_c.specs.Checking.{HasFault, IsSound, IsSoundIndex, IsTold, IsUnsoundIndex};
-ghost use Rattle.index_c.specs.Reading.{HasText, IsRefused};
+ghost use Rattle.index_c.specs.Checking.{HasCheckFault, IsSoundValue, IsSoundIndex, IsTold, IsUnsoundIndex};
+ghost use Rattle.index_c.specs.Reading.{HasText, IsRefusedIndex};
 ghost use Rattle.index_c.specs.Table.{kind_numbered};
 
 use crate::fault::{CACHED_TREE, ORDER, order_place, put_fault, tree_place};
@@ -25,7 +25,7 @@ fn told_of(state: &State) -> Summary
     summary
 }
 
-/// Tells of a state that isn't sound, or, where no place is given, of want of memory to name its fault.
+/// TellsOfValue of a state that isn't sound, or, where no place is given, of want of memory to name its fault.
 fn unsound(state: &State, number: u32, place: Option<usize>, text_bytes: usize) -> Outcome
     ensures memory { place ≡ None → result.status ≡ 2 }
     ensures refused { IfSome place (λ _. result.status ≡ 1) }
@@ -58,10 +58,10 @@ fn unsound(state: &State, number: u32, place: Option<usize>, text_bytes: usize) 
 fn judge(alloc: Global, state: &State, text: &mut [u8]) -> Outcome
     requires { PathsInStorage state.now }
     ensures status { result.status ≤ 2 }
-    ensures sound { result.status ≡ 0 → IsSound (contents state.now) }
+    ensures sound { result.status ≡ 0 → IsSoundValue (contents state.now) }
     ensures told { result.status ≤ 1 → IsTold (contents state.now) result.summary }
     ensures fault { result.status ≡ 1
-        → HasFault (contents state.now) result.summary.fault result.summary.fault_place }
+        → HasCheckFault (contents state.now) result.summary.fault result.summary.fault_place }
     ensures text { HasText result.summary.text_bytes text.old text.new }
 {
     if let Err(e) = state.verify_entries() {
@@ -82,7 +82,7 @@ fn judge(alloc: Global, state: &State, text: &mut [u8]) -> Outcome
 fn checked(alloc: Global, bytes: &[u8], kind: Kind, skip_hash: bool, text: &mut [u8]) -> Outcome
     ensures status { result.status ≤ 2 }
     ensures done { result.status ≡ 0 → IsSoundIndex skip_hash kind bytes.now result.summary }
-    ensures refused { result.status ≡ 1 → IsRefused skip_hash kind bytes.now result.summary
+    ensures refused { result.status ≡ 1 → IsRefusedIndex skip_hash kind bytes.now result.summary
         ⊎ IsUnsoundIndex skip_hash kind bytes.now result.summary }
     ensures memory { result.status ≡ 2 → IsIntact skip_hash kind bytes.now }
     ensures text { HasText result.summary.text_bytes text.old text.new }
@@ -118,7 +118,7 @@ pub extern "C" fn gix_index_check(
     ensures done { result ≡ 0 → IsSomeAnd (kind_numbered kind)
         (λ k. IsSoundIndex skip_hash k bytes.now summary.new) }
     ensures refused { result ≡ 1 → IsSomeAnd (kind_numbered kind)
-        (λ k. IsRefused skip_hash k bytes.now summary.new
+        (λ k. IsRefusedIndex skip_hash k bytes.now summary.new
         ⊎ IsUnsoundIndex skip_hash k bytes.now summary.new) }
     ensures memory { result ≡ 2 → IsSomeAnd (kind_numbered kind)
         (λ k. IsIntact skip_hash k bytes.now) }

@@ -33,6 +33,12 @@ pub const DISK: u32 = 9;
 pub const ORDER: u32 = 10;
 /// The cached tree doesn't hold together, or a node of it counts more entries than there are. Only a check tells so.
 pub const CACHED_TREE: u32 = 11;
+/// The row at the place can't be written. Only a call that writes tells so.
+pub const ROW: u32 = 12;
+/// There are more rows than the 4294967295 entries that a file can count. Only a call that writes tells so.
+pub const COUNT: u32 = 13;
+/// The file would have more than the 4294967295 bytes that its offsets can reach. Only a call that writes tells so.
+pub const LENGTH: u32 = 14;
 
 /// The number of a fault, and the place that it names, or 0.
 #[derive(Clone, Copy)]

@@ -22,7 +22,7 @@ pub(crate) fn path_of<'a>(row: &Row, paths: &'a [u8]) -> &'a [u8]
 }
 
 /// The stage among flags.
-fn stage_of(flags: u32) -> u32
+pub(crate) fn stage_of(flags: u32) -> u32
     ensures { result ≡ stage_number flags }
 {
     (flags & 0x3000) >> 12
@@ -31,7 +31,8 @@ fn stage_of(flags: u32) -> u32
 /// How the row at a place stands to a path and a stage.
 fn compare(rows: &[Row], paths: &[u8], place: usize, path: &[u8], stage: u32) -> Ordering
     requires { place < length rows.now }
-    ensures { HoldsAt (λ r. key_cmp path.now stage r ≡ result) (records_of paths.now rows.now) place }
+    ensures { HoldsAt (λ r. key_cmp path.now stage r ≡ result)
+        (records_of paths.now rows.now) place }
 {
     let row = rows[place];
     path_of(&row, paths)
@@ -69,7 +70,8 @@ pub extern "C" fn gix_index_find(rows: &[Row], paths: &[u8], path: &[u8], stage:
     ensures found { result < length rows.now
         → IsKeyAt path.now stage (records_of paths.now rows.now) result }
     ensures answer { IsStrictlyOrdered (records_of paths.now rows.now)
-        → place_among (length rows.now) result ≡ place_of path.now stage (records_of paths.now rows.now) }
+        → place_among (length rows.now) result
+        ≡ place_of path.now stage (records_of paths.now rows.now) }
 {
     let place = first_from(rows, paths, path, stage);
     if place < rows.len() && compare(rows, paths, place, path, stage).is_eq() {

@@ -10,4 +10,6 @@ pub mod find;
 pub mod prefix;
 pub mod read;
 pub mod row;
+mod spell;
 pub mod status;
+pub mod write;

@@ -1,14 +1,15 @@
 //! Reading an index into a caller's table.
 
 ghost use Rattle.std.specs.Prelude.{◌≡◌, ◌≢◌, ◌≤◌, ◌↔◌, ◌⊎◌, ◌<◌, All, IfErr, IfOk, IsSomeAnd, None, Ok, length};
+ghost use Rattle.gix_index.specs.EntryImage.{version_code};
 ghost use Rattle.gix_index.specs.File.{checksum_of, state_of};
 ghost use Rattle.gix_index.specs.Intact.{IsIntact};
 ghost use Rattle.gix_index.specs.Record.{IsSized};
 ghost use Rattle.gix_index.specs.State.{PathsInStorage, contents, storage_of};
 ghost use Rattle.gix_index.specs.Storable.{IsStorable};
 ghost use Rattle.index_c.specs.Faults.{IsNumbered, SaysRefusal, read_status};
-ghost use Rattle.index_c.specs.Reading.{HasText, IsFilled, IsRead, IsRefused, LacksRoom, Tells, link_number, version_number};
-ghost use Rattle.index_c.specs.Table.{Holds, kind_numbered};
+ghost use Rattle.index_c.specs.Reading.{HasText, IsFilled, BytesReadAs, IsRefusedIndex, LacksRoom, TellsOfValue, link_number};
+ghost use Rattle.index_c.specs.Table.{HoldsRecords, kind_numbered};
 
 use crate::fault::{fault_of, put_fault};
 use crate::row::{Row, fill};
@@ -77,8 +78,8 @@ pub(crate) fn nothing(status: u32) -> Outcome
 }
 
 /// The number of a version.
-fn number_of_version(version: Version) -> u32
-    ensures { result ≡ version_number version }
+pub(crate) fn number_of_version(version: Version) -> u32
+    ensures { result ≡ version_code version }
 {
     match version {
         Version::V2 => 2,
@@ -99,7 +100,7 @@ fn number_of_link(state: &State) -> u32
 
 /// What is told of a state.
 pub(crate) fn summary_of(state: &State) -> Summary
-    ensures tells { Tells (contents state.now) result }
+    ensures tells { TellsOfValue (contents state.now) result }
     ensures path_bytes { result.path_bytes ≡ length (storage_of state.now) }
     ensures text { result.text_bytes ≡ 0 }
 {
@@ -119,9 +120,10 @@ fn table_of(state: &State, rows: &mut [Row], paths: &mut [u8]) -> Outcome
     requires placed { PathsInStorage state.now }
     requires sized { All IsSized (contents state.now).records }
     ensures status { (result.status ≡ 0) ⊎ (result.status ≡ 3) }
-    ensures tells { Tells (contents state.now) result.summary }
+    ensures tells { TellsOfValue (contents state.now) result.summary }
     ensures text { result.summary.text_bytes ≡ 0 }
-    ensures holds { result.status ≡ 0 → Holds (contents state.now).records result.summary.path_bytes
+    ensures holds { result.status ≡ 0
+        → HoldsRecords (contents state.now).records result.summary.path_bytes
         rows.old rows.new paths.old paths.new }
     ensures small { result.status ≡ 3 → (length rows.old < result.summary.entries)
         ⊎ (length paths.old < result.summary.path_bytes) }
@@ -142,7 +144,7 @@ fn table_of(state: &State, rows: &mut [Row], paths: &mut [u8]) -> Outcome
     }
 }
 
-/// Tells of an error.
+/// TellsOfValue of an error.
 pub(crate) fn refused(alloc: Global, e: file::init::Error, text: &mut [u8]) -> Outcome
     ensures status { result.status ≡ read_status e }
     ensures fault { IsNumbered e result.summary.fault result.summary.fault_place }
@@ -166,11 +168,11 @@ pub(crate) fn index_of(
     kind: Kind,
     skip_hash: bool,
 ) -> Result<File, file::init::Error>
-    ensures read { IfOk result (λ file. IsRead skip_hash kind bytes.now
+    ensures read { IfOk result (λ file. BytesReadAs skip_hash kind bytes.now
         (Ok (contents (state_of file), checksum_of file))) }
     ensures placed { IfOk result (λ file. PathsInStorage (state_of file)) }
     ensures storable { IfOk result (λ file. IsStorable (contents (state_of file))) }
-    ensures fault { IfErr result (λ e. SaysRefusal e (IsRead skip_hash kind bytes.now)) }
+    ensures fault { IfErr result (λ e. SaysRefusal e (BytesReadAs skip_hash kind bytes.now)) }
     ensures intact { IfErr result (λ e. read_status e ≡ 2 → IsIntact skip_hash kind bytes.now) }
 {
     let path = PathBuf::new(alloc);
@@ -192,7 +194,7 @@ fn outcome_of(
     ensures status { result.status ≤ 3 }
     ensures done { result.status ≡ 0 → IsFilled skip_hash kind bytes.now result.summary
         rows.old rows.new paths.old paths.new }
-    ensures refused { result.status ≡ 1 → IsRefused skip_hash kind bytes.now result.summary }
+    ensures refused { result.status ≡ 1 → IsRefusedIndex skip_hash kind bytes.now result.summary }
     ensures memory { result.status ≡ 2 → IsIntact skip_hash kind bytes.now }
     ensures no_room { result.status ≡ 3
         → LacksRoom skip_hash kind bytes.now result.summary rows.old paths.old }
@@ -233,7 +235,7 @@ pub extern "C" fn gix_index_read(
     ensures done { result ≡ 0 → IsSomeAnd (kind_numbered kind) (λ k. IsFilled skip_hash k bytes.now
         summary.new rows.old rows.new paths.old paths.new) }
     ensures refused { result ≡ 1 → IsSomeAnd (kind_numbered kind)
-        (λ k. IsRefused skip_hash k bytes.now summary.new) }
+        (λ k. IsRefusedIndex skip_hash k bytes.now summary.new) }
     ensures memory { result ≡ 2 → IsSomeAnd (kind_numbered kind)
         (λ k. IsIntact skip_hash k bytes.now) }
     ensures no_room { result ≡ 3 → IsSomeAnd (kind_numbered kind)

@@ -3,7 +3,7 @@
 ghost use Rattle.std.specs.Prelude.{◌≡◌, ◌≤◌, All, map, length};
 ghost use Rattle.gix_index.specs.Record.{IsPlaced, IsSized, records_in};
 ghost use Rattle.gix_index.specs.State.{PathsInStorage, entries_of, records, storage_of};
-ghost use Rattle.index_c.specs.Table.{Holds, IsForward, kind_number, padded_id, row_of};
+ghost use Rattle.index_c.specs.Table.{HoldsRecords, IsForward, kind_number, padded_id, row_of};
 
 use crate::status::{SHA1, SHA256};
 use gix_index::bitflags::Flags as _;
@@ -121,7 +121,7 @@ fn fill_table(entries: &[Entry], storage: &[u8], rows: &mut [Row], paths: &mut [
     requires sized { All IsSized (records_in storage.now entries.now) }
     requires rows_fit { length entries.now ≤ length rows.old }
     requires paths_fit { length storage.now ≤ length paths.old }
-    ensures { Holds (records_in storage.now entries.now) (length storage.now)
+    ensures { HoldsRecords (records_in storage.now entries.now) (length storage.now)
         rows.old rows.new paths.old paths.new }
 {
     fill_rows(entries, &mut rows[..entries.len()]);
@@ -134,7 +134,7 @@ pub(crate) fn fill(state: &State, rows: &mut [Row], paths: &mut [u8])
     requires sized { All IsSized (records state.now) }
     requires rows_fit { length (entries_of state.now) ≤ length rows.old }
     requires paths_fit { length (storage_of state.now) ≤ length paths.old }
-    ensures { Holds (records state.now) (length (storage_of state.now))
+    ensures { HoldsRecords (records state.now) (length (storage_of state.now))
         rows.old rows.new paths.old paths.new }
 {
     fill_table(state.entries(), state.path_backing(), rows, paths);

@@ -2,7 +2,7 @@ use Rattle.std.proofs.Common.{Ok, ◌∙◌, arith, inl, inr, subst, sym}
 use Rattle.gix_index.specs.File.{checksum_of}
 use Rattle.gix_index.specs.State.{contents}
 use Rattle.gix_index.specs.StateType.{State}
-use Rattle.index_c.specs.Reading.{IsRead}
+use Rattle.index_c.specs.Reading.{BytesReadAs}
 use Rattle.index_c.proofs.Refusals.{refused_from}
 use Rattle.index_c.proofs.check.checked.Goals as goal
 
@@ -11,7 +11,7 @@ returns-in-Ok-clause-done c = λ is.
     record {
       value = contents c.deref.result.now;
       checksum = checksum_of c.in-Ok.file;
-      read = subst (λ (s : State). IsRead c.args.skip_hash c.args.kind c.args.bytes.now (Ok (contents s, checksum_of c.in-Ok.file))) (sym c.deref.ensures) c.in-Ok.ensures.read;
+      read = subst (λ (s : State). BytesReadAs c.args.skip_hash c.args.kind c.args.bytes.now (Ok (contents s, checksum_of c.in-Ok.file))) (sym c.deref.ensures) c.in-Ok.ensures.read;
       told = c.judge-outcome.ensures.told (omega (arith, is));
       sound = c.judge-outcome.ensures.sound is;
     }
@@ -22,7 +22,7 @@ returns-in-Ok-clause-refused c = λ is.
     (record {
       value = contents c.deref.result.now;
       checksum = checksum_of c.in-Ok.file;
-      read = subst (λ (s : State). IsRead c.args.skip_hash c.args.kind c.args.bytes.now (Ok (contents s, checksum_of c.in-Ok.file))) (sym c.deref.ensures) c.in-Ok.ensures.read;
+      read = subst (λ (s : State). BytesReadAs c.args.skip_hash c.args.kind c.args.bytes.now (Ok (contents s, checksum_of c.in-Ok.file))) (sym c.deref.ensures) c.in-Ok.ensures.read;
       told = c.judge-outcome.ensures.told (omega (arith, is));
       fault = c.judge-outcome.ensures.fault is;
     })

@@ -2,7 +2,7 @@ use Rattle.std.proofs.Common.{Ok, sym, subst, ◌∙◌}
 use Rattle.gix_index.specs.File.{checksum_of}
 use Rattle.gix_index.specs.State.{contents}
 use Rattle.gix_index.specs.StateType.{State}
-use Rattle.index_c.specs.Reading.{IsRead}
+use Rattle.index_c.specs.Reading.{BytesReadAs}
 use Rattle.index_c.proofs.Refusals.{refused_from}
 use Rattle.index_c.proofs.read.outcome_of.Goals as goal
 
@@ -11,7 +11,7 @@ returns-in-Ok-clause-done c = λ is.
     record {
       value = contents c.deref.result.now;
       checksum = checksum_of c.in-Ok.file;
-      read = subst (λ (s : State). IsRead c.args.skip_hash c.args.kind c.args.bytes.now (Ok (contents s, checksum_of c.in-Ok.file))) (sym c.deref.ensures) c.in-Ok.ensures.read;
+      read = subst (λ (s : State). BytesReadAs c.args.skip_hash c.args.kind c.args.bytes.now (Ok (contents s, checksum_of c.in-Ok.file))) (sym c.deref.ensures) c.in-Ok.ensures.read;
       tells = c.table_of-outcome.ensures.tells;
       holds = c.table_of-outcome.ensures.holds is;
     }
@@ -21,7 +21,7 @@ returns-in-Ok-clause-no_room c = λ is.
     record {
       value = contents c.deref.result.now;
       checksum = checksum_of c.in-Ok.file;
-      read = subst (λ (s : State). IsRead c.args.skip_hash c.args.kind c.args.bytes.now (Ok (contents s, checksum_of c.in-Ok.file))) (sym c.deref.ensures) c.in-Ok.ensures.read;
+      read = subst (λ (s : State). BytesReadAs c.args.skip_hash c.args.kind c.args.bytes.now (Ok (contents s, checksum_of c.in-Ok.file))) (sym c.deref.ensures) c.in-Ok.ensures.read;
       tells = c.table_of-outcome.ensures.tells;
       small = c.table_of-outcome.ensures.small is;
     }

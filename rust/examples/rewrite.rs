@@ -1,0 +1,38 @@
+//! Writes the entries of an index to another file, without extensions, by way of a lock.
+//!
+//! Usage: rewrite sha1|sha256 FILE OUT [4]
+//!
+//! The version is 2, or 3 where the flags ask for it, or 4 with a last word. The status is 1 where FILE can't be read
+//! or is no such index, or OUT can't be written, with a line on standard error, and 2 for wrong words.
+
+use gix_index_proved::write::{Options, VersionChoice};
+use gix_index_proved::{Error, Index, Kind};
+use std::env;
+use std::process::ExitCode;
+
+/// Reads the one and writes the other, in this version.
+fn rewrite(kind: Kind, file: &str, to: &str, version: VersionChoice) -> Result<(), Error> {
+    let index = Index::open(file, kind)?;
+    index.write(to, Options { version, ..Options::default() })
+}
+
+fn main() -> ExitCode {
+    let words: Vec<_> = env::args().skip(1).collect();
+    let (kind, file, to, version) = match words.iter().map(String::as_str).collect::<Vec<_>>().as_slice() {
+        ["sha1", file, to] => (Kind::Sha1, *file, *to, VersionChoice::Smallest),
+        ["sha256", file, to] => (Kind::Sha256, *file, *to, VersionChoice::Smallest),
+        ["sha1", file, to, "4"] => (Kind::Sha1, *file, *to, VersionChoice::V4),
+        ["sha256", file, to, "4"] => (Kind::Sha256, *file, *to, VersionChoice::V4),
+        _ => {
+            eprintln!("usage: rewrite sha1|sha256 FILE OUT [4]");
+            return ExitCode::from(2);
+        }
+    };
+    match rewrite(kind, file, to, version) {
+        Ok(()) => ExitCode::SUCCESS,
+        Err(error) => {
+            eprintln!("rewrite: {error}");
+            ExitCode::FAILURE
+        }
+    }
+}

@@ -1,0 +1,114 @@
+//! Writing an index as bytes, and to its path.
+
+use crate::raw::{self, Form, Written};
+use crate::{Error, Index, room};
+use std::ffi::OsString;
+use std::fs::{self, File};
+use std::io::{self, Write};
+use std::path::{Path, PathBuf};
+
+/// How many bytes an index has at most beside its paths: at each entry, and beside all.
+const PER_ENTRY: usize = 96;
+const BESIDE_ENTRIES: usize = 44;
+
+/// Which version is written.
+#[derive(Clone, Copy, Debug, Default, PartialEq, Eq, Hash)]
+pub enum VersionChoice {
+    /// 3 where an entry has [`EXTENDED`](crate::flags::EXTENDED), and else 2.
+    #[default]
+    Smallest,
+    /// 4, in which paths are shortened.
+    V4,
+}
+
+/// How to write. There are no extensions.
+#[derive(Clone, Copy, Debug, Default, PartialEq, Eq, Hash)]
+pub struct Options {
+    /// Which version is written.
+    pub version: VersionChoice,
+    /// Whether the trailer is zeros in place of the digest (git's `index.skipHash`).
+    pub skip_hash: bool,
+}
+
+/// The path with `.lock` behind it.
+fn lock_path(path: &Path) -> PathBuf {
+    let mut lock = OsString::from(path);
+    lock.push(".lock");
+    lock.into()
+}
+
+/// Makes the lock with these bytes, and lets it take the index's place. A lock that can't is removed.
+fn replace(path: &Path, lock: &Path, bytes: &[u8]) -> Result<(), Error> {
+    let fault = |path: &Path, error: io::Error| Error::Io { path: path.into(), error };
+    let mut file = File::create_new(lock).map_err(|error| fault(lock, error))?;
+    let put = file.write_all(bytes).map_err(|error| fault(lock, error));
+    drop(file);
+    put.and_then(|()| fs::rename(lock, path).map_err(|error| fault(path, error))).inspect_err(|_| {
+        // (the first failure is what is told)
+        let _ = fs::remove_file(lock);
+    })
+}
+
+impl Index {
+    /// All bytes of an index with these entries and no extension, as [`write_to`](Index::write_to) gives them, or how
+    /// many they are, where the room is smaller.
+    fn put(&self, options: Options, bytes: &mut [u8]) -> Result<Result<usize, usize>, Error> {
+        let version = if options.version == VersionChoice::V4 { 4 } else { 2 };
+        let form = Form { kind: self.kind.number(), version, skip_hash: options.skip_hash };
+        let mut told = Written::default();
+        // SAFETY: each pointer goes with the length of its slice, and what is written is apart from the rest.
+        let status = unsafe {
+            raw::gix_index_write(
+                self.rows.as_ptr(),
+                self.rows.len(),
+                self.paths.as_ptr(),
+                self.paths.len(),
+                &form,
+                bytes.as_mut_ptr(),
+                bytes.len(),
+                &mut told,
+            )
+        };
+        match status {
+            raw::DONE => Ok(Ok(told.bytes)),
+            raw::NO_ROOM => Ok(Err(told.bytes)),
+            raw::MEMORY => Err(Error::Memory),
+            _ => Err(Error::of_written(&told)),
+        }
+    }
+
+    /// Writes the index as all bytes of a file: the entries and the digest, and no extension.
+    ///
+    /// The entries have to strictly increase by path, then stage, which [`sort_entries`](Index::sort_entries) does
+    /// where no two agree in both; and each has a path without a NUL, and isn't a directory of a sparse index, whose
+    /// mark is an extension. [`Error::Refused`] tells the first that isn't so, by [`Fault::Row`](crate::Fault::Row) and
+    /// [`Fault::Order`](crate::Fault::Order). An index with a link is [`Error::Split`], as it lacks the entries that
+    /// its shared index has.
+    pub fn write_to(&self, options: Options) -> Result<Vec<u8>, Error> {
+        if self.has_link {
+            return Err(Error::Split);
+        }
+        let paths: usize = self.rows.iter().map(|row| row.path_len).sum();
+        let mut bytes = room(0, BESIDE_ENTRIES + PER_ENTRY * self.rows.len() + paths)?;
+        loop {
+            match self.put(options, &mut bytes)? {
+                Ok(len) => {
+                    bytes.truncate(len);
+                    return Ok(bytes);
+                }
+                Err(len) => bytes = room(0, len)?,
+            }
+        }
+    }
+
+    /// Writes the index to a path, by way of the lock file `<path>.lock`, which keeps other writers out.
+    ///
+    /// What [`write_to`](Index::write_to) gives goes to the lock, which is made new and then takes the index's place,
+    /// so that the path has the old index or the new one at each moment. Nothing is synced to the disk. After an error
+    /// the path is as it was; where there was a lock already it is left, and the error is [`Error::Io`] with
+    /// [`AlreadyExists`](io::ErrorKind::AlreadyExists).
+    pub fn write(&self, path: impl AsRef<Path>, options: Options) -> Result<(), Error> {
+        let bytes = self.write_to(options)?;
+        replace(path.as_ref(), &lock_path(path.as_ref()), &bytes)
+    }
+}
