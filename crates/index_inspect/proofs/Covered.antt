@@ -8,7 +8,7 @@ use Rattle.gix_index.specs.Version.{Version}
 use Rattle.index_inspect.proofs.Laid.{bytes_append, bytes_items, bytes_some}
 use Rattle.index_inspect.proofs.SpelledFronts.{bytes_spelled}
 use Rattle.gix_index.specs.DecodeError.{Error}
-use Rattle.index_inspect.specs.Division.{Divides, IsBehindEntries, IsDivided, IsEnd, lacks, crowded, short, walked, faulty, left, broken, whole, headless, headed}
+use Rattle.index_inspect.specs.Division.{Divides, IsBehindEntries, IsDivided, IsFileEnd, lacks, crowded, short, walked, faulty, left, broken, whole, headless, headed}
 use Rattle.index_inspect.specs.Piece.{LieBetween, Piece, bytes_of, item_pieces, laid, one_piece, some_piece}
 use Rattle.index_inspect.specs.Spelling.{Spelling, entry_pieces}
 use Rattle.index_inspect.specs.declared.part.Part.{Part}
@@ -25,7 +25,7 @@ one_is what l ps e = sym (ap bytes_of e ∙ append-nil l)
 two_are : (what other : What) (tail trailer : List ℕ) (ps : List Piece) → ps ≡ some_piece what tail ++ one_piece other trailer → tail ++ trailer ≡ bytes_of ps
 two_are what other tail trailer ps e = sym (ap bytes_of e ∙ bytes_append (some_piece what tail) (one_piece other trailer) ∙ ap (λ (t : List ℕ). t ++ (trailer ++ [])) (bytes_some what tail) ∙ ap (λ (t : List ℕ). tail ++ t) (append-nil trailer))
 
-end_covered : (kind : Kind) (bytes tail trailer : List ℕ) (ps : List Piece) (f : Option Fault) → IsEnd kind bytes tail trailer ps f → tail ++ trailer ≡ bytes_of ps
+end_covered : (kind : Kind) (bytes tail trailer : List ℕ) (ps : List Piece) (f : Option Fault) → IsFileEnd kind bytes tail trailer ps f → tail ++ trailer ≡ bytes_of ps
 end_covered kind bytes tail trailer ps f (faulty i rest x a b e g) = one_is whats.Unread (tail ++ trailer) ps e
 end_covered kind bytes tail trailer ps f (left a b e g) = one_is whats.Unread (tail ++ trailer) ps e
 end_covered kind bytes tail trailer ps f (broken a b c e g) = two_are whats.LeftOver whats.Unread tail trailer ps e

@@ -23,7 +23,7 @@ use Rattle.gix_index.specs.Record.{Record}
 use Rattle.gix_index.specs.Version.{Version}
 use Rattle.gix_index.specs.Version.TheVariants.{V2, V3, V4}
 use Rattle.gix_index.specs.Walk.{Item, AreItems, NoItem, left_of}
-use Rattle.index_inspect.specs.Division.{IsBehindEntries, IsCrowded, IsDivided, IsEnd, lacks, crowded, short, walked, faulty, left, broken, whole, headless, headed}
+use Rattle.index_inspect.specs.Division.{IsBehindEntries, IsCrowded, IsDivided, IsFileEnd, lacks, crowded, short, walked, faulty, left, broken, whole, headless, headed}
 use Rattle.index_inspect.specs.Laws.{IsReadAs}
 use Rattle.index_inspect.specs.Piece.{Piece}
 use Rattle.index_inspect.specs.Spelling.{Spelling, AreSpelled, IsSpelled, entries_spelled}
@@ -83,7 +83,7 @@ module _ (kind : Kind) (time : FileTime) (options : Options) (takes : TakesAll o
 
   end_read : (version : Version) (ss : List Spelling) (after : List ℕ) (items : List Item) (tail trailer extensions : List ℕ) (last : List Piece) (f : Option Fault)
       → header_of kind bytes ≡ Ok version → AreSpelled version kind None (drop header_len bytes) ss after → length ss ≡ count_of bytes → IsCrowded kind version bytes false
-      → after ≡ extensions ++ trailer → length trailer ≡ id_len kind → AreItems extensions items tail → AreSound kind items → f ≡ None → IsEnd kind bytes tail trailer last f
+      → after ≡ extensions ++ trailer → length trailer ≡ id_len kind → AreItems extensions items tail → AreSound kind items → f ≡ None → IsFileEnd kind bytes tail trailer last f
       → IsReadAs kind time options bytes (entries_spelled ss)
   end_read version ss after items tail trailer extensions last f is are all fits parted len items_are sound n (faulty i rest x a b e g) = absurd cc
   end_read version ss after items tail trailer extensions last f is are all fits parted len items_are sound n (left a b e g) = absurd cc

@@ -24,8 +24,8 @@ use Rattle.gix_index.specs.Record.{Record}
 use Rattle.gix_index.specs.Version.{Version}
 use Rattle.gix_index.specs.Walk.{Item, AreItems, IsItem, NoItem, left_of}
 use Rattle.index_inspect.proofs.Readable.{IsAnswered, by_false, by_ok, entries_of, whole_answer}
-use Rattle.index_inspect.specs.Division.{IsBehindEntries, IsCrowded, IsDivided, IsEnd, NoEntryBehind, lacks, crowded, short, walked, faulty, left, broken, whole, headless, headed}
-use Rattle.index_inspect.specs.Laws.{IsUnread}
+use Rattle.index_inspect.specs.Division.{IsBehindEntries, IsCrowded, IsDivided, IsFileEnd, NoEntryBehind, lacks, crowded, short, walked, faulty, left, broken, whole, headless, headed}
+use Rattle.index_inspect.specs.Laws.{IsNoIndex}
 use Rattle.index_inspect.specs.Piece.{Piece}
 use Rattle.index_inspect.specs.Spelling.{Spelling, AreSpelled, entries_spelled}
 
@@ -62,7 +62,7 @@ module _ (kind : Kind) (time : FileTime) (options : Options) (takes : TakesAll o
       let clash : ◌≡◌ {A = Answer} (Ok x) (Err f) = answer_one kind time options bytes (Ok x) (Err f) ok h in
       absurd cc
 
-  unread : Refuses → IsUnread kind time options bytes
+  unread : Refuses → IsNoIndex kind time options bytes
   unread h = λ x read. h x (ok_by (needs_check false kind bytes) _ _ x _ read)
 
   headless_refused : (f : HeaderFault) → header_of kind bytes ≡ Err f → Refuses
@@ -112,21 +112,21 @@ module _ (kind : Kind) (time : FileTime) (options : Options) (takes : TakesAll o
     left_refused ended more =
         ending_refused version ss after (TrailerLength _ _) is are all fits (answers.walked extensions trailer items tail parted len (record { items_are = items_are; ended = ended }) (answers.left sound more refl))
 
-    end_unread : (last : List Piece) (f : Option Fault) (g : Fault) → f ≡ Some g → IsEnd kind bytes tail trailer last f → IsUnread kind time options bytes
+    end_unread : (last : List Piece) (f : Option Fault) (g : Fault) → f ≡ Some g → IsFileEnd kind bytes tail trailer last f → IsNoIndex kind time options bytes
     end_unread last f g some (faulty i rest x is_item is_fault e h) = unread (faulty_refused i rest x is_item is_fault)
     end_unread last f g some (left ended more e h) = unread (left_refused ended more)
     end_unread last f g some (broken ended none b e h) = λ x read. broken_by (needs_check false kind bytes) _ _ x _ b.0 b.1 read
     end_unread last f g some (whole ended none intact e h) = absurd cc
 
     -- a value that is the answer all the same has these entries
-    end_same : (last : List Piece) (f : Option Fault) (x : Contents × Option ObjectId) → IsAnswer kind time options bytes (Ok x) → IsEnd kind bytes tail trailer last f → x.0.records ≡ entries_spelled ss
+    end_same : (last : List Piece) (f : Option Fault) (x : Contents × Option ObjectId) → IsAnswer kind time options bytes (Ok x) → IsFileEnd kind bytes tail trailer last f → x.0.records ≡ entries_spelled ss
     end_same last f x ok (faulty i rest g is_item is_fault e h) = absurd (faulty_refused i rest g is_item is_fault x ok)
     end_same last f x ok (left ended more e h) = absurd (left_refused ended more x ok)
     end_same last f x ok (broken ended none b e h) = same_records x (entries_spelled ss) ok (whole_answer kind time options takes bytes version ss after items tail trailer extensions is are all fits parted len items_are sound ended none)
     end_same last f x ok (whole ended none intact e h) = same_records x (entries_spelled ss) ok (whole_answer kind time options takes bytes version ss after items tail trailer extensions is are all fits parted len items_are sound ended none)
 
   behind_unread : (version : Version) (ss : List Spelling) (after : List ℕ) (ps : List Piece) (f : Option Fault) (g : Fault) → header_of kind bytes ≡ Ok version → AreSpelled version kind None (drop header_len bytes) ss after
-      → f ≡ Some g → IsBehindEntries kind version bytes ss after ps f → IsUnread kind time options bytes
+      → f ≡ Some g → IsBehindEntries kind version bytes ss after ps f → IsNoIndex kind time options bytes
   behind_unread version ss after ps f g is are some (lacks lt none e h) = unread (lacks_refused version ss after is are lt none)
   behind_unread version ss after ps f g is are some (crowded all c e h) = unread (crowded_refused version is c)
   behind_unread version ss after ps f g is are some (short all fits less e h) = unread (ending_refused version ss after (TrailerLength _ _) is are all fits (answers.short less refl))
@@ -141,7 +141,7 @@ module _ (kind : Kind) (time : FileTime) (options : Options) (takes : TakesAll o
   behind_same version ss after ps f x is are ok (walked all fits items tail trailer extensions last parted len items_are sound e is_end) =
       end_same version ss after items tail trailer extensions is are all fits parted len items_are sound last f x ok is_end
 
-  divided_unread : (rs : List Record) (ps : List Piece) (f : Option Fault) (g : Fault) → f ≡ Some g → IsDivided kind bytes rs ps f → IsUnread kind time options bytes
+  divided_unread : (rs : List Record) (ps : List Piece) (f : Option Fault) (g : Fault) → f ≡ Some g → IsDivided kind bytes rs ps f → IsNoIndex kind time options bytes
   divided_unread rs ps f g some (headless x e a b h) = unread (headless_refused x e)
   divided_unread rs ps f g some (headed version ss after behind is are r e h) = behind_unread version ss after behind f g is are some h
 
@@ -149,7 +149,7 @@ module _ (kind : Kind) (time : FileTime) (options : Options) (takes : TakesAll o
   divided_same rs ps f x ok (headless g e a b h) = absurd (headless_refused g e x ok)
   divided_same rs ps f x ok (headed version ss after behind is are r e h) = behind_same version ss after behind f x is are ok h ∙ sym r
 
-pub unread_whole : (kind : Kind) (time : FileTime) (options : Options) (bytes : List ℕ) (rs : List Record) (ps : List Piece) (f : Fault) → TakesAll options → IsDivided kind bytes rs ps (Some f) → IsUnread kind time options bytes
+pub unread_whole : (kind : Kind) (time : FileTime) (options : Options) (bytes : List ℕ) (rs : List Record) (ps : List Piece) (f : Fault) → TakesAll options → IsDivided kind bytes rs ps (Some f) → IsNoIndex kind time options bytes
 unread_whole kind time options bytes rs ps f takes h = divided_unread kind time options takes bytes rs ps (Some f) f refl h
 
 -- what bytes are read as has the entries of their parts

@@ -6,7 +6,7 @@ use Rattle.gix_index.specs.Id.{id_len}
 use Rattle.gix_index.specs.Kind.{Kind}
 use Rattle.index_inspect.proofs.Divided.{refused_grows}
 use Rattle.index_inspect.proofs.Laid.{behind_items, grown_more, items_end, tail_items}
-use Rattle.index_inspect.specs.Division.{IsEnd, fault_of, unread}
+use Rattle.index_inspect.specs.Division.{IsFileEnd, fault_of, unread_piece}
 use Rattle.index_inspect.specs.DivisionSteps.{EndsIn, WalksOn}
 use Rattle.index_inspect.specs.ItemSteps.{IsWalked}
 use Rattle.index_inspect.specs.Piece.{bytes_of, item_pieces, laid}
@@ -26,7 +26,7 @@ walked_tail kind place bytes old w u h e = e ∙ tail_items (w.end - place) byte
 
 pub walked_refused : (kind : Kind) (bytes after : List ℕ) (place : ℕ) (old : List Part) (w : Walked) (x : Ending) (extensions trailer u : List ℕ) (error : Error) (f : Fault)
     → (h : IsWalked kind place extensions old w) → after ≡ extensions ++ trailer → length trailer ≡ id_len kind → u ≡ drop (w.end - place) after
-    → x.parts.items ≡ w.parts.items ++ laid w.end (unread u) → x.fault ≡ Some error → fault_of error ≡ Some f → IsEnd kind bytes h.tail trailer (unread (h.tail ++ trailer)) (Some f) → WalksOn kind bytes after place old x
+    → x.parts.items ≡ w.parts.items ++ laid w.end (unread_piece u) → x.fault ≡ Some error → fault_of error ≡ Some f → IsFileEnd kind bytes h.tail trailer (unread_piece (h.tail ++ trailer)) (Some f) → WalksOn kind bytes after place old x
 walked_refused kind bytes after place old w x extensions trailer u error f h parted len e parts is stands is_end =
     let reach = walked_end kind place extensions old w h in
     let same : u ≡ h.tail ++ trailer = e ∙ ap (drop (w.end - place)) parted ∙ behind_items (w.end - place) extensions trailer h.items h.tail h.items_are (omega (arith, reach)) in
@@ -35,14 +35,14 @@ walked_refused kind bytes after place old w x extensions trailer u error f h par
       tail = h.tail;
       trailer = trailer;
       extensions = extensions;
-      last = unread (h.tail ++ trailer);
+      last = unread_piece (h.tail ++ trailer);
       fault = Some f;
       parted = parted;
       trailer_len = len;
       items_are = h.items_are;
       sound = h.sound;
       is_end = is_end;
-      grows = refused_grows place w.end (item_pieces h.items) (unread (h.tail ++ trailer)) old w.parts.items x error f h.are reach (subst (λ (t : List ℕ). x.parts.items ≡ w.parts.items ++ laid w.end (unread t)) same parts) is stands;
+      grows = refused_grows place w.end (item_pieces h.items) (unread_piece (h.tail ++ trailer)) old w.parts.items x error f h.are reach (subst (λ (t : List ℕ). x.parts.items ≡ w.parts.items ++ laid w.end (unread_piece t)) same parts) is stands;
     }
 
 pub walked_sealed : (kind : Kind) (bytes after : List ℕ) (place : ℕ) (old : List Part) (w : Walked) (x : Ending) (extensions trailer u : List ℕ)
@@ -58,6 +58,6 @@ walked_sealed kind bytes after place old w x extensions trailer u h parted len e
   trailer_len = len;
   items_are = h.items_are;
   sound = h.sound;
-  is_end = subst (λ (t : List ℕ). IsEnd kind bytes t trailer s.pieces s.fault) e s.is_end;
+  is_end = subst (λ (t : List ℕ). IsFileEnd kind bytes t trailer s.pieces s.fault) e s.is_end;
   grows = record { are = grown_more place w.end (item_pieces h.items) s.pieces old w.parts.items x.parts.items h.are (walked_end kind place extensions old w h) s.grows.are; told = s.grows.told };
 }

@@ -6,7 +6,7 @@ use Rattle.gix_index.specs.Kind.{Kind}
 use Rattle.gix_index.specs.Outcome.{AreSound}
 use Rattle.gix_index.specs.Version.{Version}
 use Rattle.gix_index.specs.Walk.{Item, AreItems}
-use Rattle.index_inspect.specs.Division.{IsBehindEntries, IsEnd, TellsFault}
+use Rattle.index_inspect.specs.Division.{IsBehindEntries, IsFileEnd, TellsFault}
 use Rattle.index_inspect.specs.Piece.{Piece, item_pieces, laid}
 use Rattle.index_inspect.specs.Spelling.{Spelling}
 use Rattle.index_inspect.specs.declared.division.Ending.{Ending}
@@ -21,7 +21,7 @@ pub record Grows (place : ℕ) (old : List Part) (e : Ending) (pieces : List Pie
 pub record EndsIn (kind : Kind) (bytes tail trailer : List ℕ) (place : ℕ) (old : List Part) (e : Ending) : Type 0 where
   pub pieces : List Piece
   pub fault : Option Fault
-  pub is_end : IsEnd kind bytes tail trailer pieces fault
+  pub is_end : IsFileEnd kind bytes tail trailer pieces fault
   pub grows : Grows place old e pieces fault
 
 -- extensions and what stands behind them came behind parts
@@ -36,7 +36,7 @@ pub record WalksOn (kind : Kind) (bytes after : List ℕ) (place : ℕ) (old : L
   pub trailer_len : length trailer ≡ id_len kind
   pub items_are : AreItems extensions items tail
   pub sound : AreSound kind items
-  pub is_end : IsEnd kind bytes tail trailer last fault
+  pub is_end : IsFileEnd kind bytes tail trailer last fault
   pub grows : Grows place old e (item_pieces items ++ last) fault
 
 -- what stands behind entries came behind parts

@@ -27,7 +27,7 @@ abbrev pub TellsItem : Kind → List ℕ → List ℕ → Extension → Type 0
 TellsItem kind signature content e = (size : List ℕ) → (fault : ExtensionFault) × ((extension_fault e ≡ Some fault) × IsFault kind (record { signature = signature; size = size; content = content }) fault)
 
 -- the bytes begin with an extension at fault, for which an error stands
-pub record IsRefused (kind : Kind) (tail : List ℕ) (e : Extension) : Type 0 where
+pub record IsAtFault (kind : Kind) (tail : List ℕ) (e : Extension) : Type 0 where
   pub item : Item
   pub rest : List ℕ
   pub fault : ExtensionFault
@@ -43,4 +43,4 @@ pub record IsWalked (kind : Kind) (place : ℕ) (bytes : List ℕ) (old : List P
   pub sound : AreSound kind items
   pub are : w.parts.items ≡ old ++ laid place (item_pieces items)
   pub end : w.end + length tail ≡ place + length bytes
-  pub ended : MatchOption w.fault (NoItem tail × (w.left ≡ left_of tail)) (IsRefused kind tail)
+  pub ended : MatchOption w.fault (NoItem tail × (w.left ≡ left_of tail)) (IsAtFault kind tail)

@@ -22,8 +22,8 @@ pub record IsReadAs (kind : Kind) (time : FileTime) (options : Options) (bytes :
   pub read : IsFileAnswer false kind time options bytes (Ok (value, checksum))
 
 -- they are no index
-abbrev pub IsUnread : Kind → FileTime → Options → List ℕ → Type 0
-IsUnread kind time options bytes = (x : Contents × Option ObjectId) → IsFileAnswer false kind time options bytes (Ok x) → ⊥
+abbrev pub IsNoIndex : Kind → FileTime → Options → List ℕ → Type 0
+IsNoIndex kind time options bytes = (x : Contents × Option ObjectId) → IsFileAnswer false kind time options bytes (Ok x) → ⊥
 
 -- bytes are read as a value, by a reader without a limit that expects no trailer; and what is saved of them is this
 pub record IsReadAndSaved (v : Contents) (s : Salvaged) : Type 0 where

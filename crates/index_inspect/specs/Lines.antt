@@ -12,13 +12,13 @@ path_or_none None = []
 path_or_none (Some r) = r.path
 
 -- the path of the record at a place
-abbrev pub path_at : List Record → ℕ → List ℕ
-path_at rs place = path_or_none (slice_get rs place)
+abbrev pub record_path : List Record → ℕ → List ℕ
+record_path rs place = path_or_none (slice_get rs place)
 
 -- what a part is, in words
 abbrev pub what_text : List Record → What → List ℕ
 what_text rs whats.Header = codes "header"
-what_text rs (whats.Entry number) = codes "entry " ++ decimal number ++ codes " " ++ escaped (path_at rs number)
+what_text rs (whats.Entry number) = codes "entry " ++ decimal number ++ codes " " ++ escaped (record_path rs number)
 what_text rs whats.Padding = codes "padding"
 what_text rs (whats.ExtensionHead signature) = codes "extension " ++ escaped signature ++ codes " head"
 what_text rs (whats.ExtensionContent signature) = codes "extension " ++ escaped signature ++ codes " content"

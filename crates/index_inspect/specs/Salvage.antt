@@ -41,13 +41,13 @@ pub record IsSavedOf (rs kept : List Record) : Type 0 where
 
 -- ---- where the fault is, and whether a shared index has entries too
 
-abbrev pub offset_or_zero : Option Part → ℕ
-offset_or_zero None = 0
-offset_or_zero (Some p) = p.offset
+abbrev pub begin_or_zero : Option Part → ℕ
+begin_or_zero None = 0
+begin_or_zero (Some p) = p.offset
 
 -- where the last part begins: with the first fault, where there is one
-abbrev pub last_offset : List Part → ℕ
-last_offset parts = offset_or_zero (slice_get parts (length parts - 1))
+abbrev pub last_begin : List Part → ℕ
+last_begin parts = begin_or_zero (slice_get parts (length parts - 1))
 
 -- the head of a link to a shared index
 abbrev pub is_link_head : What → Bool
@@ -74,7 +74,7 @@ pub record Saves (kind : Kind) (bytes : List ℕ) (s : Salvaged) : Type 0 where
   pub saved : IsSavedOf front (records s.state)
   pub declared : s.declared ≡ count_of bytes
   pub read : s.read ≡ length front
-  pub offset : IfSome s.fault (λ f. f.offset ≡ last_offset parts)
+  pub offset : IfSome s.fault (λ f. f.offset ≡ last_begin parts)
   pub link : s.has_link ≡ has_link parts (option_map (λ f. f.error) s.fault)
 
 -- the header has this fault; want of memory says nothing

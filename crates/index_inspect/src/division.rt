@@ -6,7 +6,7 @@ ghost use Rattle.gix_index.specs.HeaderErrors.{header_fault};
 ghost use Rattle.gix_index.specs.Id.{id_len};
 ghost use Rattle.gix_index.specs.Kind.{Kind as KindType};
 ghost use Rattle.gix_index.specs.Walk.{NoItem, left_of};
-ghost use Rattle.index_inspect.specs.Division.{Divides, IsCrowded, NoEntryBehind, unread};
+ghost use Rattle.index_inspect.specs.Division.{Divides, IsCrowded, NoEntryBehind, unread_piece};
 ghost use Rattle.index_inspect.specs.DivisionSteps.{EndsIn, GoesOn, WalksOn};
 ghost use Rattle.index_inspect.specs.Piece.{LieBetween, laid};
 ghost use Rattle.index_inspect.specs.Spelling.{Spelling};
@@ -50,7 +50,7 @@ fn refused(
     fault: Error,
 ) -> Result<Ending, AllocError>
     ensures parts { IfOk result
-        (λ e. e.parts.items ≡ parts.items ++ laid offset (unread behind.now)) }
+        (λ e. e.parts.items ≡ parts.items ++ laid offset (unread_piece behind.now)) }
     ensures fault { IfOk result (λ e. e.fault ≡ Some fault) }
 {
     push_part(&mut parts, offset, behind.len(), What::Unread)?;
@@ -127,9 +127,10 @@ fn is_crowded(kind: Kind, version: Version, declared: u32, bytes: &[u8]) -> bool
     declared as usize > max_entries_possible(bytes.len(), offset, kind, version)
 }
 
-/// How many entries a file declares, and how many of them were read.
+/// What the header of a file declares, its version and how many entries, and how many of them were read.
 #[derive(Clone, Copy)]
-struct Counts {
+struct Found {
+    version: Version,
     declared: u32,
     read: usize,
 }
@@ -138,21 +139,24 @@ struct Counts {
 fn behind_entries(
     alloc: Global,
     kind: Kind,
-    version: Version,
-    counts: Counts,
+    found: Found,
     bytes: &[u8],
     after: &[u8],
     offset: usize,
     parts: Vec<Part>,
 ) -> Result<Ending, AllocError>
     requires room { offset + length after.now ≤ 0xffffffffffffffff }
-    requires declared { counts.declared ≡ count_of bytes.now }
-    requires read { counts.read ≤ counts.declared }
-    ensures { IfOk result (λ e. (spellings : List Spelling) → length spellings ≡ counts.read
-        → (counts.read < counts.declared → NoEntryBehind version kind spellings after.now)
-        → GoesOn kind version bytes.now spellings after.now offset parts.items e) }
+    requires declared { found.declared ≡ count_of bytes.now }
+    requires read { found.read ≤ found.declared }
+    ensures { IfOk result (λ e. (spellings : List Spelling) → length spellings ≡ found.read
+        → (found.read < found.declared → NoEntryBehind found.version kind spellings after.now)
+        → GoesOn kind found.version bytes.now spellings after.now offset parts.items e) }
 {
-    let Counts { declared, read } = counts;
+    let Found {
+        version,
+        declared,
+        read,
+    } = found;
     if read < declared as usize {
         let index = read as u32;
         return refused(parts, offset, after, Error::Entry { index });
@@ -174,7 +178,8 @@ fn behind_entries(
 
 /// The parts of a file with this fault of its header.
 fn headless(alloc: Global, bytes: &[u8], fault: header::Error) -> Result<Division, AllocError>
-    ensures { IfOk result (λ d. (kind : KindType) → header_of kind bytes.now ≡ Err (header_fault fault)
+    ensures { IfOk result (λ d. (kind : KindType)
+        → header_of kind bytes.now ≡ Err (header_fault fault)
         → Divides kind bytes.now d.entries.records d.parts.items d.fault) }
 {
     let Ending { parts, fault } = refused(Vec::new(alloc), 0, bytes, Error::Header(fault))?;
@@ -208,10 +213,12 @@ pub fn divide(alloc: Global, kind: Kind, bytes: &[u8]) -> Result<Division, Alloc
     } = read_front(alloc, version, kind, declared, bytes)?;
     let offset = bytes.len() - rest.len();
     let read = entries.as_slice().len();
-    let counts = Counts { declared, read };
-    let Ending { parts, fault } = behind_entries(
-        alloc, kind, version, counts, bytes, rest, offset, parts,
-    )?;
+    let found = Found {
+        version,
+        declared,
+        read,
+    };
+    let Ending { parts, fault } = behind_entries(alloc, kind, found, bytes, rest, offset, parts)?;
     Ok(Division {
         parts,
         entries,

@@ -10,7 +10,7 @@ ghost use Rattle.gix_index.specs.Laws.{TakesAll};
 ghost use Rattle.gix_index.specs.Record.{Record};
 ghost use Rattle.gix_index.specs.State.{records};
 ghost use Rattle.index_inspect.specs.Division.{IsDivided};
-ghost use Rattle.index_inspect.specs.Laws.{AreWhole, IsReadAndSaved, IsReadAs, IsUnread};
+ghost use Rattle.index_inspect.specs.Laws.{AreWhole, IsReadAndSaved, IsReadAs, IsNoIndex};
 ghost use Rattle.index_inspect.specs.Piece.{Piece};
 ghost use Rattle.index_inspect.specs.Salvage.{IsSavedOf};
 ghost use Rattle.index_inspect.specs.declared.salvage.Salvaged.{Salvaged};
@@ -27,7 +27,7 @@ pub fn whole_is_read()
 pub fn damaged_is_unread()
     ensures { (kind : Kind) (time : FileTime) (options : Options) (bytes : List ℕ)
         (rs : List Record) (pieces : List Piece) (fault : Fault) → TakesAll options
-        → IsDivided kind bytes rs pieces (Some fault) → IsUnread kind time options bytes }
+        → IsDivided kind bytes rs pieces (Some fault) → IsNoIndex kind time options bytes }
 {}
 
 /// Of bytes that are read as an index all entries are saved that it has, in order by path and stage, of each the first:

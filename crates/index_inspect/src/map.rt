@@ -5,7 +5,7 @@ ghost use Rattle.std.specs.Io.KnownBytes.{Appends};
 ghost use Rattle.gix_index.specs.Taking.{AppendsPrefix};
 ghost use Rattle.hex.specs.Hex.{encode_lower, lower_digits};
 ghost use Rattle.index_inspect.specs.Escaped.{escaped, escaped_byte, is_plain};
-ghost use Rattle.index_inspect.specs.Lines.{map_line, map_lines, path_at, what_text};
+ghost use Rattle.index_inspect.specs.Lines.{map_line, map_lines, record_path, what_text};
 
 use crate::part::{Part, What};
 use gix_index::decode::entry::{EntryList, EntrySlice};
@@ -74,8 +74,8 @@ fn append_number(lines: &mut Vec<u8>, n: usize) -> Result<(), AllocError>
 }
 
 /// The path of the entry at a place, or nothing where there is none.
-fn path_at<'a>(entries: &EntrySlice<'a>, place: usize) -> &'a [u8]
-    ensures { result.now ≡ path_at entries.now place }
+fn record_path<'a>(entries: &EntrySlice<'a>, place: usize) -> &'a [u8]
+    ensures { result.now ≡ record_path entries.now place }
 {
     if place < entries.len() {
         return entries.path(place);
@@ -105,11 +105,15 @@ fn append_entry(
     lines.extend_from_slice(b"entry ")?;
     append_number(lines, number as usize)?;
     lines.extend_from_slice(b" ")?;
-    append_escaped(lines, path_at(entries, number as usize))
+    append_escaped(lines, record_path(entries, number as usize))
 }
 
-/// Appends what a part is, in words.
-fn append_what(lines: &mut Vec<u8>, entries: &EntrySlice<'_>, what: What) -> Result<(), AllocError>
+/// Appends what a part is, in words: an entry by its number and its path, as text that fits in a line.
+pub fn append_what(
+    lines: &mut Vec<u8>,
+    entries: &EntrySlice<'_>,
+    what: What,
+) -> Result<(), AllocError>
     ensures { OnOk result (lines.new.items ≡ lines.old.items ++ what_text entries.now what) }
 {
     match what {
@@ -136,8 +140,8 @@ fn append_line(lines: &mut Vec<u8>, entries: &EntrySlice<'_>, part: Part) -> Res
     lines.extend_from_slice(b"\n")
 }
 
-/// Lets the lines out where they fill a block.
-fn put_block<W: io::Write>(lines: &mut Vec<u8>, out: &mut W) -> io::Result<()>
+/// Lets the lines out where they fill a block of 64 KiB. An error is the writer's, which took a prefix of them.
+pub fn put_block<W: io::Write>(lines: &mut Vec<u8>, out: &mut W) -> io::Result<()>
     ensures ok { OnOk result
         ((done : List ℕ) × Appends (W.contents out.old) (W.contents out.new) done
         × (done ++ lines.new.items ≡ lines.old.items)) }

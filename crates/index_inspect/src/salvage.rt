@@ -10,7 +10,7 @@ ghost use Rattle.gix_index.specs.Record.{Record};
 ghost use Rattle.gix_index.specs.Sorted.{IsOrdered};
 ghost use Rattle.gix_index.specs.State.{PathsInStorage, contents, records};
 ghost use Rattle.gix_index.specs.Storable.{IsStorable};
-ghost use Rattle.index_inspect.specs.Salvage.{IsSavedOf, Saves, SaysLost, has_link, is_link_fault, is_link_head, last_offset};
+ghost use Rattle.index_inspect.specs.Salvage.{IsSavedOf, Saves, SaysLost, has_link, is_link_fault, is_link_head, last_begin};
 ghost use Rattle.index_inspect.specs.SalvageSteps.{IsHeld, IsIndexOf, TakesNext};
 ghost use Rattle.index_inspect.specs.declared.salvage.Error.TheVariants.{Memory};
 
@@ -174,8 +174,8 @@ fn saved(alloc: Global, kind: Kind, entries: EntryList) -> Result<State, AllocEr
 }
 
 /// Where the last part begins, or 0 where there is none.
-fn last_offset(parts: &[Part]) -> usize
-    ensures { result ≡ last_offset parts.now }
+fn last_begin(parts: &[Part]) -> usize
+    ensures { result ≡ last_begin parts.now }
 {
     match parts.last() {
         Some(part) => part.offset,
@@ -186,10 +186,10 @@ fn last_offset(parts: &[Part]) -> usize
 /// The first fault, which the last part begins with.
 fn first_fault(parts: &[Part], error: Option<decode::Error>) -> Option<FirstFault>
     ensures error { option_map (λ f. f.error) result ≡ error }
-    ensures offset { IfSome result (λ f. f.offset ≡ last_offset parts.now) }
+    ensures offset { IfSome result (λ f. f.offset ≡ last_begin parts.now) }
 {
     let error = error?;
-    let offset = last_offset(parts);
+    let offset = last_begin(parts);
     Some(FirstFault { offset, error })
 }
 

@@ -19,8 +19,8 @@ mode_word mode =
     else codes " other"))))
 
 -- the digits of a mode, and what it says
-abbrev pub mode_text : ℕ → List ℕ
-mode_text mode = octal mode ++ mode_word mode
+abbrev pub shown_mode : ℕ → List ℕ
+shown_mode mode = octal mode ++ mode_word mode
 
 -- the word, where all bits of the mask are set
 unfoldable pub flag_word : ℕ → ℕ → List ℕ → List ℕ
@@ -56,7 +56,7 @@ stat_lines indent s =
 unfoldable pub record_lines : Record → List ℕ
 record_lines r =
     text_field (codes "    ") (codes "path") r.path ++ id_field (codes "    ") (codes "id") r.id
-    ++ field (codes "    ") (codes "mode") (mode_text r.mode)
+    ++ field (codes "    ") (codes "mode") (shown_mode r.mode)
     ++ number_field (codes "    ") (codes "stage") (stage_number r.flags) ++ flags_line (codes "    ") r.flags
 
 -- the lines of an entry, and its place before them, counted from 0

@@ -34,20 +34,20 @@ id_or_none (Some id) = encode_lower (id_bytes id)
 -- ---- numbers
 
 -- the character of a digit
-abbrev pub digit : ℕ → ℕ
-digit n = 48 + n
+abbrev pub octal_digit : ℕ → ℕ
+octal_digit n = 48 + n
 
 -- the six last octal digits of a number
-abbrev pub octal_six : ℕ → List ℕ
-octal_six n = digit (n / 8 ^ 5 % 8) ∷ digit (n / 8 ^ 4 % 8) ∷ digit (n / 8 ^ 3 % 8) ∷ digit (n / 8 ^ 2 % 8) ∷ digit (n / 8 % 8) ∷ digit (n % 8) ∷ []
+abbrev pub low_octal : ℕ → List ℕ
+low_octal n = octal_digit (n / 8 ^ 5 % 8) ∷ octal_digit (n / 8 ^ 4 % 8) ∷ octal_digit (n / 8 ^ 3 % 8) ∷ octal_digit (n / 8 ^ 2 % 8) ∷ octal_digit (n / 8 % 8) ∷ octal_digit (n % 8) ∷ []
 
 -- the five digits before them, which are all that a number of 32 bits has more
-abbrev pub octal_front : ℕ → List ℕ
-octal_front n = digit (n / 8 ^ 10 % 8) ∷ digit (n / 8 ^ 9 % 8) ∷ digit (n / 8 ^ 8 % 8) ∷ digit (n / 8 ^ 7 % 8) ∷ digit (n / 8 ^ 6 % 8) ∷ []
+abbrev pub high_octal : ℕ → List ℕ
+high_octal n = octal_digit (n / 8 ^ 10 % 8) ∷ octal_digit (n / 8 ^ 9 % 8) ∷ octal_digit (n / 8 ^ 8 % 8) ∷ octal_digit (n / 8 ^ 7 % 8) ∷ octal_digit (n / 8 ^ 6 % 8) ∷ []
 
 -- six octal digits where they hold the number, else eleven
 unfoldable pub octal : ℕ → List ℕ
-octal n = if nat_lt n (8 ^ 6) then octal_six n else octal_front n ++ octal_six n
+octal n = if nat_lt n (8 ^ 6) then low_octal n else high_octal n ++ low_octal n
 
 -- nanoseconds in nine digits, or more where a file has more
 abbrev pub nanoseconds : ℕ → List ℕ

@@ -12,15 +12,15 @@ use Rattle.index_show.specs.Trees.{cached_tree_lines}
 use Rattle.index_show.specs.Undo.{undo_lines}
 use Rattle.index_show.specs.Untracked.{untracked_lines}
 
-abbrev pub version_number : Version → ℕ
-version_number V2 = 2
-version_number V3 = 3
-version_number V4 = 4
+abbrev pub shown_version : Version → ℕ
+shown_version V2 = 2
+shown_version V3 = 3
+shown_version V4 = 4
 
 -- what stands before the entries: the version, the id at the end of the file, and whether the index is sparse
 unfoldable pub head_lines : Contents → Option ObjectId → List ℕ
 head_lines c checksum =
-    field [] (codes "version") (decimal (version_number c.version)) ++ field [] (codes "checksum") (id_or_none checksum)
+    field [] (codes "version") (decimal (shown_version c.version)) ++ field [] (codes "checksum") (id_or_none checksum)
     ++ answer_field [] (codes "sparse") c.extensions.sparse
 
 -- whether there was an offset table, and an end marker

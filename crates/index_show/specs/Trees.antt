@@ -10,14 +10,14 @@ abbrev pub within : List ℕ → List ℕ
 within indent = indent ++ codes "  "
 
 -- a directory's id, and the number of entries below it, or -1 where that isn't known
-unfoldable pub known_lines : List ℕ → ObjectId → Option ℕ → List ℕ
-known_lines indent id count = id_field indent (codes "id") id ++ field indent (codes "entries") (count_bytes count)
+unfoldable pub node_lines : List ℕ → ObjectId → Option ℕ → List ℕ
+node_lines indent id count = id_field indent (codes "id") id ++ field indent (codes "entries") (count_bytes count)
 
 abbrev mutual
   -- the name of a directory, what is known of it, and the directories in it a level further in
   pub tree_lines : List ℕ → Node → List ℕ
   tree_lines indent (node name id count children) =
-      (text_field indent (codes "directory") name ++ known_lines (within indent) id count) ++ all_tree_lines (within indent) children
+      (text_field indent (codes "directory") name ++ node_lines (within indent) id count) ++ all_tree_lines (within indent) children
 
   pub all_tree_lines : List ℕ → Nodes → List ℕ
   all_tree_lines indent none = []

@@ -39,15 +39,15 @@ abbrev pub subdirectory : ℕ → List ℕ
 subdirectory place = number_field (codes "    ") (codes "subdirectory") place
 
 -- what is told of a directory but for its place and for what is in it
-unfoldable pub known_lines : DirectoryValue → List ℕ
-known_lines d =
+unfoldable pub own_lines : DirectoryValue → List ℕ
+own_lines d =
     text_field (codes "    ") (codes "name") d.name ++ answer_field (codes "    ") (codes "check only") d.check_only
     ++ field (codes "    ") (codes "exclude file") (id_or_none d.exclude) ++ stat_or_none d.stat
 
 -- a directory's place, what is known of it, what is untracked in it, and the places of the directories in it
 abbrev pub directory_lines : ℕ → DirectoryValue → List ℕ
 directory_lines place d =
-    number_field (codes "  ") (codes "directory") place ++ known_lines d
+    number_field (codes "  ") (codes "directory") place ++ own_lines d
     ++ flat_map untracked_name d.untracked ++ flat_map subdirectory d.subs
 
 abbrev pub placed_directory : ℕ × DirectoryValue → List ℕ

@@ -75,7 +75,8 @@ pub fn append_link(lines: &mut Vec<u8>, state: &State) -> Result<(), AllocError>
 /// Appends when the monitor was asked.
 #[tactic(auto, unfolding(crate::specs::Bitmaps::token_field))]
 fn append_token(lines: &mut Vec<u8>, token: &Token) -> Result<(), AllocError>
-    ensures { OnOk result (lines.new.items ≡ lines.old.items ++ token_field (token_value token.now)) }
+    ensures { OnOk result (lines.new.items
+        ≡ lines.old.items ++ token_field (token_value token.now)) }
 {
     match token {
         Token::V1 { nanos_since_1970 } => append_number(lines, b"  ", b"time", *nanos_since_1970),

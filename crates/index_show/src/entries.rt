@@ -6,7 +6,7 @@ ghost use Rattle.gix_index.specs.Taking.{AppendsPrefix};
 ghost use Rattle.gix_index.specs.Record.{IsPlaced, record_in};
 ghost use Rattle.gix_index.specs.State.{PathsInStorage, contents, entries_of, records, storage_of};
 ghost use Rattle.index_show.specs.Blocks.{Passes};
-ghost use Rattle.index_show.specs.Entries.{entries_lines, entry_lines, flag_word, flag_words, flags_line, flags_text, mode_text, mode_word, record_lines, stat_lines, time_field, time_text};
+ghost use Rattle.index_show.specs.Entries.{entries_lines, entry_lines, flag_word, flag_words, flags_line, flags_text, shown_mode, mode_word, record_lines, stat_lines, time_field, time_text};
 ghost use Rattle.index_show.specs.Fields.{field};
 
 use crate::block::put_block;
@@ -49,7 +49,7 @@ fn mode_word<'a>(mode: Mode) -> &'a [u8]
 #[tactic(auto, unfolding(crate::specs::Fields::field))]
 fn append_mode(lines: &mut Vec<u8>, indent: &[u8], mode: Mode) -> Result<(), AllocError>
     ensures { OnOk result
-        (lines.new.items ≡ lines.old.items ++ field indent.now (codes "mode") (mode_text mode.0)) }
+        (lines.new.items ≡ lines.old.items ++ field indent.now (codes "mode") (shown_mode mode.0)) }
 {
     lines.extend_from_slice(indent)?;
     lines.extend_from_slice(b"mode: ")?;
@@ -121,7 +121,8 @@ fn append_time(
     name: &[u8],
     time: Time,
 ) -> Result<(), AllocError>
-    ensures { OnOk result (lines.new.items ≡ lines.old.items ++ time_field indent.now name.now time) }
+    ensures { OnOk result (lines.new.items
+        ≡ lines.old.items ++ time_field indent.now name.now time) }
 {
     append_name(lines, indent, name)?;
     append_time_text(lines, time)?;

@@ -3,7 +3,7 @@
 ghost use Rattle.std.specs.Prelude.{◌≡◌, ◌++◌, ◌%◌, OnOk, codes, decimal};
 ghost use Rattle.hex.specs.Hex.{encode_lower};
 ghost use Rattle.gix_index.specs.Id.{id_bytes};
-ghost use Rattle.index_show.specs.Fields.{answer_field, digit, field, id_field, id_or_none, nanoseconds, number_field, octal, octal_front, octal_six, text_field, yes_or_no};
+ghost use Rattle.index_show.specs.Fields.{answer_field, octal_digit, field, id_field, id_or_none, nanoseconds, number_field, octal, high_octal, low_octal, text_field, yes_or_no};
 
 use gix_index::hash::ObjectId;
 use index_inspect::map::append_escaped;
@@ -100,7 +100,8 @@ pub fn append_id(
     name: &[u8],
     id: &ObjectId,
 ) -> Result<(), AllocError>
-    ensures { OnOk result (lines.new.items ≡ lines.old.items ++ id_field indent.now name.now id.now) }
+    ensures { OnOk result (lines.new.items
+        ≡ lines.old.items ++ id_field indent.now name.now id.now) }
 {
     append_name(lines, indent, name)?;
     append_hex(lines, id)?;
@@ -145,14 +146,14 @@ pub fn append_answer(
 
 /// The last octal digit.
 fn octal_digit(n: u32) -> u8
-    ensures { result ≡ digit (n % 8) }
+    ensures { result ≡ octal_digit (n % 8) }
 {
     b'0' + (n % 8) as u8
 }
 
 /// The six last octal digits of a number.
-fn octal_six(n: u32) -> [u8; 6]
-    ensures { result ≡ octal_six n }
+fn low_octal(n: u32) -> [u8; 6]
+    ensures { result ≡ low_octal n }
 {
     [
         octal_digit(n / 0o100000),
@@ -165,8 +166,8 @@ fn octal_six(n: u32) -> [u8; 6]
 }
 
 /// The five octal digits before them.
-fn octal_front(n: u32) -> [u8; 5]
-    ensures { result ≡ octal_front n }
+fn high_octal(n: u32) -> [u8; 5]
+    ensures { result ≡ high_octal n }
 {
     [
         octal_digit(n / 0o10000000000),
@@ -183,10 +184,10 @@ pub fn append_octal(lines: &mut Vec<u8>, n: u32) -> Result<(), AllocError>
     ensures { OnOk result (lines.new.items ≡ lines.old.items ++ octal n) }
 {
     if n < 0o1000000 {
-        return lines.extend_from_slice(&octal_six(n));
+        return lines.extend_from_slice(&low_octal(n));
     }
-    lines.extend_from_slice(&octal_front(n))?;
-    lines.extend_from_slice(&octal_six(n))
+    lines.extend_from_slice(&high_octal(n))?;
+    lines.extend_from_slice(&low_octal(n))
 }
 
 /// Appends nanoseconds in nine digits or more.

@@ -2,9 +2,9 @@
 #![tactic(auto)]
 
 mod bitmaps;
-mod block;
+pub mod block;
 mod entries;
-mod fields;
+pub mod fields;
 pub mod show;
 mod trees;
 mod undo;

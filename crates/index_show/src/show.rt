@@ -5,7 +5,7 @@ ghost use Rattle.std.specs.Io.KnownBytes.{Appends};
 ghost use Rattle.gix_index.specs.Taking.{AppendsPrefix};
 ghost use Rattle.gix_index.specs.File.{checksum_of, state_of};
 ghost use Rattle.gix_index.specs.State.{PathsInStorage, contents};
-ghost use Rattle.index_show.specs.Show.{behind_lines, head_lines, mark_lines, show_lines, version_number};
+ghost use Rattle.index_show.specs.Show.{behind_lines, head_lines, mark_lines, show_lines, shown_version};
 
 use crate::bitmaps::{append_link, append_monitor};
 use crate::entries::write_entries;
@@ -19,8 +19,8 @@ use gix_index::{File, State, Version};
 use std::alloc::{AllocError, Global};
 use std::io;
 
-fn version_number(version: Version) -> u64
-    ensures { result ≡ version_number version }
+fn shown_version(version: Version) -> u64
+    ensures { result ≡ shown_version version }
 {
     match version {
         Version::V2 => 2,
@@ -39,7 +39,7 @@ fn append_head(
     ensures { OnOk result
         (lines.new.items ≡ lines.old.items ++ head_lines (contents state.now) checksum) }
 {
-    append_number(lines, b"", b"version", version_number(state.version()))?;
+    append_number(lines, b"", b"version", shown_version(state.version()))?;
     append_id_or_none(lines, b"", b"checksum", checksum)?;
     append_answer(lines, b"", b"sparse", state.is_sparse())
 }

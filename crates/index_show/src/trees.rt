@@ -7,7 +7,7 @@ ghost use Rattle.gix_index.specs.TreeImage.{count_bytes};
 ghost use Rattle.gix_index.specs.TreeType.TheViews.{out-Tree};
 ghost use Rattle.gix_index.specs.State.{contents};
 ghost use Rattle.index_show.specs.Fields.{field};
-ghost use Rattle.index_show.specs.Trees.{cached_tree_lines, known_lines, tree_lines};
+ghost use Rattle.index_show.specs.Trees.{cached_tree_lines, node_lines, tree_lines};
 
 use crate::fields::{append_field, append_id, append_text};
 use gix_index::State;
@@ -28,10 +28,10 @@ fn append_count(lines: &mut Vec<u8>, indent: &[u8], count: Option<u32>) -> Resul
 }
 
 /// Appends what is known of a directory.
-#[tactic(auto, unfolding(crate::specs::Trees::known_lines))]
+#[tactic(auto, unfolding(crate::specs::Trees::node_lines))]
 fn append_known(lines: &mut Vec<u8>, indent: &[u8], tree: &Tree) -> Result<(), AllocError>
     ensures { OnOk result (lines.new.items ≡ lines.old.items
-        ++ known_lines indent.now (out-Tree tree.now).id (out-Tree tree.now).num_entries) }
+        ++ node_lines indent.now (out-Tree tree.now).id (out-Tree tree.now).num_entries) }
 {
     append_id(lines, indent, b"id", &tree.id)?;
     append_count(lines, indent, tree.num_entries)
@@ -77,7 +77,8 @@ fn append_directories(
 /// Appends the lines of a tree from its root on.
 fn append_root(lines: &mut Vec<u8>, alloc: Global, tree: &Tree) -> Result<(), AllocError>
     ensures { OnOk result (lines.new.items
-        ≡ lines.old.items ++ (codes "cached tree:\n" ++ tree_lines (codes "  ") (node_of tree.now))) }
+        ≡ lines.old.items
+        ++ (codes "cached tree:\n" ++ tree_lines (codes "  ") (node_of tree.now))) }
 {
     let mut indent = Vec::from_slice(alloc, b"  ")?;
     lines.extend_from_slice(b"cached tree:\n")?;

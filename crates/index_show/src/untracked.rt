@@ -6,7 +6,7 @@ ghost use Rattle.std.specs.Option.{option_map};
 ghost use Rattle.gix_index.specs.Blocks.{directory_value};
 ghost use Rattle.gix_index.specs.State.{contents};
 ghost use Rattle.gix_index.specs.Untracked.{cache_of};
-ghost use Rattle.index_show.specs.Untracked.{cache_lines, directory_lines, exclude_files, exclude_lines, known_lines, naming_lines, placed_directory, preamble_lines, stat_or_none, subdirectory, untracked_lines, untracked_name};
+ghost use Rattle.index_show.specs.Untracked.{cache_lines, directory_lines, exclude_files, exclude_lines, own_lines, naming_lines, placed_directory, preamble_lines, stat_or_none, subdirectory, untracked_lines, untracked_name};
 
 use crate::entries::append_stat;
 use crate::fields::{
@@ -45,7 +45,8 @@ fn append_exclude_files(
     excludes: Option<&OidStat>,
 ) -> Result<(), AllocError>
     ensures { OnOk result (lines.new.items ≡ lines.old.items
-        ++ exclude_files (option_map (λ f. f.now) info.entry) (option_map (λ f. f.now) excludes.entry)) }
+        ++ exclude_files (option_map (λ f. f.now) info.entry)
+        (option_map (λ f. f.now) excludes.entry)) }
 {
     append_exclude(lines, b"info/exclude", info)?;
     append_exclude(lines, b"excludes file", excludes)
@@ -95,10 +96,10 @@ fn append_stat_or_none(lines: &mut Vec<u8>, stat: Option<&Stat>) -> Result<(), A
 }
 
 /// Appends what is known of a directory.
-#[tactic(auto, unfolding(crate::specs::Untracked::known_lines))]
+#[tactic(auto, unfolding(crate::specs::Untracked::own_lines))]
 fn append_known(lines: &mut Vec<u8>, directory: &Directory) -> Result<(), AllocError>
     ensures { OnOk result
-        (lines.new.items ≡ lines.old.items ++ known_lines (directory_value directory.now)) }
+        (lines.new.items ≡ lines.old.items ++ own_lines (directory_value directory.now)) }
 {
     append_text(lines, b"    ", b"name", directory.name())?;
     append_answer(lines, b"    ", b"check only", directory.check_only())?;

@@ -12,10 +12,11 @@ use Rattle.index_tool.specs.declared.failure.Failure.{Failure}
 use Rattle.index_tool.specs.declared.failure.Failure.TheVariants as failures
 use Rattle.index_tool.specs.declared.command.Reading.TheVariants as readings
 use Rattle.index_tool.specs.Checking.{FailsToCheck, FailsToCompare}
-use Rattle.index_tool.specs.Command.{GivesUp, Reads, damaged_map, nothing, some_of}
+use Rattle.index_tool.specs.Command.{GivesUp, Reads, damaged_map, damaged_picture, nothing, some_of}
+use Rattle.index_tool.specs.Drawing.{FailsToDraw}
 use Rattle.index_tool.specs.Listing.{FailsToList}
 use Rattle.index_tool.specs.Mapping.{FailsToMap}
-use Rattle.index_tool.specs.Showing.{FailsToShow}
+use Rattle.index_tool.specs.Showing.{FailsToShow, FailsToShowJson}
 use Rattle.index_tool.specs.Trees.{FailsToTellTrees, FailsToTree}
 
 pub list_gives_up : (f : Failure) (kind : Kind) (path : List ℕ) (old new : Option (List ℕ)) → FailsToList kind path f old new → GivesUp (Reads readings.List kind path) old new
@@ -66,6 +67,18 @@ map_gives_up (failures.Trees file e) kind path old new h = nothing h.1
 map_gives_up (failures.Rewrite file e) kind path old new h = nothing h.1
 map_gives_up (failures.Output e) kind path old new h = some_of readings.Map kind path refl h
 
+pub map_svg_gives_up : (f : Failure) (kind : Kind) (path : List ℕ) (old new : Option (List ℕ)) → FailsToDraw kind path f old new → GivesUp (Reads readings.MapSvg kind path) old new
+map_svg_gives_up (failures.Read e) kind path old new h = nothing h.1
+map_svg_gives_up (failures.Index file e) kind path old new h = nothing h.1
+map_svg_gives_up (failures.Entries file e) kind path old new h = nothing h.1
+map_svg_gives_up (failures.CachedTree file e) kind path old new h = nothing h.1
+map_svg_gives_up (failures.TreeIds file e) kind path old new h = nothing h.1
+map_svg_gives_up (failures.Changed file e) kind path old new h = nothing h.1
+map_svg_gives_up (failures.Damaged file offset e) kind path old new h = damaged_picture kind path offset e refl h.1
+map_svg_gives_up (failures.Trees file e) kind path old new h = nothing h.1
+map_svg_gives_up (failures.Rewrite file e) kind path old new h = nothing h.1
+map_svg_gives_up (failures.Output e) kind path old new h = some_of readings.MapSvg kind path refl h
+
 pub show_gives_up : (f : Failure) (kind : Kind) (path : List ℕ) (old new : Option (List ℕ)) → FailsToShow kind path f old new → GivesUp (Reads readings.Show kind path) old new
 show_gives_up (failures.Read e) kind path old new h = nothing h.1
 show_gives_up (failures.Index file e) kind path old new h = nothing h.1
@@ -77,6 +90,18 @@ show_gives_up (failures.Damaged file offset e) kind path old new h = nothing h.1
 show_gives_up (failures.Trees file e) kind path old new h = nothing h.1
 show_gives_up (failures.Rewrite file e) kind path old new h = nothing h.1
 show_gives_up (failures.Output e) kind path old new h = some_of readings.Show kind path refl h
+
+pub show_json_gives_up : (f : Failure) (kind : Kind) (path : List ℕ) (old new : Option (List ℕ)) → FailsToShowJson kind path f old new → GivesUp (Reads readings.ShowJson kind path) old new
+show_json_gives_up (failures.Read e) kind path old new h = nothing h.1
+show_json_gives_up (failures.Index file e) kind path old new h = nothing h.1
+show_json_gives_up (failures.Entries file e) kind path old new h = nothing h.1
+show_json_gives_up (failures.CachedTree file e) kind path old new h = nothing h.1
+show_json_gives_up (failures.TreeIds file e) kind path old new h = nothing h.1
+show_json_gives_up (failures.Changed file e) kind path old new h = nothing h.1
+show_json_gives_up (failures.Damaged file offset e) kind path old new h = nothing h.1
+show_json_gives_up (failures.Trees file e) kind path old new h = nothing h.1
+show_json_gives_up (failures.Rewrite file e) kind path old new h = nothing h.1
+show_json_gives_up (failures.Output e) kind path old new h = some_of readings.ShowJson kind path refl h
 
 pub trees_gives_up : (f : Failure) (kind : Kind) (path : List ℕ) (old new : Option (List ℕ)) → FailsToTellTrees kind path f old new → GivesUp (Reads readings.Trees kind path) old new
 trees_gives_up (failures.Read e) kind path old new h = nothing h.1
@@ -106,9 +131,17 @@ pub map_refused : (r : Result (Unit {0}) Failure) (kind : Kind) (path : List ℕ
 map_refused (Ok x) kind path old new h = tt
 map_refused (Err f) kind path old new h = map_gives_up f kind path old new h
 
+pub map_svg_refused : (r : Result (Unit {0}) Failure) (kind : Kind) (path : List ℕ) (old new : Option (List ℕ)) → IfErr r (λ f. FailsToDraw kind path f old new) → OnErr r (GivesUp (Reads readings.MapSvg kind path) old new)
+map_svg_refused (Ok x) kind path old new h = tt
+map_svg_refused (Err f) kind path old new h = map_svg_gives_up f kind path old new h
+
 pub show_refused : (r : Result (Unit {0}) Failure) (kind : Kind) (path : List ℕ) (old new : Option (List ℕ)) → IfErr r (λ f. FailsToShow kind path f old new) → OnErr r (GivesUp (Reads readings.Show kind path) old new)
 show_refused (Ok x) kind path old new h = tt
 show_refused (Err f) kind path old new h = show_gives_up f kind path old new h
+
+pub show_json_refused : (r : Result (Unit {0}) Failure) (kind : Kind) (path : List ℕ) (old new : Option (List ℕ)) → IfErr r (λ f. FailsToShowJson kind path f old new) → OnErr r (GivesUp (Reads readings.ShowJson kind path) old new)
+show_json_refused (Ok x) kind path old new h = tt
+show_json_refused (Err f) kind path old new h = show_json_gives_up f kind path old new h
 
 pub trees_refused : (r : Result (Unit {0}) Failure) (kind : Kind) (path : List ℕ) (old new : Option (List ℕ)) → IfErr r (λ f. FailsToTellTrees kind path f old new) → OnErr r (GivesUp (Reads readings.Trees kind path) old new)
 trees_refused (Ok x) kind path old new h = tt

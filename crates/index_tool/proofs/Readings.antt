@@ -7,16 +7,16 @@ use Rattle.gix_index.specs.Contents.{Contents}
 use Rattle.gix_index.specs.DecodeOptions.{Options}
 use Rattle.gix_index.specs.Checked.{IsFileAnswer}
 use Rattle.gix_index.specs.Linked.{IsOnDisk}
-use Rattle.index_tool.specs.Listing.{default_options, IsBeginOf1970, IsInFile}
+use Rattle.index_tool.specs.Listing.{unlimited_options, IsBeginOf1970, IsInFile}
 use Rattle.index_tool.specs.Showing.{IsInBytes}
 
-pub in_file : (kind : Kind) (time : FileTime) (options : Options) (v : Contents) (checksum : Option ObjectId) → IsBeginOf1970 time → options ≡ default_options → IsOnDisk false kind time options v checksum → IsInFile kind v checksum
+pub in_file : (kind : Kind) (time : FileTime) (options : Options) (v : Contents) (checksum : Option ObjectId) → IsBeginOf1970 time → options ≡ unlimited_options → IsOnDisk false kind time options v checksum → IsInFile kind v checksum
 in_file kind time options v checksum begin e is = record { time = time; begin = begin; is = subst (λ (o : Options). IsOnDisk false kind time o v checksum) e is }
 
 pub options_are : (options : Options) → options.thread_limit ≡ None → options.min_extension_block_in_bytes_for_threading ≡ 0 → options.expected_checksum ≡ None → options.alloc_limit_bytes ≡ None
-    → options ≡ default_options
+    → options ≡ unlimited_options
 options_are options a b c d = rw (a, b, c, d) refl
 
-pub in_bytes : (kind : Kind) (bytes : List ℕ) (time : FileTime) (options : Options) (v : Contents) (checksum : Option ObjectId) → IsBeginOf1970 time → options ≡ default_options
+pub in_bytes : (kind : Kind) (bytes : List ℕ) (time : FileTime) (options : Options) (v : Contents) (checksum : Option ObjectId) → IsBeginOf1970 time → options ≡ unlimited_options
     → IsFileAnswer false kind time options bytes (Ok (v, checksum)) → IsInBytes kind bytes v checksum
 in_bytes kind bytes time options v checksum begin e is = record { time = time; begin = begin; is = subst (λ (o : Options). IsFileAnswer false kind time o bytes (Ok (v, checksum))) e is }

@@ -10,7 +10,7 @@ use Rattle.gix_index.specs.WriteExtensions.TheVariants.{All}
 use Rattle.gix_index.specs.declared.file.File.{File}
 use Rattle.gix_index.specs.WrittenFile.{IsWritten}
 use Rattle.index_tool.specs.declared.failure.Failure.{Failure}
-use Rattle.index_tool.specs.Command.{GivesUp, Stores, Succeeds, Writes, nothing}
+use Rattle.index_tool.specs.Command.{GivesUp, StoresIndex, Succeeds, Writes, nothing}
 use Rattle.index_tool.specs.declared.command.Writing.{Writing}
 use Rattle.index_tool.specs.Rewriting.{rewrite_options}
 
@@ -23,7 +23,7 @@ pub written_by_default : (old new : File) (extensions : Extensions) (version : V
 written_by_default old new extensions version skip_hash a b c h = rw (a, b, c) at h
 
 -- nothing went to the output
-pub stored_done : {A : Type 0} (r : Result A Failure) (what : Writing) (kind : Kind) (path to : List ℕ) (known : Option (List ℕ)) → OnOk r (Stores what kind to) → OnOk r (Succeeds (Writes what kind path to) known known)
+pub stored_done : {A : Type 0} (r : Result A Failure) (what : Writing) (kind : Kind) (path to : List ℕ) (known : Option (List ℕ)) → OnOk r (StoresIndex what kind to) → OnOk r (Succeeds (Writes what kind path to) known known)
 stored_done (Ok x) what kind path to known h = (h, Keeps-refl known)
 stored_done (Err f) what kind path to known h = tt
 

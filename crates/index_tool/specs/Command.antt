@@ -14,11 +14,12 @@ use Rattle.index_tool.specs.declared.command.Reading.TheVariants as readings
 use Rattle.index_tool.specs.declared.command.Writing.{Writing}
 use Rattle.index_tool.specs.declared.command.Writing.TheVariants as writings
 use Rattle.index_tool.specs.Checking.{Checks, ChecksFront}
+use Rattle.index_tool.specs.Drawing.{Draws, DrawsDamaged, DrawsFront}
 use Rattle.index_tool.specs.Listing.{ListsIndex, ListsFront}
 use Rattle.index_tool.specs.Mapping.{Maps, MapsDamaged, MapsFront}
 use Rattle.index_tool.specs.Rewriting.{Rewrites}
 use Rattle.index_tool.specs.Salvaging.{Salvages}
-use Rattle.index_tool.specs.Showing.{Shows, ShowsFront}
+use Rattle.index_tool.specs.Showing.{Shows, ShowsFront, ShowsJson, ShowsJsonFront}
 use Rattle.index_tool.specs.Trees.{Retrees, TreesFront, TreesIndex}
 use Rattle.gix_index.specs.DecodeError.{Error}
 
@@ -45,9 +46,11 @@ reading_named name =
     else (if is_word name (codes "check") then Some readings.Check
     else (if is_word name (codes "check-trees") then Some readings.CheckTrees
     else (if is_word name (codes "map") then Some readings.Map
+    else (if is_word name (codes "map-svg") then Some readings.MapSvg
     else (if is_word name (codes "show") then Some readings.Show
+    else (if is_word name (codes "show-json") then Some readings.ShowJson
     else (if is_word name (codes "trees") then Some readings.Trees
-    else None)))))
+    else None)))))))
 
 -- what the command with this name writes
 abbrev pub writing_named : List ℕ → Option Writing
@@ -79,29 +82,33 @@ command_named (name ∷ words) = named_so (reading_named name) (writing_named na
 command_named [] = None
 
 -- known bytes of the output grew by what is told of a file: the listing of an index, the line of one that passed all checks, the map
--- of a file without a fault, the lines of what a file holds, or those of the trees that an index makes
-abbrev pub Tells : Reading → Kind → Option (List ℕ) → Option (List ℕ) → Type 0
-Tells readings.List kind old new = ListsIndex kind old new
-Tells readings.Check kind old new = Checks false kind old new
-Tells readings.CheckTrees kind old new = Checks true kind old new
-Tells readings.Map kind old new = Maps kind old new
-Tells readings.Show kind old new = Shows kind old new
-Tells readings.Trees kind old new = TreesIndex kind old new
+-- or the picture of a file without a fault, the lines or the JSON of what a file holds, or the lines of the trees that an index makes
+abbrev pub Prints : Reading → Kind → Option (List ℕ) → Option (List ℕ) → Type 0
+Prints readings.List kind old new = ListsIndex kind old new
+Prints readings.Check kind old new = Checks false kind old new
+Prints readings.CheckTrees kind old new = Checks true kind old new
+Prints readings.Map kind old new = Maps kind old new
+Prints readings.MapSvg kind old new = Draws kind old new
+Prints readings.Show kind old new = Shows kind old new
+Prints readings.ShowJson kind old new = ShowsJson kind old new
+Prints readings.Trees kind old new = TreesIndex kind old new
 
 -- they grew by a prefix of that
-abbrev pub TellsFront : Reading → Kind → Option (List ℕ) → Option (List ℕ) → Type 0
-TellsFront readings.List kind old new = ListsFront kind old new
-TellsFront readings.Check kind old new = ChecksFront false kind old new
-TellsFront readings.CheckTrees kind old new = ChecksFront true kind old new
-TellsFront readings.Map kind old new = MapsFront kind old new
-TellsFront readings.Show kind old new = ShowsFront kind old new
-TellsFront readings.Trees kind old new = TreesFront kind old new
+abbrev pub PrintsFront : Reading → Kind → Option (List ℕ) → Option (List ℕ) → Type 0
+PrintsFront readings.List kind old new = ListsFront kind old new
+PrintsFront readings.Check kind old new = ChecksFront false kind old new
+PrintsFront readings.CheckTrees kind old new = ChecksFront true kind old new
+PrintsFront readings.Map kind old new = MapsFront kind old new
+PrintsFront readings.MapSvg kind old new = DrawsFront kind old new
+PrintsFront readings.Show kind old new = ShowsFront kind old new
+PrintsFront readings.ShowJson kind old new = ShowsJsonFront kind old new
+PrintsFront readings.Trees kind old new = TreesFront kind old new
 
 -- an index was written to a path: the one in a file, that one with a cached tree made anew, or what is saved of a file
-abbrev pub Stores : Writing → Kind → List ℕ → Type 0
-Stores (writings.Rewrite version) kind to = Rewrites version kind to
-Stores writings.RewriteTrees kind to = Retrees kind to
-Stores writings.Salvage kind to = Salvages kind to
+abbrev pub StoresIndex : Writing → Kind → List ℕ → Type 0
+StoresIndex (writings.Rewrite version) kind to = Rewrites version kind to
+StoresIndex writings.RewriteTrees kind to = Retrees kind to
+StoresIndex writings.Salvage kind to = Salvages kind to
 
 -- whether a line tells of what was done, where it was: that of what was saved
 abbrev pub reports : CommandValue → Bool
@@ -110,11 +117,13 @@ reports command = false
 
 -- what a command that succeeded did: known bytes of the output grew by all that it tells, or stayed, and an index was written
 abbrev pub Succeeds : CommandValue → Option (List ℕ) → Option (List ℕ) → Type 0
-Succeeds (Reads what kind file) old new = Tells what kind old new
-Succeeds (Writes what kind file to) old new = Stores what kind to × Keeps old new
+Succeeds (Reads what kind file) old new = Prints what kind old new
+Succeeds (Writes what kind file to) old new = StoresIndex what kind to × Keeps old new
 
--- what a command that was refused did to them: nothing, or they grew by a prefix of that, or by the map of a damaged file
+-- what a command that was refused did to them: nothing, or they grew by a prefix of that, or by the map or
+-- the picture of a damaged file
 pub data GivesUp (command : CommandValue) (old new : Option (List ℕ)) : Type 0 where
   nothing : Keeps old new → GivesUp command old new
-  some_of : (what : Reading) (kind : Kind) (file : List ℕ) → command ≡ Reads what kind file → TellsFront what kind old new → GivesUp command old new
+  some_of : (what : Reading) (kind : Kind) (file : List ℕ) → command ≡ Reads what kind file → PrintsFront what kind old new → GivesUp command old new
   damaged_map : (kind : Kind) (file : List ℕ) (offset : ℕ) (e : Error) → command ≡ Reads readings.Map kind file → MapsDamaged kind offset e old new → GivesUp command old new
+  damaged_picture : (kind : Kind) (file : List ℕ) (offset : ℕ) (e : Error) → command ≡ Reads readings.MapSvg kind file → DrawsDamaged kind offset e old new → GivesUp command old new

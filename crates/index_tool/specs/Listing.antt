@@ -11,11 +11,11 @@ use Rattle.gix_index.specs.DecodeOptions.{Options}
 use Rattle.gix_index.specs.Linked.{IsOnDisk}
 use Rattle.index_tool.specs.declared.failure.Failure.{Failure}
 use Rattle.index_tool.specs.declared.failure.Failure.TheVariants as failures
-use Rattle.index_tool.specs.Line.{listing}
+use Rattle.index_lines.specs.Line.{listing}
 
 -- no limit, and no id that the trailer has to be
-abbrev pub default_options : Options
-default_options = record { thread_limit = None; min_extension_block_in_bytes_for_threading = 0; expected_checksum = None; alloc_limit_bytes = None }
+abbrev pub unlimited_options : Options
+unlimited_options = record { thread_limit = None; min_extension_block_in_bytes_for_threading = 0; expected_checksum = None; alloc_limit_bytes = None }
 
 abbrev pub IsBeginOf1970 : FileTime → Type 0
 IsBeginOf1970 time = (seconds_of time ≡ pos 0) × (nanoseconds_of time ≡ 0)
@@ -25,7 +25,7 @@ IsBeginOf1970 time = (seconds_of time ≡ pos 0) × (nanoseconds_of time ≡ 0)
 pub record IsInFile (kind : Kind) (value : Contents) (checksum : Option ObjectId) : Type 0 where
   pub time : FileTime
   pub begin : IsBeginOf1970 time
-  pub is : IsOnDisk false kind time default_options value checksum
+  pub is : IsOnDisk false kind time unlimited_options value checksum
 
 -- known bytes grew by the lines of the index in a file
 pub record ListsIndex (kind : Kind) (old new : Option (List ℕ)) : Type 0 where

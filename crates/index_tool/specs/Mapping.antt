@@ -1,5 +1,5 @@
 -- The map of a file that the program prints (the program's own). No clause can name the file's bytes: it is the map of some.
-use Rattle.std.specs.Prelude.{◌≡◌, ℕ, ◌-◌, List, length, Option, Some, None, slice_get}
+use Rattle.std.specs.Prelude.{◌≡◌, ℕ, List, Option, Some, None}
 use Rattle.std.specs.Io.KnownBytes.{Appends, Keeps}
 use Rattle.gix_index.specs.DecodeError.{Error}
 use Rattle.gix_index.specs.Kind.{Kind}
@@ -7,18 +7,11 @@ use Rattle.gix_index.specs.Record.{Record}
 use Rattle.gix_index.specs.Taking.{AppendsPrefix}
 use Rattle.index_inspect.specs.Division.{Divides}
 use Rattle.index_inspect.specs.Lines.{map_lines}
+use Rattle.index_inspect.specs.Salvage.{last_begin}
 use Rattle.index_inspect.specs.declared.part.Part.{Part}
 use Rattle.index_tool.specs.declared.failure.Failure.{Failure}
 use Rattle.index_tool.specs.declared.failure.Failure.TheVariants as failures
 use Rattle.index_tool.specs.Listing.{FailsToRead}
-
-abbrev pub offset_or_zero : Option Part → ℕ
-offset_or_zero None = 0
-offset_or_zero (Some p) = p.offset
-
--- where the last part begins
-abbrev pub last_offset : List Part → ℕ
-last_offset parts = offset_or_zero (slice_get parts (length parts - 1))
 
 -- known bytes grew by the map of some bytes, which have this fault or none
 pub record MapsTo (kind : Kind) (fault : Option Error) (parts : List Part) (old new : Option (List ℕ)) : Type 0 where
@@ -33,7 +26,7 @@ Maps kind old new = (parts : List Part) × MapsTo kind None parts old new
 
 -- the map of bytes with a fault, at which its last part begins
 abbrev pub MapsDamaged : Kind → ℕ → Error → Option (List ℕ) → Option (List ℕ) → Type 0
-MapsDamaged kind offset e old new = (parts : List Part) × ((offset ≡ last_offset parts) × MapsTo kind (Some e) parts old new)
+MapsDamaged kind offset e old new = (parts : List Part) × ((offset ≡ last_begin parts) × MapsTo kind (Some e) parts old new)
 
 -- known bytes grew by a prefix of the map of some bytes
 pub record MapsFront (kind : Kind) (old new : Option (List ℕ)) : Type 0 where

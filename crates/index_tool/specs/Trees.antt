@@ -16,9 +16,9 @@ use Rattle.gix_index.specs.TreeDirectory.{Items, IsTreeOf}
 use Rattle.gix_index.specs.VersionChoice.TheVariants.{Smallest}
 use Rattle.gix_index.specs.WrittenFile.{IsWritten}
 use Rattle.gix_index.specs.declared.file.File.{File}
+use Rattle.index_lines.specs.Directories.{subtree_lines}
 use Rattle.index_tool.specs.declared.failure.Failure.{Failure}
 use Rattle.index_tool.specs.declared.failure.Failure.TheVariants as failures
-use Rattle.index_tool.specs.Directories.{directory_lines}
 use Rattle.index_tool.specs.Listing.{IsInFile, FailsToRead}
 use Rattle.index_tool.specs.Rewriting.{rewrite_options}
 
@@ -40,14 +40,14 @@ pub record TreesIndex (kind : Kind) (old new : Option (List ℕ)) : Type 0 where
   pub value : Contents
   pub tree : Node
   pub is : IsTreeInFile kind value tree
-  pub grew : Appends old new (directory_lines [] tree)
+  pub grew : Appends old new (subtree_lines [] tree)
 
 -- known bytes grew by a prefix of them
 pub record TreesFront (kind : Kind) (old new : Option (List ℕ)) : Type 0 where
   pub value : Contents
   pub tree : Node
   pub is : IsTreeInFile kind value tree
-  pub grew : AppendsPrefix old new (directory_lines [] tree)
+  pub grew : AppendsPrefix old new (subtree_lines [] tree)
 
 -- a failure of an index in a file that has no trees names that file
 abbrev pub FailsToTree : List ℕ → Failure → Type 0

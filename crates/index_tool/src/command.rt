@@ -4,16 +4,18 @@ pub mod check;
 mod index;
 pub mod list;
 pub mod map;
+pub mod map_svg;
 pub mod rewrite;
 pub mod rewrite_trees;
 pub mod salvage;
 pub mod show;
+pub mod show_json;
 pub mod trees;
 
 ghost use Rattle.std.specs.Prelude.{◌≡◌, ◌≤◌, ◌↔◌, false, map, IfErr, IfOk, OnOk, OnErr, IsSomeAnd, None, is_some, string_bytes};
 ghost use Rattle.std.specs.Io.KnownBytes.{Keeps};
 ghost use Rattle.std.specs.Option.{option_map};
-ghost use Rattle.index_tool.specs.Command.{command_named, command_value, kind_named, read_named, reading_named, reports, write_named, writing_named, GivesUp, Reads, Stores, Succeeds, Tells, Writes};
+ghost use Rattle.index_tool.specs.Command.{command_named, command_value, kind_named, read_named, reading_named, reports, write_named, writing_named, GivesUp, Reads, StoresIndex, Succeeds, Prints, Writes};
 
 use crate::failure::Failure;
 use check::check;
@@ -21,10 +23,12 @@ use gix_index::hash::Kind;
 use gix_index::write::VersionChoice;
 use list::list;
 use map::map;
+use map_svg::map_svg;
 use rewrite::rewrite;
 use rewrite_trees::rewrite_trees;
 use salvage::{Report, save};
 use show::show;
+use show_json::show_json;
 use std::alloc::Global;
 use std::io;
 use std::io::Write;
@@ -49,8 +53,12 @@ pub enum Reading {
     CheckTrees,
     /// The parts of the file, up to its first fault.
     Map,
+    /// A picture of these parts.
+    MapSvg,
     /// What the file holds.
     Show,
+    /// The same as JSON.
+    ShowJson,
     /// A line for each directory of the trees that its entries make.
     Trees,
 }
@@ -112,8 +120,14 @@ fn reading_of(name: &str) -> Option<Reading>
     if name == "map" {
         return Some(Reading::Map);
     }
+    if name == "map-svg" {
+        return Some(Reading::MapSvg);
+    }
     if name == "show" {
         return Some(Reading::Show);
+    }
+    if name == "show-json" {
+        return Some(Reading::ShowJson);
     }
     if name == "trees" {
         return Some(Reading::Trees);
@@ -194,7 +208,7 @@ fn tell<'a, R: Files, W: io::Write>(
     path: &'a str,
     out: &mut W,
 ) -> Result<(), Failure<'a>>
-    ensures told { OnOk result (Tells what kind (W.contents out.old) (W.contents out.new)) }
+    ensures told { OnOk result (Prints what kind (W.contents out.old) (W.contents out.new)) }
     ensures refused { OnErr result
         (GivesUp (Reads what kind path.now) (W.contents out.old) (W.contents out.new)) }
 {
@@ -203,7 +217,9 @@ fn tell<'a, R: Files, W: io::Write>(
         Reading::Check => check(rt, alloc, false, kind, path, out),
         Reading::CheckTrees => check(rt, alloc, true, kind, path, out),
         Reading::Map => map(rt, alloc, kind, path, out),
+        Reading::MapSvg => map_svg(rt, alloc, kind, path, out),
         Reading::Show => show(rt, alloc, kind, path, out),
+        Reading::ShowJson => show_json(rt, alloc, kind, path, out),
         Reading::Trees => trees(rt, alloc, kind, path, out),
     }
 }
@@ -217,8 +233,9 @@ fn write<'a, R: Files>(
     path: &'a str,
     to: &'a str,
 ) -> Result<Option<Report<'a>>, Failure<'a>>
-    ensures written { OnOk result (Stores what kind to.now) }
-    ensures report { IfOk result (λ report. is_some report ≡ reports (Writes what kind path.now to.now)) }
+    ensures written { OnOk result (StoresIndex what kind to.now) }
+    ensures report { IfOk result
+        (λ report. is_some report ≡ reports (Writes what kind path.now to.now)) }
 {
     match what {
         Writing::Rewrite(version) => rewrite(rt, alloc, version, kind, path, to)?,
@@ -263,16 +280,16 @@ fn run_command<'a, R: Files, W: io::Write>(
 /// order and the file has its digest still; `check-trees KIND FILE` does so where the cached tree tells what they give,
 /// too. `trees KIND FILE` writes a line to `out` for each directory of the trees that the entries make. Of FILE by
 /// itself, without its shared index, `map KIND FILE` writes a line to `out` for each part, up to the first fault, where
-/// it has one, and `show KIND FILE` lines of what it holds. `rewrite KIND FILE OUT` writes the index to the
-/// path OUT, by way of the lock file OUT.lock, and nothing to `out`. `rewrite4 KIND FILE OUT` does so in version 4, and
-/// `rewrite-trees KIND FILE OUT` with a cached tree made anew. `salvage KIND FILE OUT` writes what can be saved of FILE
-/// by itself there, and says on one line on `faults` how many entries were declared, read and kept, and where the first
-/// fault is.
+/// it has one, `map-svg KIND FILE` a picture of these parts, `show KIND FILE` lines of what it holds, and `show-json
+/// KIND FILE` the same as JSON. `rewrite KIND FILE OUT` writes the index to the path OUT, by way of the lock file
+/// OUT.lock, and nothing to `out`. `rewrite4 KIND FILE OUT` does so in version 4, and `rewrite-trees KIND FILE OUT` with
+/// a cached tree made anew. `salvage KIND FILE OUT` writes what can be saved of FILE by itself there, and says on one
+/// line on `faults` how many entries were declared, read and kept, and where the first fault is.
 ///
 /// [`DONE`]: the command did all that. [`REFUSED`]: a file can't be read or written, or is no such index, or `out`
-/// failed; nothing goes to `out` before FILE was read whole and, but for `map`, all checks have passed; the map of a
-/// damaged file goes there whole. [`WRONG_WORDS`]: the words are no command; no file is opened. A status other than
-/// [`DONE`] comes with one line on `faults`, which names the file that it concerns.
+/// failed; nothing goes to `out` before FILE was read whole and, but for `map` and `map-svg`, all checks have passed;
+/// the map and the picture of a damaged file go there whole. [`WRONG_WORDS`]: the words are no command; no file is
+/// opened. A status other than [`DONE`] comes with one line on `faults`, which names the file that it concerns.
 pub fn run<R: Files + Alloc, O: io::Write, E: io::Write>(
     rt: &R,
     alloc: Global,
@@ -291,12 +308,13 @@ pub fn run<R: Files + Alloc, O: io::Write, E: io::Write>(
     ensures refused { result ≡ REFUSED → IsSomeAnd (command_named (map string_bytes words.now))
         (λ command. GivesUp command (O.contents out.old) (O.contents out.new)) }
     ensures no_fault { result ≡ DONE → IsSomeAnd (command_named (map string_bytes words.now))
-        (λ command. reports command ≡ false → Keeps (E.contents faults.old) (E.contents faults.new)) }
+        (λ command. reports command ≡ false
+        → Keeps (E.contents faults.old) (E.contents faults.new)) }
 {
     let Some(command) = command_of(words) else {
         let _ = writeln!(
             faults,
-            "index-tool: usage: index-tool list|check|check-trees|map|show|trees sha1|sha256 FILE, or index-tool rewrite|rewrite4|rewrite-trees|salvage sha1|sha256 FILE OUT"
+            "index-tool: usage: index-tool list|check|check-trees|map|map-svg|show|show-json|trees sha1|sha256 FILE, or index-tool rewrite|rewrite4|rewrite-trees|salvage sha1|sha256 FILE OUT"
         );
         return WRONG_WORDS;
     };

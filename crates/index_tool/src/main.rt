@@ -3,8 +3,6 @@
 
 pub mod command;
 pub mod failure;
-pub mod listing;
-pub mod trees;
 pub mod words;
 
 pub use command::run;

@@ -5,8 +5,8 @@ ghost use Rattle.index_tool.specs.Listing.{FailsToList, ListsIndex};
 
 use crate::command::index::index_at;
 use crate::failure::Failure;
-use crate::listing::write_listing;
 use gix_index::hash::Kind;
+use index_lines::write_listing;
 use std::alloc::Global;
 use std::io;
 use std::rt::Files;

@@ -1,8 +1,9 @@
 //! The command `map`.
 
 ghost use Rattle.std.specs.Prelude.{◌≡◌, IfErr, OnOk};
+ghost use Rattle.index_inspect.specs.Salvage.{last_begin};
 ghost use Rattle.index_tool.specs.Listing.{FailsToRead};
-ghost use Rattle.index_tool.specs.Mapping.{FailsToMap, Maps, last_offset};
+ghost use Rattle.index_tool.specs.Mapping.{FailsToMap, Maps};
 
 use crate::failure::Failure;
 use gix_index::file;
@@ -52,8 +53,8 @@ pub fn bytes_at<'a, R: Files>(rt: &R, alloc: Global, path: &'a str) -> Result<Ve
 }
 
 /// Where the last part begins, or 0 where there is none.
-fn last_offset(parts: &[Part]) -> usize
-    ensures { result ≡ last_offset parts.now }
+pub fn last_offset(parts: &[Part]) -> usize
+    ensures { result ≡ last_begin parts.now }
 {
     match parts.last() {
         Some(part) => part.offset,

@@ -18,7 +18,12 @@ use std::path::PathBuf;
 use std::rt::Files;
 
 /// The index in the bytes of a file, whose link isn't followed.
-fn index_in<'a>(alloc: Global, kind: Kind, path: &'a str, bytes: &[u8]) -> Result<File, Failure<'a>>
+pub fn index_in<'a>(
+    alloc: Global,
+    kind: Kind,
+    path: &'a str,
+    bytes: &[u8],
+) -> Result<File, Failure<'a>>
     ensures read { IfOk result
         (λ file. IsInBytes kind bytes.now (contents (state_of file)) (checksum_of file)) }
     ensures placed { IfOk result (λ file. PathsInStorage (state_of file)) }

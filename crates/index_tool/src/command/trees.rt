@@ -8,12 +8,12 @@ ghost use Rattle.index_tool.specs.Trees.{FailsToTellTrees, FailsToTree, IsTreeOf
 
 use crate::command::index::index_at;
 use crate::failure::Failure;
-use crate::trees::write_trees;
 use gix_index::File;
 use gix_index::extension::Tree;
 use gix_index::hash::Kind;
 use gix_index::init::ComponentCheck;
 use gix_index::write_trees::Discard;
+use index_lines::write_trees;
 use std::alloc::Global;
 use std::io;
 use std::rt::Files;

@@ -4,16 +4,16 @@ use Rattle.gix_index.specs.Answer.{Header, NoEntry, TrailerLength}
 use Rattle.gix_index.specs.Header.{Corrupt, count_of}
 use Rattle.gix_index.specs.Id.{id_len}
 use Rattle.index_inspect.proofs.Divided.{if_ok_both, if_ok_then, tells}
-use Rattle.index_inspect.specs.Division.{crowded, lacks, short, unread, walked}
+use Rattle.index_inspect.specs.Division.{crowded, lacks, short, unread_piece, walked}
 use Rattle.index_inspect.specs.Piece.{item_pieces}
 use Rattle.index_inspect.proofs.division.behind_entries.Goals as goal
 
 pub returns-then-read-declared : goal.returns-then-read-declared
 returns-then-read-declared c = if_ok_both c.refused.result _ _ _ c.refused.ensures.parts c.refused.ensures.fault (λ x p q ss l n.
-    let lt : c.args.counts.read < c.args.counts.declared = search rules in
-    let stands : Some (NoEntry c.args.counts.read) ≡ Some (NoEntry (length ss)) = ap (λ (k : ℕ). Some (NoEntry k)) (sym l) in
+    let lt : c.args.found.read < c.args.found.declared = search rules in
+    let stands : Some (NoEntry c.args.found.read) ≡ Some (NoEntry (length ss)) = ap (λ (k : ℕ). Some (NoEntry k)) (sym l) in
     record {
-      pieces = unread c.args.after.now;
+      pieces = unread_piece c.args.after.now;
       fault = Some (NoEntry (length ss));
       is = lacks (omega (arith, lt, l, c.requires.declared)) (n lt) refl refl;
       grows = record { are = p; told = tells x.fault _ _ q stands };
@@ -23,7 +23,7 @@ pub returns-then-is_crowded : goal.returns-then-is_crowded
 returns-then-is_crowded c = if_ok_both c.refused-then-is_crowded.result _ _ _ c.refused-then-is_crowded.ensures.parts c.refused-then-is_crowded.ensures.fault (λ x p q ss l n.
     let all : length ss ≡ count_of c.args.bytes.now = omega (arith, l, c.requires.declared, c.requires.read) in
     record {
-      pieces = unread c.args.after.now;
+      pieces = unread_piece c.args.after.now;
       fault = Some (Header (Corrupt (codes "Declared entry count exceeds possible entries for file size")));
       is = crowded all c.if-is_crowded.ensures refl refl;
       grows = record { are = p; told = tells x.fault _ _ q refl };
@@ -35,7 +35,7 @@ returns-then-actual-expected c = if_ok_both c.refused-then-actual-expected.resul
     let few : length c.args.after.now < id_len c.args.kind = omega (arith, c.len_in_bytes-expected.ensures) in
     let stands : Some (TrailerLength c.len_in_bytes-expected.result (length c.args.after.now)) ≡ Some (TrailerLength (id_len c.args.kind) (length c.args.after.now)) = rw c.len_in_bytes-expected.ensures refl in
     record {
-      pieces = unread c.args.after.now;
+      pieces = unread_piece c.args.after.now;
       fault = Some (TrailerLength (id_len c.args.kind) (length c.args.after.now));
       is = short all c.if-is_crowded.ensures few refl refl;
       grows = record { are = p; told = tells x.fault _ _ q stands };

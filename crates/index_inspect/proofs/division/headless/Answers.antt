@@ -3,16 +3,16 @@ use Rattle.gix_index.specs.Answer.{Header}
 use Rattle.gix_index.specs.Held.{Held}
 use Rattle.gix_index.specs.HeaderErrors.{header_fault}
 use Rattle.index_inspect.proofs.Divided.{tells}
-use Rattle.index_inspect.specs.Division.{headless, unread}
+use Rattle.index_inspect.specs.Division.{headless, unread_piece}
 use Rattle.index_inspect.specs.Piece.{laid}
 use Rattle.index_inspect.specs.declared.part.Part.{Part}
 use Rattle.index_inspect.proofs.division.headless.Goals as goal
 
 pub returns : goal.returns
 returns c = λ kind e. record {
-  pieces = unread c.args.bytes.now;
+  pieces = unread_piece c.args.bytes.now;
   fault = Some (Header (header_fault c.args.fault));
   is_divided = headless (header_fault c.args.fault) e (ap (λ (h : Held). h.records) c.new-entries.ensures) refl refl;
-  are = c.in_ok-parts.ensures.parts ∙ ap (λ (l : List Part). l ++ laid 0 (unread c.args.bytes.now)) c.new.ensures.items;
+  are = c.in_ok-parts.ensures.parts ∙ ap (λ (l : List Part). l ++ laid 0 (unread_piece c.args.bytes.now)) c.new.ensures.items;
   told = tells _ _ _ c.in_ok-parts.ensures.fault refl;
 }

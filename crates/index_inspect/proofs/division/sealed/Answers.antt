@@ -3,7 +3,7 @@ use Rattle.gix_index.specs.Answer.{Verify}
 use Rattle.gix_index.specs.Intact.{digest_id, trailer_id}
 use Rattle.index_inspect.proofs.Divided.{if_ok_both, refused_grows}
 use Rattle.index_inspect.proofs.Laid.{bytes_some, grown_more}
-use Rattle.index_inspect.specs.Division.{broken, fault_of, unread, whole}
+use Rattle.index_inspect.specs.Division.{broken, fault_of, unread_piece, whole}
 use Rattle.index_inspect.specs.Piece.{one_piece, some_piece}
 use Rattle.index_inspect.specs.declared.part.What.TheVariants as whats
 use Rattle.index_inspect.proofs.division.sealed.Goals as goal
@@ -16,10 +16,10 @@ returns-in-Err c =
     let fault = Verify (digest_id c.args.kind c.args.bytes.now) (trailer_id c.args.kind c.args.bytes.now) in
     let place = ap (λ (l : List ℕ). c.args.offset + length l) (sym (bytes_some whats.LeftOver tail)) in
     if_ok_both c.refused.result _ _ _ c.refused.ensures.parts c.refused.ensures.fault (λ x p q. record {
-      pieces = over ++ unread trailer;
+      pieces = over ++ unread_piece trailer;
       fault = Some fault;
       is_end = broken c.requires.ended c.requires.none_left c.in-Err.ensures.broken refl refl;
-      grows = refused_grows c.args.offset _ over (unread trailer) c.args.parts.items _ x _ fault (c.in_ok-push_some.ensures tail refl) place p q (ap fault_of c.in-Err.ensures.err);
+      grows = refused_grows c.args.offset _ over (unread_piece trailer) c.args.parts.items _ x _ fault (c.in_ok-push_some.ensures tail refl) place p q (ap fault_of c.in-Err.ensures.err);
     })
 
 pub returns : goal.returns

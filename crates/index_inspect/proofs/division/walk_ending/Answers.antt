@@ -5,7 +5,7 @@ use Rattle.gix_index.specs.Walk.{NoItem, left_of}
 use Rattle.index_inspect.proofs.Divided.{if_ok_both, if_ok_then}
 use Rattle.index_inspect.proofs.Walked.{split_parts, walked_end, walked_refused, walked_sealed, walked_tail}
 use Rattle.index_inspect.specs.Division.{faulty, left}
-use Rattle.index_inspect.specs.ItemSteps.{IsRefused}
+use Rattle.index_inspect.specs.ItemSteps.{IsAtFault}
 use Rattle.index_inspect.proofs.division.walk_ending.Goals as goal
 
 pub overflow_sub-end : goal.overflow_sub-end
@@ -17,7 +17,7 @@ overflow_sub-end-2 c = omega (arith, walked_end c.args.kind c.args.offset _ _ _ 
 pub returns-in-Some : goal.returns-in-Some
 returns-in-Some c =
     let w = c.in_ok-parts.ensures in
-    let r : IsRefused c.args.kind w.tail c.in-Some.fault = rw c.in-Some.is at w.ended in
+    let r : IsAtFault c.args.kind w.tail c.in-Some.fault = rw c.in-Some.is at w.ended in
     let parted = split_parts _ c.args.after.now _ _ c.split_at.ensures.front c.split_at.ensures.back in
     let len : length c.split_at.result.1.now ≡ id_len c.args.kind = omega (arith, c.split_at.ensures.back_len, c.len_in_bytes-expected.ensures, c.requires.long) in
     if_ok_both c.refused.result _ _ _ c.refused.ensures.parts c.refused.ensures.fault (λ x p q.

@@ -1,0 +1,5 @@
+mod Listed
+mod RangeLoops
+mod Strings
+mod Texts
+mod TreeTexts

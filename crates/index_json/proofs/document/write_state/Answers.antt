@@ -1,0 +1,78 @@
+use Rattle.std.proofs.Common.{◌≡◌, ℕ, List, Option, ◌++◌, codes, subst}
+use Rattle.std.proofs.lemmas.Result.{err_from_is_err_and}
+use Rattle.std.specs.Io.KnownBytes.{Appends}
+use Rattle.gix_index.specs.Contents.{Contents}
+use Rattle.gix_index.specs.ObjectId.{ObjectId}
+use Rattle.gix_index.specs.State.{contents, records}
+use Rattle.gix_index.specs.Taking.{AppendsPrefix}
+use Rattle.gix_index.proofs.Taking.{prefix_before}
+use Rattle.index_json.specs.EntryValues.{entry_value}
+use Rattle.index_json.specs.Json.{head_members, json_text, tail_members}
+use Rattle.index_json.specs.Values.{listed}
+use Rattle.index_json.proofs.Texts.{regrouped}
+use Rattle.index_show.specs.Blocks.{Passes}
+use Rattle.index_show.proofs.Appended.{on_err_then, on_ok_then}
+use Rattle.index_show.proofs.Written.{first_lines, out_before, out_front, out_whole}
+use Rattle.index_json.proofs.document.write_state.Goals as goal
+
+begin : Contents → Option ObjectId → List ℕ
+begin c checksum = head_members c checksum ++ codes ",\"entries\":["
+
+own : Contents → List ℕ
+own c = listed entry_value c.records
+
+end : Contents → List ℕ
+end c = codes "]" ++ tail_members c.extensions ++ codes "}\n"
+
+-- the three pieces are the text
+joined : (c : Contents) (checksum : Option ObjectId) → (begin c checksum ++ own c) ++ end c ≡ json_text c checksum
+unfolding begin own end json_text
+joined c checksum = regrouped (head_members c checksum) (codes ",\"entries\":[") (listed entry_value c.records) (codes "]") (tail_members c.extensions) (codes "}\n")
+
+pub returns-in_err-write_entries-clause-err : goal.returns-in_err-write_entries-clause-err
+unfolding begin own end
+returns-in_err-write_entries-clause-err g c =
+    let k = contents c.args.state.now in
+    let first : c.append_begin.new.text.items ≡ begin k c.args.checksum = first_lines c.new-text.result.items c.append_begin.new.text.items (begin k c.args.checksum) c.new-text.ensures.items c.in_ok-append_begin.ensures in
+    let P : List ℕ → Type 0 = λ l. AppendsPrefix (g.W.Write.contents c.args.out.now) (g.W.Write.contents c.write_entries.new.out) (l ++ own k) in
+    let Q : List ℕ → Type 0 = λ l. AppendsPrefix (g.W.Write.contents c.args.out.now) (g.W.Write.contents c.write_entries.new.out) l in
+    rw (err_from_is_err_and c.from_residual-in_err-write_entries.result c.from_residual-in_err-write_entries.ensures.1).1
+    (subst Q (joined k c.args.checksum) (prefix_before (subst P first c.in_err-write_entries.ensures.err) (end k)))
+
+pub returns-in_err-append_end-clause-err : goal.returns-in_err-append_end-clause-err
+unfolding begin own end
+returns-in_err-append_end-clause-err g c =
+    let k = contents c.args.state.now in
+    let first : c.append_begin.new.text.items ≡ begin k c.args.checksum = first_lines c.new-text.result.items c.append_begin.new.text.items (begin k c.args.checksum) c.new-text.ensures.items c.in_ok-append_begin.ensures in
+    let P : List ℕ → Type 0 = λ l. Passes (g.W.Write.contents c.args.out.now) (g.W.Write.contents c.write_entries.new.out) c.write_entries.new.text.items (l ++ own k) in
+    let Q : List ℕ → Type 0 = λ l. AppendsPrefix (g.W.Write.contents c.args.out.now) (g.W.Write.contents c.write_entries.new.out) l in
+    rw (err_from_is_err_and c.from_residual-in_err-append_end.result c.from_residual-in_err-append_end.ensures.1).1
+    (subst Q (joined k c.args.checksum)
+    (out_before (g.W.Write.contents c.args.out.now) (g.W.Write.contents c.write_entries.new.out) (begin k c.args.checksum ++ own k) (end k) c.write_entries.new.text.items
+    (subst P first c.in_ok-write_entries.ensures.ok)))
+
+pub returns-clause-ok : goal.returns-clause-ok
+unfolding begin own end
+returns-clause-ok g c =
+    let k = contents c.args.state.now in
+    let first : c.append_begin.new.text.items ≡ begin k c.args.checksum = first_lines c.new-text.result.items c.append_begin.new.text.items (begin k c.args.checksum) c.new-text.ensures.items c.in_ok-append_begin.ensures in
+    let P : List ℕ → Type 0 = λ l. Passes (g.W.Write.contents c.args.out.now) (g.W.Write.contents c.write_entries.new.out) c.write_entries.new.text.items (l ++ own k) in
+    let Q : List ℕ → Type 0 = λ l. Appends (g.W.Write.contents c.write_entries.new.out) (g.W.Write.contents c.put_all.new.out) l in
+    let R : List ℕ → Type 0 = λ l. Appends (g.W.Write.contents c.args.out.now) (g.W.Write.contents c.put_all.new.out) l in
+    on_ok_then c.put_all.result
+    (λ h. subst R (joined k c.args.checksum) (out_whole (g.W.Write.contents c.args.out.now) (g.W.Write.contents c.write_entries.new.out) (g.W.Write.contents c.put_all.new.out) (begin k c.args.checksum ++ own k) (end k) c.write_entries.new.text.items c.append_end.new.text.items
+    (subst P first c.in_ok-write_entries.ensures.ok) c.in_ok-append_end.ensures (subst Q c.as_slice.ensures.value h)))
+    c.put_all.ensures.ok
+
+pub returns-clause-err : goal.returns-clause-err
+unfolding begin own end
+returns-clause-err g c =
+    let k = contents c.args.state.now in
+    let first : c.append_begin.new.text.items ≡ begin k c.args.checksum = first_lines c.new-text.result.items c.append_begin.new.text.items (begin k c.args.checksum) c.new-text.ensures.items c.in_ok-append_begin.ensures in
+    let P : List ℕ → Type 0 = λ l. Passes (g.W.Write.contents c.args.out.now) (g.W.Write.contents c.write_entries.new.out) c.write_entries.new.text.items (l ++ own k) in
+    let Q : List ℕ → Type 0 = λ l. AppendsPrefix (g.W.Write.contents c.write_entries.new.out) (g.W.Write.contents c.put_all.new.out) l in
+    let R : List ℕ → Type 0 = λ l. AppendsPrefix (g.W.Write.contents c.args.out.now) (g.W.Write.contents c.put_all.new.out) l in
+    on_err_then c.put_all.result
+    (λ h. subst R (joined k c.args.checksum) (out_front (g.W.Write.contents c.args.out.now) (g.W.Write.contents c.write_entries.new.out) (g.W.Write.contents c.put_all.new.out) (begin k c.args.checksum ++ own k) (end k) c.write_entries.new.text.items c.append_end.new.text.items
+    (subst P first c.in_ok-write_entries.ensures.ok) c.in_ok-append_end.ensures (subst Q c.as_slice.ensures.value h)))
+    c.put_all.ensures.err

@@ -1,0 +1,12 @@
+use Rattle.std.proofs.Common.{◌++◌, take}
+use Rattle.gix_index.specs.Record.{record_in}
+use Rattle.gix_index.specs.State.{storage_of}
+use Rattle.index_show.specs.Blocks.{Passes}
+use Rattle.index_json.specs.EntryValues.{entry_value}
+use Rattle.index_json.proofs.Listed.{listed_as}
+use Rattle.index_json.proofs.entries.write_entries.Given as goal
+
+-- the entries before this one have their values, which went out or wait
+abbrev pub invariant-loop-place : goal.invariant-loop-place
+invariant-loop-place g l = Passes (g.W.Write.contents l.fn.out) (g.W.Write.contents l.out) l.text.items
+    (l.fn.text.items ++ listed_as entry_value (record_in (storage_of l.fn.state)) (take l.place l.entry-items))

@@ -1,0 +1,34 @@
+-- The value of an entry (the library's own; the parts of an entry are those of gitformat-index, "Index entry").
+use Rattle.std.specs.Prelude.{List, ℕ, ◌++◌, codes}
+use Rattle.gix_index.specs.Flags.{stage_number}
+use Rattle.gix_index.specs.Record.{Record}
+use Rattle.gix_index.specs.StatType.{Stat}
+use Rattle.gix_index.specs.Time.{Time}
+use Rattle.index_json.specs.Values.{id_member, member, number_member, text_member}
+
+abbrev pub time_value : Time → List ℕ
+time_value t = number_member (codes "{") (codes "secs") t.secs ++ number_member (codes ",") (codes "nsecs") t.nsecs ++ codes "}"
+
+-- the two times of a file
+unfoldable pub time_members : Stat → List ℕ
+time_members s = member (codes "{") (codes "mtime") (time_value s.mtime) ++ member (codes ",") (codes "ctime") (time_value s.ctime)
+
+-- the other numbers that a file system has of a file
+unfoldable pub file_members : Stat → List ℕ
+file_members s =
+    number_member (codes ",") (codes "dev") s.dev ++ number_member (codes ",") (codes "ino") s.ino
+    ++ number_member (codes ",") (codes "uid") s.uid ++ number_member (codes ",") (codes "gid") s.gid
+    ++ number_member (codes ",") (codes "size") s.size
+
+unfoldable pub stat_value : Stat → List ℕ
+stat_value s = time_members s ++ file_members s ++ codes "}"
+
+-- what an entry has beside its stat; the flags are one number of 32 bits, of which the stage is told beside it too
+unfoldable pub entry_members : Record → List ℕ
+entry_members r =
+    text_member (codes "{") (codes "path") r.path ++ id_member (codes ",") (codes "id") r.id
+    ++ number_member (codes ",") (codes "mode") r.mode ++ number_member (codes ",") (codes "stage") (stage_number r.flags)
+    ++ number_member (codes ",") (codes "flags") r.flags
+
+unfoldable pub entry_value : Record → List ℕ
+entry_value r = entry_members r ++ member (codes ",") (codes "stat") (stat_value r.stat) ++ codes "}"

@@ -1,0 +1,50 @@
+-- All that an index file holds, as one JSON text on one line (the library's own; the text is that of RFC 8259).
+use Rattle.std.specs.Prelude.{Bool, List, ℕ, ◌++◌, codes, decimal, Option}
+use Rattle.gix_index.specs.Contents.{Contents}
+use Rattle.gix_index.specs.Outcome.{Outcome}
+use Rattle.gix_index.specs.ObjectId.{ObjectId}
+use Rattle.gix_index.specs.Record.{Record}
+use Rattle.gix_index.specs.Version.{Version}
+use Rattle.gix_index.specs.Version.TheVariants.{V2, V3, V4}
+use Rattle.index_json.specs.BitmapValues.{link_or_null, monitor_or_null}
+use Rattle.index_json.specs.EntryValues.{entry_value}
+use Rattle.index_json.specs.TreeValues.{tree_or_null}
+use Rattle.index_json.specs.UndoValues.{undo_or_null}
+use Rattle.index_json.specs.UntrackedValues.{untracked_or_null}
+use Rattle.index_json.specs.Values.{id_or_null, json_bool, listed, member, number_member}
+
+abbrev pub version_value : Version → ℕ
+version_value V2 = 2
+version_value V3 = 3
+version_value V4 = 4
+
+-- the version, the id at the end of the file, and whether the index is sparse
+unfoldable pub head_members : Contents → Option ObjectId → List ℕ
+head_members c checksum =
+    number_member (codes "{") (codes "version") (version_value c.version) ++ member (codes ",") (codes "checksum") (id_or_null checksum)
+    ++ member (codes ",") (codes "is_sparse") (json_bool c.extensions.sparse)
+
+-- the entries in their order
+abbrev pub entries_member : List Record → List ℕ
+entries_member rs = codes ",\"entries\":[" ++ listed entry_value rs ++ codes "]"
+
+-- whether there was an offset table, and an end marker
+unfoldable pub mark_members : Bool → Bool → List ℕ
+mark_members table marker =
+    member (codes ",") (codes "had_offset_table") (json_bool table) ++ member (codes ",") (codes "had_end_of_index_marker") (json_bool marker)
+
+-- the extensions that hold values, each null where it isn't there
+unfoldable pub extension_members : Outcome → List ℕ
+extension_members o =
+    member (codes ",") (codes "tree") (tree_or_null o.tree) ++ member (codes ",") (codes "link") (link_or_null o.link)
+    ++ member (codes ",") (codes "resolve_undo") (undo_or_null o.resolve_undo)
+    ++ member (codes ",") (codes "untracked") (untracked_or_null o.untracked)
+    ++ member (codes ",") (codes "fs_monitor") (monitor_or_null o.fs_monitor)
+
+-- what stands behind the entries
+unfoldable pub tail_members : Outcome → List ℕ
+tail_members o = extension_members o ++ mark_members o.had_offset_table o.had_end_marker
+
+-- one object, and a newline
+unfoldable pub json_text : Contents → Option ObjectId → List ℕ
+json_text c checksum = head_members c checksum ++ entries_member c.records ++ tail_members c.extensions ++ codes "}\n"

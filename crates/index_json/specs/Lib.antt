@@ -1,0 +1,9 @@
+pub mod BitmapValues
+pub mod EntryValues
+pub mod Json
+pub mod RangeSteps
+pub mod Ranges
+pub mod TreeValues
+pub mod UndoValues
+pub mod UntrackedValues
+pub mod Values

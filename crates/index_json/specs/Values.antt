@@ -1,0 +1,59 @@
+-- Values of a JSON text, and members of an object (RFC 8259, sections 4, 5 and 7). How a string is escaped is the kit's
+-- `quoted`: by two characters where the section on strings has such an escape, and by `\u00` and two digits at any other
+-- control character.
+use Rattle.std.specs.Prelude.{ℕ, ◌==◌, Bool, List, [], ◌++◌, codes, decimal, Option, Some, None, if◌then◌else◌}
+use Rattle.std.specs.List.{enumerate_from, flat_map}
+use Rattle.std.specs.Str.{is_utf8}
+use Rattle.hex.specs.Hex.{encode_lower}
+use Rattle.json.specs.Print.{quoted}
+use Rattle.gix_index.specs.Id.{id_bytes}
+use Rattle.gix_index.specs.ObjectId.{ObjectId}
+
+-- a string of these bytes, which are UTF-8
+abbrev pub json_string : List ℕ → List ℕ
+json_string text = quoted text
+
+-- bytes as a string of their digits in base 16
+abbrev pub hex_string : List ℕ → List ℕ
+hex_string bytes = codes "\"" ++ encode_lower bytes ++ codes "\""
+
+abbrev pub json_bool : Bool → List ℕ
+json_bool holds = if holds then codes "true" else codes "false"
+
+abbrev pub id_or_null : Option ObjectId → List ℕ
+id_or_null None = codes "null"
+id_or_null (Some id) = hex_string (id_bytes id)
+
+abbrev pub number_or_null : Option ℕ → List ℕ
+number_or_null None = codes "null"
+number_or_null (Some n) = decimal n
+
+-- ---- members
+
+-- what stands before it, a brace or a comma; its name as a string; a colon; its value
+unfoldable pub member : List ℕ → List ℕ → List ℕ → List ℕ
+member before name value = before ++ codes "\"" ++ name ++ codes "\":" ++ value
+
+abbrev pub number_member : List ℕ → List ℕ → ℕ → List ℕ
+number_member before name n = member before name (decimal n)
+
+abbrev pub id_member : List ℕ → List ℕ → ObjectId → List ℕ
+id_member before name id = member before name (hex_string (id_bytes id))
+
+-- a text as a string, or where the bytes aren't UTF-8 the digits of each, under a name that says so
+unfoldable pub text_member : List ℕ → List ℕ → List ℕ → List ℕ
+text_member before name bytes =
+    if is_utf8 bytes then member before name (json_string bytes) else member before (name ++ codes "_bytes") (hex_string bytes)
+
+-- ---- arrays
+
+-- a comma before each value but the first
+abbrev pub separator : ℕ → List ℕ
+separator place = if place == 0 then [] else codes ","
+
+-- the values of items, with commas between them
+abbrev pub listed : {X : Type 0} → (X → List ℕ) → List X → List ℕ
+listed value xs = flat_map (λ p. separator p.0 ++ value p.1) (enumerate_from 0 xs)
+
+abbrev pub array : {X : Type 0} → (X → List ℕ) → List X → List ℕ
+array value xs = codes "[" ++ listed value xs ++ codes "]"

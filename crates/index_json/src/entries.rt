@@ -1,0 +1,164 @@
+//! The values of entries.
+
+ghost use Rattle.std.specs.Prelude.{◌≡◌, ◌++◌, OnErr, OnOk, codes, length};
+ghost use Rattle.gix_index.specs.Record.{IsPlaced, record_in};
+ghost use Rattle.gix_index.specs.State.{PathsInStorage, contents, storage_of};
+ghost use Rattle.gix_index.specs.Taking.{AppendsPrefix};
+ghost use Rattle.index_show.specs.Blocks.{Passes};
+ghost use Rattle.index_json.specs.EntryValues.{entry_members, entry_value, file_members, stat_value, time_members, time_value};
+ghost use Rattle.index_json.specs.Values.{listed, member, separator};
+
+use crate::values::{
+    append_id_member, append_name, append_number_member, append_separator, append_text_member,
+};
+use gix_index::bitflags::Flags as _;
+use gix_index::entry::Stat;
+use gix_index::entry::stat::Time;
+use gix_index::{Entry, State};
+use index_show::block::put_block;
+use std::alloc::{AllocError, Global};
+use std::io;
+
+/// Appends a time.
+fn append_time(text: &mut Vec<u8>, time: Time) -> Result<(), AllocError>
+    ensures { OnOk result (text.new.items ≡ text.old.items ++ time_value time) }
+{
+    append_number_member(text, b"{", b"secs", u64::from(time.secs))?;
+    append_number_member(text, b",", b"nsecs", u64::from(time.nsecs))?;
+    text.extend_from_slice(b"}")
+}
+
+/// Appends a member that is a time.
+#[tactic(auto, unfolding(crate::specs::Values::member))]
+fn append_time_member(
+    text: &mut Vec<u8>,
+    before: &[u8],
+    name: &[u8],
+    time: Time,
+) -> Result<(), AllocError>
+    ensures { OnOk result
+        (text.new.items ≡ text.old.items ++ member before.now name.now (time_value time)) }
+{
+    append_name(text, before, name)?;
+    append_time(text, time)
+}
+
+/// Appends the two times of a stat.
+#[tactic(auto, unfolding(crate::specs::EntryValues::time_members))]
+fn append_times(text: &mut Vec<u8>, stat: Stat) -> Result<(), AllocError>
+    ensures { OnOk result (text.new.items ≡ text.old.items ++ time_members stat) }
+{
+    append_time_member(text, b"{", b"mtime", stat.mtime)?;
+    append_time_member(text, b",", b"ctime", stat.ctime)
+}
+
+/// Appends the other numbers of a stat.
+#[tactic(auto, unfolding(crate::specs::EntryValues::file_members))]
+fn append_file(text: &mut Vec<u8>, stat: Stat) -> Result<(), AllocError>
+    ensures { OnOk result (text.new.items ≡ text.old.items ++ file_members stat) }
+{
+    append_number_member(text, b",", b"dev", u64::from(stat.dev))?;
+    append_number_member(text, b",", b"ino", u64::from(stat.ino))?;
+    append_number_member(text, b",", b"uid", u64::from(stat.uid))?;
+    append_number_member(text, b",", b"gid", u64::from(stat.gid))?;
+    append_number_member(text, b",", b"size", u64::from(stat.size))
+}
+
+/// Appends a stat.
+#[tactic(auto, unfolding(crate::specs::EntryValues::stat_value))]
+pub fn append_stat(text: &mut Vec<u8>, stat: Stat) -> Result<(), AllocError>
+    ensures { OnOk result (text.new.items ≡ text.old.items ++ stat_value stat) }
+{
+    append_times(text, stat)?;
+    append_file(text, stat)?;
+    text.extend_from_slice(b"}")
+}
+
+/// Appends a member that is a stat.
+#[tactic(auto, unfolding(crate::specs::Values::member))]
+pub fn append_stat_member(
+    text: &mut Vec<u8>,
+    before: &[u8],
+    name: &[u8],
+    stat: Stat,
+) -> Result<(), AllocError>
+    ensures { OnOk result
+        (text.new.items ≡ text.old.items ++ member before.now name.now (stat_value stat)) }
+{
+    append_name(text, before, name)?;
+    append_stat(text, stat)
+}
+
+/// Appends what an entry has beside its stat.
+#[tactic(auto, unfolding(crate::specs::EntryValues::entry_members))]
+fn append_entry_members(
+    text: &mut Vec<u8>,
+    alloc: Global,
+    state: &State,
+    entry: &Entry,
+) -> Result<(), AllocError>
+    requires { IsPlaced (length (storage_of state.now)) entry.now }
+    ensures { OnOk result (text.new.items
+        ≡ text.old.items ++ entry_members (record_in (storage_of state.now) entry.now)) }
+{
+    append_text_member(text, alloc, b"{", b"path", entry.path(state))?;
+    append_id_member(text, b",", b"id", &entry.id)?;
+    append_number_member(text, b",", b"mode", u64::from(entry.mode.bits()))?;
+    append_number_member(text, b",", b"stage", u64::from(entry.stage_raw()))?;
+    append_number_member(text, b",", b"flags", u64::from(entry.flags.bits()))
+}
+
+/// Appends an entry.
+#[tactic(auto, unfolding(crate::specs::EntryValues::entry_value))]
+fn append_entry(
+    text: &mut Vec<u8>,
+    alloc: Global,
+    state: &State,
+    entry: &Entry,
+) -> Result<(), AllocError>
+    requires { IsPlaced (length (storage_of state.now)) entry.now }
+    ensures { OnOk result (text.new.items
+        ≡ text.old.items ++ entry_value (record_in (storage_of state.now) entry.now)) }
+{
+    append_entry_members(text, alloc, state, entry)?;
+    append_stat_member(text, b",", b"stat", entry.stat)?;
+    text.extend_from_slice(b"}")
+}
+
+/// Appends an entry, and the comma before each but the first.
+fn append_placed(
+    text: &mut Vec<u8>,
+    alloc: Global,
+    state: &State,
+    place: usize,
+    entry: &Entry,
+) -> Result<(), AllocError>
+    requires { IsPlaced (length (storage_of state.now)) entry.now }
+    ensures { OnOk result (text.new.items ≡ text.old.items
+        ++ (separator place ++ entry_value (record_in (storage_of state.now) entry.now))) }
+{
+    append_separator(text, place)?;
+    append_entry(text, alloc, state, entry)
+}
+
+/// Appends all entries with commas between them; what fills a block goes out.
+pub fn write_entries<W: io::Write>(
+    text: &mut Vec<u8>,
+    alloc: Global,
+    state: &State,
+    out: &mut W,
+) -> io::Result<()>
+    requires { PathsInStorage state.now }
+    ensures ok { OnOk result
+        (Passes (W.contents out.old) (W.contents out.new) text.new.items
+        (text.old.items ++ listed entry_value (contents state.now).records)) }
+    ensures err { OnErr result
+        (AppendsPrefix (W.contents out.old) (W.contents out.new)
+        (text.old.items ++ listed entry_value (contents state.now).records)) }
+{
+    for (place, entry) in state.entries().iter().enumerate() {
+        append_placed(text, alloc, state, place, entry)?;
+        put_block(text, out)?;
+    }
+    Ok(())
+}

@@ -1,0 +1,284 @@
+//! The value of an untracked cache.
+
+ghost use Rattle.std.specs.Prelude.{◌≡◌, ◌++◌, OnOk, codes, decimal, map};
+ghost use Rattle.std.specs.Option.{option_map};
+ghost use Rattle.gix_index.specs.Owned.{bstring_bytes};
+ghost use Rattle.gix_index.specs.Blocks.{directory_value};
+ghost use Rattle.gix_index.specs.State.{contents};
+ghost use Rattle.gix_index.specs.Untracked.{cache_of};
+ghost use Rattle.index_json.specs.EntryValues.{stat_value};
+ghost use Rattle.index_json.specs.UntrackedValues.{cached_directory, exclude_members, exclude_or_null, name_value, naming_members, own_members, preamble_members, stat_or_null, untracked_or_null};
+ghost use Rattle.index_json.specs.Values.{array, id_or_null, json_bool, listed, member};
+
+use crate::entries::{append_stat, append_stat_member};
+use crate::values::{
+    append_bool_member, append_id_member, append_id_or_null, append_name, append_number,
+    append_number_member, append_separator, append_text_member,
+};
+use gix_index::State;
+use gix_index::bstr::BString;
+use gix_index::entry::Stat;
+use gix_index::extension::UntrackedCache;
+use gix_index::extension::untracked_cache::{Directory, OidStat};
+use gix_index::hash::ObjectId;
+use std::alloc::{AllocError, Global};
+
+/// Appends the stat and the id of a file of exclude patterns, or `null`.
+#[tactic(auto, unfolding(crate::specs::UntrackedValues::exclude_or_null))]
+fn append_exclude(text: &mut Vec<u8>, file: Option<&OidStat>) -> Result<(), AllocError>
+    ensures { OnOk result (text.new.items
+        ≡ text.old.items ++ exclude_or_null (option_map (λ f. f.now) file.entry)) }
+{
+    match file {
+        Some(file) => {
+            append_stat_member(text, b"{", b"stat", file.stat)?;
+            append_id_member(text, b",", b"id", &file.id)?;
+            text.extend_from_slice(b"}")
+        }
+        None => text.extend_from_slice(b"null"),
+    }
+}
+
+/// Appends a member that is a file of exclude patterns.
+#[tactic(auto, unfolding(crate::specs::Values::member))]
+fn append_exclude_member(
+    text: &mut Vec<u8>,
+    name: &[u8],
+    file: Option<&OidStat>,
+) -> Result<(), AllocError>
+    ensures { OnOk result (text.new.items ≡ text.old.items ++ member (codes ",") name.now
+        (exclude_or_null (option_map (λ f. f.now) file.entry))) }
+{
+    append_name(text, b",", name)?;
+    append_exclude(text, file)
+}
+
+/// Appends the two files of exclude patterns for all directories.
+#[tactic(auto, unfolding(crate::specs::UntrackedValues::exclude_members))]
+fn append_exclude_files(
+    text: &mut Vec<u8>,
+    info: Option<&OidStat>,
+    excludes: Option<&OidStat>,
+) -> Result<(), AllocError>
+    ensures { OnOk result (text.new.items ≡ text.old.items
+        ++ exclude_members (option_map (λ f. f.now) info.entry)
+        (option_map (λ f. f.now) excludes.entry)) }
+{
+    append_exclude_member(text, b"info_exclude", info)?;
+    append_exclude_member(text, b"excludes_file", excludes)
+}
+
+/// Appends where the cache is for, how directories were read, and the name of a directory's own file of exclude
+/// patterns.
+#[tactic(auto, unfolding(crate::specs::UntrackedValues::naming_members))]
+fn append_naming(
+    text: &mut Vec<u8>,
+    alloc: Global,
+    identifier: &[u8],
+    flags: u32,
+    name: &[u8],
+) -> Result<(), AllocError>
+    ensures { OnOk result
+        (text.new.items ≡ text.old.items ++ naming_members identifier.now flags name.now) }
+{
+    append_text_member(text, alloc, b"{", b"identifier", identifier)?;
+    append_number_member(text, b",", b"dir_flags", u64::from(flags))?;
+    append_text_member(text, alloc, b",", b"exclude_filename_per_dir", name)
+}
+
+/// Appends what a cache says of itself.
+#[tactic(auto, unfolding(crate::specs::UntrackedValues::preamble_members))]
+fn append_preamble(
+    text: &mut Vec<u8>,
+    alloc: Global,
+    cache: &UntrackedCache,
+) -> Result<(), AllocError>
+    ensures { OnOk result
+        (text.new.items ≡ text.old.items ++ preamble_members (cache_of cache.now).preamble) }
+{
+    let name = cache.exclude_filename_per_dir();
+    append_naming(text, alloc, cache.identifier(), cache.dir_flags(), name)?;
+    append_exclude_files(text, cache.info_exclude(), cache.excludes_file())
+}
+
+/// Appends the stat of a directory, or `null`.
+#[tactic(auto, unfolding(crate::specs::UntrackedValues::stat_or_null))]
+fn append_stat_or_null(text: &mut Vec<u8>, stat: Option<&Stat>) -> Result<(), AllocError>
+    ensures { OnOk result
+        (text.new.items ≡ text.old.items ++ stat_or_null (option_map (λ s. s.now) stat.entry)) }
+{
+    match stat {
+        Some(stat) => append_stat(text, *stat),
+        None => text.extend_from_slice(b"null"),
+    }
+}
+
+/// Appends the member of a directory's stat.
+#[tactic(auto, unfolding(crate::specs::Values::member))]
+fn append_stat_of(text: &mut Vec<u8>, stat: Option<&Stat>) -> Result<(), AllocError>
+    ensures { OnOk result (text.new.items ≡ text.old.items ++ member (codes ",") (codes "stat")
+        (stat_or_null (option_map (λ s. s.now) stat.entry))) }
+{
+    append_name(text, b",", b"stat")?;
+    append_stat_or_null(text, stat)
+}
+
+/// Appends the member of the id of a directory's own file of exclude patterns.
+#[tactic(auto, unfolding(crate::specs::Values::member))]
+fn append_exclude_id(text: &mut Vec<u8>, id: Option<ObjectId>) -> Result<(), AllocError>
+    ensures { OnOk result (text.new.items ≡ text.old.items
+        ++ member (codes ",") (codes "exclude_file_oid") (id_or_null id)) }
+{
+    append_name(text, b",", b"exclude_file_oid")?;
+    append_id_or_null(text, id)
+}
+
+/// Appends what is known of a directory by itself.
+#[tactic(auto, unfolding(crate::specs::UntrackedValues::own_members))]
+fn append_own(text: &mut Vec<u8>, alloc: Global, directory: &Directory) -> Result<(), AllocError>
+    ensures { OnOk result
+        (text.new.items ≡ text.old.items ++ own_members (directory_value directory.now)) }
+{
+    append_text_member(text, alloc, b"{", b"name", directory.name())?;
+    append_stat_of(text, directory.stat())?;
+    append_exclude_id(text, directory.exclude_file_oid())?;
+    append_bool_member(text, b",", b"check_only", directory.check_only())
+}
+
+/// Appends a name.
+#[tactic(auto, unfolding(crate::specs::UntrackedValues::name_value))]
+fn append_name_value(text: &mut Vec<u8>, alloc: Global, name: &[u8]) -> Result<(), AllocError>
+    ensures { OnOk result (text.new.items ≡ text.old.items ++ name_value name.now) }
+{
+    append_text_member(text, alloc, b"{", b"name", name)?;
+    text.extend_from_slice(b"}")
+}
+
+/// Appends names with commas between them.
+fn append_names(text: &mut Vec<u8>, alloc: Global, names: &[BString]) -> Result<(), AllocError>
+    ensures { OnOk result (text.new.items
+        ≡ text.old.items ++ listed name_value (map bstring_bytes names.now)) }
+{
+    for (place, name) in names.iter().enumerate() {
+        append_separator(text, place)?;
+        append_name_value(text, alloc, name.as_bytes())?;
+    }
+    Ok(())
+}
+
+/// Appends places with commas between them.
+fn append_places(text: &mut Vec<u8>, places: &[usize]) -> Result<(), AllocError>
+    ensures { OnOk result (text.new.items ≡ text.old.items ++ listed decimal places.now) }
+{
+    for (index, place) in places.iter().enumerate() {
+        append_separator(text, index)?;
+        append_number(text, *place as u64)?;
+    }
+    Ok(())
+}
+
+/// Appends the member of the names of what is untracked in a directory.
+#[tactic(auto, unfolding(crate::specs::Values::member))]
+fn append_names_member(
+    text: &mut Vec<u8>,
+    alloc: Global,
+    names: &[BString],
+) -> Result<(), AllocError>
+    ensures { OnOk result (text.new.items ≡ text.old.items ++ member (codes ",")
+        (codes "untracked_entries") (array name_value (map bstring_bytes names.now))) }
+{
+    append_name(text, b",", b"untracked_entries")?;
+    text.extend_from_slice(b"[")?;
+    append_names(text, alloc, names)?;
+    text.extend_from_slice(b"]")
+}
+
+/// Appends the member of the places of the directories in one.
+#[tactic(auto, unfolding(crate::specs::Values::member))]
+fn append_places_member(text: &mut Vec<u8>, places: &[usize]) -> Result<(), AllocError>
+    ensures { OnOk result (text.new.items ≡ text.old.items
+        ++ member (codes ",") (codes "sub_directories") (array decimal places.now)) }
+{
+    append_name(text, b",", b"sub_directories")?;
+    text.extend_from_slice(b"[")?;
+    append_places(text, places)?;
+    text.extend_from_slice(b"]")
+}
+
+/// Appends a directory.
+#[tactic(auto, unfolding(crate::specs::UntrackedValues::cached_directory))]
+fn append_directory(
+    text: &mut Vec<u8>,
+    alloc: Global,
+    directory: &Directory,
+) -> Result<(), AllocError>
+    ensures { OnOk result
+        (text.new.items ≡ text.old.items ++ cached_directory (directory_value directory.now)) }
+{
+    append_own(text, alloc, directory)?;
+    append_names_member(text, alloc, directory.untracked_entries())?;
+    append_places_member(text, directory.sub_directories())?;
+    text.extend_from_slice(b"}")
+}
+
+/// Appends directories with commas between them.
+fn append_directories(
+    text: &mut Vec<u8>,
+    alloc: Global,
+    directories: &[Directory],
+) -> Result<(), AllocError>
+    ensures { OnOk result (text.new.items
+        ≡ text.old.items ++ listed cached_directory (map directory_value directories.now)) }
+{
+    for (place, directory) in directories.iter().enumerate() {
+        append_separator(text, place)?;
+        append_directory(text, alloc, directory)?;
+    }
+    Ok(())
+}
+
+/// Appends the member of a cache's directories.
+#[tactic(auto, unfolding(crate::specs::Values::member))]
+fn append_directories_member(
+    text: &mut Vec<u8>,
+    alloc: Global,
+    directories: &[Directory],
+) -> Result<(), AllocError>
+    ensures { OnOk result (text.new.items ≡ text.old.items ++ member (codes ",")
+        (codes "directories") (array cached_directory (map directory_value directories.now))) }
+{
+    append_name(text, b",", b"directories")?;
+    text.extend_from_slice(b"[")?;
+    append_directories(text, alloc, directories)?;
+    text.extend_from_slice(b"]")
+}
+
+/// Appends the untracked cache, or `null`.
+#[tactic(auto, unfolding(crate::specs::UntrackedValues::untracked_or_null))]
+fn append_cache(
+    text: &mut Vec<u8>,
+    alloc: Global,
+    cache: Option<&UntrackedCache>,
+) -> Result<(), AllocError>
+    ensures { OnOk result (text.new.items
+        ≡ text.old.items ++ untracked_or_null (option_map (λ c. cache_of c.now) cache.entry)) }
+{
+    match cache {
+        Some(cache) => {
+            append_preamble(text, alloc, cache)?;
+            append_directories_member(text, alloc, cache.directories())?;
+            text.extend_from_slice(b"}")
+        }
+        None => text.extend_from_slice(b"null"),
+    }
+}
+
+/// Appends the member of the untracked cache.
+#[tactic(auto, unfolding(crate::specs::Values::member))]
+pub fn append_untracked(text: &mut Vec<u8>, alloc: Global, state: &State) -> Result<(), AllocError>
+    ensures { OnOk result (text.new.items ≡ text.old.items ++ member (codes ",")
+        (codes "untracked") (untracked_or_null (contents state.now).extensions.untracked)) }
+{
+    append_name(text, b",", b"untracked")?;
+    append_cache(text, alloc, state.untracked())
+}

@@ -1,0 +1,115 @@
+//! The lines of trees: one for each directory.
+
+ghost use Rattle.std.specs.Prelude.{◌≡◌, ◌++◌, [], OnOk, OnErr};
+ghost use Rattle.std.specs.List.{flat_map};
+ghost use Rattle.std.specs.Io.KnownBytes.{Appends};
+ghost use Rattle.gix_index.specs.Taking.{AppendsPrefix};
+ghost use Rattle.gix_index.specs.Tree.{node_of};
+ghost use Rattle.gix_index.specs.TreeImage.{count_bytes};
+ghost use Rattle.gix_index.specs.TreeType.TheViews.{out-Tree};
+ghost use Rattle.index_lines.specs.Directories.{directory_line, subtree_lines, front_of};
+ghost use Rattle.index_lines.specs.DirectorySteps.{LetsOut};
+
+use crate::listing::{append_hex, put_block};
+use gix_index::extension::Tree;
+use gix_index::hash::io::put_all;
+use itoa::Buffer;
+use std::alloc::{AllocError, Global};
+use std::io;
+
+/// Appends the number of entries, or -1 where it isn't known.
+fn append_count(lines: &mut Vec<u8>, count: Option<u32>) -> Result<(), AllocError>
+    ensures { OnOk result (lines.new.items ≡ lines.old.items ++ count_bytes count) }
+{
+    let mut buffer = Buffer::new();
+    match count {
+        Some(n) => lines.extend_from_slice(buffer.format(n).as_bytes()),
+        None => lines.extend_from_slice(b"-1"),
+    }
+}
+
+/// Appends the line of a directory alone.
+fn append_line(lines: &mut Vec<u8>, path: &[u8], tree: &Tree) -> Result<(), AllocError>
+    ensures { OnOk result (lines.new.items ≡ lines.old.items
+        ++ directory_line path.now (out-Tree tree.now).id (out-Tree tree.now).num_entries) }
+{
+    append_hex(lines, &tree.id)?;
+    lines.extend_from_slice(b" ")?;
+    append_count(lines, tree.num_entries)?;
+    lines.extend_from_slice(b"\t")?;
+    lines.extend_from_slice(path)?;
+    lines.extend_from_slice(b"\n")
+}
+
+/// Makes of a directory's path what stands before the names in it.
+fn go_in(path: &mut Vec<u8>) -> Result<(), AllocError>
+    ensures { OnOk result (path.new.items ≡ front_of path.old.items) }
+{
+    if !path.is_empty() {
+        path.push(b'/')?;
+    }
+    Ok(())
+}
+
+/// Appends the lines of a directory and of all below it, and lets lines out where they fill a block. Its path is its
+/// name behind the front, which is as it was afterwards.
+#[cycle(directories)]
+fn append_directory<W: io::Write>(
+    lines: &mut Vec<u8>,
+    front: &mut Vec<u8>,
+    tree: &Tree,
+    out: &mut W,
+) -> io::Result<()>
+    ensures lines { OnOk result (LetsOut (W.contents out.old) (W.contents out.new) lines.old.items
+        (subtree_lines front.old.items (node_of tree.now)) lines.new.items) }
+    ensures front { OnOk result (front.new.items ≡ front.old.items) }
+    ensures err { OnErr result (AppendsPrefix (W.contents out.old) (W.contents out.new)
+        (lines.old.items ++ subtree_lines front.old.items (node_of tree.now))) }
+{
+    let len = front.len();
+    front.extend_from_slice(tree.name.as_slice())?;
+    append_line(lines, front, tree)?;
+    put_block(lines, out)?;
+    go_in(front)?;
+    append_directories(lines, front, &tree.children, out)?;
+    front.truncate(len);
+    Ok(())
+}
+
+/// Appends the lines of directories that lie in one, and lets lines out so.
+#[cycle(directories)]
+fn append_directories<W: io::Write>(
+    lines: &mut Vec<u8>,
+    front: &mut Vec<u8>,
+    trees: &[Tree],
+    out: &mut W,
+) -> io::Result<()>
+    ensures lines { OnOk result (LetsOut (W.contents out.old) (W.contents out.new) lines.old.items
+        (flat_map (λ t. subtree_lines front.old.items (node_of t)) trees.now) lines.new.items) }
+    ensures front { OnOk result (front.new.items ≡ front.old.items) }
+    ensures err { OnErr result (AppendsPrefix (W.contents out.old) (W.contents out.new)
+        (lines.old.items
+        ++ flat_map (λ t. subtree_lines front.old.items (node_of t)) trees.now)) }
+{
+    for tree in trees {
+        append_directory(lines, front, tree, out)?;
+    }
+    Ok(())
+}
+
+/// Writes a line for each directory of a tree, in preorder: the id, a space, the number of entries below it or -1 where
+/// one of them is only intended to be added, a tab, and the path, which is empty for the root.
+///
+/// The lines wait in one buffer, which goes out past 64 KiB. An error is the writer's, or want of memory for that
+/// buffer; what was written by then is a prefix of them.
+pub fn write_trees<W: io::Write>(alloc: Global, tree: &Tree, out: &mut W) -> io::Result<()>
+    ensures ok { OnOk result (Appends (W.contents out.old) (W.contents out.new)
+        (subtree_lines [] (node_of tree.now))) }
+    ensures err { OnErr result (AppendsPrefix (W.contents out.old) (W.contents out.new)
+        (subtree_lines [] (node_of tree.now))) }
+{
+    let mut lines = Vec::new(alloc);
+    let mut front = Vec::new(alloc);
+    append_directory(&mut lines, &mut front, tree, out)?;
+    put_all(out, lines.as_slice())
+}

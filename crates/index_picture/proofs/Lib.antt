@@ -1,0 +1,4 @@
+mod Covered
+mod Grouped
+mod Scaled
+mod Written

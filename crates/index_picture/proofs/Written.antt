@@ -1,0 +1,27 @@
+-- Pieces of text that are appended one after another.
+use Rattle.std.proofs.Common.{◌≡◌, ℕ, List, ◌++◌, Result, Ok, Err, ap, sym, ◌∙◌, append_assoc}
+use Rattle.std.specs.Prelude.{OnOk, OnErr, decimal}
+
+pub on_ok_then : {A E : Type 0} (r : Result A E) {P Q : Type 0} → (P → Q) → OnOk r P → OnOk r Q
+on_ok_then (Ok x) f p = f p
+on_ok_then (Err e) f p = p
+
+pub on_err_then : {A E : Type 0} (r : Result A E) {P Q : Type 0} → (P → Q) → OnErr r P → OnErr r Q
+on_err_then (Ok x) f p = p
+on_err_then (Err e) f p = f p
+
+-- a piece behind others
+pub piece_more : (old a b x y : List ℕ) → a ≡ old ++ x → b ≡ a ++ y → b ≡ old ++ (x ++ y)
+piece_more old a b x y e f = f ∙ ap (λ (l : List ℕ). l ++ y) e ∙ append_assoc old x y
+
+-- two that come at once
+pub pair_more : (old a b x y z : List ℕ) → a ≡ old ++ x → b ≡ a ++ (y ++ z) → b ≡ old ++ ((x ++ y) ++ z)
+pair_more old a b x y z e f = piece_more old a b x (y ++ z) e f ∙ ap (λ (l : List ℕ). old ++ l) (sym (append_assoc x y z))
+
+-- a piece, and a number behind it
+pub number_is : (old a x : List ℕ) (m n : ℕ) → m ≡ n → a ≡ old ++ (x ++ decimal m) → a ≡ old ++ (x ++ decimal n)
+number_is old a x m n e f = f ∙ ap (λ (k : ℕ). old ++ (x ++ decimal k)) e
+
+-- a piece, by what it is
+pub piece_is : (old a x y : List ℕ) → x ≡ y → a ≡ old ++ x → a ≡ old ++ y
+piece_is old a x y e f = f ∙ ap (λ (l : List ℕ). old ++ l) e

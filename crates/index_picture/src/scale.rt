@@ -1,0 +1,64 @@
+//! Where the parts of a file stand in a bar.
+
+ghost use Rattle.std.specs.Prelude.{◌≡◌, ◌≤◌, min};
+ghost use Rattle.index_picture.specs.Scale.{bar_width, box_begin, box_width, drawn_len, part_end, scaled};
+
+use index_inspect::Part;
+
+/// How wide the bar is, in tenths of a pixel.
+const BAR_WIDTH: u128 = 8800;
+
+/// The offset of the first byte behind a part.
+fn part_end(part: Part) -> u128
+    ensures value { result ≡ part_end part }
+    ensures short { result ≤ 0x1fffffffffffffffe }
+{
+    part.offset as u128 + part.len as u128
+}
+
+/// Where the last part ends, or 0 where there is none.
+pub fn drawn_len(parts: &[Part]) -> u128
+    ensures value { result ≡ drawn_len parts.now }
+    ensures short { result ≤ 0x1fffffffffffffffe }
+{
+    match parts.last() {
+        Some(part) => part_end(*part),
+        None => 0,
+    }
+}
+
+/// The offset, or the length where it is less.
+fn within(len: u128, offset: u128) -> u128
+    ensures { result ≡ min offset len }
+{
+    if offset < len { offset } else { len }
+}
+
+/// Where an offset stands in a bar for so many bytes.
+#[tactic(auto, unfolding(crate::specs::Scale::scaled))]
+fn scaled(len: u128, offset: u128) -> u128
+    requires { len ≤ 0x1fffffffffffffffe }
+    ensures value { result ≡ scaled len offset }
+    ensures inside { result ≤ bar_width }
+{
+    if len == 0 {
+        return 0;
+    }
+    within(len, offset) * BAR_WIDTH / len
+}
+
+/// Where the box of a part begins.
+pub fn box_begin(len: u128, part: Part) -> u128
+    requires { len ≤ 0x1fffffffffffffffe }
+    ensures { result ≡ box_begin len part }
+{
+    scaled(len, part.offset as u128)
+}
+
+/// How wide it is.
+pub fn box_width(len: u128, part: Part) -> u128
+    requires { len ≤ 0x1fffffffffffffffe }
+    ensures { result ≡ box_width len part }
+{
+    scaled(len, part_end(part)) - box_begin(len, part)
+}

@@ -1,0 +1,43 @@
+//! The command `show-json`.
+
+ghost use Rattle.std.specs.Prelude.{◌≡◌, IfErr, OnOk};
+ghost use Rattle.index_tool.specs.Showing.{FailsToShowJson, ShowsJson};
+
+use crate::command::map::bytes_at;
+use crate::command::show::index_in;
+use crate::failure::Failure;
+use gix_index::hash::Kind;
+use index_json::write_json;
+use std::alloc::Global;
+use std::io;
+use std::rt::Files;
+
+/// Writes what a file holds to `out` as JSON, as [`write_json`] tells it. Its link isn't followed.
+///
+/// Nothing goes to `out` before the file was read whole. Ok: `out` took all of it. [`Failure::Output`]: it took a front.
+/// Any other failure: it took nothing.
+pub fn show_json<'a, R: Files, W: io::Write>(
+    rt: &R,
+    alloc: Global,
+    kind: Kind,
+    path: &'a str,
+    out: &mut W,
+) -> Result<(), Failure<'a>>
+    ensures shown { OnOk result (ShowsJson kind (W.contents out.old) (W.contents out.new)) }
+    ensures refused { IfErr result
+        (λ failure. FailsToShowJson kind path.now failure (W.contents out.old)
+        (W.contents out.new)) }
+{
+    let bytes = match bytes_at(rt, alloc, path) {
+        Ok(bytes) => bytes,
+        Err(failure) => return Err(failure),
+    };
+    let index = match index_in(alloc, kind, path, &bytes) {
+        Ok(index) => index,
+        Err(failure) => return Err(failure),
+    };
+    match write_json(alloc, &index, out) {
+        Ok(()) => Ok(()),
+        Err(e) => Err(Failure::Output(e)),
+    }
+}
