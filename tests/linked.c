@@ -1,21 +1,27 @@
-/* What tests/linked asks of the library in one process.
+/* What tests/linked asks of the library in one process: linked WORD KIND FILE.
  *
- * linked sizes KIND FILE     reads the file into tables of each size, from none up to one too large linked threads
- * KIND FILE   reads it in four threads at once, many times linked searches KIND FILE  looks for each front of each
- * path, as a prefix and as a directory, and holds what is found against a look at each row linked once KIND FILE
- * reads it without a request for memory of its own, so that each is the library's linked sound KIND FILE     checks
- * it so, which it has to pass linked fallen KIND FILE    checks it so, where the entry at place 1 isn't above the
- * first
+ * sizes     reads the file into tables of each size, from none up to one too large
+ * threads   reads it and writes it in four threads at once, many times
+ * searches  looks for each front of each path, as a prefix and as a directory, and holds what is found against a look
+ *           at each row
+ * rooms     writes its table in each way into rooms of each size, from none up to one too large, and reads it again
+ * unfit     writes its table with a row that can't stand in a file, or out of order
+ * files     writes its table to a path beside it, also where a lock is there and where the path can't be written
+ * once      reads it without a request for memory of its own, so that each is the library's
+ * written   reads it so, and writes it so
+ * sound     checks it so, which it has to pass
+ * fallen    checks it so, where the entry at place 1 isn't above the first
  *
  * A line on standard output for each thing that isn't so, or 'ok'. The status is 1 where a file can't be read here. */
 #define _POSIX_C_SOURCE 200809L
-#include "gix_index.h"
+#include "gix_index_file.h"
 
 #include <fcntl.h>
 #include <pthread.h>
 #include <stdio.h>
 #include <stdlib.h>
 #include <string.h>
+#include <sys/stat.h>
 #include <unistd.h>
 
 #define MOST 65536
@@ -111,17 +117,40 @@ static void sizes(void) {
     drop(&whole);
 }
 
-/* The table that each thread has to read. */
+/* How the table of the file is written: in a version, with its digest or without. */
+static gix_index_form form_of(uint32_t version, bool skip_hash) {
+    gix_index_form form = {.kind = kind, .version = version, .skip_hash = skip_hash};
+    return form;
+}
+
+static uint32_t write_into(const table *t, const gix_index_form *form, uint8_t *room, size_t len,
+                           gix_index_written *told) {
+    return gix_index_write(t->rows, t->said.entries, t->paths, t->said.path_bytes, form, room, len, told);
+}
+
+/* The table that each thread has to read, and the index that it has to write. */
 static table shared;
+static uint8_t shared_image[MOST];
+static gix_index_written shared_told;
+
+static bool writes_same(const table *t, uint8_t *room) {
+    gix_index_form form = form_of(4, false);
+    gix_index_written told;
+    uint32_t status = write_into(t, &form, room, shared_told.bytes, &told);
+    return status == GIX_INDEX_DONE && !memcmp(&told, &shared_told, sizeof told) &&
+           !memcmp(room, shared_image, told.bytes);
+}
 
 static void *rounds(void *count) {
-    for (int i = 0; i < ROUNDS; i++) {
+    uint8_t *room = malloc(shared_told.bytes);
+    for (int i = 0; room && i < ROUNDS; i++) {
         table t;
         make(&t, shared.said.entries, shared.said.path_bytes);
         read_into(&t);
-        *(int *)count += t.status == GIX_INDEX_DONE && has_same(&t, &shared);
+        *(int *)count += t.status == GIX_INDEX_DONE && has_same(&t, &shared) && writes_same(&t, room);
         drop(&t);
     }
+    free(room);
     return NULL;
 }
 
@@ -129,6 +158,9 @@ static void threads(void) {
     pthread_t running[THREADS];
     int counts[THREADS] = {0};
     whole_table(&shared);
+    gix_index_form form = form_of(4, false);
+    uint32_t status = write_into(&shared, &form, shared_image, MOST, &shared_told);
+    expect(status == GIX_INDEX_DONE, "the table isn't written", shared.said.entries, shared.said.path_bytes);
     for (int i = 0; i < THREADS; i++)
         if (pthread_create(running + i, NULL, rounds, counts + i)) exit(3);
     for (int i = 0; i < THREADS; i++) {
@@ -138,19 +170,223 @@ static void threads(void) {
     drop(&shared);
 }
 
-/* Reads once, into memory that is there already. Refused memory, the library leaves all but the summary as it was. */
-static void once(void) {
+static void try_room(const table *whole, const gix_index_form *form, const uint8_t *image, size_t len,
+                     size_t room_len) {
+    gix_index_written told = {7, 7, 7, 7};
+    uint8_t *room = malloc(room_len);
+    if (!room) exit(3);
+    memset(room, FILL, room_len);
+    uint32_t status = write_into(whole, form, room, room_len, &told);
+    bool fits = room_len >= len;
+    expect(status == (fits ? GIX_INDEX_DONE : GIX_INDEX_NO_ROOM), "another status of writing", room_len, len);
+    expect(told.bytes == len && told.fault == 0 && told.fault_place == 0, "another length", told.bytes, len);
+    expect(!fits || !memcmp(room, image, len), "another index", room_len, len);
+    expect(is_filled(room + (fits ? len : 0), room_len - (fits ? len : 0)), "a room that was written", room_len, len);
+    free(room);
+}
+
+/* The image is read as a table, which is compared with another. */
+static void read_back(const table *whole, const uint8_t *image, size_t len, uint32_t version) {
+    table again;
+    make(&again, whole->said.entries, whole->said.path_bytes);
+    again.status = gix_index_read(image, len, kind, false, again.rows, again.rows_len, again.paths, again.paths_len,
+                                  again.text, sizeof again.text, &again.said);
+    expect(again.status == GIX_INDEX_DONE && has_same(&again, whole), "another table is read back", len, version);
+    expect(again.said.version == version && !again.said.has_link, "another version", again.said.version, version);
+    drop(&again);
+}
+
+static void rooms(void) {
+    static uint8_t image[MOST];
+    table whole;
+    whole_table(&whole);
+    size_t digest = kind == GIX_INDEX_SHA1 ? 20 : 32;
+    for (uint32_t version = 2; version <= 4; version++) {
+        for (int skip = 0; skip < 2; skip++) {
+            gix_index_form form = form_of(version, skip);
+            gix_index_written told;
+            uint32_t status = write_into(&whole, &form, image, MOST, &told);
+            expect(status == GIX_INDEX_DONE, "the table isn't written", version, skip);
+            uint32_t wanted = version == 4 ? 4 : whole.said.version == 3 ? 3 : 2;
+            expect(told.version == wanted, "another version", version, skip);
+            uint8_t zeros = 0;
+            for (size_t i = told.bytes - digest; i < told.bytes; i++) zeros |= image[i];
+            expect((zeros == 0) == skip, "another trailer", version, skip);
+            for (size_t len = 0; len <= told.bytes + 1; len++) try_room(&whole, &form, image, told.bytes, len);
+            read_back(&whole, image, told.bytes, told.version);
+        }
+    }
+    drop(&whole);
+}
+
+/* The table is refused so, and nothing is written. */
+static void try_unfit(const table *t, uint32_t fault, size_t place, const char *what) {
+    static uint8_t room[MOST];
+    gix_index_form form = form_of(2, false);
+    gix_index_written told;
+    memset(room, FILL, sizeof room);
+    uint32_t status = write_into(t, &form, room, sizeof room, &told);
+    expect(status == GIX_INDEX_REFUSED && told.fault == fault && told.fault_place == place, what, told.fault, place);
+    expect(told.bytes == 0 && told.version == 0 && is_filled(room, sizeof room), "an unfit table is written", 0, place);
+}
+
+/* The row at place 1 is another, and so has to be this fault. */
+static void try_row(table *t, gix_index_row row, uint32_t fault, const char *what) {
+    gix_index_row old = t->rows[1];
+    t->rows[1] = row;
+    try_unfit(t, fault, 1, what);
+    t->rows[1] = old;
+}
+
+static void try_rows(table *t) {
+    gix_index_row row = t->rows[1], other = row;
+    for (uint32_t number = 0; number < 4; number++) {
+        other.kind = number;
+        if (number != row.kind) try_row(t, other, GIX_INDEX_FAULT_ROW, "a kind is let through");
+    }
+    other = row;
+    other.stage = row.stage + 1;
+    try_row(t, other, GIX_INDEX_FAULT_ROW, "a stage is let through");
+    other = row;
+    other.mode = GIX_INDEX_DIRECTORY;
+    try_row(t, other, GIX_INDEX_FAULT_ROW, "a directory is let through");
+    other = row;
+    other.path_len = 0;
+    try_row(t, other, GIX_INDEX_FAULT_ROW, "no path is let through");
+    const size_t starts[] = {t->said.path_bytes, t->said.path_bytes + 1, SIZE_MAX, SIZE_MAX - 1};
+    for (size_t i = 0; i < sizeof starts / sizeof *starts; i++) {
+        other = row;
+        other.path_start = starts[i];
+        other.path_len = 2;
+        try_row(t, other, GIX_INDEX_FAULT_ROW, "a path outside is let through");
+        other.path_start = 1;
+        other.path_len = starts[i];
+        try_row(t, other, GIX_INDEX_FAULT_ROW, "a path that is too long is let through");
+    }
+    try_row(t, t->rows[0], GIX_INDEX_FAULT_ORDER, "a row that is there twice is let through");
+}
+
+/* A row that is marked is left out, and the rest is written. */
+static void try_mark(table *t) {
+    static uint8_t room[MOST];
     static gix_index_row rows[MOST / 16];
     static uint8_t paths[MOST];
-    table t = {.rows = rows, .paths = paths, .rows_len = MOST / 16, .paths_len = MOST};
+    gix_index_form form = form_of(2, false);
+    gix_index_written told;
+    gix_index_summary said;
+    t->rows[1].flags |= GIX_INDEX_REMOVE;
+    uint32_t status = write_into(t, &form, room, sizeof room, &told);
+    t->rows[1].flags &= ~GIX_INDEX_REMOVE;
+    expect(status == GIX_INDEX_DONE, "a marked row is refused", 0, 0);
+    status = gix_index_read(room, told.bytes, kind, false, rows, MOST / 16, paths, MOST, t->text, sizeof t->text,
+                            &said);
+    expect(status == GIX_INDEX_DONE && said.entries == t->said.entries - 1, "a marked row is written", said.entries, 0);
+    expect(!memcmp(rows + 1, t->rows + 2, offsetof(gix_index_row, path_start)), "another row is left out", 0, 0);
+}
+
+static void try_form(const table *t, uint32_t of_kind, uint32_t version) {
+    uint8_t room = FILL;
+    gix_index_form form = {.kind = of_kind, .version = version};
+    gix_index_written told;
+    uint32_t status = write_into(t, &form, &room, 1, &told);
+    expect(status == GIX_INDEX_WRONG_NUMBER && room == FILL, "a wrong number is let through", of_kind, version);
+    expect(told.bytes == 0 && told.fault == 0 && told.version == 0, "a wrong number is told of", of_kind, version);
+}
+
+static void unfit(void) {
+    table whole;
+    whole_table(&whole);
+    try_rows(&whole);
+    gix_index_row last = whole.rows[2];
+    whole.rows[2] = whole.rows[1];
+    try_unfit(&whole, GIX_INDEX_FAULT_ORDER, 2, "a row that is there twice is let through");
+    whole.rows[2] = last;
+    uint8_t *byte = whole.paths + whole.rows[2].path_start + 1, old = *byte;
+    *byte = 0;
+    try_unfit(&whole, GIX_INDEX_FAULT_ROW, 2, "a NUL is let through");
+    *byte = old;
+    try_mark(&whole);
+    for (uint32_t number = 0; number < 7; number++) {
+        if (number < 2 || number > 4) try_form(&whole, kind, number);
+        if (number < 1 || number > 2) try_form(&whole, number, 2);
+    }
+    drop(&whole);
+}
+
+/* A path beside the file. */
+static char *beside(const char *file, const char *end) {
+    char *path = malloc(strlen(file) + strlen(end) + 1);
+    if (!path) exit(3);
+    return strcat(strcpy(path, file), end);
+}
+
+static uint32_t write_file(const char *path, const table *t) {
+    gix_index_form form = form_of(2, false);
+    gix_index_written told;
+    errno = 0;
+    return gix_index_write_file(path, t->rows, t->said.entries, t->paths, t->said.path_bytes, &form, &told);
+}
+
+static void files(const char *file) {
+    table whole;
+    whole_table(&whole);
+    char *path = beside(file, ".out"), *lock = beside(file, ".out.lock"), *lost = beside(file, ".none/out");
+    expect(write_file(path, &whole) == GIX_INDEX_DONE, "a file isn't written", 0, 0);
+    expect(access(lock, F_OK) != 0, "a lock is left", 0, 0);
+    int held = open(path, O_RDONLY);
+    static uint8_t image[MOST];
+    ssize_t len = read(held, image, MOST);
+    close(held);
+    read_back(&whole, image, len, whole.said.version);
+    expect(write_file(path, &whole) == GIX_INDEX_DONE, "a file isn't written again", 0, 0);
+    close(open(lock, O_CREAT | O_WRONLY, 0600));
+    expect(write_file(path, &whole) == GIX_INDEX_SYSTEM && errno == EEXIST, "a lock is passed over", errno, 0);
+    expect(access(lock, F_OK) == 0, "another's lock is removed", 0, 0);
+    unlink(lock);
+    expect(write_file(lost, &whole) == GIX_INDEX_SYSTEM && errno == ENOENT, "a folder is passed over", errno, 0);
+    unlink(path);
+    if (mkdir(path, 0700)) exit(3);
+    expect(write_file(path, &whole) == GIX_INDEX_SYSTEM && errno != 0, "a folder is replaced", errno, 0);
+    expect(access(lock, F_OK) != 0, "a lock is left after a failure", 0, 0);
+    rmdir(path);
+    whole.rows[1].path_len = SIZE_MAX;
+    expect(write_file(path, &whole) == GIX_INDEX_REFUSED, "an unfit table is written", 0, 0);
+    expect(access(path, F_OK) != 0 && access(lock, F_OK) != 0, "a file is left of an unfit table", 0, 0);
+    free(path);
+    free(lock);
+    free(lost);
+    drop(&whole);
+}
+
+/* Reads once, into memory that is there already. Refused memory, the library leaves all but the summary as it was. */
+static bool once(table *t) {
+    static gix_index_row rows[MOST / 16];
+    static uint8_t paths[MOST];
+    *t = (table){.rows = rows, .paths = paths, .rows_len = MOST / 16, .paths_len = MOST};
     memset(rows, FILL, sizeof rows);
     memset(paths, FILL, sizeof paths);
-    memset(t.text, FILL, sizeof t.text);
-    read_into(&t);
-    expect(t.status == GIX_INDEX_DONE || t.status == GIX_INDEX_MEMORY, "another status", MOST / 16, MOST);
-    if (t.status == GIX_INDEX_DONE) return;
+    memset(t->text, FILL, sizeof t->text);
+    read_into(t);
+    expect(t->status == GIX_INDEX_DONE || t->status == GIX_INDEX_MEMORY, "another status", MOST / 16, MOST);
+    if (t->status == GIX_INDEX_DONE) return true;
     expect(is_filled(rows, sizeof rows) && is_filled(paths, sizeof paths), "a table that was written", MOST / 16, MOST);
-    expect(is_filled(t.text + t.said.text_bytes, sizeof t.text - t.said.text_bytes), "a text that goes on", 0, 0);
+    expect(is_filled(t->text + t->said.text_bytes, sizeof t->text - t->said.text_bytes), "a text that goes on", 0, 0);
+    puts("memory");
+    return false;
+}
+
+/* Reads once and writes once. Refused memory, the library leaves the room as it was. */
+static void written(void) {
+    static uint8_t room[MOST];
+    table t;
+    if (!once(&t)) return;
+    gix_index_form form = form_of(4, false);
+    gix_index_written told;
+    memset(room, FILL, sizeof room);
+    uint32_t status = write_into(&t, &form, room, sizeof room, &told);
+    expect(status == GIX_INDEX_DONE || status == GIX_INDEX_MEMORY, "another status of writing", status, told.fault);
+    if (status == GIX_INDEX_DONE) return;
+    expect(is_filled(room, sizeof room) && told.bytes == 0, "a room that was written", status, told.fault);
     puts("memory");
 }
 
@@ -246,7 +482,12 @@ int main(int argc, char **argv) {
     if (!strcmp(argv[1], "sizes")) sizes();
     if (!strcmp(argv[1], "threads")) threads();
     if (!strcmp(argv[1], "searches")) searches();
-    if (!strcmp(argv[1], "once")) once();
+    if (!strcmp(argv[1], "rooms")) rooms();
+    if (!strcmp(argv[1], "unfit")) unfit();
+    if (!strcmp(argv[1], "files")) files(argv[3]);
+    if (!strcmp(argv[1], "written")) written();
+    table read_once;
+    if (!strcmp(argv[1], "once")) once(&read_once);
     if (!strcmp(argv[1], "sound")) check(GIX_INDEX_DONE);
     if (!strcmp(argv[1], "fallen")) check(GIX_INDEX_REFUSED);
     if (faults == 0) puts("ok");

@@ -31,6 +31,25 @@ def answer_lookup(found, row):
     return lines
 
 
+def comparisons(name, *most):
+    """The line of a search that compares no more paths than it may."""
+    return f"{name} comparisons: at most {sum(most)}"
+
+
+def most_among(count):
+    """The most paths that a search among so many may compare: one more than their number has binary digits."""
+    return count.bit_length() + 1
+
+
+def most_by_table(entries, path):
+    """The most that a search by way of a table of directories may compare: the directories, and what is inside one."""
+    directory, slash, _ = path.rpartition(b"/")
+    if not slash:
+        return [most_among(len(entries))]
+    inside = lookups.places_below(entries, directory)
+    return [most_among(len(lookups.directories(entries))), most_among(len(inside or entries))]
+
+
 def by_name(entries, path):
     """The lookups over entries in any order, with case kept and ignored."""
     cases = (False, True)
@@ -38,9 +57,12 @@ def by_name(entries, path):
     below = [lookups.first_directory(entries, path, ignore_case) for ignore_case in cases]
     places = ", ".join(show.optional(place) for place in at_path)
     directories = ", ".join(show.optional(place) for place in below)
+    named = [len(lookups.named_directories(entries, ignore_case)) for ignore_case in cases]
     return [
+        comparisons("search_path_icase", most_among(len(entries))),
         f"search_path_icase: {places}",
         f"entry_by_path_icase: {places}",
+        *(comparisons("search_directory_icase", most_among(count)) for count in named),
         f"search_directory_icase: {directories}",
         f"entry_closest_to_directory_or_directory_icase: {directories}",
         f"path_is_directory_icase: {', '.join(show.yes(place is not None) for place in below)}",
@@ -64,16 +86,22 @@ def by_order(entries, paths):
 
 def by_path(entries, path):
     is_found, place = lookups.place_of_path(entries, path)
-    search = "found" if is_found else place_word(is_found, place)
+    of_path = lookups.range_of_path(entries, path)
+    is_one = of_path is not None and of_path[1] - of_path[0] == 1
+    search = "found" if is_found and not is_one else place_word(is_found, place)
+    most = most_among(len(entries))
     below = lookups.span(lookups.places_below(entries, path))
     prefixed = lookups.range_of_prefix(entries, path)
     closest = lookups.closest_to_directory(entries, path)
     return [
+        comparisons("search_path", most),
         f"search_path: {search}",
+        comparisons("directory_table search_path", *most_by_table(entries, path)),
         f"directory_table search_path: {search}",
         f"directory_table range: {show.range_word(below)}",
-        f"entry_range: {show.range_word(lookups.range_of_path(entries, path))}",
+        f"entry_range: {show.range_word(of_path)}",
         f"prefixed_entries_range: {show.range_word(prefixed)}",
+        comparisons("search_prefix", most),
         f"search_prefix: {place}",
         f"entry_closest_to_directory_or_directory: {show.optional(closest)}",
         f"path_is_directory: {show.yes(closest is not None)}",
@@ -87,7 +115,9 @@ def by_stage(entries, path):
     half = [show.optional(place if there and place < len(entries) // 2 else None) for there, place in found]
     return [
         f"search_path_and_stage: {', '.join(places)}",
+        comparisons("search_path_and_stage", most_among(len(entries))),
         f"directory_table search_path_and_stage: {', '.join(places)}",
+        comparisons("directory_table search_path_and_stage", *most_by_table(entries, path)),
         f"entry_by_path: {show.optional(lookups.entry_of_path(entries, path))}",
         f"entry_index_by_path_and_stage_bounded: {', '.join(half)}",
     ]

@@ -1,8 +1,10 @@
 """What `index-tool` has to answer to a command on a file of a folder: the fault's text only as far as it is defined."""
 
+import json
 from dataclasses import dataclass
 from typing import Optional
 
+import document
 import lookups
 import made_trees
 import merging
@@ -20,10 +22,11 @@ OUT = "out"
 
 @dataclass
 class Answer:
-    """The status, the standard output, how the line on standard error begins, and the file that is written."""
+    """The status, the standard output (None: the model doesn't say which), how the line on standard error begins, and the
+    file that is written."""
 
     status: int = 0
-    out: bytes = b""
+    out: Optional[bytes] = b""
     fault: bytes = b""
     written: Optional[bytes] = None
 
@@ -122,12 +125,28 @@ def mapped(data, kind, name):
     return Answer(out=found.lines())
 
 
+def drawn(data, kind, name):
+    """A picture of the parts, of which `tests/pictures` says what is in it."""
+    answer = mapped(data, kind, name)
+    answer.out = None
+    return answer
+
+
 def shown_whole(data, kind, name):
     """A line for each thing that a file holds by itself."""
     try:
         return Answer(out=shown.shown(*state.read_file(data, kind)))
     except state.Fault:
         raise Refused(f"{name}: ") from None
+
+
+def shown_as_json(data, kind, name):
+    """The same as JSON."""
+    try:
+        told = document.document(*state.read_file(data, kind))
+    except state.Fault:
+        raise Refused(f"{name}: ") from None
+    return Answer(out=json.dumps(told, ensure_ascii=False, separators=(",", ":")).encode() + b"\n")
 
 
 def salvaged(data, kind, name):
@@ -152,5 +171,5 @@ OF_INDICES = {
     "rewrite4": rewritten(True),
     "rewrite-trees": retreed,
 }
-OF_BYTES = {"map": mapped, "show": shown_whole, "salvage": salvaged}
+OF_BYTES = {"map": mapped, "map-svg": drawn, "show": shown_whole, "show-json": shown_as_json, "salvage": salvaged}
 COMMANDS = OF_INDICES | OF_BYTES
