@@ -107,6 +107,7 @@ pub use Rattle.index_parts.specs.declared.hash.verify.Error as DigestError
 pub use Rattle.index_parts.specs.contracts.hash.ObjectIdOrd
 pub use Rattle.index_bitmaps.specs.declared.ewah.Vec as BitmapType
 pub use Rattle.index_bitmaps.specs.declared.ewah.iter.Malformed as BitmapMalformed
+pub use Rattle.index_bitmaps.specs.declared.ewah.iter.Run as BitmapRun
 pub use Rattle.index_bitmaps.specs.declared.ewah.iter.Positions
 pub use Rattle.index_bitmaps.specs.declared.ewah.reading.Error as BitmapError
 pub use Rattle.index_metadata.specs.declared.entry.flags.Flags as FlagsType

@@ -7,7 +7,7 @@ use Rattle.std.proofs.lemmas.Bool.Decides.{nat_tests}
 use Rattle.std.proofs.lemmas.Nat.{trailing_le, shr-shr}
 use Rattle.std.proofs.Math.Nat.{div-eq_of_lt, pow-le-pow_right}
 use Rattle.index_bitmaps.specs.Ascending.{Ascends}
-use Rattle.index_bitmaps.specs.Bits.{Bit, clear, set, broken, bit_of, low_bits, word_bits, repetitions, places, ListPlaces}
+use Rattle.index_bitmaps.specs.Bits.{Bit, clear, set, broken, bit_of, low_bits, word_bits, repetitions, places, run_places, ListPlaces}
 use Rattle.index_bitmaps.specs.declared.ewah.iter.Malformed.{Malformed}
 use Rattle.index_bitmaps.specs.UnpackingSteps.{unpacked, next_place, IsPlaceAfter}
 use Rattle.index_bitmaps.proofs.Unpackings.{behind_run, one_unpacking, stand_for_unpacked, unpacked-nil, unpacked-cons}
@@ -61,6 +61,26 @@ places_clear (suc n) p bits = let e : p + 1 + n ≡ p + suc n = omega arith in p
 
 pub places_set : (p : ℕ) (bits : List Bit) → p < 2 ^ 64 → places p (set ∷ bits) ≡ Ok p ∷ places (p + 1) bits
 places_set p bits h = let a : nat_lt p (2 ^ 64) ≡ true = grind (arith, nat_tests) in rw a refl
+
+-- the positions of a front of a run, and those of its rest
+run_front : (n m p : ℕ) (bits : List Bit) → p + n ≤ 2 ^ 64
+    → places p (replicate (n + m) set ++ bits) ≡ run_places p n ++ places (p + n) (replicate m set ++ bits)
+run_front zero m p bits h = let e : p + 0 ≡ p = omega arith in let z : 0 + m ≡ m = omega arith in rw (e, z) refl
+run_front (suc n) m p bits h =
+    let e : p + 1 + n ≡ p + suc n = omega arith in
+    let rest = subst (λ (k : ℕ). places (p + 1) (replicate (n + m) set ++ bits) ≡ run_places (p + 1) n ++ places k (replicate m set ++ bits))
+    e (run_front n m (p + 1) bits (omega (arith, h))) in
+    let sum : suc n + m ≡ suc (n + m) = omega arith in
+    rw sum (places_set p (replicate (n + m) set ++ bits) (omega (arith, h)) ∙ ap (λ items. Ok p ∷ items) rest)
+
+-- a run is passed up to some position
+pub step_run : (ones n p end : ℕ) (bits : List Bit) → n ≤ ones → end ≡ p + n → end ≤ 2 ^ 64
+    → places p (replicate ones set ++ bits) ≡ run_places p (end - p) ++ places end (replicate (ones - n) set ++ bits)
+step_run ones n p end bits le e h =
+    let parts : n + (ones - n) ≡ ones = omega (arith, le) in
+    let count : end - p ≡ n = omega (arith, e) in
+    let front = run_front n (ones - n) p bits (omega (arith, e, h)) in
+    rw (count, e) (subst (λ (k : ℕ). places p (replicate k set ++ bits) ≡ run_places p n ++ places (p + n) (replicate (ones - n) set ++ bits)) parts front)
 
 -- ---- what one step of an iterator takes
 

@@ -73,6 +73,11 @@ places place (clear ∷ bits) = places (place + 1) bits
 places place (set ∷ bits) = if nat_lt place (2 ^ 64) then Ok place ∷ places (place + 1) bits else Err (record {}) ∷ []
 places place (broken ∷ bits) = Err (record {}) ∷ []
 
+-- so many positions side by side, from one on
+abbrev pub run_places : ℕ → ℕ → List (Result ℕ Malformed)
+run_places first zero = []
+run_places first (suc count) = Ok first ∷ run_places (first + 1) count
+
 -- items are the positions of the bits that words stand for
 pub record ListPlaces (items : List (Result ℕ Malformed)) (words : List ℕ) : Type 0 where
   pub bits : List Bit

@@ -12,7 +12,7 @@ use std::vec::Vec as Words;
 mod iter;
 mod reading;
 
-pub use iter::{Malformed, Positions};
+pub use iter::{Malformed, Positions, Run};
 pub use reading::{Error, decode};
 
 /// A bitmap in its compressed form. [`decode`] makes one.

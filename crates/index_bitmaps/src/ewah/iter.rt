@@ -1,9 +1,9 @@
 //! The positions of a bitmap's set bits, one after another.
 
-ghost use Rattle.std.specs.Prelude.{◌≡◌, ◌≤◌, ◌<◌, ◌^◌, ◌%◌, [], ◌∷◌, length, Some};
+ghost use Rattle.std.specs.Prelude.{◌≡◌, ◌≤◌, ◌<◌, ◌^◌, ◌%◌, ◌+◌, ◌-◌, ◌⊎◌, [], ◌∷◌, ◌++◌, length, Some};
 ghost use Rattle.std.specs.Iterator.{YieldsFirst, item_count};
 ghost use Rattle.index_bitmaps.specs.Ascending.{Ascends};
-ghost use Rattle.index_bitmaps.specs.Bits.{set, places, ListPlaces};
+ghost use Rattle.index_bitmaps.specs.Bits.{set, places, run_places, ListPlaces};
 ghost use Rattle.index_bitmaps.specs.UnpackingSteps.{unpacked, next_place, bits_left, items_left, IsBetweenChunks, IsPlaceAfter};
 
 use thiserror::Error;
@@ -30,6 +30,15 @@ pub struct Positions<'a> {
     literals: u64,
     /// Whether literal words are missing.
     is_broken: bool,
+}
+
+/// Positions side by side, from one up to before another.
+#[derive(Clone, Copy, Debug, PartialEq, Eq)]
+pub struct Run {
+    /// The first of them.
+    pub first: u64,
+    /// The one behind the last, or the first again where there are none.
+    pub end: u64,
 }
 
 /// The position so many bits on, where it has 64 bits.
@@ -62,6 +71,25 @@ impl<'a> Positions<'a> {
             literals: 0,
             is_broken: false,
         }
+    }
+
+    /// Passes, at once, the positions that are left of a run of set bits of which some were given.
+    ///
+    /// Between runs, and within literal words, it passes none. The last position of 64 bits stays, as nothing fits
+    /// behind it. With this a caller's time goes with the words of a bitmap, and not with the bits that they stand for.
+    pub fn pass_run(&mut self) -> Run
+        ensures passed { items_left self.old
+            ≡ run_places result.first (result.end - result.first) ++ items_left self.new }
+        ensures whole { (self.new.ones ≡ 0) ⊎ (2 ^ 64 ≤ next_place self.new.place + 1) }
+    {
+        let Some(first) = self.place else {
+            return Run { first: 0, end: 0 };
+        };
+        let count = self.ones.min(u64::MAX - first);
+        let end = first + count;
+        self.ones -= count;
+        self.place = Some(end);
+        Run { first, end }
     }
 
     /// Leaves no items.
