@@ -14,16 +14,8 @@ pub fn id_and_bytes(
     path: &[u8],
 ) -> anyhow::Result<(Option<ObjectId>, Vec<u8>)> {
     let place = PathBuf::from_str(alloc, ".git/index")?;
-    let options = decode::Options::default();
-    let file = File::decode(
-        alloc,
-        bytes,
-        place,
-        Kind::Sha1,
-        false,
-        FileTime::EPOCH,
-        options,
-    )?;
+    let (time, options) = (FileTime::EPOCH, decode::Options::default());
+    let file = File::decode(alloc, bytes, place, Kind::Sha1, false, time, options)?;
     let entry = file.entry_by_path_and_stage(path, Stage::Unconflicted);
     let mut out = Plain::new(Vec::new(alloc));
     file.write_to(&mut out, write::Options::default())?;
