@@ -128,32 +128,113 @@ CASES = (
     Case("one path of so many bytes, version 2", 1_000_000, lambda n: index(2, 1, entry(b"a" * n))),
     Case("one path of so many bytes, version 4", 1_000_000, lambda n: index(4, 1, delta(0, b"a" * n, n))),
     Case("one path of so many folders", 1_000_000, lambda n: index(2, 1, entry(b"a/" * (n // 2) + b"a"))),
-    Case("each path taken off whole, version 4", 50_000, lambda n: index(4, n, delta(0, b"%07d" % 0, 7), *(delta(7, b"%07d" % at, 7) for at in range(1, n)))),
-    Case("each path a byte longer, version 4", 4_000, lambda n: index(4, n, *(delta(0, b"a", at) for at in range(1, n + 1))), growth=4.0),
+    Case(
+        "each path taken off whole, version 4",
+        50_000,
+        lambda n: index(4, n, delta(0, b"%07d" % 0, 7), *(delta(7, b"%07d" % at, 7) for at in range(1, n))),
+    ),
+    Case(
+        "each path a byte longer, version 4",
+        4_000,
+        lambda n: index(4, n, *(delta(0, b"a", at) for at in range(1, n + 1))),
+        growth=4.0,
+    ),
     Case("children of one node, in order", 250_000, lambda n: index(2, 0, nodes(NAMES(n)))),
     Case("children of one node, falling", 250_000, lambda n: index(2, 0, nodes(NAMES(n)[::-1]))),
     Case("children of one node, shuffled", 250_000, lambda n: index(2, 0, nodes(shuffled(NAMES(n))))),
     Case("children of one name", 250_000, lambda n: index(2, 0, nodes([b"a"] * n))),
-    Case("nodes 2,048 deep, side by side", 256, lambda n: index(2, 0, item(b"TREE", b"\0-1 %d\n" % n + b"".join(b"%d\0-1 1\n" % at + b"a\0-1 1\n" * 2046 + b"a\0-1 0\n" for at in range(n))))),
+    Case(
+        "nodes 2,048 deep, side by side",
+        256,
+        lambda n: index(
+            2,
+            0,
+            item(
+                b"TREE",
+                b"\0-1 %d\n" % n + b"".join(b"%d\0-1 1\n" % at + b"a\0-1 1\n" * 2046 + b"a\0-1 0\n" for at in range(n)),
+            ),
+        ),
+    ),
     Case("nodes deeper than may be", 250_000, lambda n: index(2, 0, item(b"TREE", b"\0-1 1\n" + b"a\0-1 1\n" * n))),
     Case("small extensions before an end marker", 250_000, lambda n: marked(item(b"ABCD", b"") * n)),
-    Case("cached trees, of which the last counts", 50_000, lambda n: index(2, 0, item(b"TREE", b"\0-1 1\na\0-1 0\n") * n)),
-    Case("resolve-undo of so many paths", 100_000, lambda n: index(2, 0, item(b"REUC", b"".join(b"%07d\0" b"1\0" b"0\0" b"0\0" % at + b"\x11" * 20 for at in range(n))))),
-    Case("blocks of an offset table", 500_000, lambda n: index(2, 0, item(b"IEOT", b"\0\0\0\1" + b"\0\0\0\x0c\0\0\0\1" * n))),
-    Case("untracked names of one directory", 250_000, lambda n: index(2, 0, untracked(varint(n) + varint(0) + b"\0" + b"".join(b"%07d\0" % at for at in range(n)), 1, NO_BITS, NO_BITS, NO_BITS))),
-    Case("directories of one directory", 250_000, lambda n: index(2, 0, untracked(varint(0) + varint(n - 1) + b"\0" + b"\0\0a\0" * (n - 1), n, NO_BITS, NO_BITS, NO_BITS))),
-    Case("directories deeper than may be", 250_000, lambda n: index(2, 0, untracked(b"\0\1a\0" * (n - 1) + b"\0\0a\0", n, NO_BITS, NO_BITS, NO_BITS))),
-    Case("runs of 2^38 directories that are valid", 50_000, lambda n: index(2, 0, untracked(b"\0\0\0", 1, bitmap(1, *[ONES] * n), NO_BITS, NO_BITS))),
-    Case("runs of 2^38 directories to check alone", 50_000, lambda n: index(2, 0, untracked(b"\0\0\0", 1, NO_BITS, bitmap(1, *[ONES] * n), NO_BITS))),
-    Case("runs of no directory", 250_000, lambda n: index(2, 0, untracked(b"\0\0\0", 1, bitmap(1, *[ONES - 1] * n), NO_BITS, NO_BITS))),
-    Case("a monitor's runs of 2^38 entries", 250_000, lambda n: index(2, 0, item(b"FSMN", b"\0\0\0\1" + bytes(8) + (12 + 8 * n).to_bytes(4, "big") + bitmap(1, *[ONES] * n)))),
+    Case(
+        "cached trees, of which the last counts", 50_000, lambda n: index(2, 0, item(b"TREE", b"\0-1 1\na\0-1 0\n") * n)
+    ),
+    Case(
+        "resolve-undo of so many paths",
+        100_000,
+        lambda n: index(
+            2, 0, item(b"REUC", b"".join(b"%07d\0" b"1\0" b"0\0" b"0\0" % at + b"\x11" * 20 for at in range(n)))
+        ),
+    ),
+    Case(
+        "blocks of an offset table",
+        500_000,
+        lambda n: index(2, 0, item(b"IEOT", b"\0\0\0\1" + b"\0\0\0\x0c\0\0\0\1" * n)),
+    ),
+    Case(
+        "untracked names of one directory",
+        250_000,
+        lambda n: index(
+            2,
+            0,
+            untracked(
+                varint(n) + varint(0) + b"\0" + b"".join(b"%07d\0" % at for at in range(n)),
+                1,
+                NO_BITS,
+                NO_BITS,
+                NO_BITS,
+            ),
+        ),
+    ),
+    Case(
+        "directories of one directory",
+        250_000,
+        lambda n: index(
+            2, 0, untracked(varint(0) + varint(n - 1) + b"\0" + b"\0\0a\0" * (n - 1), n, NO_BITS, NO_BITS, NO_BITS)
+        ),
+    ),
+    Case(
+        "directories deeper than may be",
+        250_000,
+        lambda n: index(2, 0, untracked(b"\0\1a\0" * (n - 1) + b"\0\0a\0", n, NO_BITS, NO_BITS, NO_BITS)),
+    ),
+    Case(
+        "runs of 2^38 directories that are valid",
+        50_000,
+        lambda n: index(2, 0, untracked(b"\0\0\0", 1, bitmap(1, *[ONES] * n), NO_BITS, NO_BITS)),
+    ),
+    Case(
+        "runs of 2^38 directories to check alone",
+        50_000,
+        lambda n: index(2, 0, untracked(b"\0\0\0", 1, NO_BITS, bitmap(1, *[ONES] * n), NO_BITS)),
+    ),
+    Case(
+        "runs of no directory",
+        250_000,
+        lambda n: index(2, 0, untracked(b"\0\0\0", 1, bitmap(1, *[ONES - 1] * n), NO_BITS, NO_BITS)),
+    ),
+    Case(
+        "a monitor's runs of 2^38 entries",
+        250_000,
+        lambda n: index(
+            2, 0, item(b"FSMN", b"\0\0\0\1" + bytes(8) + (12 + 8 * n).to_bytes(4, "big") + bitmap(1, *[ONES] * n))
+        ),
+    ),
     Case("a header that counts more entries", 4_000_000, lambda n: index(2, n // 62, bytes(n))),
     Case("words of zeros in a link", 250_000, split),
     Case("1,000 entries of two folders so deep, in turn", 200, lambda n: files(in_turn(1_000, n)), (FOLDED,)),
     Case("the same in order", 200, lambda n: files(sorted(in_turn(1_000, n))), (FOLDED, DIRECTORIES)),
     Case("so many entries of two folders 100 deep, in turn", 4_000, lambda n: files(in_turn(n, 100)), (FOLDED,)),
-    Case("500 entries of folders of their own, so deep", 100, lambda n: files([b"%03d/" % at + deep(b"a", n) for at in range(500)]), (FOLDED, DIRECTORIES)),
-    Case("one path of so many folders, as tables", 16_000, lambda n: files([deep(b"a", n) + b"a"]), (FOLDED, DIRECTORIES)),
+    Case(
+        "500 entries of folders of their own, so deep",
+        100,
+        lambda n: files([b"%03d/" % at + deep(b"a", n) for at in range(500)]),
+        (FOLDED, DIRECTORIES),
+    ),
+    Case(
+        "one path of so many folders, as tables", 16_000, lambda n: files([deep(b"a", n) + b"a"]), (FOLDED, DIRECTORIES)
+    ),
     Case("entries of one path at stage 3", 25_000, lambda n: files([b"a"] * n, 3), ("entry", FOLDED), b"a\n" * 200),
 )
 

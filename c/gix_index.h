@@ -80,7 +80,7 @@ extern "C" {
 
 /* ---- Tables */
 
-/* An entry. Its path is the bytes of the table's paths from path_start on, path_len of them; two rows may share some. */
+/* An entry. Its path is the bytes of the table's paths from path_start on, path_len of them; two may share some. */
 typedef struct {
     uint32_t ctime_secs; /* when the file's own data changed last, in seconds since the begin of 1970 */
     uint32_t ctime_nsecs;

@@ -26,7 +26,10 @@ def direct(crates):
     def below(name):
         return {used for direct_use in crates[name] for used in {direct_use, *below(direct_use)}}
 
-    return {name: [used for used in uses if not any(used in below(other) for other in uses)] for name, uses in crates.items()}
+    def needed(uses):
+        return [used for used in uses if not any(used in below(other) for other in uses)]
+
+    return {name: needed(uses) for name, uses in crates.items()}
 
 
 # How much of its neighbours' mean place is a node's; the rest draws it to the middle.

@@ -47,7 +47,7 @@ def read_edit(path, crate, is_right):
 
 
 def functions_in(file, text):
-    """The functions of a formatted file, by their first and last lines, and the head of the impl or trait around each."""
+    """The functions of a formatted file, by their first and last lines, and the head of what is around each."""
     lines, found, block = text.split("\n"), [], ("", "")
     for number, line in enumerate(lines, 1):
         if BLOCK.match(line):
@@ -60,7 +60,12 @@ def functions_in(file, text):
             end = next(ends, len(lines) - 1)
             last = end + 1 if lines[end] == f"{indent}}}" else end
             # (a goal may stand at an attribute of the function)
-            above = (at for at in range(number - 1, 0, -1) if not lines[at - 1].strip() or lines[at - 1].endswith(("{", "}", ";")))
+            above = (
+                at
+                for at in range(number - 1, 0, -1)
+                if not lines[at - 1].strip()
+                or lines[at - 1].endswith(("{", "}", ";"))
+            )
             is_inside = len(indent) > len(block[0]) and block[1]
             found.append(Function(file, next(above, 0) + 1, last, head[2], block[1] if is_inside else ""))
     return found
@@ -89,7 +94,7 @@ class Sources:
         return texts
 
     def changed(self, edit):
-        """The functions that the edit changes: those around its texts, and those that name a constant that it changes."""
+        """The functions that the edit changes: those around its texts, and those that name a changed constant."""
         found, texts = set(), {}
         for file, old, new in edit.pairs:
             before = texts.get(file, self.texts[file])
@@ -135,7 +140,9 @@ class Said:
                 open_goals.append((goal[1], int(goal[2]), goal[3], goal[4]))
             elif fault:
                 # (the proofs of a function that calls itself lie in a folder +NAME)
-                self.faults[f"{crate}::{fault[1].replace('/+', '/').replace('/', '::')}"].append((fault[2] or "", fault[3]))
+                self.faults[f"{crate}::{fault[1].replace('/+', '/').replace('/', '::')}"].append(
+                    (fault[2] or "", fault[3])
+                )
             elif verdict:
                 self.verdicts[verdict[1]] = verdict[2]
                 self.goals[verdict[1]] += open_goals
@@ -164,10 +171,15 @@ class Said:
         return [it for it in self.verdicts if it == f"{self.crate}::{path}"]
 
     def evidence(self, name, place=None):
-        """Whether a function is refused at a goal of its own, and what to say: it has to be unproved, and a goal has to be open for its value."""
+        """Whether a function is refused at a goal of its own, and what to say.
+
+        It has to be unproved, and a goal has to be open for its value.
+        """
         if not re.match(r"not proved|no proof", self.verdicts.get(name, "")):
             return False, self.verdicts.get(name, "")
-        goals = [it for it in self.goals[name] if not place or it[0] == place.file and place.first <= it[1] <= place.last]
+        goals = [
+            it for it in self.goals[name] if not place or it[0] == place.file and place.first <= it[1] <= place.last
+        ]
         lost = [it for it in self.faults[name] if MISSING_NAME.search(it[1])]
         misfits = [goal for goal, why in self.faults[name] if (goal, why) not in lost]
         false = [goal for _, _, goal, why in goals if "this goal is false" in why]
@@ -179,7 +191,8 @@ class Said:
         if goals and not any("Goals` has no `" in why for _, why in lost):
             return True, f"`{goals[0][2]}` has no proof"
         if lost:
-            return False, "its proof names what the edit took away, which says little: change a value and keep the shape"
+            said = "its proof names what the edit took away, which says little: change a value and keep the shape"
+            return False, said
         return False, self.verdicts[name]
 
 
@@ -190,7 +203,9 @@ def judged(said, edit, places, is_alone):
         names = {None: said.names_at(edit.at)}
     for place, found in names.items():
         if not found:
-            what = f"no function {edit.at}" if place is None else f"no function {place.name} at {place.file}:{place.first}"
+            what = f"no function {edit.at}"
+            if place is not None:
+                what = f"no function {place.name} at {place.file}:{place.first}"
             return False, f"the check lists {what}"
     listed = [(name, place) for place, found in names.items() for name in found]
     if edit.is_right:

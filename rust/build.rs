@@ -1,7 +1,7 @@
 //! Finds the static library, which is proved and built first where it isn't there.
 //!
-//! `GIX_INDEX_LIB` names a folder that has `libindex_c.a` and `liblibc_c.a`, such as `c/install` makes. Else both are those of
-//! this repository and of the toolchain, which `rt` is asked for.
+//! `GIX_INDEX_LIB` names a folder that has `libindex_c.a` and `liblibc_c.a`, such as `c/install` makes. Else both are
+//! those of this repository and of the toolchain, which `rt` is asked for.
 
 use std::env;
 use std::path::{Path, PathBuf};
@@ -11,7 +11,8 @@ use std::process::Command;
 fn rt(word: &str, folder: &Path) -> String {
     let done = Command::new("rt").arg(word).current_dir(folder).output();
     let out = done.expect("`rt` isn't on the path: set GIX_INDEX_LIB to a folder with libindex_c.a and liblibc_c.a");
-    assert!(out.status.success(), "`rt {word}` failed in {}: {}", folder.display(), String::from_utf8_lossy(&out.stdout));
+    let said = String::from_utf8_lossy(&out.stdout);
+    assert!(out.status.success(), "`rt {word}` failed in {}: {said}", folder.display());
     String::from_utf8_lossy(&out.stdout).into_owned()
 }
 

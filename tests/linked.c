@@ -464,7 +464,8 @@ static void check(uint32_t wanted) {
     expect(status == wanted || status == GIX_INDEX_MEMORY, "another status", status, said.fault);
     expect(is_filled(text + said.text_bytes, sizeof text - said.text_bytes), "a text that goes on", 0, 0);
     if (status == GIX_INDEX_REFUSED)
-        expect(said.fault == GIX_INDEX_FAULT_ORDER && said.fault_place == 1, "another fault", said.fault, said.fault_place);
+        expect(said.fault == GIX_INDEX_FAULT_ORDER && said.fault_place == 1, "another fault", said.fault,
+               said.fault_place);
     if (status == GIX_INDEX_MEMORY)
         puts("memory");
     else

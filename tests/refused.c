@@ -1,5 +1,5 @@
-/* Put before the C library (LD_PRELOAD): counts a program's requests for memory and its calls of the system, and refuses
- * one of them, or one and all behind it. tests/refused says what for.
+/* Put before the C library (LD_PRELOAD): counts a program's requests for memory and its calls of the system, and
+ * refuses one of them, or one and all behind it. tests/refused says what for.
  *
  * REFUSED_KIND   request  one of malloc, realloc, aligned_alloc, posix_memalign and mmap
  *                call     one that opens, looks at, reads, writes, moves in, syncs, renames or removes a file
@@ -9,8 +9,8 @@
  * REFUSED_ON     where it is set, each one behind it as well
  * REFUSED_ERROR  the number of the error of a call (by default EIO)
  * REFUSED_SIZE   before the REFUSED_NTH reading the file has so many bytes, whatever REFUSED_KIND is
- * REFUSED_COUNTS a file for how many there were of the four kinds, and how many requests were for a block that there was
- *                none of before, as a vector's first one is
+ * REFUSED_COUNTS a file for how many there were of the four kinds, and how many requests were for a block that there
+ *                was none of before, as a vector's first one is
  */
 #define _GNU_SOURCE
 #include <dlfcn.h>

@@ -47,7 +47,7 @@ def program_of(crate):
 
 
 def built(crate):
-    """The crate's program, which is proved and built where it isn't yet. A program that can't be built ends this one."""
+    """The crate's program, proved and built where it isn't yet. A program that can't be built ends this one."""
     import subprocess
 
     done = subprocess.run([TOP / "tools" / "build", crate], stdin=subprocess.DEVNULL, stdout=subprocess.DEVNULL)

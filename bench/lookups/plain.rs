@@ -88,7 +88,8 @@ fn main() {
     let words: Vec<String> = std::env::args().collect();
     let (text, asked) = (std::fs::read(&words[2]).unwrap(), std::fs::read(&words[3]).unwrap());
     let (paths, names) = (lines(&text), lines(&asked));
-    let begins = |name: &[u8]| paths.get(paths.partition_point(|path| *path < name)).is_some_and(|path| path.starts_with(name));
+    let first = |name: &[u8]| paths.get(paths.partition_point(|path| *path < name));
+    let begins = |name: &[u8]| first(name).is_some_and(|path| path.starts_with(name));
     let (took, count) = match words[1].as_str() {
         "load" => (0, 0),
         "path" => timed(&names, |name| paths.binary_search(&name).is_ok()),

@@ -50,7 +50,8 @@ static char *path_of(const char *folder, const gix_index_row *row, const uint8_t
 static bool is_again(const table *t, size_t i) {
     if (i == 0) return false;
     const gix_index_row *one = t->rows + i - 1, *two = t->rows + i;
-    return one->path_len == two->path_len && !memcmp(t->paths + one->path_start, t->paths + two->path_start, one->path_len);
+    const uint8_t *path = t->paths + one->path_start, *other = t->paths + two->path_start;
+    return one->path_len == two->path_len && !memcmp(path, other, one->path_len);
 }
 
 static bool print_status(const char *folder, const table *t, time_t written) {

@@ -2,7 +2,7 @@
 //!
 //! [`Index`] is a copy of the entries of an index file, in memory of its own, to be searched, changed and written.
 //! Names are those of the crate `gix-index` where they say the same. What is proved is told in
-//! `crates/index_c/README.md`; this crate is not proved: it hands slices to the library's calls and takes their answers.
+//! `crates/index_c/README.md`; this crate isn't proved: it hands slices to the library's calls and takes their answers.
 //! It has no dependencies, so its errors implement [`std::error::Error`] by hand.
 
 mod edit;
@@ -176,7 +176,8 @@ pub fn verify(bytes: &[u8], kind: Kind) -> Result<(), Error> {
     let mut summary = Summary::default();
     // SAFETY: each pointer goes with the length of its slice; those that are written through are distinct.
     let status = unsafe {
-        raw::gix_index_check(bytes.as_ptr(), bytes.len(), kind.number(), false, text.as_mut_ptr(), text.len(), &mut summary)
+        let (room, len) = (text.as_mut_ptr(), text.len());
+        raw::gix_index_check(bytes.as_ptr(), bytes.len(), kind.number(), false, room, len, &mut summary)
     };
     match status {
         raw::DONE => Ok(()),
@@ -216,7 +217,13 @@ impl Index {
     }
 
     /// Whether the table was filled, which lacks room else, and what was said.
-    fn read(bytes: &[u8], kind: Kind, skip_hash: bool, rows: &mut [Row], paths: &mut [u8]) -> Result<(bool, Summary), Error> {
+    fn read(
+        bytes: &[u8],
+        kind: Kind,
+        skip_hash: bool,
+        rows: &mut [Row],
+        paths: &mut [u8],
+    ) -> Result<(bool, Summary), Error> {
         let mut text = [0; 300];
         let mut summary = Summary::default();
         // SAFETY: each pointer goes with the length of its slice; those that are written through are distinct.

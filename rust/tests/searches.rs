@@ -10,7 +10,8 @@ use std::{env, fs};
 fn fronts(index: &Index) -> Vec<Vec<u8>> {
     let paths = index.entries().map(|entry| entry.path());
     let starts = paths.flat_map(|path| (0..=path.len()).map(|len| path[..len].to_vec()));
-    starts.flat_map(|front| [vec![], vec![b'/'], vec![0], vec![0xff]].map(|byte| [front.clone(), byte].concat())).collect()
+    let behind = [vec![], vec![b'/'], vec![0], vec![0xff]];
+    starts.flat_map(|front| behind.clone().map(|byte| [front.clone(), byte].concat())).collect()
 }
 
 fn is_below(entry: Entry<'_>, directory: &[u8]) -> bool {

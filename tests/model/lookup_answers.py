@@ -19,7 +19,7 @@ def answer_lookup(found, row):
         f"directories icase: {len(lookups.named_directories(entries, True))}",
         f"is_ordered_by_path: {show.yes(is_ordered)}",
         f"is_strictly_ordered: {show.yes(lookups.is_strictly_ordered(entries))}",
-        f"entries_with_paths_by_filter_map: {show.listed(show.text(entry.path) for entry in entries if entry.stage == 0)}",
+        f"entries_with_paths_by_filter_map: {show.listed(show.text(it.path) for it in entries if it.stage == 0)}",
     ]
     for path in paths:
         lines += [f"{show.text(path)}: {line}" for line in by_name(entries, path)]

@@ -1,4 +1,4 @@
-"""The trees of an index, as `git write-tree` makes them of its entries (git-write-tree, gitformat-index "Cache tree")."""
+"""The trees of an index, as git makes them of its entries (git-write-tree, gitformat-index "Cache tree")."""
 
 import trees
 from bytes import digest, kind_of_id, null_id
@@ -89,7 +89,9 @@ def put(kind, data, objects):
 
 def count_of(directory):
     """How many entries lie below, or None where one is only intended to be added."""
-    counts = [count_of(it) if isinstance(it, dict) else None if it.flags & INTENT_TO_ADD else 1 for it in directory.values()]
+    counts = [
+        count_of(it) if isinstance(it, dict) else None if it.flags & INTENT_TO_ADD else 1 for it in directory.values()
+    ]
     return None if None in counts else sum(counts)
 
 

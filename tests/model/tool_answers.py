@@ -22,8 +22,8 @@ OUT = "out"
 
 @dataclass
 class Answer:
-    """The status, the standard output (None: the model doesn't say which), how the line on standard error begins, and the
-    file that is written."""
+    """The status, the standard output (None: the model doesn't say which), how the line on standard error begins, and
+    the file that is written."""
 
     status: int = 0
     out: Optional[bytes] = b""

@@ -1,5 +1,6 @@
 -- What a tree lists against the children of its node; and every store has trees.
-use Rattle.std.proofs.Common.{◌≡◌, ℕ, ◌+◌, Bool, true, false, cond, eqb, List, [], ◌∷◌, length, All, Option, Some, None, refl, ap, subst, ◌∙◌, arith}
+use Rattle.std.proofs.Common.{◌≡◌, ℕ, ◌+◌, Bool, true, false, cond, eqb, List, [], ◌∷◌, length, All, Option, Some, None}
+use Rattle.std.proofs.Common.{refl, ap, subst, ◌∙◌, arith}
 use Rattle.std.specs.Prelude.{IsTrue, MatchOption}
 use Rattle.std.specs.Option.{option_map}
 use Rattle.std.proofs.lemmas.Bool.{eqb-true, eq-eqb}
@@ -13,7 +14,8 @@ use Rattle.index_objects.proofs.TreeLists.{listed_in, lists_some, list_behind, l
 use Rattle.index_cached_tree.specs.Agreement.{Trees, ListsEntries, AreTrees, directories, has_child, AreChildren}
 use Rattle.index_extensions.specs.ExtensionValue.{or_else}
 use Rattle.index_cached_tree.specs.Tree.{Nodes, how_many_nodes}
-use Rattle.index_cached_tree.specs.TreeFaults.{TreeFault, missing_directory, child_fault, missing_fault, number_fault, listed_fault, SaysTree}
+use Rattle.index_cached_tree.specs.TreeFaults.{TreeFault, missing_directory, child_fault, missing_fault, number_fault}
+use Rattle.index_cached_tree.specs.TreeFaults.{listed_fault, SaysTree}
 use Rattle.index_cached_tree.specs.declared.verify.Error.TheVariants as errors
 
 -- ---- the first of two faults
@@ -27,14 +29,16 @@ or_none (Some f) p e = absurd cc
 
 -- ---- no fault of a tree: its directories are the children
 
-pub child_there : (parent : ObjectId) (row : Nodes) (e : TreeEntry) → child_fault parent row e ≡ None → has_child e.name row ≡ true
+pub child_there : (parent : ObjectId) (row : Nodes) (e : TreeEntry) → child_fault parent row e ≡ None
+    → has_child e.name row ≡ true
 child_there parent row e h = by (has_child e.name row) _ h
   where
     by : (b : Bool) (f : TreeFault) → cond b None (Some f) ≡ None → b ≡ true
     by true f k = refl
     by false f k = absurd cc
 
-each_there : (parent : ObjectId) (row : Nodes) (es : List TreeEntry) → missing_fault parent row es ≡ None → All (λ e. IsTrue (has_child e.name row)) es
+each_there : (parent : ObjectId) (row : Nodes) (es : List TreeEntry) → missing_fault parent row es ≡ None
+    → All (λ e. IsTrue (has_child e.name row)) es
 each_there parent row [] h = All-nil (λ e. IsTrue (has_child e.name row))
 each_there parent row (e ∷ es) h =
     let a = or_none (child_fault parent row e) _ h in
@@ -47,27 +51,36 @@ as_many id expected actual e = by (eqb expected actual) _ refl e
     by true f h k = eqb-true expected actual h
     by false f h k = absurd cc
 
-pub listed_none : (id : ObjectId) (row : Nodes) (o : Option (List TreeEntry)) → listed_fault id row o ≡ None → MatchOption o ⊥ (λ es. AreChildren row es)
+pub listed_none : (id : ObjectId) (row : Nodes) (o : Option (List TreeEntry)) → listed_fault id row o ≡ None
+    → MatchOption o ⊥ (λ es. AreChildren row es)
 listed_none id row None e = absurd cc
 listed_none id row (Some es) e =
     let a = or_none (missing_fault id row (directories es)) _ e in
-    record { each = each_there id row (directories es) a.0; number = as_many id (length (directories es)) (how_many_nodes row) a.1 }
+    record {
+      each = each_there id row (directories es) a.0;
+      number = as_many id (length (directories es)) (how_many_nodes row) a.1;
+    }
 
 -- and where they are, it has none
 
-none_missing : (parent : ObjectId) (row : Nodes) (es : List TreeEntry) → All (λ e. IsTrue (has_child e.name row)) es → missing_fault parent row es ≡ None
+none_missing : (parent : ObjectId) (row : Nodes) (es : List TreeEntry) → All (λ e. IsTrue (has_child e.name row)) es
+    → missing_fault parent row es ≡ None
 none_missing parent row [] h = refl
 none_missing parent row (e ∷ es) h =
     let there : has_child e.name row ≡ true = All-head (λ d. IsTrue (has_child d.name row)) e es h in
-    none_both (child_fault parent row e) _ (rw there refl) (none_missing parent row es (All-tail (λ d. IsTrue (has_child d.name row)) e es h))
+    none_both (child_fault parent row e) _ (rw there refl)
+    (none_missing parent row es (All-tail (λ d. IsTrue (has_child d.name row)) e es h))
 
-pub none_listed : (id : ObjectId) (row : Nodes) (o : Option (List TreeEntry)) → MatchOption o ⊥ (λ es. AreChildren row es) → listed_fault id row o ≡ None
+pub none_listed : (id : ObjectId) (row : Nodes) (o : Option (List TreeEntry))
+    → MatchOption o ⊥ (λ es. AreChildren row es) → listed_fault id row o ≡ None
 none_listed id row None h = absurd h
 none_listed id row (Some es) h =
-    let number : number_fault id (length (directories es)) (how_many_nodes row) ≡ None = rw (eq-eqb _ _ h.number) refl in
+    let number : number_fault id (length (directories es)) (how_many_nodes row) ≡ None =
+    rw (eq-eqb _ _ h.number) refl in
     none_both (missing_fault id row (directories es)) _ (none_missing id row (directories es) h.each) number
 
-pub no_memory_for_child : (parent : ObjectId) (row : Nodes) (e : TreeEntry) → has_child e.name row ≡ false → SaysTree errors.Memory (child_fault parent row e)
+pub no_memory_for_child : (parent : ObjectId) (row : Nodes) (e : TreeEntry) → has_child e.name row ≡ false
+    → SaysTree errors.Memory (child_fault parent row e)
 no_memory_for_child parent row e none = (missing_directory parent e.id e.name, rw none refl, tt)
 
 -- ---- every store has trees
@@ -83,55 +96,84 @@ pub some_trees : (found : ObjectId → Found) → (trees : Trees) × AreTrees fo
 some_trees found = (trees_of found, λ id. listed_by (id_kind id) (tree_bytes (found id)))
 
 -- the entries of a tree that was found
-pub tree_lists : (kind : Kind) (found : Option (List ℕ)) (bytes : List ℕ) (es : Option (List TreeEntry)) → found ≡ Some bytes → ListsEntries kind found es → (l : List TreeEntry) × (es ≡ Some l) × Lists kind bytes l
+pub tree_lists : (kind : Kind) (found : Option (List ℕ)) (bytes : List ℕ) (es : Option (List TreeEntry))
+    → found ≡ Some bytes → ListsEntries kind found es → (l : List TreeEntry) × (es ≡ Some l) × Lists kind bytes l
 tree_lists kind None bytes es e h = absurd cc
 tree_lists kind (Some b) bytes None e h = absurd h
-tree_lists kind (Some b) bytes (Some l) e h = let same : b ≡ bytes = cc in (l, refl, subst (λ (x : List ℕ). Lists kind x l) same h)
+tree_lists kind (Some b) bytes (Some l) e h =
+    let same : b ≡ bytes = cc in
+    (l, refl, subst (λ (x : List ℕ). Lists kind x l) same h)
 
-pub no_tree_lists : (kind : Kind) (found : Option (List ℕ)) (es : Option (List TreeEntry)) → found ≡ None → ListsEntries kind found es → es ≡ None
+pub no_tree_lists : (kind : Kind) (found : Option (List ℕ)) (es : Option (List TreeEntry)) → found ≡ None
+    → ListsEntries kind found es → es ≡ None
 no_tree_lists kind None None e h = refl
 no_tree_lists kind None (Some l) e h = absurd h
 no_tree_lists kind (Some b) es e h = absurd cc
 
 -- ---- a count of directories that is under way
 
--- Of what the bytes list, so many directories are counted; those listed by the bytes that are left aren't, and the first
--- directory without a child is among them.
+-- Of what the bytes list, so many directories are counted; those listed by the bytes that are left aren't, and the
+-- first directory without a child is among them.
 abbrev pub CountsOn : Kind → List ℕ → ObjectId → Nodes → ℕ → List ℕ → Type 0
 CountsOn kind bytes parent row number left =
-    (es : List TreeEntry) → Lists kind bytes es → (later : List TreeEntry) × Lists kind left later × (number + length (directories later) ≡ length (directories es)) × (missing_fault parent row (directories es) ≡ missing_fault parent row (directories later))
+    (es : List TreeEntry) → Lists kind bytes es → (later : List TreeEntry) × Lists kind left later
+    × (number + length (directories later) ≡ length (directories es))
+    × (missing_fault parent row (directories es) ≡ missing_fault parent row (directories later))
 
-pub counts_begin : (kind : Kind) (bytes : List ℕ) (parent : ObjectId) (row : Nodes) → CountsOn kind bytes parent row 0 bytes
+pub counts_begin : (kind : Kind) (bytes : List ℕ) (parent : ObjectId) (row : Nodes)
+    → CountsOn kind bytes parent row 0 bytes
 counts_begin kind bytes parent row = λ es l. (es, l, omega arith, refl)
 
-module _ (kind : Kind) (bytes : List ℕ) (parent : ObjectId) (row : Nodes) (number : ℕ) (left : List ℕ) (on : CountsOn kind bytes parent row number left) where
-  pub counts_end : NoTreeEntry kind left → (es : List TreeEntry) → Lists kind bytes es → (number ≡ length (directories es)) × (missing_fault parent row (directories es) ≡ None)
+module _ (kind : Kind) (bytes : List ℕ) (parent : ObjectId) (row : Nodes) (number : ℕ) (left : List ℕ)
+    (on : CountsOn kind bytes parent row number left) where
+  pub counts_end : NoTreeEntry kind left → (es : List TreeEntry) → Lists kind bytes es
+      → (number ≡ length (directories es)) × (missing_fault parent row (directories es) ≡ None)
   counts_end none es l =
       let c = on es l in
       let nothing : c.0 ≡ [] = list_ends kind left c.0 none c.1 in
-      let zero_left : length (directories c.0) ≡ 0 = ap (λ (x : List TreeEntry). length (directories x)) nothing in
-      (omega (arith, c.2, zero_left), c.3 ∙ ap (λ (x : List TreeEntry). missing_fault parent row (directories x)) nothing)
+      let zero_left : length (directories c.0) ≡ 0 = ap (λ (x : List TreeEntry). length (directories x)) nothing in (
+        omega (arith, c.2, zero_left),
+        c.3 ∙ ap (λ (x : List TreeEntry). missing_fault parent row (directories x)) nothing,
+      )
 
   module _ (e : TreeEntry) (after : List ℕ) (is : IsTreeEntry kind left e after) where
     pub counts_pass : is_tree_mode e.mode ≡ false → CountsOn kind bytes parent row number after
     counts_pass other es l =
         let c = on es l in
         let b = list_behind kind left e after c.0 is c.1 in
-        let same : directories c.0 ≡ directories b.0 = ap directories b.1 ∙ rw other refl in
-        (b.0, b.2, omega (arith, c.2, ap (λ (x : List TreeEntry). length x) same), c.3 ∙ ap (λ (x : List TreeEntry). missing_fault parent row x) same)
+        let same : directories c.0 ≡ directories b.0 = ap directories b.1 ∙ rw other refl in (
+          b.0,
+          b.2,
+          omega (arith, c.2, ap (λ (x : List TreeEntry). length x) same),
+          c.3 ∙ ap (λ (x : List TreeEntry). missing_fault parent row x) same,
+        )
 
-    first_of : (es : List TreeEntry) → is_tree_mode e.mode ≡ true → Lists kind bytes es → (later : List TreeEntry) × Lists kind after later × (number + length (e ∷ directories later) ≡ length (directories es)) × (missing_fault parent row (directories es) ≡ or_else (child_fault parent row e) (missing_fault parent row (directories later)))
+    first_of : (es : List TreeEntry) → is_tree_mode e.mode ≡ true → Lists kind bytes es → (later : List TreeEntry)
+        × Lists kind after later × (number + length (e ∷ directories later) ≡ length (directories es))
+        × (missing_fault parent row (directories es)
+        ≡ or_else (child_fault parent row e) (missing_fault parent row (directories later)))
     first_of es tree l =
         let c = on es l in
         let b = list_behind kind left e after c.0 is c.1 in
-        let same : directories c.0 ≡ e ∷ directories b.0 = ap directories b.1 ∙ rw tree refl in
-        (b.0, b.2, omega (arith, c.2, ap (λ (x : List TreeEntry). length x) same), c.3 ∙ ap (λ (x : List TreeEntry). missing_fault parent row x) same)
+        let same : directories c.0 ≡ e ∷ directories b.0 = ap directories b.1 ∙ rw tree refl in (
+          b.0,
+          b.2,
+          omega (arith, c.2, ap (λ (x : List TreeEntry). length x) same),
+          c.3 ∙ ap (λ (x : List TreeEntry). missing_fault parent row x) same,
+        )
 
-    pub counts_more : is_tree_mode e.mode ≡ true → child_fault parent row e ≡ None → CountsOn kind bytes parent row (number + 1) after
+    pub counts_more : is_tree_mode e.mode ≡ true → child_fault parent row e ≡ None
+        → CountsOn kind bytes parent row (number + 1) after
     counts_more tree there es l =
-        let f = first_of es tree l in
-        (f.0, f.1, omega (arith, f.2), f.3 ∙ ap (λ (o : Option TreeFault). or_else o (missing_fault parent row (directories f.0))) there)
+        let f = first_of es tree l in (
+          f.0,
+          f.1,
+          omega (arith, f.2),
+          f.3 ∙ ap (λ (o : Option TreeFault). or_else o (missing_fault parent row (directories f.0))) there,
+        )
 
     -- where it has no child, it is the first
-    pub counts_fault : is_tree_mode e.mode ≡ true → (es : List TreeEntry) → Lists kind bytes es → (later : List TreeEntry) × (missing_fault parent row (directories es) ≡ or_else (child_fault parent row e) (missing_fault parent row later))
+    pub counts_fault : is_tree_mode e.mode ≡ true → (es : List TreeEntry) → Lists kind bytes es
+        → (later : List TreeEntry) × (missing_fault parent row (directories es)
+        ≡ or_else (child_fault parent row e) (missing_fault parent row later))
     counts_fault tree es l = let f = first_of es tree l in (directories f.0, f.3)

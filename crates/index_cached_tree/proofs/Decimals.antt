@@ -1,14 +1,17 @@
 -- What is read of digits, and of a count, is spelled so, and what is spelled so is read.
-use Rattle.std.proofs.Common.{◌≡◌, ℕ, suc, ◌+◌, ◌-◌, ◌*◌, ◌^◌, ◌<◌, ◌≤◌, Bool, true, false, cond, ltb, eqb, List, [], ◌∷◌, length, Option, Some, None, All, refl, sym, ap, subst, ◌∙◌, arith}
+use Rattle.std.proofs.Common.{◌≡◌, ℕ, suc, ◌+◌, ◌-◌, ◌*◌, ◌^◌, ◌<◌, ◌≤◌, Bool, true, false, cond, ltb, eqb, List, []}
+use Rattle.std.proofs.Common.{◌∷◌, length, Option, Some, None, All, refl, sym, ap, subst, ◌∙◌, arith}
 use Rattle.std.specs.Prelude.{◌≢◌}
 use Rattle.std.specs.Char.{is_ascii_digit}
-use Rattle.std.proofs.lemmas.Bool.{ltb-true, ltb-false, lt-ltb, le-ltb, leb-true, le-leb, eqb-true, eqb-false, ne_eqb, and_parts, and_from}
+use Rattle.std.proofs.lemmas.Bool.{ltb-true, ltb-false, lt-ltb, le-ltb, leb-true, le-leb, eqb-true, eqb-false, ne_eqb}
+use Rattle.std.proofs.lemmas.Bool.{and_parts, and_from}
 use Rattle.std.proofs.lemmas.List.Elements.{All-nil, All-cons, All-head, All-tail}
 use native.Mathlib.Numerals.{unary_clauses}
 use Rattle.index_parts.proofs.Steps.{bind_some, test_some}
 use Rattle.index_parts.specs.ReadingSteps.{◌>>=◌}
 use Rattle.index_cached_tree.specs.Decimal.{IsDigit, decimal_value, IsDecimal, IsCount, plain, plus, minus, minus_zero}
-use Rattle.index_cached_tree.specs.NodeSteps.{decimal_from, decimal_of, nonnegative_count, negated_count, entry_count_of}
+use Rattle.index_cached_tree.specs.NodeSteps.{decimal_from, decimal_of, nonnegative_count, negated_count}
+use Rattle.index_cached_tree.specs.NodeSteps.{entry_count_of}
 
 -- ---- digits
 
@@ -22,14 +25,16 @@ is_digit b h = and_from _ _ (le-leb _ _ h.0) (le-leb _ _ h.1)
 abbrev whole : ℕ → List ℕ → ℕ
 whole high text = high * 10 ^ length text + decimal_value text
 
-regroup : (high digit power value next : ℕ) → next ≡ 10 * power → high * next + (digit * power + value) ≡ (high * 10 + digit) * power + value
+regroup : (high digit power value next : ℕ) → next ≡ 10 * power
+    → high * next + (digit * power + value) ≡ (high * 10 + digit) * power + value
 regroup high digit power value next e = rw e (omega arith)
 
 pub next_power : (n : ℕ) → 10 ^ suc n ≡ 10 * 10 ^ n
 next_power n = simp unary_clauses (omega arith)
 
 whole_next : (high b : ℕ) (text : List ℕ) → whole high (b ∷ text) ≡ whole (high * 10 + (b - 48)) text
-whole_next high b text = regroup high (b - 48) (10 ^ length text) (decimal_value text) (10 ^ length (b ∷ text)) (next_power (length text))
+whole_next high b text =
+    regroup high (b - 48) (10 ^ length text) (decimal_value text) (10 ^ length (b ∷ text)) (next_power (length text))
 
 whole_nil : (high : ℕ) → whole high [] ≡ high
 whole_nil high = omega arith
@@ -41,9 +46,11 @@ at_least high (b ∷ text) = omega (arith, whole_next high b text, at_least (hig
 abbrev Spells : ℕ → List ℕ → ℕ → Type 0
 Spells high text n = All IsDigit text × (n ≡ whole high text) × (n < 2 ^ 64)
 
-spells_next : (t u : Bool) (high b : ℕ) (text : List ℕ) (n : ℕ) → is_ascii_digit b ≡ t → ltb (high * 10 + (b - 48)) (2 ^ 64) ≡ u
+spells_next : (t u : Bool) (high b : ℕ) (text : List ℕ) (n : ℕ) → is_ascii_digit b ≡ t
+    → ltb (high * 10 + (b - 48)) (2 ^ 64) ≡ u
     → cond t (cond u (decimal_from (high * 10 + (b - 48)) text) None) None ≡ Some n
-    → (high * 10 + (b - 48) < 2 ^ 64 → decimal_from (high * 10 + (b - 48)) text ≡ Some n → Spells (high * 10 + (b - 48)) text n) → Spells high (b ∷ text) n
+    → (high * 10 + (b - 48) < 2 ^ 64 → decimal_from (high * 10 + (b - 48)) text ≡ Some n
+    → Spells (high * 10 + (b - 48)) text n) → Spells high (b ∷ text) n
 spells_next false u high b text n d f e more = absurd cc
 spells_next true false high b text n d f e more = absurd cc
 spells_next true true high b text n d f e more =
@@ -52,14 +59,18 @@ spells_next true true high b text n d f e more =
 
 from_takes : (high : ℕ) (text : List ℕ) (n : ℕ) → high < 2 ^ 64 → decimal_from high text ≡ Some n → Spells high text n
 from_takes high [] n small e = let is : high ≡ n = cc in (All-nil IsDigit, omega (arith, whole_nil high), omega arith)
-from_takes high (b ∷ text) n small e = spells_next (is_ascii_digit b) (ltb (high * 10 + (b - 48)) (2 ^ 64)) high b text n refl refl e (λ less f. from_takes (high * 10 + (b - 48)) text n less f)
+from_takes high (b ∷ text) n small e = spells_next (is_ascii_digit b) (ltb (high * 10 + (b - 48)) (2 ^ 64)) high b text
+    n refl refl e (λ less f. from_takes (high * 10 + (b - 48)) text n less f)
 
-from_again : (high : ℕ) (text : List ℕ) → All IsDigit text → whole high text < 2 ^ 64 → decimal_from high text ≡ Some (whole high text)
+from_again : (high : ℕ) (text : List ℕ) → All IsDigit text → whole high text < 2 ^ 64
+    → decimal_from high text ≡ Some (whole high text)
 from_again high [] digits fits = let is : whole high [] ≡ high = whole_nil high in rw is refl
 from_again high (b ∷ text) digits fits =
     let digit : is_ascii_digit b ≡ true = is_digit b (All-head IsDigit b text digits) in
-    let less : ltb (high * 10 + (b - 48)) (2 ^ 64) ≡ true = lt-ltb _ _ (omega (arith, fits, whole_next high b text, at_least (high * 10 + (b - 48)) text)) in
-    let rest = from_again (high * 10 + (b - 48)) text (All-tail IsDigit b text digits) (omega (arith, fits, whole_next high b text)) in
+    let less : ltb (high * 10 + (b - 48)) (2 ^ 64) ≡ true =
+    lt-ltb _ _ (omega (arith, fits, whole_next high b text, at_least (high * 10 + (b - 48)) text)) in
+    let rest = from_again (high * 10 + (b - 48)) text (All-tail IsDigit b text digits)
+    (omega (arith, fits, whole_next high b text)) in
     rw (digit, less, whole_next high b text) rest
 
 pub decimal_takes : (text : List ℕ) (n : ℕ) → decimal_of text ≡ Some n → IsDecimal text n
@@ -84,8 +95,11 @@ nonnegative_takes n count e =
 nonnegative_again : (n : ℕ) → n < 2 ^ 31 → nonnegative_count n ≡ Some (Some n)
 nonnegative_again n small = let less : ltb n (2 ^ 31) ≡ true = lt-ltb _ _ small in rw less refl
 
-negated_by : (digits : List ℕ) (n : ℕ) (count : Option ℕ) (t u : Bool) → eqb n 0 ≡ t → ltb (2 ^ 31) n ≡ u → cond t (Some (Some 0)) (cond u None (Some None)) ≡ Some count → IsDecimal digits n → IsCount (45 ∷ digits) count
-negated_by digits n count true u z o e h = let zero_is : n ≡ 0 = eqb-true n 0 z in minus_zero digits refl (subst (IsDecimal digits) zero_is h) cc
+negated_by : (digits : List ℕ) (n : ℕ) (count : Option ℕ) (t u : Bool) → eqb n 0 ≡ t → ltb (2 ^ 31) n ≡ u
+    → cond t (Some (Some 0)) (cond u None (Some None)) ≡ Some count → IsDecimal digits n → IsCount (45 ∷ digits) count
+negated_by digits n count true u z o e h =
+    let zero_is : n ≡ 0 = eqb-true n 0 z in
+    minus_zero digits refl (subst (IsDecimal digits) zero_is h) cc
 negated_by digits n count false true z o e h = absurd cc
 negated_by digits n count false false z o e h =
     let large : 1 ≤ n = let other = eqb-false n 0 z in omega arith in
@@ -98,11 +112,14 @@ negated_again n low high =
     rw (some, small) refl
 
 count_by : (b : ℕ) (text : List ℕ) (count : Option ℕ) (t u : Bool) → eqb b 45 ≡ t → eqb b 43 ≡ u
-    → cond t (decimal_of text >>= negated_count) (cond u (decimal_of text >>= nonnegative_count) (decimal_of (b ∷ text) >>= nonnegative_count)) ≡ Some count → IsCount (b ∷ text) count
+    → cond t (decimal_of text >>= negated_count)
+    (cond u (decimal_of text >>= nonnegative_count) (decimal_of (b ∷ text) >>= nonnegative_count)) ≡ Some count
+    → IsCount (b ∷ text) count
 count_by b text count true u m p e =
     let d = bind_some (decimal_of text) negated_count count e in
     let sign : b ≡ 45 = eqb-true b 45 m in
-    subst (λ (s : ℕ). IsCount (s ∷ text) count) (sym sign) (negated_by text d.0 count (eqb d.0 0) (ltb (2 ^ 31) d.0) refl refl d.2 (decimal_takes text d.0 d.1))
+    subst (λ (s : ℕ). IsCount (s ∷ text) count) (sym sign)
+    (negated_by text d.0 count (eqb d.0 0) (ltb (2 ^ 31) d.0) refl refl d.2 (decimal_takes text d.0 d.1))
 count_by b text count false true m p e =
     let d = bind_some (decimal_of text) nonnegative_count count e in
     let sign : b ≡ 43 = eqb-true b 43 p in
@@ -126,9 +143,12 @@ unsigned (b ∷ text) n h =
     rw (no_minus, no_plus) refl
 
 pub count_again : (text : List ℕ) (count : Option ℕ) → IsCount text count → entry_count_of text ≡ Some count
-count_again text count (plain n h small is) = unsigned text n h ∙ rw (decimal_again text n h, is) (nonnegative_again n small)
-count_again text count (plus digits n parts h small is) = rw (parts, decimal_again digits n h, is) (nonnegative_again n small)
-count_again text count (minus digits n parts h low high is) = rw (parts, decimal_again digits n h, is) (negated_again n low high)
+count_again text count (plain n h small is) =
+    unsigned text n h ∙ rw (decimal_again text n h, is) (nonnegative_again n small)
+count_again text count (plus digits n parts h small is) =
+    rw (parts, decimal_again digits n h, is) (nonnegative_again n small)
+count_again text count (minus digits n parts h low high is) =
+    rw (parts, decimal_again digits n h, is) (negated_again n low high)
 count_again text count (minus_zero digits parts h is) = rw (parts, decimal_again digits 0 h, is) refl
 
 -- ---- no separator stands in them
@@ -138,9 +158,12 @@ decimal_apart b text n low h = λ k d lt e. let digit = h.digits k d lt in omega
 
 pub count_apart : (text : List ℕ) (count : Option ℕ) → IsCount text count → All (λ x. x ≢ 32) text
 count_apart text count (plain n h small is) = decimal_apart 32 text n (omega arith) h
-count_apart text count (plus digits n parts h small is) = rw parts (All-cons (λ x. x ≢ 32) 43 digits (λ e. omega arith) (decimal_apart 32 digits n (omega arith) h))
-count_apart text count (minus digits n parts h low high is) = rw parts (All-cons (λ x. x ≢ 32) 45 digits (λ e. omega arith) (decimal_apart 32 digits n (omega arith) h))
-count_apart text count (minus_zero digits parts h is) = rw parts (All-cons (λ x. x ≢ 32) 45 digits (λ e. omega arith) (decimal_apart 32 digits 0 (omega arith) h))
+count_apart text count (plus digits n parts h small is) =
+    rw parts (All-cons (λ x. x ≢ 32) 43 digits (λ e. omega arith) (decimal_apart 32 digits n (omega arith) h))
+count_apart text count (minus digits n parts h low high is) =
+    rw parts (All-cons (λ x. x ≢ 32) 45 digits (λ e. omega arith) (decimal_apart 32 digits n (omega arith) h))
+count_apart text count (minus_zero digits parts h is) =
+    rw parts (All-cons (λ x. x ≢ 32) 45 digits (λ e. omega arith) (decimal_apart 32 digits 0 (omega arith) h))
 
 pub decimal_some : (text : List ℕ) (n : ℕ) → IsDecimal text n → 1 ≤ length text
 decimal_some [] n h = absurd (h.some refl)

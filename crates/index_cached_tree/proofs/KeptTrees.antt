@@ -1,5 +1,6 @@
 -- What bytes keep of a tree is kept again as it is; and of a tree that was read all is kept.
-use Rattle.std.proofs.Common.{◌≡◌, ℕ, ◌^◌, ◌<◌, Bool, true, false, cond, List, [], ◌∷◌, length, Option, Some, None, refl, sym, ap, subst, ◌∙◌, arith}
+use Rattle.std.proofs.Common.{◌≡◌, ℕ, ◌^◌, ◌<◌, Bool, true, false, cond, List, [], ◌∷◌, length, Option, Some, None}
+use Rattle.std.proofs.Common.{refl, sym, ap, subst, ◌∙◌, arith}
 use Rattle.std.specs.Prelude.{◌≢◌, IfSome, MatchOption}
 use Rattle.std.specs.List.{AllByRecursion}
 use Rattle.std.specs.Cmp.Lexicographic.{slice_cmp}
@@ -14,8 +15,10 @@ use Rattle.index_parts.specs.Id.{id_len, id_bytes, id_kind, make_id, null_id}
 use Rattle.index_parts.specs.declared.hash.Kind.{Kind}
 use Rattle.index_parts.specs.declared.hash.ObjectId.{ObjectId}
 use Rattle.index_cached_tree.specs.Decimal.{IsCount, plain, plus, minus, minus_zero}
-use Rattle.index_cached_tree.specs.Tree.{Node, Nodes, node, none, more, how_many_nodes, nodes_from, IsSpelled, AreSpelled, name_of, name_cmp, NamesRise, Sorts, SortsEach, IsTree}
-use Rattle.index_cached_tree.specs.StoredTree.{kept_id, insert_node, stored_node, stored_nodes, IsApartFrom, IsPlainNode, ArePlainNodes, IsStorableTree, IsSizedNode, AreSizedNodes}
+use Rattle.index_cached_tree.specs.Tree.{Node, Nodes, node, none, more, how_many_nodes, nodes_from, IsSpelled}
+use Rattle.index_cached_tree.specs.Tree.{AreSpelled, name_of, name_cmp, NamesRise, Sorts, SortsEach, IsTree}
+use Rattle.index_cached_tree.specs.StoredTree.{kept_id, insert_node, stored_node, stored_nodes, IsApartFrom}
+use Rattle.index_cached_tree.specs.StoredTree.{IsPlainNode, ArePlainNodes, IsStorableTree, IsSizedNode, AreSizedNodes}
 use Rattle.index_cached_tree.proofs.Sorted.{names_total}
 use Rattle.index_cached_tree.proofs.Trees.{moved, ids_of_tree, depth_of_tree}
 
@@ -54,7 +57,8 @@ insert_in_order : (t : Node) (ts : Nodes) → InOrder ts → InOrder (insert_nod
 insert_in_order t none h = (tt, tt)
 insert_in_order t (more u us) h = by (is_lt (name_cmp u t)) refl (insert_in_order t us h.1)
   where
-    by : (b : Bool) → is_lt (name_cmp u t) ≡ b → InOrder (insert_node t us) → InOrder (cond b (more u (insert_node t us)) (more t (more u us)))
+    by : (b : Bool) → is_lt (name_cmp u t) ≡ b → InOrder (insert_node t us)
+        → InOrder (cond b (more u (insert_node t us)) (more t (more u us)))
     by true e k = (first_stays t u us (not_back t u e) h.0, k)
     by false e k = (e, h)
 
@@ -68,11 +72,13 @@ abbrev AllStay : Kind → Nodes → Type 0
 AllStay kind none = Unit {0}
 AllStay kind (more t ts) = (stored_node kind t ≡ t) × AllStay kind ts
 
-insert_stays : (kind : Kind) (t : Node) (ts : Nodes) → stored_node kind t ≡ t → AllStay kind ts → AllStay kind (insert_node t ts)
+insert_stays : (kind : Kind) (t : Node) (ts : Nodes) → stored_node kind t ≡ t → AllStay kind ts
+    → AllStay kind (insert_node t ts)
 insert_stays kind t none e h = (e, tt)
 insert_stays kind t (more u us) e h = by (is_lt (name_cmp u t)) (insert_stays kind t us e h.1)
   where
-    by : (b : Bool) → AllStay kind (insert_node t us) → AllStay kind (cond b (more u (insert_node t us)) (more t (more u us)))
+    by : (b : Bool) → AllStay kind (insert_node t us)
+        → AllStay kind (cond b (more u (insert_node t us)) (more t (more u us)))
     by true k = (h.0, k)
     by false k = (e, h)
 
@@ -83,7 +89,8 @@ nodes_stay kind (more t ts) o h =
     let others : stored_nodes kind ts ≡ ts = nodes_stay kind ts o.1 h.1 in
     rw (first, others) (insert_first t ts o.0)
 
-id_twice : (kind : Kind) (count : Option ℕ) (id : ObjectId) → kept_id kind count (kept_id kind count id) ≡ kept_id kind count id
+id_twice : (kind : Kind) (count : Option ℕ) (id : ObjectId)
+    → kept_id kind count (kept_id kind count id) ≡ kept_id kind count id
 id_twice kind None id = refl
 id_twice kind (Some n) id = refl
 
@@ -92,12 +99,14 @@ mutual
   pub node_twice : (kind : Kind) (t : Node) → stored_node kind (stored_node kind t) ≡ stored_node kind t
   node_twice kind (node n i c ts) =
       let id : kept_id kind c (kept_id kind c i) ≡ kept_id kind c i = id_twice kind c i in
-      let below : stored_nodes kind (stored_nodes kind ts) ≡ stored_nodes kind ts = nodes_stay kind (stored_nodes kind ts) (stored_in_order kind ts) (each_stays kind ts) in
+      let below : stored_nodes kind (stored_nodes kind ts) ≡ stored_nodes kind ts =
+      nodes_stay kind (stored_nodes kind ts) (stored_in_order kind ts) (each_stays kind ts) in
       rw (id, below) refl
 
   each_stays : (kind : Kind) (ts : Nodes) → AllStay kind (stored_nodes kind ts)
   each_stays kind none = tt
-  each_stays kind (more t ts) = insert_stays kind (stored_node kind t) (stored_nodes kind ts) (node_twice kind t) (each_stays kind ts)
+  each_stays kind (more t ts) =
+      insert_stays kind (stored_node kind t) (stored_nodes kind ts) (node_twice kind t) (each_stays kind ts)
 
 -- ---- a tree that was read
 
@@ -115,11 +124,13 @@ names_differ t u e same =
     let less : name_cmp t t ≡ Less = ap (λ (l : List ℕ). slice_cmp nat_cmp (name_of t) l) same ∙ e in
     absurd cc
 
-risen_first : (t : Node) (ts : List Node) → AllByRecursion (λ u. name_cmp t u ≡ Less) ts → IsFirst t (nodes_from ts) × IsApartFrom t (nodes_from ts)
+risen_first : (t : Node) (ts : List Node) → AllByRecursion (λ u. name_cmp t u ≡ Less) ts
+    → IsFirst t (nodes_from ts) × IsApartFrom t (nodes_from ts)
 risen_first t [] h = (tt, tt)
 risen_first t (u ∷ us) h = (not_above t u h.0, (names_differ t u h.0, (risen_first t us h.1).1))
 
-risen_stay : (kind : Kind) (ts : List Node) → NamesRise ts → AllByRecursion (IsKept kind) ts → InOrder (nodes_from ts) × AllStay kind (nodes_from ts) × ArePlainNodes (nodes_from ts) × AreSizedNodes (nodes_from ts)
+risen_stay : (kind : Kind) (ts : List Node) → NamesRise ts → AllByRecursion (IsKept kind) ts → InOrder (nodes_from ts)
+    × AllStay kind (nodes_from ts) × ArePlainNodes (nodes_from ts) × AreSizedNodes (nodes_from ts)
 risen_stay kind [] r h = (tt, tt, tt, tt)
 risen_stay kind (t ∷ ts) r h =
     let f = risen_first t ts r.0 in
@@ -135,9 +146,12 @@ counted_small text count (minus_zero digits parts h is) = rw is (omega arith)
 null_len : (kind : Kind) → length (id_bytes (null_id kind)) ≡ id_len kind
 null_len kind = ap length (id_bytes-make_id kind _) ∙ length-replicate (id_len kind) 0
 
-id_kept : (kind : Kind) (count : Option ℕ) (piece : List ℕ) (id : ObjectId) → MatchOption count ((piece ≡ []) × (id ≡ null_id kind)) (λ _. (length piece ≡ id_len kind) × (id ≡ make_id kind piece)) → (kept_id kind count id ≡ id) × (length (id_bytes id) ≡ id_len (id_kind id))
+id_kept : (kind : Kind) (count : Option ℕ) (piece : List ℕ) (id : ObjectId) → MatchOption count
+    ((piece ≡ []) × (id ≡ null_id kind)) (λ _. (length piece ≡ id_len kind) × (id ≡ make_id kind piece))
+    → (kept_id kind count id ≡ id) × (length (id_bytes id) ≡ id_len (id_kind id))
 id_kept kind None piece id h = (sym h.1, rw h.1 (null_len kind ∙ ap id_len (sym (id_kind-make_id kind _))))
-id_kept kind (Some n) piece id h = (refl, rw h.1 (ap length (id_bytes-make_id kind piece) ∙ h.0 ∙ ap id_len (sym (id_kind-make_id kind piece))))
+id_kept kind (Some n) piece id h =
+    (refl, rw h.1 (ap length (id_bytes-make_id kind piece) ∙ h.0 ∙ ap id_len (sym (id_kind-make_id kind piece))))
 
 pub listed_number : (ts : List Node) → how_many_nodes (nodes_from ts) ≡ length ts
 listed_number [] = refl
@@ -148,7 +162,8 @@ each_number none ts s = ap length s
 each_number (more u us) ts s = omega (arith, ap length s.2, each_number us s.1 s.4)
 
 mutual
-  read_kept : (kind : Kind) (limit : Option ℕ) (u t : Node) (bytes rest : List ℕ) → IsSpelled kind limit u bytes rest → Sorts u t → IsKept kind t
+  read_kept : (kind : Kind) (limit : Option ℕ) (u t : Node) (bytes rest : List ℕ) → IsSpelled kind limit u bytes rest
+      → Sorts u t → IsKept kind t
   read_kept kind limit (node n i c us) t bytes rest p s =
       let head = p.1 in
       let vs = s.2.0 in
@@ -157,7 +172,8 @@ mutual
       let id = id_kept kind c head.id i head.is_id in
       let below : stored_nodes kind (nodes_from vs) ≡ nodes_from vs = nodes_stay kind (nodes_from vs) all.0 all.1 in
       let same : kept_id kind c i ≡ i = id.0 in
-      let number : how_many_nodes (nodes_from vs) ≡ how_many_nodes us = listed_number vs ∙ length_permutation s.0 vs s.2.1 ∙ each_number us s.0 s.1 in
+      let number : how_many_nodes (nodes_from vs) ≡ how_many_nodes us =
+      listed_number vs ∙ length_permutation s.0 vs s.2.1 ∙ each_number us s.0 s.1 in
       let few : how_many_nodes (nodes_from vs) < 2 ^ 64 = rw number head.is_number.fits in
       subst (IsKept kind) (sym s.2.3) (record {
         stays = rw (same, below) refl;
@@ -165,17 +181,26 @@ mutual
         fits = (id.1, few, all.3);
       })
 
-  each_kept : (kind : Kind) (limit : Option ℕ) (us : Nodes) (ts : List Node) (bytes rest : List ℕ) → AreSpelled kind limit us bytes rest → SortsEach us ts → AllByRecursion (IsKept kind) ts
+  each_kept : (kind : Kind) (limit : Option ℕ) (us : Nodes) (ts : List Node) (bytes rest : List ℕ)
+      → AreSpelled kind limit us bytes rest → SortsEach us ts → AllByRecursion (IsKept kind) ts
   each_kept kind limit none ts bytes rest p s = subst (AllByRecursion (IsKept kind)) (sym s) tt
   each_kept kind limit (more u us) ts bytes rest p s =
-      subst (AllByRecursion (IsKept kind)) (sym s.2) (read_kept kind limit u s.0 bytes p.0 p.1 s.3, each_kept kind limit us s.1 p.0 rest p.2 s.4)
+      subst (AllByRecursion (IsKept kind)) (sym s.2)
+      (read_kept kind limit u s.0 bytes p.0 p.1 s.3, each_kept kind limit us s.1 p.0 rest p.2 s.4)
 
 -- of a tree that was read all is kept
-pub read_stays : (kind : Kind) (limit : Option ℕ) (bytes : List ℕ) (t : Node) → IsTree kind limit bytes t → stored_node kind t ≡ t
+pub read_stays : (kind : Kind) (limit : Option ℕ) (bytes : List ℕ) (t : Node) → IsTree kind limit bytes t
+    → stored_node kind t ≡ t
 read_stays kind limit bytes t h = (read_kept kind limit h.spelled t bytes [] h.spells h.sorts).stays
 
 -- and it can be written
-pub read_storable : (kind : Kind) (limit : Option ℕ) (bytes : List ℕ) (t : Node) → IsTree kind limit bytes t → IsStorableTree kind t
+pub read_storable : (kind : Kind) (limit : Option ℕ) (bytes : List ℕ) (t : Node) → IsTree kind limit bytes t
+    → IsStorableTree kind t
 read_storable kind limit bytes t h =
     let k = read_kept kind limit h.spelled t bytes [] h.spells h.sorts in
-    record { plain = k.plain; ids = ids_of_tree kind limit bytes t h; shallow = depth_of_tree kind limit bytes t h; sized = k.fits }
+    record {
+      plain = k.plain;
+      ids = ids_of_tree kind limit bytes t h;
+      shallow = depth_of_tree kind limit bytes t h;
+      sized = k.fits;
+    }

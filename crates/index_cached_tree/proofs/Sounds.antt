@@ -1,5 +1,7 @@
--- A cached tree without a fault is sound, and a sound one has none; and what loops over siblings say of the first fault.
-use Rattle.std.proofs.Common.{◌≡◌, inl, inr, ℕ, suc, ◌+◌, ◌^◌, ◌<◌, ◌≤◌, Bool, true, false, cond, ltb, leb, List, [], ◌∷◌, length, map, drop, get_or, Option, Some, None, refl, sym, ap, subst, ◌∙◌, arith}
+-- A cached tree without a fault is sound, and a sound one has none; and what loops over siblings say of the first
+-- fault.
+use Rattle.std.proofs.Common.{◌≡◌, inl, inr, ℕ, suc, ◌+◌, ◌^◌, ◌<◌, ◌≤◌, Bool, true, false, cond, ltb, leb, List, []}
+use Rattle.std.proofs.Common.{◌∷◌, length, map, drop, get_or, Option, Some, None, refl, sym, ap, subst, ◌∙◌, arith}
 use Rattle.std.specs.Prelude.{IfSome, Result, Ok, Err, IfOk, IfErr, IsOk}
 use Rattle.std.specs.Ordering.{is_lt}
 use Rattle.std.proofs.Math.Seq.{drop-cons}
@@ -8,11 +10,14 @@ use Rattle.std.proofs.lemmas.Bool.{ltb-true, lt-ltb, leb-true, le-leb}
 use Rattle.index_objects.specs.Object.{Found}
 use Rattle.index_parts.specs.declared.hash.ObjectId.{ObjectId}
 use Rattle.index_extensions.specs.ExtensionValue.{or_else}
-use Rattle.index_cached_tree.specs.Sound.{counted_entries, entries_sum, RiseFrom, IsSoundNode, AreSoundNodes, IsSoundTree}
+use Rattle.index_cached_tree.specs.Sound.{counted_entries, entries_sum, RiseFrom, IsSoundNode, AreSoundNodes}
+use Rattle.index_cached_tree.specs.Sound.{IsSoundTree}
 use Rattle.index_cached_tree.specs.Tree.{Node, Nodes, node, none, more, nodes_from, node_of, name_of, name_cmp}
 use Rattle.index_cached_tree.specs.Agreement.{Trees, AreTrees, Agrees, Agree}
 use Rattle.index_cached_tree.specs.ObjectSteps.{AreLooked, SaysBy}
-use Rattle.index_cached_tree.specs.TreeFaults.{TreeFault, root_with_name, too_many_entries, out_of_order, name_fault, sum_fault, order_fault, count_fault, row_fault, object_fault, node_fault, nodes_fault, first_fault, tree_fault, Judges, SaysTree, SaysOrWants}
+use Rattle.index_cached_tree.specs.TreeFaults.{TreeFault, root_with_name, too_many_entries, out_of_order, name_fault}
+use Rattle.index_cached_tree.specs.TreeFaults.{sum_fault, order_fault, count_fault, row_fault, object_fault, node_fault}
+use Rattle.index_cached_tree.specs.TreeFaults.{nodes_fault, first_fault, tree_fault, Judges, SaysTree, SaysOrWants}
 use Rattle.index_cached_tree.specs.declared.Tree.{Tree}
 use Rattle.index_cached_tree.specs.declared.Tree.TheViews.{out-Tree}
 use Rattle.index_cached_tree.specs.declared.verify.Error.{Error}
@@ -44,7 +49,8 @@ sum_fits n e = by (ltb n (2 ^ 32)) refl e
 fits_sum : (n : ℕ) → n < 2 ^ 32 → sum_fault n ≡ None
 fits_sum n lt = rw (lt-ltb n (2 ^ 32) lt) refl
 
-rises : (parent : ObjectId) (before : Option Node) (t : Node) (ts : Nodes) → order_fault parent before t ≡ None → RiseFrom (Some t) ts → RiseFrom before (more t ts)
+rises : (parent : ObjectId) (before : Option Node) (t : Node) (ts : Nodes) → order_fault parent before t ≡ None
+    → RiseFrom (Some t) ts → RiseFrom before (more t ts)
 rises parent None t ts e h = h
 rises parent (Some u) t ts e h = (less_from (name_cmp u t) (by (is_lt (name_cmp u t)) _ e), h)
   where
@@ -52,11 +58,13 @@ rises parent (Some u) t ts e h = (less_from (name_cmp u t) (by (is_lt (name_cmp 
     by true f k = refl
     by false f k = absurd cc
 
-in_order : (parent : ObjectId) (before : Option Node) (t : Node) (ts : Nodes) → RiseFrom before (more t ts) → (order_fault parent before t ≡ None) × RiseFrom (Some t) ts
+in_order : (parent : ObjectId) (before : Option Node) (t : Node) (ts : Nodes) → RiseFrom before (more t ts)
+    → (order_fault parent before t ≡ None) × RiseFrom (Some t) ts
 in_order parent None t ts h = (refl, h)
 in_order parent (Some u) t ts h = (rw h.0 refl, h.1)
 
-row_sound : (ts : Nodes) (parent : ObjectId) (sum : ℕ) (before : Option Node) → sum < 2 ^ 32 → row_fault parent sum before ts ≡ None → (sum + entries_sum ts < 2 ^ 32) × RiseFrom before ts
+row_sound : (ts : Nodes) (parent : ObjectId) (sum : ℕ) (before : Option Node) → sum < 2 ^ 32
+    → row_fault parent sum before ts ≡ None → (sum + entries_sum ts < 2 ^ 32) × RiseFrom before ts
 row_sound none parent sum before lt e = (omega (arith, lt), tt)
 row_sound (more t ts) parent sum before lt e =
     let a = or_none (sum_fault (sum + counted_entries t)) _ e in
@@ -64,12 +72,14 @@ row_sound (more t ts) parent sum before lt e =
     let r = row_sound ts parent (sum + counted_entries t) (Some t) (sum_fits (sum + counted_entries t) a.0) b.1 in
     (omega (arith, r.0), rises parent before t ts b.0 r.1)
 
-row_none : (ts : Nodes) (parent : ObjectId) (sum : ℕ) (before : Option Node) → sum + entries_sum ts < 2 ^ 32 → RiseFrom before ts → row_fault parent sum before ts ≡ None
+row_none : (ts : Nodes) (parent : ObjectId) (sum : ℕ) (before : Option Node) → sum + entries_sum ts < 2 ^ 32
+    → RiseFrom before ts → row_fault parent sum before ts ≡ None
 row_none none parent sum before lt h = refl
 row_none (more t ts) parent sum before lt h =
     let o = in_order parent before t ts h in
     let fits : sum_fault (sum + counted_entries t) ≡ None = fits_sum (sum + counted_entries t) (omega (arith, lt)) in
-    none_both (sum_fault (sum + counted_entries t)) _ fits (none_both (order_fault parent before t) _ o.0 (row_none ts parent (sum + counted_entries t) (Some t) (omega (arith, lt)) o.1))
+    none_both (sum_fault (sum + counted_entries t)) _ fits (none_both (order_fault parent before t) _ o.0
+    (row_none ts parent (sum + counted_entries t) (Some t) (omega (arith, lt)) o.1))
 
 counted : (count : Option ℕ) (sum : ℕ) → count_fault count sum ≡ None → IfSome count (λ own. sum ≤ own)
 counted None sum e = tt
@@ -94,7 +104,9 @@ mutual
 
   sound_nodes : (trees : Option Trees) (ts : Nodes) → nodes_fault trees ts ≡ None → AreSoundNodes ts
   sound_nodes trees none e = tt
-  sound_nodes trees (more t ts) e = let a = or_none (node_fault trees t) _ e in (sound_node trees t a.0, sound_nodes trees ts a.1)
+  sound_nodes trees (more t ts) e =
+      let a = or_none (node_fault trees t) _ e in
+      (sound_node trees t a.0, sound_nodes trees ts a.1)
 
 mutual
   agreed_node : (trees : Trees) (t : Node) → node_fault (Some trees) t ≡ None → Agrees trees t
@@ -107,13 +119,16 @@ mutual
 
   agreed_nodes : (trees : Trees) (ts : Nodes) → nodes_fault (Some trees) ts ≡ None → Agree trees ts
   agreed_nodes trees none e = tt
-  agreed_nodes trees (more t ts) e = let a = or_none (node_fault (Some trees) t) _ e in (agreed_node trees t a.0, agreed_nodes trees ts a.1)
+  agreed_nodes trees (more t ts) e =
+      let a = or_none (node_fault (Some trees) t) _ e in
+      (agreed_node trees t a.0, agreed_nodes trees ts a.1)
 
 mutual
   no_fault_in : (t : Node) → IsSoundNode t → node_fault None t ≡ None
   no_fault_in (node name id count ts) h =
       let row : row_fault id 0 None ts ≡ None = row_none ts id 0 None (omega (arith, h.0)) h.1 in
-      none_both (row_fault id 0 None ts) _ row (none_both (nodes_fault None ts) _ (no_fault_among ts h.3) (counts count (entries_sum ts) h.2))
+      none_both (row_fault id 0 None ts) _ row
+      (none_both (nodes_fault None ts) _ (no_fault_among ts h.3) (counts count (entries_sum ts) h.2))
 
   no_fault_among : (ts : Nodes) → AreSoundNodes ts → nodes_fault None ts ≡ None
   no_fault_among none h = refl
@@ -125,11 +140,15 @@ mutual
   no_fault_agreed trees (node name id count (more t ts)) h a =
       let row : row_fault id 0 None (more t ts) ≡ None = row_none (more t ts) id 0 None (omega (arith, h.0)) h.1 in
       let object : object_fault (Some trees) id (more t ts) ≡ None = none_listed id (more t ts) (trees id) a.0 in
-      none_both (row_fault id 0 None (more t ts)) _ row (none_both (object_fault (Some trees) id (more t ts)) _ object (none_both (nodes_fault (Some trees) (more t ts)) _ (no_faults_agreed trees (more t ts) h.3 a.1) (counts count (entries_sum (more t ts)) h.2)))
+      none_both (row_fault id 0 None (more t ts)) _ row (none_both (object_fault (Some trees) id (more t ts)) _ object
+      (none_both (nodes_fault (Some trees) (more t ts)) _ (no_faults_agreed trees (more t ts) h.3 a.1)
+      (counts count (entries_sum (more t ts)) h.2)))
 
-  no_faults_agreed : (trees : Trees) (ts : Nodes) → AreSoundNodes ts → Agree trees ts → nodes_fault (Some trees) ts ≡ None
+  no_faults_agreed : (trees : Trees) (ts : Nodes) → AreSoundNodes ts → Agree trees ts
+      → nodes_fault (Some trees) ts ≡ None
   no_faults_agreed trees none h a = refl
-  no_faults_agreed trees (more t ts) h a = none_both (node_fault (Some trees) t) _ (no_fault_agreed trees t h.0 a.0) (no_faults_agreed trees ts h.1 a.1)
+  no_faults_agreed trees (more t ts) h a =
+      none_both (node_fault (Some trees) t) _ (no_fault_agreed trees t h.0 a.0) (no_faults_agreed trees ts h.1 a.1)
 
 unnamed : (name : List ℕ) → name_fault name ≡ None → name ≡ []
 unnamed [] e = refl
@@ -146,12 +165,14 @@ agreed_tree trees t e = agreed_node trees t (or_none (name_fault (name_of t)) _ 
 -- and a sound one has none, where no trees are looked at
 pub no_fault_of : (t : Node) (e : Error) → IsSoundTree t → SaysTree e (tree_fault t) → ⊥
 no_fault_of t e h s =
-    let none : tree_fault t ≡ None = none_both (name_fault (name_of t)) (node_fault None t) (ap name_fault h.0) (no_fault_in t h.1) in
+    let none : tree_fault t ≡ None =
+    none_both (name_fault (name_of t)) (node_fault None t) (ap name_fault h.0) (no_fault_in t h.1) in
     absurd (cc (none, s.1))
 
 -- nor where they are, and it agrees with them
 pub no_fault_with : (trees : Trees) (t : Node) → IsSoundTree t → Agrees trees t → first_fault (Some trees) t ≡ None
-no_fault_with trees t h a = none_both (name_fault (name_of t)) (node_fault (Some trees) t) (ap name_fault h.0) (no_fault_agreed trees t h.1 a)
+no_fault_with trees t h a =
+    none_both (name_fault (name_of t)) (node_fault (Some trees) t) (ap name_fault h.0) (no_fault_agreed trees t h.1 a)
 
 -- ---- the fields of a tree
 
@@ -174,7 +195,8 @@ pub no_memory_for_name : (name : List ℕ) → (length name ≡ 0 → ⊥) → S
 no_memory_for_name [] some = absurd (some refl)
 no_memory_for_name (b ∷ name) some = (root_with_name (b ∷ name), refl, tt)
 
-pub no_memory_for_order : (parent : ObjectId) (u t : Node) → is_lt (name_cmp u t) ≡ false → SaysTree errors.Memory (order_fault parent (Some u) t)
+pub no_memory_for_order : (parent : ObjectId) (u t : Node) → is_lt (name_cmp u t) ≡ false
+    → SaysTree errors.Memory (order_fault parent (Some u) t)
 no_memory_for_order parent u t h = (out_of_order parent (name_of t) (name_of u), rw h refl, tt)
 
 -- ---- errors, with trees that are looked at or without
@@ -188,12 +210,14 @@ by_is None e o p same h = says_is e o p same h
 by_is (Some trees) e o p same (inl m) = inl m
 by_is (Some trees) e o p same (inr h) = inr (says_is e o p same h)
 
-pub by_first : (trees : Option Trees) (e : Error) (o p : Option TreeFault) → SaysBy trees e o → SaysBy trees e (or_else o p)
+pub by_first : (trees : Option Trees) (e : Error) (o p : Option TreeFault) → SaysBy trees e o
+    → SaysBy trees e (or_else o p)
 by_first None e o p h = says_first e o p h
 by_first (Some trees) e o p (inl m) = inl m
 by_first (Some trees) e o p (inr h) = inr (says_first e o p h)
 
-pub by_after : (trees : Option Trees) (e : Error) (o p : Option TreeFault) → o ≡ None → SaysBy trees e p → SaysBy trees e (or_else o p)
+pub by_after : (trees : Option Trees) (e : Error) (o p : Option TreeFault) → o ≡ None → SaysBy trees e p
+    → SaysBy trees e (or_else o p)
 by_after None e o p a h = says_after e o p a h
 by_after (Some trees) e o p a (inl m) = inl m
 by_after (Some trees) e o p a (inr h) = inr (says_after e o p a h)
@@ -201,73 +225,116 @@ by_after (Some trees) e o p a (inr h) = inr (says_after e o p a h)
 -- ---- a node by what was read of it
 
 -- the children rise where their row has no fault
-pub risen : (b : List Tree) (parent : ObjectId) → row_fault parent 0 None (row_of_trees b) ≡ None → RiseFrom None (row_of_trees b)
+pub risen : (b : List Tree) (parent : ObjectId) → row_fault parent 0 None (row_of_trees b) ≡ None
+    → RiseFrom None (row_of_trees b)
 risen b parent e = (row_sound (row_of_trees b) parent 0 None (omega arith) e).1
 
 module _ (t : Tree) (b : List Tree) (below : b ≡ (out-Tree t).children.items) (trees : Option Trees) where
   node_at : node_fault trees (node_of t)
-      ≡ or_else (row_fault (out-Tree t).id 0 None (row_of_trees b)) (or_else (object_fault trees (out-Tree t).id (row_of_trees b)) (or_else (nodes_fault trees (row_of_trees b)) (count_fault (out-Tree t).num_entries (entries_sum (row_of_trees b)))))
+      ≡ or_else (row_fault (out-Tree t).id 0 None (row_of_trees b))
+      (or_else (object_fault trees (out-Tree t).id (row_of_trees b)) (or_else (nodes_fault trees (row_of_trees b))
+      (count_fault (out-Tree t).num_entries (entries_sum (row_of_trees b)))))
   node_at =
-      let by : List Tree → Option TreeFault = λ xs. or_else (row_fault (out-Tree t).id 0 None (row_of_trees xs)) (or_else (object_fault trees (out-Tree t).id (row_of_trees xs)) (or_else (nodes_fault trees (row_of_trees xs)) (count_fault (out-Tree t).num_entries (entries_sum (row_of_trees xs))))) in
+      let by : List Tree → Option TreeFault = λ xs. or_else (row_fault (out-Tree t).id 0 None (row_of_trees xs))
+      (or_else (object_fault trees (out-Tree t).id (row_of_trees xs)) (or_else (nodes_fault trees (row_of_trees xs))
+      (count_fault (out-Tree t).num_entries (entries_sum (row_of_trees xs))))) in
       ap (node_fault trees) (node_of-out t) ∙ ap (λ (xs : List Tree). by xs) (sym below)
 
-  pub row_said : (e : Error) → SaysTree e (row_fault (out-Tree t).id 0 None (row_of_trees b)) → SaysBy trees e (node_fault trees (node_of t))
-  row_said e s = by_is trees e _ (node_fault trees (node_of t)) node_at (by_first trees e (row_fault (out-Tree t).id 0 None (row_of_trees b)) _ (by_says trees e _ s))
+  pub row_said : (e : Error) → SaysTree e (row_fault (out-Tree t).id 0 None (row_of_trees b))
+      → SaysBy trees e (node_fault trees (node_of t))
+  row_said e s = by_is trees e _ (node_fault trees (node_of t)) node_at
+      (by_first trees e (row_fault (out-Tree t).id 0 None (row_of_trees b)) _ (by_says trees e _ s))
 
   module _ (row : row_fault (out-Tree t).id 0 None (row_of_trees b) ≡ None) where
-    behind_row : (e : Error) → SaysBy trees e (or_else (object_fault trees (out-Tree t).id (row_of_trees b)) (or_else (nodes_fault trees (row_of_trees b)) (count_fault (out-Tree t).num_entries (entries_sum (row_of_trees b)))))
+    behind_row : (e : Error) → SaysBy trees e (or_else (object_fault trees (out-Tree t).id (row_of_trees b)) (or_else
+        (nodes_fault trees (row_of_trees b)) (count_fault (out-Tree t).num_entries (entries_sum (row_of_trees b)))))
         → SaysBy trees e (node_fault trees (node_of t))
-    behind_row e s = by_is trees e _ (node_fault trees (node_of t)) node_at (by_after trees e (row_fault (out-Tree t).id 0 None (row_of_trees b)) _ row s)
+    behind_row e s = by_is trees e _ (node_fault trees (node_of t)) node_at
+        (by_after trees e (row_fault (out-Tree t).id 0 None (row_of_trees b)) _ row s)
 
-    pub object_said : (e : Error) → SaysBy trees e (object_fault trees (out-Tree t).id (row_of_trees b)) → SaysBy trees e (node_fault trees (node_of t))
+    pub object_said : (e : Error) → SaysBy trees e (object_fault trees (out-Tree t).id (row_of_trees b))
+        → SaysBy trees e (node_fault trees (node_of t))
     object_said e s = behind_row e (by_first trees e (object_fault trees (out-Tree t).id (row_of_trees b)) _ s)
 
-    module _ (object : object_fault trees (out-Tree t).id (row_of_trees b) ≡ None) (i : ℕ) (so_far : nodes_fault trees (row_of_trees b) ≡ nodes_fault trees (row_of_trees (drop i b))) where
-      pub child_said : (e : Error) (x : Tree) → i < length b → x ≡ get_or b i x → SaysBy trees e (node_fault trees (node_of x)) → SaysBy trees e (node_fault trees (node_of t))
+    module _ (object : object_fault trees (out-Tree t).id (row_of_trees b) ≡ None) (i : ℕ)
+        (so_far : nodes_fault trees (row_of_trees b) ≡ nodes_fault trees (row_of_trees (drop i b))) where
+      pub child_said : (e : Error) (x : Tree) → i < length b → x ≡ get_or b i x
+          → SaysBy trees e (node_fault trees (node_of x)) → SaysBy trees e (node_fault trees (node_of t))
       child_said e x lt is s =
           let go = ap (λ (ts : List Tree). nodes_fault trees (row_of_trees ts)) (cut_at b i x lt is) in
-          let among : SaysBy trees e (nodes_fault trees (row_of_trees b)) = by_is trees e _ (nodes_fault trees (row_of_trees b)) (so_far ∙ go) (by_first trees e (node_fault trees (node_of x)) _ s) in
-          behind_row e (by_after trees e (object_fault trees (out-Tree t).id (row_of_trees b)) _ object (by_first trees e (nodes_fault trees (row_of_trees b)) _ among))
+          let among : SaysBy trees e (nodes_fault trees (row_of_trees b)) =
+          by_is trees e _ (nodes_fault trees (row_of_trees b)) (so_far ∙ go)
+          (by_first trees e (node_fault trees (node_of x)) _ s) in
+          behind_row e (by_after trees e (object_fault trees (out-Tree t).id (row_of_trees b)) _ object
+          (by_first trees e (nodes_fault trees (row_of_trees b)) _ among))
 
       children_none : (i < length b → ⊥) → nodes_fault trees (row_of_trees b) ≡ None
       children_none over =
           let left : drop i b ≡ [] = nil_from_length (drop i b) (omega (arith, over, length-drop i b)) in
           so_far ∙ ap (λ (ts : List Tree). nodes_fault trees (row_of_trees ts)) left
 
-      pub count_said : (sum : ℕ) (e : Error) → (i < length b → ⊥) → sum ≡ entries_sum (row_of_trees b) → SaysTree e (count_fault (out-Tree t).num_entries sum) → SaysBy trees e (node_fault trees (node_of t))
+      pub count_said : (sum : ℕ) (e : Error) → (i < length b → ⊥) → sum ≡ entries_sum (row_of_trees b)
+          → SaysTree e (count_fault (out-Tree t).num_entries sum) → SaysBy trees e (node_fault trees (node_of t))
       count_said sum e over is s =
-          let own : SaysTree e (count_fault (out-Tree t).num_entries (entries_sum (row_of_trees b))) = subst (λ (n : ℕ). SaysTree e (count_fault (out-Tree t).num_entries n)) is s in
-          behind_row e (by_after trees e (object_fault trees (out-Tree t).id (row_of_trees b)) _ object (by_after trees e (nodes_fault trees (row_of_trees b)) _ (children_none over) (by_says trees e _ own)))
+          let own : SaysTree e (count_fault (out-Tree t).num_entries (entries_sum (row_of_trees b))) =
+          subst (λ (n : ℕ). SaysTree e (count_fault (out-Tree t).num_entries n)) is s in
+          behind_row e (by_after trees e (object_fault trees (out-Tree t).id (row_of_trees b)) _ object
+          (by_after trees e (nodes_fault trees (row_of_trees b)) _ (children_none over) (by_says trees e _ own)))
 
-      pub none_there : (sum : ℕ) → (i < length b → ⊥) → sum ≡ entries_sum (row_of_trees b) → count_fault (out-Tree t).num_entries sum ≡ None → node_fault trees (node_of t) ≡ None
+      pub none_there : (sum : ℕ) → (i < length b → ⊥) → sum ≡ entries_sum (row_of_trees b)
+          → count_fault (out-Tree t).num_entries sum ≡ None → node_fault trees (node_of t) ≡ None
       none_there sum over is e =
-          let own : count_fault (out-Tree t).num_entries (entries_sum (row_of_trees b)) ≡ None = subst (λ (n : ℕ). count_fault (out-Tree t).num_entries n ≡ None) is e in
-          node_at ∙ none_both (row_fault (out-Tree t).id 0 None (row_of_trees b)) _ row (none_both (object_fault trees (out-Tree t).id (row_of_trees b)) _ object (none_both (nodes_fault trees (row_of_trees b)) _ (children_none over) own))
+          let own : count_fault (out-Tree t).num_entries (entries_sum (row_of_trees b)) ≡ None =
+          subst (λ (n : ℕ). count_fault (out-Tree t).num_entries n ≡ None) is e in
+          node_at ∙ none_both (row_fault (out-Tree t).id 0 None (row_of_trees b)) _ row
+          (none_both (object_fault trees (out-Tree t).id (row_of_trees b)) _ object
+          (none_both (nodes_fault trees (row_of_trees b)) _ (children_none over) own))
 
 -- ---- the whole
 
-pub sound_by : {T : Type 0} (r : Result T Error) (t : Node) → name_fault (name_of t) ≡ None → IfOk r (λ _. node_fault None t ≡ None) → IfErr r (λ e. SaysTree e (node_fault None t)) → (IsOk r → IsSoundTree t) × (IsSoundTree t → IsOk r)
-sound_by (Ok x) t name ok err = (λ _. sound_tree None t (none_both (name_fault (name_of t)) (node_fault None t) name ok), λ _. refl)
-sound_by (Err e) t name ok err = (λ h. let no : false ≡ true = h in absurd cc, λ h. absurd (no_fault_of t e h (says_after e (name_fault (name_of t)) (node_fault None t) name err)))
+pub sound_by : {T : Type 0} (r : Result T Error) (t : Node) → name_fault (name_of t) ≡ None
+    → IfOk r (λ _. node_fault None t ≡ None) → IfErr r (λ e. SaysTree e (node_fault None t))
+    → (IsOk r → IsSoundTree t) × (IsSoundTree t → IsOk r)
+sound_by (Ok x) t name ok err =
+    (λ _. sound_tree None t (none_both (name_fault (name_of t)) (node_fault None t) name ok), λ _. refl)
+sound_by (Err e) t name ok err = (
+  λ h. let no : false ≡ true = h in
+      absurd cc,
+  λ h. absurd (no_fault_of t e h (says_after e (name_fault (name_of t)) (node_fault None t) name err)),
+)
 
-pub judged : (r : Result (Unit {0}) Error) (trees : Trees) (t : Node) → name_fault (name_of t) ≡ None → IfOk r (λ _. node_fault (Some trees) t ≡ None) → IfErr r (λ e. SaysBy (Some trees) e (node_fault (Some trees) t)) → Judges trees t r
+pub judged : (r : Result (Unit {0}) Error) (trees : Trees) (t : Node) → name_fault (name_of t) ≡ None
+    → IfOk r (λ _. node_fault (Some trees) t ≡ None) → IfErr r (λ e. SaysBy (Some trees) e (node_fault (Some trees) t))
+    → Judges trees t r
 judged (Ok x) trees t name ok err =
-    let none : first_fault (Some trees) t ≡ None = none_both (name_fault (name_of t)) (node_fault (Some trees) t) name ok in
+    let none : first_fault (Some trees) t ≡ None =
+    none_both (name_fault (name_of t)) (node_fault (Some trees) t) name ok in
     (sound_tree (Some trees) t none, agreed_tree trees t none)
-judged (Err e) trees t name ok err = by_after (Some trees) e (name_fault (name_of t)) (node_fault (Some trees) t) name err
+judged (Err e) trees t name ok err =
+    by_after (Some trees) e (name_fault (name_of t)) (node_fault (Some trees) t) name err
 
-pub judged_name : (trees : Trees) (t : Node) (e : Error) → SaysTree e (name_fault (name_of t)) → SaysOrWants e (first_fault (Some trees) t)
+pub judged_name : (trees : Trees) (t : Node) (e : Error) → SaysTree e (name_fault (name_of t))
+    → SaysOrWants e (first_fault (Some trees) t)
 judged_name trees t e s = inr (says_first e (name_fault (name_of t)) _ s)
 
 -- a store is looked at where objects are used
-pub unlooked : (used : Bool) (found : ObjectId → Found) (looking : Option (ObjectId → Found)) → looking ≡ cond used (Some found) None → used ≡ false → AreLooked looking None
-unlooked used found looking is unused = let none : looking ≡ None = is ∙ ap (λ (u : Bool). cond u (Some found) None) unused in subst (λ (l : Option (ObjectId → Found)). AreLooked l None) (sym none) tt
+pub unlooked : (used : Bool) (found : ObjectId → Found) (looking : Option (ObjectId → Found))
+    → looking ≡ cond used (Some found) None → used ≡ false → AreLooked looking None
+unlooked used found looking is unused =
+    let none : looking ≡ None = is ∙ ap (λ (u : Bool). cond u (Some found) None) unused in
+    subst (λ (l : Option (ObjectId → Found)). AreLooked l None) (sym none) tt
 
-pub looked : (used : Bool) (found : ObjectId → Found) (looking : Option (ObjectId → Found)) → looking ≡ cond used (Some found) None → used ≡ true → (trees : Trees) → AreTrees found trees → AreLooked looking (Some trees)
-looked used found looking is uses trees are = let some : looking ≡ Some found = is ∙ ap (λ (u : Bool). cond u (Some found) None) uses in subst (λ (l : Option (ObjectId → Found)). AreLooked l (Some trees)) (sym some) are
+pub looked : (used : Bool) (found : ObjectId → Found) (looking : Option (ObjectId → Found))
+    → looking ≡ cond used (Some found) None → used ≡ true → (trees : Trees) → AreTrees found trees
+    → AreLooked looking (Some trees)
+looked used found looking is uses trees are =
+    let some : looking ≡ Some found = is ∙ ap (λ (u : Bool). cond u (Some found) None) uses in
+    subst (λ (l : Option (ObjectId → Found)). AreLooked l (Some trees)) (sym some) are
 
-pub chosen : (used : Bool) (found : ObjectId → Found) → used ≡ true → ◌≡◌ {A = Option (ObjectId → Found)} (Some found) (cond used (Some found) None)
+pub chosen : (used : Bool) (found : ObjectId → Found) → used ≡ true
+    → ◌≡◌ {A = Option (ObjectId → Found)} (Some found) (cond used (Some found) None)
 chosen used found e = rw e refl
 
-pub unchosen : (used : Bool) (found : ObjectId → Found) → used ≡ false → ◌≡◌ {A = Option (ObjectId → Found)} None (cond used (Some found) None)
+pub unchosen : (used : Bool) (found : ObjectId → Found) → used ≡ false
+    → ◌≡◌ {A = Option (ObjectId → Found)} None (cond used (Some found) None)
 unchosen used found e = rw e refl

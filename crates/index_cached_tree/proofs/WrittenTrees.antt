@@ -1,5 +1,7 @@
 -- A tree that was written is read again, as what its bytes keep of it.
-use Rattle.std.proofs.Common.{◌≡◌, ℕ, suc, ◌+◌, ◌-◌, ◌*◌, ◌/◌, ◌%◌, ◌^◌, ◌<◌, ◌≤◌, Bool, true, false, cond, List, [], ◌∷◌, ◌++◌, length, Option, Some, None, All, refl, sym, ap, subst, ◌∙◌, append_assoc, append-nil, length-append, arith}
+use Rattle.std.proofs.Common.{◌≡◌, ℕ, suc, ◌+◌, ◌-◌, ◌*◌, ◌/◌, ◌%◌, ◌^◌, ◌<◌, ◌≤◌, Bool, true, false, cond, List, []}
+use Rattle.std.proofs.Common.{◌∷◌, ◌++◌, length, Option, Some, None, All, refl, sym, ap, subst, ◌∙◌, append_assoc}
+use Rattle.std.proofs.Common.{append-nil, length-append, arith}
 use Rattle.std.specs.Prelude.{◌≢◌, decimal, IfSome, MatchOption}
 use Rattle.std.specs.List.{AllByRecursion}
 use Rattle.std.specs.List.Sorted.{IsPermutation}
@@ -15,9 +17,13 @@ use Rattle.index_parts.specs.declared.hash.Kind.{Kind}
 use Rattle.index_parts.specs.declared.hash.ObjectId.{ObjectId}
 use Rattle.index_parts.specs.declared.hash.ObjectId.TheVariants as ids
 use Rattle.index_cached_tree.specs.Decimal.{IsDigit, decimal_value, IsDecimal, IsCount, plain, minus}
-use Rattle.index_cached_tree.specs.Tree.{Node, Nodes, node, none, more, how_many_nodes, nodes_from, IsNodeHead, IsSpelled, AreSpelled, node_depth, nodes_depth, NodeIdsAreOf, NodesIdsAreOf, name_of, name_cmp, NamesRise, Sorts, SortsEach, IsTree}
-use Rattle.index_cached_tree.specs.TreeImage.{count_bytes, id_part, behind_name, node_head_bytes, node_bytes, nodes_bytes}
-use Rattle.index_cached_tree.specs.StoredTree.{kept_id, insert_node, stored_node, stored_nodes, IsApartFrom, IsPlainNode, ArePlainNodes, IsStorableTree, IsSizedNode, AreSizedNodes}
+use Rattle.index_cached_tree.specs.Tree.{Node, Nodes, node, none, more, how_many_nodes, nodes_from, IsNodeHead}
+use Rattle.index_cached_tree.specs.Tree.{IsSpelled, AreSpelled, node_depth, nodes_depth, NodeIdsAreOf, NodesIdsAreOf}
+use Rattle.index_cached_tree.specs.Tree.{name_of, name_cmp, NamesRise, Sorts, SortsEach, IsTree}
+use Rattle.index_cached_tree.specs.TreeImage.{count_bytes, id_part, behind_name, node_head_bytes, node_bytes}
+use Rattle.index_cached_tree.specs.TreeImage.{nodes_bytes}
+use Rattle.index_cached_tree.specs.StoredTree.{kept_id, insert_node, stored_node, stored_nodes, IsApartFrom}
+use Rattle.index_cached_tree.specs.StoredTree.{IsPlainNode, ArePlainNodes, IsStorableTree, IsSizedNode, AreSizedNodes}
 use Rattle.index_cached_tree.proofs.Decimals.{next_power}
 use Rattle.index_cached_tree.proofs.Orders.{first, behind, exchanged}
 use Rattle.index_cached_tree.proofs.Sorted.{names_total}
@@ -35,16 +41,22 @@ value_push : (ds : List ℕ) (d : ℕ) → decimal_value (ds ++ d ∷ []) ≡ 10
 value_push [] d = omega arith
 value_push (b ∷ ds) d =
     let len : length (ds ++ d ∷ []) ≡ suc (length ds) = omega (arith, length-append ds (d ∷ [])) in
-    let power : 10 ^ length (ds ++ d ∷ []) ≡ 10 * 10 ^ length ds = ap (λ (n : ℕ). 10 ^ n) len ∙ next_power (length ds) in
-    ap (λ (v : ℕ). (b - 48) * 10 ^ length (ds ++ d ∷ []) + v) (value_push ds d) ∙ regroup (b - 48) (10 ^ length ds) (decimal_value ds) (d - 48) (10 ^ length (ds ++ d ∷ [])) power
+    let power : 10 ^ length (ds ++ d ∷ []) ≡ 10 * 10 ^ length ds =
+    ap (λ (n : ℕ). 10 ^ n) len ∙ next_power (length ds) in
+    ap (λ (v : ℕ). (b - 48) * 10 ^ length (ds ++ d ∷ []) + v) (value_push ds d)
+    ∙ regroup (b - 48) (10 ^ length ds) (decimal_value ds) (d - 48) (10 ^ length (ds ++ d ∷ [])) power
 
 one_digit : (n : ℕ) → n < 10 → Digits n ((48 + n) ∷ [])
 one_digit n lt = (omega arith, All-cons IsDigit (48 + n) [] (omega arith, omega arith) (All-nil IsDigit), omega arith)
 
 more_digits : (n : ℕ) (ds : List ℕ) → 10 ≤ n → Digits (n / 10) ds → Digits n (ds ++ ((48 + n % 10) ∷ []))
 more_digits n ds le h =
-    let d : ℕ = 48 + n % 10 in
-    (omega (arith, h.0, length-append ds (d ∷ [])), All-append IsDigit ds (d ∷ []) h.1 (All-cons IsDigit d [] (omega arith, omega arith) (All-nil IsDigit)), omega (arith, value_push ds d, h.2))
+    let d : ℕ = 48 + n % 10 in (
+      omega (arith, h.0, length-append ds (d ∷ [])),
+      All-append IsDigit ds (d ∷ []) h.1
+          (All-cons IsDigit d [] (omega arith, omega arith) (All-nil IsDigit)),
+      omega (arith, value_push ds d, h.2),
+    )
 
 not_empty : (l : List ℕ) → 1 ≤ length l → l ≢ []
 not_empty [] h e = omega arith
@@ -56,7 +68,12 @@ decimal_spelled n lt =
     record { some = not_empty (decimal n) h.0; digits = h.1; value = sym h.2; fits = lt }
 
 one_is : IsDecimal (49 ∷ []) 1
-one_is = record { some = not_empty (49 ∷ []) (omega arith); digits = All-cons IsDigit 49 [] (omega arith, omega arith) (All-nil IsDigit); value = refl; fits = omega arith }
+one_is = record {
+  some = not_empty (49 ∷ []) (omega arith);
+  digits = All-cons IsDigit 49 [] (omega arith, omega arith) (All-nil IsDigit);
+  value = refl;
+  fits = omega arith;
+}
 
 count_spelled : (count : Option ℕ) → IfSome count (λ n. n < 2 ^ 31) → IsCount (count_bytes count) count
 count_spelled None h = minus (49 ∷ []) 1 refl one_is (omega arith) (omega arith) refl
@@ -64,8 +81,10 @@ count_spelled (Some n) h = plain n (decimal_spelled n (omega arith)) h refl
 
 -- ---- a head
 
-id_spelled : (kind : Kind) (count : Option ℕ) (id : ObjectId) → id_kind id ≡ kind → length (id_bytes id) ≡ id_len (id_kind id)
-    → MatchOption count ((id_part count id ≡ []) × (kept_id kind count id ≡ null_id kind)) (λ _. (length (id_part count id) ≡ id_len kind) × (kept_id kind count id ≡ make_id kind (id_part count id)))
+id_spelled : (kind : Kind) (count : Option ℕ) (id : ObjectId) → id_kind id ≡ kind
+    → length (id_bytes id) ≡ id_len (id_kind id)
+    → MatchOption count ((id_part count id ≡ []) × (kept_id kind count id ≡ null_id kind))
+    (λ _. (length (id_part count id) ≡ id_len kind) × (kept_id kind count id ≡ make_id kind (id_part count id)))
 id_spelled kind None id k len = (refl, refl)
 id_spelled kind (Some n) id k len = (len ∙ ap id_len k, rw (← k) (made id))
   where
@@ -73,11 +92,15 @@ id_spelled kind (Some n) id k len = (len ∙ ap id_len k, rw (← k) (made id))
     made (ids.Sha1 bytes) = refl
     made (ids.Sha256 bytes) = refl
 
-head_parts : (n c d i t : List ℕ) → (n ++ 0 ∷ (c ++ 32 ∷ (d ++ 10 ∷ i))) ++ t ≡ n ++ 0 ∷ (c ++ 32 ∷ (d ++ 10 ∷ (i ++ t)))
+head_parts : (n c d i t : List ℕ)
+    → (n ++ 0 ∷ (c ++ 32 ∷ (d ++ 10 ∷ i))) ++ t ≡ n ++ 0 ∷ (c ++ 32 ∷ (d ++ 10 ∷ (i ++ t)))
 head_parts n c d i t = simp append_assoc refl
 
-head_spelled : (kind : Kind) (name : List ℕ) (id : ObjectId) (count : Option ℕ) (number : ℕ) (tail : List ℕ) → All (λ b. b ≢ 0) name → IfSome count (λ n. n < 2 ^ 31) → id_kind id ≡ kind → length (id_bytes id) ≡ id_len (id_kind id) → number < 2 ^ 64
-    → IsNodeHead kind None (node_head_bytes name id count number ++ tail) (record { name = name; count = count; id = kept_id kind count id; number = number }) tail
+head_spelled : (kind : Kind) (name : List ℕ) (id : ObjectId) (count : Option ℕ) (number : ℕ) (tail : List ℕ)
+    → All (λ b. b ≢ 0) name → IfSome count (λ n. n < 2 ^ 31) → id_kind id ≡ kind
+    → length (id_bytes id) ≡ id_len (id_kind id) → number < 2 ^ 64
+    → IsNodeHead kind None (node_head_bytes name id count number ++ tail)
+    (record { name = name; count = count; id = kept_id kind count id; number = number }) tail
 unfolding node_head_bytes behind_name
 head_spelled kind name id count number tail apart small k len few = record {
   count = count_bytes count;
@@ -107,19 +130,28 @@ as_many kind none = refl
 as_many kind (more t ts) = ap (λ (n : ℕ). n + 1) (as_many kind ts)
 
 mutual
-  node_spelled : (kind : Kind) (t : Node) (rest : List ℕ) → IsPlainNode t → NodeIdsAreOf kind t → IsSizedNode t → IsSpelled kind None (nulled kind t) (node_bytes t ++ rest) rest
+  node_spelled : (kind : Kind) (t : Node) (rest : List ℕ) → IsPlainNode t → NodeIdsAreOf kind t → IsSizedNode t
+      → IsSpelled kind None (nulled kind t) (node_bytes t ++ rest) rest
   node_spelled kind (node n i c ts) rest p k f =
       let tail : List ℕ = nodes_bytes ts ++ rest in
       let head = head_spelled kind n i c (how_many_nodes ts) tail p.0 p.1 k.0 f.0 f.1 in
-      let joined = subst (λ (l : List ℕ). IsNodeHead kind None l (record { name = n; count = c; id = kept_id kind c i; number = how_many_nodes ts }) tail) (sym (append_assoc (node_head_bytes n i c (how_many_nodes ts)) (nodes_bytes ts) rest)) head in
-      let counted = subst (λ (m : ℕ). IsNodeHead kind None (node_bytes (node n i c ts) ++ rest) (record { name = n; count = c; id = kept_id kind c i; number = m }) tail) (sym (as_many kind ts)) joined in
+      let joined = subst (λ (l : List ℕ). IsNodeHead kind None l
+      (record { name = n; count = c; id = kept_id kind c i; number = how_many_nodes ts }) tail)
+      (sym (append_assoc (node_head_bytes n i c (how_many_nodes ts)) (nodes_bytes ts) rest)) head in
+      let counted = subst (λ (m : ℕ). IsNodeHead kind None (node_bytes (node n i c ts) ++ rest)
+      (record { name = n; count = c; id = kept_id kind c i; number = m }) tail) (sym (as_many kind ts)) joined in
       (tail, counted, nodes_spelled kind ts rest p.2 k.1 f.2)
 
-  nodes_spelled : (kind : Kind) (ts : Nodes) (rest : List ℕ) → ArePlainNodes ts → NodesIdsAreOf kind ts → AreSizedNodes ts → AreSpelled kind None (nulled_all kind ts) (nodes_bytes ts ++ rest) rest
+  nodes_spelled : (kind : Kind) (ts : Nodes) (rest : List ℕ) → ArePlainNodes ts → NodesIdsAreOf kind ts
+      → AreSizedNodes ts → AreSpelled kind None (nulled_all kind ts) (nodes_bytes ts ++ rest) rest
   nodes_spelled kind none rest p k f = refl
   nodes_spelled kind (more t ts) rest p k f =
-      let after : List ℕ = nodes_bytes ts ++ rest in
-      (after, subst (λ (l : List ℕ). IsSpelled kind None (nulled kind t) l after) (sym (append_assoc (node_bytes t) (nodes_bytes ts) rest)) (node_spelled kind t after p.0 k.0 f.0), nodes_spelled kind ts rest p.2 k.1 f.1)
+      let after : List ℕ = nodes_bytes ts ++ rest in (
+        after,
+        subst (λ (l : List ℕ). IsSpelled kind None (nulled kind t) l after) (sym (append_assoc (node_bytes t)
+            (nodes_bytes ts) rest)) (node_spelled kind t after p.0 k.0 f.0),
+        nodes_spelled kind ts rest p.2 k.1 f.1,
+      )
 
 mutual
   same_depth : (kind : Kind) (t : Node) → node_depth (nulled kind t) ≡ node_depth t
@@ -147,19 +179,23 @@ inserted : (t : Node) (us : List Node) → nodes_from (insert_list t us) ≡ ins
 inserted t [] = refl
 inserted t (u ∷ us) = by (is_lt (name_cmp u t)) (inserted t us)
   where
-    by : (b : Bool) → nodes_from (insert_list t us) ≡ insert_node t (nodes_from us) → nodes_from (cond b (u ∷ insert_list t us) (t ∷ u ∷ us)) ≡ cond b (more u (insert_node t (nodes_from us))) (more t (more u (nodes_from us)))
+    by : (b : Bool) → nodes_from (insert_list t us) ≡ insert_node t (nodes_from us)
+        → nodes_from (cond b (u ∷ insert_list t us) (t ∷ u ∷ us))
+        ≡ cond b (more u (insert_node t (nodes_from us))) (more t (more u (nodes_from us)))
     by true e = ap (more u) e
     by false e = refl
 
 stored_is : (kind : Kind) (ts : Nodes) → stored_nodes kind ts ≡ nodes_from (sort_list kind ts)
 stored_is kind none = refl
-stored_is kind (more t ts) = ap (insert_node (stored_node kind t)) (stored_is kind ts) ∙ sym (inserted (stored_node kind t) (sort_list kind ts))
+stored_is kind (more t ts) =
+    ap (insert_node (stored_node kind t)) (stored_is kind ts) ∙ sym (inserted (stored_node kind t) (sort_list kind ts))
 
 insert_permutes : (t : Node) (us : List Node) → IsPermutation (t ∷ us) (insert_list t us)
 insert_permutes t [] = IsPermutation-refl (t ∷ [])
 insert_permutes t (u ∷ us) = by (is_lt (name_cmp u t)) (insert_permutes t us)
   where
-    by : (b : Bool) → IsPermutation (t ∷ us) (insert_list t us) → IsPermutation (t ∷ u ∷ us) (cond b (u ∷ insert_list t us) (t ∷ u ∷ us))
+    by : (b : Bool) → IsPermutation (t ∷ us) (insert_list t us)
+        → IsPermutation (t ∷ u ∷ us) (cond b (u ∷ insert_list t us) (t ∷ u ∷ us))
     by true h = exchanged t u us (insert_list t us) h
     by false h = IsPermutation-refl (t ∷ u ∷ us)
 
@@ -167,13 +203,17 @@ sort_permutes : (kind : Kind) (ts : Nodes) → IsPermutation (stored_list kind t
 sort_permutes kind none = IsPermutation-refl []
 sort_permutes kind (more t ts) =
     let s = stored_node kind t in
-    IsPermutation-trans (s ∷ stored_list kind ts) (s ∷ sort_list kind ts) (insert_list s (sort_list kind ts)) (IsPermutation-cons s (stored_list kind ts) (sort_list kind ts) (sort_permutes kind ts)) (insert_permutes s (sort_list kind ts))
+    IsPermutation-trans (s ∷ stored_list kind ts) (s ∷ sort_list kind ts) (insert_list s (sort_list kind ts))
+    (IsPermutation-cons s (stored_list kind ts) (sort_list kind ts) (sort_permutes kind ts))
+    (insert_permutes s (sort_list kind ts))
 
-insert_rises : (t : Node) (us : List Node) → AllByRecursion (λ u. name_of t ≢ name_of u) us → NamesRise us → NamesRise (insert_list t us)
+insert_rises : (t : Node) (us : List Node) → AllByRecursion (λ u. name_of t ≢ name_of u) us → NamesRise us
+    → NamesRise (insert_list t us)
 insert_rises t [] a r = (tt, tt)
 insert_rises t (u ∷ us) a r = by (name_cmp u t) refl (insert_rises t us a.1 r.1)
   where
-    by : (o : Ordering) → name_cmp u t ≡ o → NamesRise (insert_list t us) → NamesRise (cond (is_lt o) (u ∷ insert_list t us) (t ∷ u ∷ us))
+    by : (o : Ordering) → name_cmp u t ≡ o → NamesRise (insert_list t us)
+        → NamesRise (cond (is_lt o) (u ∷ insert_list t us) (t ∷ u ∷ us))
     by Less e h = behind t u us (insert_list t us) e r (insert_permutes t us) h
     by Equal e h = absurd (a.0 (sym (exact_bytes (name_of u) (name_of t) e)))
     by Greater e h = first t u us (names_total.antisymm t u ∙ ap ordering_reverse e) r
@@ -181,26 +221,39 @@ insert_rises t (u ∷ us) a r = by (name_cmp u t) refl (insert_rises t us a.1 r.
 same_name : (kind : Kind) (t : Node) → name_of (stored_node kind t) ≡ name_of t
 same_name kind (node n i c ts) = refl
 
-apart_stored : (kind : Kind) (t : Node) (ts : Nodes) → IsApartFrom t ts → AllByRecursion (λ u. name_of (stored_node kind t) ≢ name_of u) (stored_list kind ts)
+apart_stored : (kind : Kind) (t : Node) (ts : Nodes) → IsApartFrom t ts
+    → AllByRecursion (λ u. name_of (stored_node kind t) ≢ name_of u) (stored_list kind ts)
 apart_stored kind t none h = tt
-apart_stored kind t (more u us) h = (λ e. h.0 (sym (same_name kind t) ∙ e ∙ same_name kind u), apart_stored kind t us h.1)
+apart_stored kind t (more u us) h =
+    (λ e. h.0 (sym (same_name kind t) ∙ e ∙ same_name kind u), apart_stored kind t us h.1)
 
 sort_rises : (kind : Kind) (ts : Nodes) → ArePlainNodes ts → NamesRise (sort_list kind ts)
 sort_rises kind none h = tt
 sort_rises kind (more t ts) h =
     let s = stored_node kind t in
-    insert_rises s (sort_list kind ts) (moved (λ u. name_of s ≢ name_of u) (stored_list kind ts) (sort_list kind ts) (sort_permutes kind ts) (apart_stored kind t ts h.1)) (sort_rises kind ts h.2)
+    insert_rises s (sort_list kind ts) (moved (λ u. name_of s ≢ name_of u) (stored_list kind ts) (sort_list kind ts)
+    (sort_permutes kind ts) (apart_stored kind t ts h.1)) (sort_rises kind ts h.2)
 
 mutual
   node_sorts : (kind : Kind) (t : Node) → IsPlainNode t → Sorts (nulled kind t) (stored_node kind t)
-  node_sorts kind (node n i c ts) p =
-      (stored_list kind ts, nodes_sort kind ts p.2, (sort_list kind ts, sort_permutes kind ts, sort_rises kind ts p.2, ap (node n (kept_id kind c i) c) (stored_is kind ts)))
+  node_sorts kind (node n i c ts) p = (
+    stored_list kind ts,
+    nodes_sort kind ts p.2,
+    (
+      sort_list kind ts,
+      sort_permutes kind ts,
+      sort_rises kind ts p.2,
+      ap (node n (kept_id kind c i) c) (stored_is kind ts),
+    ),
+  )
 
   nodes_sort : (kind : Kind) (ts : Nodes) → ArePlainNodes ts → SortsEach (nulled_all kind ts) (stored_list kind ts)
   nodes_sort kind none p = refl
-  nodes_sort kind (more t ts) p = (stored_node kind t, stored_list kind ts, refl, node_sorts kind t p.0, nodes_sort kind ts p.2)
+  nodes_sort kind (more t ts) p =
+      (stored_node kind t, stored_list kind ts, refl, node_sorts kind t p.0, nodes_sort kind ts p.2)
 
-subst_empty : (kind : Kind) (t : Node) (bytes : List ℕ) → IsSpelled kind None t (bytes ++ []) [] → IsSpelled kind None t bytes []
+subst_empty : (kind : Kind) (t : Node) (bytes : List ℕ) → IsSpelled kind None t (bytes ++ []) []
+    → IsSpelled kind None t bytes []
 subst_empty kind t bytes h = subst (λ (l : List ℕ). IsSpelled kind None t l []) (append-nil bytes) h
 
 -- the bytes of a storable tree are a cached tree: what they keep of it

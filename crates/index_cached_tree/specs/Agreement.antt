@@ -1,6 +1,7 @@
 -- When a cached tree agrees with the tree objects that it names (gitformat-index, "Cache tree": the object name of each
 -- directory).
-use Rattle.std.specs.Prelude.{◌≡◌, ℕ, ◌||◌, Bool, false, List, filter, length, All, Option, Some, None, MatchOption, IsTrue}
+use Rattle.std.specs.Prelude.{◌≡◌, ℕ, ◌||◌, Bool, false, List, filter, length, All, Option, Some, None, MatchOption}
+use Rattle.std.specs.Prelude.{IsTrue}
 use Rattle.std.specs.Cmp.Lexicographic.{slice_cmp}
 use Rattle.std.specs.Ordering.{nat_cmp, is_eq}
 use Rattle.index_parts.specs.Id.{id_kind}

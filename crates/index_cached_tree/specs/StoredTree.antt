@@ -4,7 +4,8 @@ use Rattle.std.specs.Ordering.{is_lt}
 use Rattle.index_parts.specs.Id.{id_bytes, id_len, id_kind, null_id}
 use Rattle.index_parts.specs.declared.hash.Kind.{Kind}
 use Rattle.index_parts.specs.declared.hash.ObjectId.{ObjectId}
-use Rattle.index_cached_tree.specs.Tree.{Node, Nodes, node, none, more, how_many_nodes, name_of, name_cmp, node_depth, NodeIdsAreOf}
+use Rattle.index_cached_tree.specs.Tree.{Node, Nodes, node, none, more, how_many_nodes, name_of, name_cmp, node_depth}
+use Rattle.index_cached_tree.specs.Tree.{NodeIdsAreOf}
 
 -- ---- what they keep
 

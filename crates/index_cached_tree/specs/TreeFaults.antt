@@ -1,5 +1,6 @@
 -- Which fault of a cached tree comes first (gitformat-index, "Cache tree").
-use Rattle.std.specs.Prelude.{◌≡◌, ◌⊎◌, ℕ, ◌+◌, ◌^◌, ◌==◌, nat_le, nat_lt, length, Result, Ok, Err, List, [], ◌∷◌, Option, Some, None, if◌then◌else◌}
+use Rattle.std.specs.Prelude.{◌≡◌, ◌⊎◌, ℕ, ◌+◌, ◌^◌, ◌==◌, nat_le, nat_lt, length, Result, Ok, Err, List, [], ◌∷◌}
+use Rattle.std.specs.Prelude.{Option, Some, None, if◌then◌else◌}
 use Rattle.std.specs.Ordering.{is_lt}
 use Rattle.bstr.specs.Owned.{bstring_bytes}
 use Rattle.index_parts.specs.declared.hash.ObjectId.{ObjectId}

@@ -1,6 +1,7 @@
 -- What became of a writer (`std::io::Write`) that a cached tree was written to, and the sizes that 32 bits count
 -- (gitformat-index, "Extensions").
-use Rattle.std.specs.Prelude.{◌≡◌, ℕ, ◌-◌, ◌^◌, nat_lt, Bool, true, false, List, Option, Some, None, Result, Ok, Err, MatchResult, if◌then◌else◌}
+use Rattle.std.specs.Prelude.{◌≡◌, ℕ, ◌-◌, ◌^◌, nat_lt, Bool, true, false, List, Option, Some, None, Result, Ok, Err}
+use Rattle.std.specs.Prelude.{MatchResult, if◌then◌else◌}
 use Rattle.index_parts.specs.declared.hash.Kind.{Kind}
 use Rattle.index_parts.specs.Taking.{AppendsPrefix, Took}
 use Rattle.index_cached_tree.specs.declared.write.Error.{Error}

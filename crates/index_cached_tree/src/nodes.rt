@@ -2,7 +2,8 @@
 
 ghost use Rattle.std.specs.List.Sorted.{IsPermutation};
 ghost use Rattle.std.specs.Prelude.{◌≡◌, ℕ, false, List, [], ◌∷◌, ◌++◌, map, IsTrue, IfOk, IfErr, IfSome, IfNone};
-ghost use Rattle.index_cached_tree.specs.Tree.{Node, node, nodes_from, node_of, name_cmp, NamesRise, IsNode, HasNodeHead};
+ghost use Rattle.index_cached_tree.specs.Tree.{Node, node, nodes_from, node_of, name_cmp, NamesRise, IsNode};
+ghost use Rattle.index_cached_tree.specs.Tree.{HasNodeHead};
 
 use super::Tree;
 use super::head::{NodeHead, roomy_head_of};

@@ -5,7 +5,9 @@ ghost use Rattle.std.specs.Option.{option_map};
 ghost use Rattle.index_cached_tree.specs.Agreement.{Trees, AreTrees};
 ghost use Rattle.index_cached_tree.specs.ObjectSteps.{AreLooked, SaysBy};
 ghost use Rattle.index_cached_tree.specs.Sound.{counted_entries, entries_sum, RiseFrom, IsSoundTree, CountsAtMost};
-ghost use Rattle.index_cached_tree.specs.TreeFaults.{name_fault, sum_fault, order_fault, count_fault, row_fault, object_fault, node_fault, tree_fault, excess_fault, excess_in, Judges, SaysTree};
+ghost use Rattle.index_cached_tree.specs.TreeFaults.{name_fault, sum_fault, order_fault, count_fault, row_fault};
+ghost use Rattle.index_cached_tree.specs.TreeFaults.{object_fault, node_fault, tree_fault, excess_fault, excess_in};
+ghost use Rattle.index_cached_tree.specs.TreeFaults.{Judges, SaysTree};
 ghost use Rattle.index_cached_tree.specs.Tree.{node_of, nodes_from};
 ghost use Rattle.index_cached_tree.specs.declared.verify.Error.TheVariants.{Memory};
 

@@ -1,6 +1,7 @@
 //! Writing a cached tree as an extension.
 
-ghost use Rattle.std.specs.Prelude.{◌≡◌, ◌↔◌, ◌≤◌, ◌<◌, ◌^◌, ◌+◌, ◌++◌, ℕ, List, length, take, map, true, false, is_err};
+ghost use Rattle.std.specs.Prelude.{◌≡◌, ◌↔◌, ◌≤◌, ◌<◌, ◌^◌, ◌+◌, ◌++◌, ℕ, List, length, take, map, true, false};
+ghost use Rattle.std.specs.Prelude.{is_err};
 ghost use Rattle.std.specs.List.{flat_map};
 ghost use Rattle.index_parts.specs.Puts.{Puts};
 ghost use Rattle.index_extensions.specs.Encoding.{item_bytes};

@@ -1,5 +1,6 @@
 -- An entry that was written is read again, as what a file keeps of it.
-use Rattle.std.proofs.Common.{◌≡◌, ℕ, ◌+◌, ◌-◌, ◌*◌, ◌/◌, ◌%◌, ◌≤◌, true, false, eqb, min, List, ◌∷◌, ◌++◌, length, All, suc, refl, sym, ap, ◌∙◌, append_assoc, arith, take, drop, inl, inr}
+use Rattle.std.proofs.Common.{◌≡◌, ℕ, ◌+◌, ◌-◌, ◌*◌, ◌/◌, ◌%◌, ◌≤◌, true, false, eqb, min, List, ◌∷◌, ◌++◌, length, All}
+use Rattle.std.proofs.Common.{suc, refl, sym, ap, ◌∙◌, append_assoc, arith, take, drop, inl, inr}
 use Rattle.std.specs.Prelude.{◌≢◌, replicate}
 use Rattle.std.proofs.lemmas.Bool.{eq-eqb, ne_eqb, cases_lt}
 use Rattle.std.proofs.lemmas.List.{length-append, length-replicate}
@@ -13,8 +14,7 @@ use Rattle.index_parts.specs.declared.hash.ObjectId.TheVariants as ids
 use Rattle.index_metadata.specs.declared.entry.stat.Stat.{Stat}
 use Rattle.index_entries.specs.Entry.{EntryHead, head_bytes, IsEntryHead, record_of, length_field, IsPath, IsEntry23}
 use Rattle.index_entries.specs.EntryImage.{numbers_of, head_of, unpadded, padding, entry_bytes}
-use Rattle.index_entries.specs.Record.{Record}
-use Rattle.index_entries.specs.Record.{IsSized}
+use Rattle.index_entries.specs.Record.{Record, IsSized}
 use Rattle.index_entries.specs.EntryImage.{stored_record}
 use Rattle.index_entries.proofs.Words.{be_be32, be_first, first_len, first_extended, second_legal, kept_again}
 
@@ -32,7 +32,17 @@ make_again (ids.Sha256 bytes) = refl
 
 stat_again : (r : Record) → IsSized r → stat_of (take 24 (numbers_of r)) (drop 28 (numbers_of r)) ≡ r.stat
 unfolding numbers_of
-stat_again r h = rw (be_be32 r.stat.ctime.secs h.ctime_secs, be_be32 r.stat.ctime.nsecs h.ctime_nsecs, be_be32 r.stat.mtime.secs h.mtime_secs, be_be32 r.stat.mtime.nsecs h.mtime_nsecs, be_be32 r.stat.dev h.dev, be_be32 r.stat.ino h.ino, be_be32 r.stat.uid h.uid, be_be32 r.stat.gid h.gid, be_be32 r.stat.size h.size) refl
+stat_again r h = rw (
+  be_be32 r.stat.ctime.secs h.ctime_secs,
+  be_be32 r.stat.ctime.nsecs h.ctime_nsecs,
+  be_be32 r.stat.mtime.secs h.mtime_secs,
+  be_be32 r.stat.mtime.nsecs h.mtime_nsecs,
+  be_be32 r.stat.dev h.dev,
+  be_be32 r.stat.ino h.ino,
+  be_be32 r.stat.uid h.uid,
+  be_be32 r.stat.gid h.gid,
+  be_be32 r.stat.size h.size,
+) refl
 
 mode_again : (r : Record) → IsSized r → number (numbers_of r) 6 ≡ r.mode
 unfolding numbers_of
@@ -51,13 +61,17 @@ head_is kind r h = record {
 }
 
 same_record : (p : List ℕ) (s s' : Stat) (i i' : ObjectId) (f f' m m' : ℕ) → s ≡ s' → i ≡ i' → f ≡ f' → m ≡ m'
-    → ◌≡◌ {A = Record} (record { path = p; stat = s; id = i; flags = f; mode = m }) (record { path = p; stat = s'; id = i'; flags = f'; mode = m' })
+    → ◌≡◌ {A = Record} (record { path = p; stat = s; id = i; flags = f; mode = m })
+    (record { path = p; stat = s'; id = i'; flags = f'; mode = m' })
 same_record p s s' i i' f f' m m' a b c d = rw (a, b, c, d) refl
 
-pub record_again : (kind : Kind) (r : Record) → IsStorableIn kind r → stored_record r ≡ record_of kind (head_of r) r.path
+pub record_again : (kind : Kind) (r : Record) → IsStorableIn kind r
+    → stored_record r ≡ record_of kind (head_of r) r.path
 record_again kind r h =
     let id : make_id kind (id_bytes r.id) ≡ r.id = rw (← h.id) (make_again r.id) in
-    sym (same_record r.path (stat_of (take 24 (numbers_of r)) (drop 28 (numbers_of r))) r.stat (make_id kind (id_bytes r.id)) r.id _ (stored_record r).flags (stored_mode (number (numbers_of r) 6)) (stored_mode r.mode) (stat_again r h.fits) id (kept_again r) (ap stored_mode (mode_again r h.fits)))
+    sym (same_record r.path (stat_of (take 24 (numbers_of r)) (drop 28 (numbers_of r))) r.stat
+    (make_id kind (id_bytes r.id)) r.id _ (stored_record r).flags (stored_mode (number (numbers_of r) 6))
+    (stored_mode r.mode) (stat_again r h.fits) id (kept_again r) (ap stored_mode (mode_again r h.fits)))
 
 -- ---- the path
 
@@ -65,14 +79,18 @@ path_is : (p after : List ℕ) → (4095 ≤ length p → All (λ b. b ≢ 0) p)
 path_is p after h =
     elim (cases_lt (length p) 4095) [
       | inl lt ↦ let short : eqb (min (length p) 4095) 4095 ≡ false = ne_eqb _ _ (omega arith) in rw short (omega arith)
-      | inr le ↦ let full : eqb (min (length p) 4095) 4095 ≡ true = eq-eqb _ _ (omega arith) in rw full (after, record { parts = refl; apart = h le; two = omega (arith, length-append p (0 ∷ after)) })
+      | inr le ↦
+          let full : eqb (min (length p) 4095) 4095 ≡ true = eq-eqb _ _ (omega arith) in
+          rw full (after, record { parts = refl; apart = h le; two = omega (arith, length-append p (0 ∷ after)) })
     ]
 
 padding_begins : (n : ℕ) → padding n ≡ 0 ∷ replicate (7 - n % 8) 0
 padding_begins n = let k : 8 - n % 8 ≡ suc (7 - n % 8) = omega arith in rw k refl
 
-path_again : (kind : Kind) (r : Record) (n : ℕ) (rest : List ℕ) → IsStorableIn kind r → IsPath (length_field (head_of r)) r.path (padding n ++ rest)
-path_again kind r n rest h = rw (be_first r, first_len r, padding_begins n) (path_is r.path (replicate (7 - n % 8) 0 ++ rest) h.path)
+path_again : (kind : Kind) (r : Record) (n : ℕ) (rest : List ℕ) → IsStorableIn kind r
+    → IsPath (length_field (head_of r)) r.path (padding n ++ rest)
+path_again kind r n rest h =
+    rw (be_first r, first_len r, padding_begins n) (path_is r.path (replicate (7 - n % 8) 0 ++ rest) h.path)
 
 -- ---- an entry
 
@@ -86,7 +104,8 @@ regroup : (f p z rest : List ℕ) → ((f ++ p) ++ z) ++ rest ≡ f ++ (p ++ (z 
 regroup f p z rest = simp append_assoc
 
 -- a written entry is an entry of version 2 or 3 at the front of the bytes
-pub entry_again : (kind : Kind) (r : Record) (rest : List ℕ) → IsStorableIn kind r → IsEntry23 kind (entry_bytes r ++ rest) (stored_record r) rest
+pub entry_again : (kind : Kind) (r : Record) (rest : List ℕ) → IsStorableIn kind r
+    → IsEntry23 kind (entry_bytes r ++ rest) (stored_record r) rest
 unfolding unpadded
 entry_again kind r rest h =
     let f : List ℕ = head_bytes (head_of r) in
@@ -109,17 +128,29 @@ entry_again kind r rest h =
 
 -- an entry fills whole blocks of 8 bytes
 pub whole_entry : (r : Record) → length (entry_bytes r) % 8 ≡ 0
-whole_entry r = omega (arith, length-append (unpadded r) (padding (length (unpadded r))), length-padding (length (unpadded r)))
+whole_entry r =
+    omega (arith, length-append (unpadded r) (padding (length (unpadded r))), length-padding (length (unpadded r)))
 
 pub head_len : (kind : Kind) (r : Record) → IsStorableIn kind r → 42 + id_len kind ≤ length (head_bytes (head_of r))
 head_len kind r h =
     let f : EntryHead = head_of r in
     let i : IsEntryHead kind f = head_is kind r h in
-    omega (arith, length-append f.numbers (f.id ++ (f.word ++ f.second)), length-append f.id (f.word ++ f.second), length-append f.word f.second)
+    omega (
+      arith,
+      length-append f.numbers (f.id ++ (f.word ++ f.second)),
+      length-append f.id (f.word ++ f.second),
+      length-append f.word f.second,
+    )
 
-pub entry_len : (kind : Kind) (r : Record) → IsStorableIn kind r → ((42 + id_len kind) / 8 + 1) * 8 ≤ length (entry_bytes r)
+pub entry_len : (kind : Kind) (r : Record) → IsStorableIn kind r
+    → ((42 + id_len kind) / 8 + 1) * 8 ≤ length (entry_bytes r)
 unfolding unpadded
 entry_len kind r h =
     let f : List ℕ = head_bytes (head_of r) in
     let low : 42 + id_len kind ≤ length f = head_len kind r h in
-    omega (arith, length-append f r.path, length-append (f ++ r.path) (padding (length (f ++ r.path))), length-padding (length (f ++ r.path)))
+    omega (
+      arith,
+      length-append f r.path,
+      length-append (f ++ r.path) (padding (length (f ++ r.path))),
+      length-padding (length (f ++ r.path)),
+    )

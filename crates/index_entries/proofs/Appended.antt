@@ -7,7 +7,8 @@ use Rattle.index_entries.specs.Record.{Record, record_in, records_in, IsPlaced}
 use Rattle.index_entries.specs.declared.Entry.{Entry}
 use Rattle.index_entries.proofs.Storing.{records_grow}
 
-module _ (s : List ℕ) (es : List Entry) (r : Record) (t : List ℕ) (fs : List Entry) (placed : All (IsPlaced (length s)) es) (a : Appends s es r t fs) where
+module _ (s : List ℕ) (es : List Entry) (r : Record) (t : List ℕ) (fs : List Entry)
+    (placed : All (IsPlaced (length s)) es) (a : Appends s es r t fs) where
   pub appended_records : records_in t fs ≡ records_in s es ++ r ∷ []
   appended_records =
       let grown : records_in t fs ≡ records_in (s ++ r.path) (es ++ a.entry ∷ []) = rw (a.storage, a.entries) refl in
@@ -18,7 +19,9 @@ module _ (s : List ℕ) (es : List Entry) (r : Record) (t : List ℕ) (fs : List
       ∙ ap (λ (x : Record). records_in s es ++ x ∷ []) is
 
   wider : (x : Entry) → IsPlaced (length s) x → IsPlaced (length t) x
-  wider x p = record { forward = p.forward; inside = omega (arith, p.inside, ap length a.storage, length-append s r.path) }
+  wider x p =
+      record { forward = p.forward; inside = omega (arith, p.inside, ap length a.storage, length-append s r.path) }
 
   pub appended_placed : All (IsPlaced (length t)) fs
-  appended_placed = rw a.entries (All-push (IsPlaced (length t)) es a.entry (All-weaker (IsPlaced (length s)) (IsPlaced (length t)) wider es placed) a.placed)
+  appended_placed = rw a.entries (All-push (IsPlaced (length t)) es a.entry
+      (All-weaker (IsPlaced (length s)) (IsPlaced (length t)) wider es placed) a.placed)

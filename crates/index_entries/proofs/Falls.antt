@@ -1,5 +1,6 @@
 -- The first record that isn't above the one before it.
-use Rattle.std.proofs.Common.{◌≡◌, ◌≢◌, ℕ, zero, suc, ◌+◌, ◌-◌, ◌<◌, ◌≤◌, ◌⊎◌, inl, inr, true, false, List, [], ◌∷◌, length, get_or, take, refl, sym, ◌∙◌, subst, arith, length-take}
+use Rattle.std.proofs.Common.{◌≡◌, ◌≢◌, ℕ, zero, suc, ◌+◌, ◌-◌, ◌<◌, ◌≤◌, ◌⊎◌, inl, inr, true, false, List, [], ◌∷◌}
+use Rattle.std.proofs.Common.{length, get_or, take, refl, sym, ◌∙◌, subst, arith, length-take}
 use Rattle.std.specs.List.{AllAdjacentBelow}
 use Rattle.std.specs.Ordering.{is_ge, is_lt}
 use Rattle.std.specs.declared.cmp.Ordering.{Ordering}
@@ -26,14 +27,16 @@ not_less_from Equal e = λ t. cc
 not_less_from Greater e = λ t. cc
 
 -- neighbours that rise, below n, make all of those rise
-pairs_from : (rs : List Record) (n : ℕ) → AllAdjacentBelow Rises rs n → (i j : ℕ) (d : Record) → i < j → j < n → record_cmp (get_or rs i d) (get_or rs j d) ≡ Less
+pairs_from : (rs : List Record) (n : ℕ) → AllAdjacentBelow Rises rs n → (i j : ℕ) (d : Record) → i < j → j < n
+    → record_cmp (get_or rs i d) (get_or rs j d) ≡ Less
 pairs_from rs n h i zero d lt le = absurd (omega arith)
 pairs_from rs n h i (suc j) d lt le = by (λ a. pairs_from rs n h i j d a (omega arith)) (cases_lt i j)
   where
     one : record_cmp (get_or rs j d) (get_or rs (suc j) d) ≡ Less
     one = let e : j + 1 ≡ suc j = omega arith in rw e at (h j d (omega arith))
 
-    by : (i < j → record_cmp (get_or rs i d) (get_or rs j d) ≡ Less) → (i < j) ⊎ (j ≤ i) → record_cmp (get_or rs i d) (get_or rs (suc j) d) ≡ Less
+    by : (i < j → record_cmp (get_or rs i d) (get_or rs j d) ≡ Less) → (i < j) ⊎ (j ≤ i)
+        → record_cmp (get_or rs i d) (get_or rs (suc j) d) ≡ Less
     by f (inl a) = records_total.trans (get_or rs i d) (get_or rs j d) (get_or rs (suc j) d) (f a) one
     by f (inr b) = let e : i ≡ j = omega arith in rw e one
 
@@ -50,10 +53,16 @@ rise_upto rs n h = record {
 pub rises_throughout : (rs : List Record) (n : ℕ) → length rs ≤ n → AllAdjacentBelow Rises rs n → IsStrictlyOrdered rs
 rises_throughout rs n le h = subst IsStrictlyOrdered (take_all n rs le) (rise_upto rs n h)
 
-pub falls_first : (rs : List Record) (i : ℕ) (o : Ordering) → 0 < i → i < length rs → AllAdjacentBelow Rises rs i → ((d : Record) → record_cmp (get_or rs (i - 1) d) (get_or rs i d) ≡ o) → is_ge o ≡ true → IsFall rs i × IsStrictlyOrdered (take i rs)
-falls_first rs i o pos lt h e ge = (record { behind_one = pos; in_range = lt; falls = λ d less. not_less_from o ge (sym (e d) ∙ less) }, rise_upto rs i h)
+pub falls_first : (rs : List Record) (i : ℕ) (o : Ordering) → 0 < i → i < length rs → AllAdjacentBelow Rises rs i
+    → ((d : Record) → record_cmp (get_or rs (i - 1) d) (get_or rs i d) ≡ o) → is_ge o ≡ true
+    → IsFall rs i × IsStrictlyOrdered (take i rs)
+falls_first rs i o pos lt h e ge = (
+  record { behind_one = pos; in_range = lt; falls = λ d less. not_less_from o ge (sym (e d) ∙ less) },
+  rise_upto rs i h,
+)
 
-pub isnt_ordered : (rs : List Record) (i : ℕ) → 0 < i → i < length rs → ((d : Record) → is_lt (record_cmp (get_or rs i d) (get_or rs (i - 1) d)) ≡ true) → IsOrdered rs → ⊥
+pub isnt_ordered : (rs : List Record) (i : ℕ) → 0 < i → i < length rs
+    → ((d : Record) → is_lt (record_cmp (get_or rs i d) (get_or rs (i - 1) d)) ≡ true) → IsOrdered rs → ⊥
 isnt_ordered [] i pos lt less s = absurd (omega arith)
 isnt_ordered (r ∷ rs) i pos lt less s =
     let same : i - 1 + 1 ≡ i = omega arith in
@@ -62,10 +71,12 @@ isnt_ordered (r ∷ rs) i pos lt less s =
 
 -- no record is below the one before it from a place on
 abbrev pub RisesFrom : List Record → ℕ → Type 0
-RisesFrom rs i = (k : ℕ) (d : Record) → i ≤ k + 1 → k + 1 < length rs → is_lt (record_cmp (get_or rs (k + 1) d) (get_or rs k d)) ≡ false
+RisesFrom rs i = (k : ℕ) (d : Record) → i ≤ k + 1 → k + 1 < length rs
+    → is_lt (record_cmp (get_or rs (k + 1) d) (get_or rs k d)) ≡ false
 
 -- nor is the one before that place
-pub rises_before : (rs : List Record) (i : ℕ) → 1 < i → RisesFrom rs i → ((d : Record) → is_lt (record_cmp (get_or rs (i - 1) d) (get_or rs (i - 1 - 1) d)) ≡ false) → RisesFrom rs (i - 1)
+pub rises_before : (rs : List Record) (i : ℕ) → 1 < i → RisesFrom rs i
+    → ((d : Record) → is_lt (record_cmp (get_or rs (i - 1) d) (get_or rs (i - 1 - 1) d)) ≡ false) → RisesFrom rs (i - 1)
 rises_before rs i pos h here k d le lt = by (cases_lt (i - 1) (k + 1))
   where
     by : (i - 1 < k + 1) ⊎ (k + 1 ≤ i - 1) → is_lt (record_cmp (get_or rs (k + 1) d) (get_or rs k d)) ≡ false

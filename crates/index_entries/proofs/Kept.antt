@@ -46,7 +46,8 @@ record_twice r = rw ((kept_twice r.flags).flags, mask_twice 0o160755 r.mode 0o16
 -- records that a file has are not marked
 pub written_stored : (rs : List Record) → written (map stored_record rs) ≡ map stored_record rs
 written_stored [] = refl
-written_stored (r ∷ rs) = rw (kept_twice r.flags).unmarked (ap (λ (l : List Record). stored_record r ∷ l) (written_stored rs))
+written_stored (r ∷ rs) =
+    rw (kept_twice r.flags).unmarked (ap (λ (l : List Record). stored_record r ∷ l) (written_stored rs))
 
 map_twice : (rs : List Record) → map stored_record (map stored_record rs) ≡ map stored_record rs
 map_twice [] = refl

@@ -1,5 +1,6 @@
 -- The path of the last entry, in the storage.
-use Rattle.std.proofs.Common.{◌≡◌, ℕ, suc, ◌+◌, ◌-◌, ◌≤◌, List, [], ◌∷◌, All, Option, Some, None, length, drop, ap, sym, arith}
+use Rattle.std.proofs.Common.{◌≡◌, ℕ, suc, ◌+◌, ◌-◌, ◌≤◌, List, [], ◌∷◌, All, Option, Some, None, length, drop, ap, sym}
+use Rattle.std.proofs.Common.{arith}
 use Rattle.std.specs.Prelude.{slice_get, slice_range, unwrap_or}
 use Rattle.std.specs.Option.{option_map}
 use Rattle.std.proofs.lemmas.List.{length-drop, length-take, take-take}
@@ -9,7 +10,8 @@ use Rattle.index_entries.specs.Entries.{last_path}
 use Rattle.index_entries.specs.Held.{IsFrontOfLast}
 use Rattle.index_entries.specs.Record.{IsPlaced, record_in, records_in}
 
-last_is : (s : List ℕ) (p : Option (List ℕ)) (es : List Entry) (e : Entry) → Some e ≡ slice_get es (length es - 1) → last_path p (records_in s es) ≡ Some (record_in s e).path
+last_is : (s : List ℕ) (p : Option (List ℕ)) (es : List Entry) (e : Entry) → Some e ≡ slice_get es (length es - 1)
+    → last_path p (records_in s es) ≡ Some (record_in s e).path
 last_is s p [] e h = cc
 last_is s p (x ∷ []) e h = sym (ap (λ (o : Option Entry). unwrap_or (map_path o) (Some [])) h)
   where
@@ -21,7 +23,8 @@ last_is s p (x ∷ y ∷ es) e h =
     let two : length es ≡ length (y ∷ es) - 1 = omega arith in
     last_is s (Some (record_in s x).path) (y ∷ es) e (rw two at (rw one at h))
 
-last_placed : (n : ℕ) (es : List Entry) (e : Entry) → Some e ≡ slice_get es (length es - 1) → All (IsPlaced n) es → IsPlaced n e
+last_placed : (n : ℕ) (es : List Entry) (e : Entry) → Some e ≡ slice_get es (length es - 1) → All (IsPlaced n) es
+    → IsPlaced n e
 last_placed n [] e h a = cc
 last_placed n (x ∷ []) e h a = let same : e ≡ x = cc in rw same (All-head (IsPlaced n) x [] a)
 last_placed n (x ∷ y ∷ es) e h a =
@@ -29,7 +32,8 @@ last_placed n (x ∷ y ∷ es) e h a =
     let two : length es ≡ length (y ∷ es) - 1 = omega arith in
     last_placed n (y ∷ es) e (rw two at (rw one at h)) (All-tail (IsPlaced n) x (y ∷ es) a)
 
-pub last_front : (s : List ℕ) (es : List Entry) (e : Entry) → Some e ≡ slice_get es (length es - 1) → All (IsPlaced (length s)) es → (shared : ℕ) → shared ≤ length (unwrap_or (last_path None (records_in s es)) [])
+pub last_front : (s : List ℕ) (es : List Entry) (e : Entry) → Some e ≡ slice_get es (length es - 1)
+    → All (IsPlaced (length s)) es → (shared : ℕ) → shared ≤ length (unwrap_or (last_path None (records_in s es)) [])
     → IsFrontOfLast (record { records = records_in s es; storage = s }) shared e.path.start
 last_front s es e h a shared le =
     let a0 = e.path.start in
@@ -37,16 +41,25 @@ last_front s es e h a shared le =
     let p : IsPlaced (length s) e = last_placed (length s) es e h a in
     let is : last_path None (records_in s es) ≡ Some (slice_range s a0 b0) = last_is s None es e h in
     let few : shared ≤ length (slice_range s a0 b0) = rw is at le in
-    let long : length (slice_range s a0 b0) ≡ b0 - a0 = omega (arith, p.forward, p.inside, length-take (b0 - a0) (drop a0 s), length-drop a0 s) in
+    let long : length (slice_range s a0 b0) ≡ b0 - a0 =
+    omega (arith, p.forward, p.inside, length-take (b0 - a0) (drop a0 s), length-drop a0 s) in
     let n : a0 + shared - a0 ≡ shared = omega arith in
     record {
       inside = omega (arith, p.forward, p.inside, few, long);
       is = rw (is, n) (sym (take-take shared (b0 - a0) (drop a0 s) (omega (arith, few, long))));
     }
 
-pub last_room : (s : List ℕ) (es : List Entry) (e : Entry) → Some e ≡ slice_get es (length es - 1) → All (IsPlaced (length s)) es → (e.path.start ≤ e.path.end) × (Some (e.path.end - e.path.start) ≡ option_map length (last_path None (records_in s es)))
+pub last_room : (s : List ℕ) (es : List Entry) (e : Entry) → Some e ≡ slice_get es (length es - 1)
+    → All (IsPlaced (length s)) es → (e.path.start ≤ e.path.end)
+    × (Some (e.path.end - e.path.start) ≡ option_map length (last_path None (records_in s es)))
 last_room s es e h a =
     let p : IsPlaced (length s) e = last_placed (length s) es e h a in
     let is : last_path None (records_in s es) ≡ Some (slice_range s e.path.start e.path.end) = last_is s None es e h in
-    let long : e.path.end - e.path.start ≡ length (slice_range s e.path.start e.path.end) = omega (arith, p.forward, p.inside, length-take (e.path.end - e.path.start) (drop e.path.start s), length-drop e.path.start s) in
+    let long : e.path.end - e.path.start ≡ length (slice_range s e.path.start e.path.end) = omega (
+      arith,
+      p.forward,
+      p.inside,
+      length-take (e.path.end - e.path.start) (drop e.path.start s),
+      length-drop e.path.start s,
+    ) in
     (p.forward, rw is (ap (λ (n : ℕ). Some n) long))

@@ -1,5 +1,6 @@
 -- The entries at the front of bytes are read in one way, and end at one place.
-use Rattle.std.proofs.Common.{◌≡◌, ℕ, ◌<◌, inl, inr, List, [], ◌∷◌, ◌++◌, length, take, Option, None, Some, refl, sym, ap, subst, ◌∙◌, arith}
+use Rattle.std.proofs.Common.{◌≡◌, ℕ, ◌<◌, inl, inr, List, [], ◌∷◌, ◌++◌, length, take, Option, None, Some, refl, sym}
+use Rattle.std.proofs.Common.{ap, subst, ◌∙◌, arith}
 use Rattle.std.specs.Prelude.{unwrap_or}
 use Rattle.std.proofs.lemmas.Bool.{cases_lt}
 use Rattle.std.proofs.lemmas.Option.{same_Some}
@@ -23,26 +24,36 @@ read23 kind x = (record_from kind x.0.0 x.0.1, x.1)
 abbrev read4 : Kind → Option (List ℕ) → (HeadValues × ℕ × List ℕ) × List ℕ → Record × List ℕ
 read4 kind previous x = (record_from kind x.0.0 (take x.0.1 (unwrap_or previous []) ++ x.0.2), x.1)
 
-one_entry23 : (kind : Kind) (bytes : List ℕ) (r q : Record) (rest end : List ℕ) → IsEntry23 kind bytes r rest → IsEntry23 kind bytes q end → ◌≡◌ {A = Record × List ℕ} (r, rest) (q, end)
+one_entry23 : (kind : Kind) (bytes : List ℕ) (r q : Record) (rest end : List ℕ) → IsEntry23 kind bytes r rest
+    → IsEntry23 kind bytes q end → ◌≡◌ {A = Record × List ℕ} (r, rest) (q, end)
 one_entry23 kind bytes r q rest end h k =
-    let read = same_Some ((values_of h.head, r.path), rest) ((values_of k.head, q.path), end) (sym (entry_again kind bytes r rest h) ∙ entry_again kind bytes q end k) in
+    let read = same_Some ((values_of h.head, r.path), rest) ((values_of k.head, q.path), end)
+    (sym (entry_again kind bytes r rest h) ∙ entry_again kind bytes q end k) in
     ap (λ (x : Record). (x, rest)) h.is ∙ ap (read23 kind) read ∙ ap (λ (x : Record). (x, end)) (sym k.is)
 
 -- the record of an entry of version 4, by what was read of it
-record4 : (kind : Kind) (previous : Option (List ℕ)) (bytes : List ℕ) (r : Record) (rest : List ℕ) (h : IsEntry4 kind previous bytes r rest) → r ≡ record_of kind h.head (take (entry4_again kind previous bytes r rest h).0 (unwrap_or previous []) ++ h.tail)
+record4 : (kind : Kind) (previous : Option (List ℕ)) (bytes : List ℕ) (r : Record) (rest : List ℕ)
+    (h : IsEntry4 kind previous bytes r rest)
+    → r ≡ record_of kind h.head (take (entry4_again kind previous bytes r rest h).0 (unwrap_or previous []) ++ h.tail)
 record4 kind previous bytes r rest h =
     let again = entry4_again kind previous bytes r rest h in
     h.is ∙ ap (record_of kind h.head) (kept_from previous _ h.stripped again.0 h.tail refl again.1).1
 
-one_entry4 : (kind : Kind) (previous : Option (List ℕ)) (bytes : List ℕ) (r q : Record) (rest end : List ℕ) → IsEntry4 kind previous bytes r rest → IsEntry4 kind previous bytes q end → ◌≡◌ {A = Record × List ℕ} (r, rest) (q, end)
+one_entry4 : (kind : Kind) (previous : Option (List ℕ)) (bytes : List ℕ) (r q : Record) (rest end : List ℕ)
+    → IsEntry4 kind previous bytes r rest → IsEntry4 kind previous bytes q end
+    → ◌≡◌ {A = Record × List ℕ} (r, rest) (q, end)
 one_entry4 kind previous bytes r q rest end h k =
     let a = entry4_again kind previous bytes r rest h in
     let b = entry4_again kind previous bytes q end k in
-    let read = same_Some ((values_of h.head, a.0, h.tail), rest) ((values_of k.head, b.0, k.tail), end) (sym a.2 ∙ b.2) in
-    ap (λ (x : Record). (x, rest)) (record4 kind previous bytes r rest h) ∙ ap (read4 kind previous) read ∙ ap (λ (x : Record). (x, end)) (sym (record4 kind previous bytes q end k))
+    let read =
+    same_Some ((values_of h.head, a.0, h.tail), rest) ((values_of k.head, b.0, k.tail), end) (sym a.2 ∙ b.2) in
+    ap (λ (x : Record). (x, rest)) (record4 kind previous bytes r rest h) ∙ ap (read4 kind previous) read
+    ∙ ap (λ (x : Record). (x, end)) (sym (record4 kind previous bytes q end k))
 
 -- one entry begins bytes, or none
-pub one_entry : (version : Version) (kind : Kind) (previous : Option (List ℕ)) (bytes : List ℕ) (r q : Record) (rest end : List ℕ) → IsEntry version kind previous bytes r rest → IsEntry version kind previous bytes q end → ◌≡◌ {A = Record × List ℕ} (r, rest) (q, end)
+pub one_entry : (version : Version) (kind : Kind) (previous : Option (List ℕ)) (bytes : List ℕ) (r q : Record)
+    (rest end : List ℕ) → IsEntry version kind previous bytes r rest → IsEntry version kind previous bytes q end
+    → ◌≡◌ {A = Record × List ℕ} (r, rest) (q, end)
 one_entry V2 kind previous bytes r q rest end h k = one_entry23 kind bytes r q rest end h k
 one_entry V3 kind previous bytes r q rest end h k = one_entry23 kind bytes r q rest end h k
 one_entry V4 kind previous bytes r q rest end h k = one_entry4 kind previous bytes r q rest end h k
@@ -50,14 +61,20 @@ one_entry V4 kind previous bytes r q rest end h k = one_entry4 kind previous byt
 -- ---- entries one after another
 
 -- of two rows of entries the second goes on behind the first entry of the first row
-behind_first : (version : Version) (kind : Kind) (previous : Option (List ℕ)) (bytes : List ℕ) (r q : Record) (qs : List Record) (after end : List ℕ) → IsEntry version kind previous bytes r after → AreEntries version kind previous bytes (q ∷ qs) end
+behind_first : (version : Version) (kind : Kind) (previous : Option (List ℕ)) (bytes : List ℕ) (r q : Record)
+    (qs : List Record) (after end : List ℕ) → IsEntry version kind previous bytes r after
+    → AreEntries version kind previous bytes (q ∷ qs) end
     → (r ≡ q) × AreEntries version kind (Some r.path) after qs end
 behind_first version kind previous bytes r q qs after end h k =
-    let same = one_entry version kind previous bytes r q after k.0 h k.1 in
-    (ap (λ (x : Record × List ℕ). x.0) same, subst (λ (x : Record × List ℕ). AreEntries version kind (Some x.0.path) x.1 qs end) (sym same) k.2)
+    let same = one_entry version kind previous bytes r q after k.0 h k.1 in (
+      ap (λ (x : Record × List ℕ). x.0) same,
+      subst (λ (x : Record × List ℕ). AreEntries version kind (Some x.0.path) x.1 qs end) (sym same) k.2,
+    )
 
 -- rows of as many entries are one
-pub one_row : (version : Version) (kind : Kind) (previous : Option (List ℕ)) (bytes : List ℕ) (rs qs : List Record) (rest end : List ℕ) → AreEntries version kind previous bytes rs rest → AreEntries version kind previous bytes qs end → length rs ≡ length qs → (rs ≡ qs) × (rest ≡ end)
+pub one_row : (version : Version) (kind : Kind) (previous : Option (List ℕ)) (bytes : List ℕ) (rs qs : List Record)
+    (rest end : List ℕ) → AreEntries version kind previous bytes rs rest → AreEntries version kind previous bytes qs end
+    → length rs ≡ length qs → (rs ≡ qs) × (rest ≡ end)
 one_row version kind previous bytes [] [] rest end h k n = (refl, sym h ∙ k)
 one_row version kind previous bytes [] (q ∷ qs) rest end h k n = absurd (omega arith)
 one_row version kind previous bytes (r ∷ rs) [] rest end h k n = absurd (omega arith)
@@ -67,10 +84,13 @@ one_row version kind previous bytes (r ∷ rs) (q ∷ qs) rest end h k n =
     (rw (behind.0, others.0) refl, others.1)
 
 -- no row is longer than one behind which no entry stands
-longest : (version : Version) (kind : Kind) (previous : Option (List ℕ)) (bytes : List ℕ) (rs qs : List Record) (rest end : List ℕ) → AreEntries version kind previous bytes rs rest
-    → ((r : Record) (after : List ℕ) → IsEntry version kind (last_path previous rs) rest r after → ⊥) → AreEntries version kind previous bytes qs end → length rs < length qs → ⊥
+longest : (version : Version) (kind : Kind) (previous : Option (List ℕ)) (bytes : List ℕ) (rs qs : List Record)
+    (rest end : List ℕ) → AreEntries version kind previous bytes rs rest
+    → ((r : Record) (after : List ℕ) → IsEntry version kind (last_path previous rs) rest r after → ⊥)
+    → AreEntries version kind previous bytes qs end → length rs < length qs → ⊥
 longest version kind previous bytes rs [] rest end h none k lt = omega arith
-longest version kind previous bytes [] (q ∷ qs) rest end h none k lt = none q k.0 (subst (λ (b : List ℕ). IsEntry version kind previous b q k.0) h k.1)
+longest version kind previous bytes [] (q ∷ qs) rest end h none k lt =
+    none q k.0 (subst (λ (b : List ℕ). IsEntry version kind previous b q k.0) h k.1)
 longest version kind previous bytes (r ∷ rs) (q ∷ qs) rest end h none k lt =
     let behind = behind_first version kind previous bytes r q qs h.0 end h.1 k in
     longest version kind (Some r.path) h.0 rs qs rest end h.2 none behind.1 (omega arith)
@@ -78,13 +98,20 @@ longest version kind previous bytes (r ∷ rs) (q ∷ qs) rest end h none k lt =
 -- ---- the first place where no entry stands
 
 -- more entries don't stand there
-pub lacks_more : (version : Version) (kind : Kind) (bytes : List ℕ) (i : ℕ) (rs : List Record) (rest : List ℕ) → LacksEntry version kind bytes i → AreEntries version kind None bytes rs rest → i < length rs → ⊥
-lacks_more version kind bytes i rs rest h k lt = longest version kind None bytes h.records rs h.rest rest h.read h.none k (omega (arith, h.count))
+pub lacks_more : (version : Version) (kind : Kind) (bytes : List ℕ) (i : ℕ) (rs : List Record) (rest : List ℕ)
+    → LacksEntry version kind bytes i → AreEntries version kind None bytes rs rest → i < length rs → ⊥
+lacks_more version kind bytes i rs rest h k lt =
+    longest version kind None bytes h.records rs h.rest rest h.read h.none k (omega (arith, h.count))
 
 -- and it is one place
-pub one_lack : (version : Version) (kind : Kind) (bytes : List ℕ) (i j : ℕ) → LacksEntry version kind bytes i → LacksEntry version kind bytes j → i ≡ j
+pub one_lack : (version : Version) (kind : Kind) (bytes : List ℕ) (i j : ℕ) → LacksEntry version kind bytes i
+    → LacksEntry version kind bytes j → i ≡ j
 one_lack version kind bytes i j h k =
     elim (cases_lt i j) [
       | inl lt ↦ absurd (lacks_more version kind bytes i k.records k.rest h k.read (omega (arith, k.count)))
-      | inr ge ↦ elim (cases_lt j i) [ inl lt ↦ absurd (lacks_more version kind bytes j h.records h.rest k h.read (omega (arith, h.count))) | inr le ↦ omega arith ]
+      | inr ge ↦ elim (cases_lt j i) [
+        | inl lt ↦ absurd
+            (lacks_more version kind bytes j h.records h.rest k h.read (omega (arith, h.count)))
+        | inr le ↦ omega arith
+      ]
     ]

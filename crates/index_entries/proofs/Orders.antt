@@ -20,12 +20,15 @@ pub same_path : (a b : List ℕ) → (path_cmp a b ≡ Equal) ↔ (a ≡ b)
 same_path a b = (exact_bytes a b, λ e. ap (λ (x : List ℕ). path_cmp x b) e ∙ tied_itself paths_total b)
 
 -- a path and a stage that a record compares equal to are its own
-pub own_key : (path : List ℕ) (stage : ℕ) (r : Record) → key_cmp path stage r ≡ Equal → (r.path ≡ path) × (record_stage r ≡ stage)
+pub own_key : (path : List ℕ) (stage : ℕ) (r : Record) → key_cmp path stage r ≡ Equal
+    → (r.path ≡ path) × (record_stage r ≡ stage)
 own_key path stage r h =
-    let e = exact_pairs (slice_cmp nat_cmp) nat_cmp exact_bytes exact_unsigned (r.path, record_stage r) (path, stage) h in
+    let e =
+    exact_pairs (slice_cmp nat_cmp) nat_cmp exact_bytes exact_unsigned (r.path, record_stage r) (path, stage) h in
     (ap (λ (p : List ℕ × ℕ). p.0) e, ap (λ (p : List ℕ × ℕ). p.1) e)
 
-pub equal_key : (path : List ℕ) (stage : ℕ) (r : Record) → r.path ≡ path → record_stage r ≡ stage → key_cmp path stage r ≡ Equal
+pub equal_key : (path : List ℕ) (stage : ℕ) (r : Record) → r.path ≡ path → record_stage r ≡ stage
+    → key_cmp path stage r ≡ Equal
 equal_key path stage r e f =
     ap (λ (p : List ℕ). ordering_then (path_cmp p path) (nat_cmp (record_stage r) stage)) e
     ∙ ap (λ (n : ℕ). ordering_then (path_cmp path path) (nat_cmp n stage)) f

@@ -1,8 +1,10 @@
 -- One more call of a closure that looks at each entry.
-use Rattle.std.proofs.Common.{◌≡◌, ℕ, ◌+◌, ◌<◌, ◌≤◌, ◌⊎◌, inl, inr, true, false, not, List, [], ◌∷◌, ◌++◌, length, take, drop, set, map, get_or, refl, sym, ap, ◌∙◌, arith, length-append, length-take}
+use Rattle.std.proofs.Common.{◌≡◌, ℕ, ◌+◌, ◌<◌, ◌≤◌, ◌⊎◌, inl, inr, true, false, not, List, [], ◌∷◌, ◌++◌, length, take}
+use Rattle.std.proofs.Common.{drop, set, map, get_or, refl, sym, ap, ◌∙◌, arith, length-append, length-take}
 use Rattle.std.specs.List.{filter}
 use Rattle.std.proofs.lemmas.Bool.{cases_lt}
-use Rattle.std.proofs.lemmas.List.{take_more, get_or_at, get_or_append_left, map-append, length-map, drop-drop, get_or-drop, append-nil, take_more_set, take-set-le, length-set}
+use Rattle.std.proofs.lemmas.List.{take_more, get_or_at, get_or_append_left, map-append, length-map, drop-drop}
+use Rattle.std.proofs.lemmas.List.{get_or-drop, append-nil, take_more_set, take-set-le, length-set}
 use Rattle.std.proofs.lemmas.List.Elements.{filter-append}
 use Rattle.index_entries.specs.declared.Entry.{Entry}
 use Rattle.index_entries.specs.Removed.{Call}
@@ -19,22 +21,28 @@ pub drop_next : {A : Type 0} (xs ys : List A) (i : ℕ) → drop i xs ≡ drop i
 drop_next xs ys i e = sym (drop-drop 1 i xs) ∙ ap (drop 1) e ∙ drop-drop 1 i ys
 
 -- an element that was changed at its place i, and is kept behind those that were: there, or at a place before it
-pub kept_here : {A : Type 0} (xs : List A) (i k : ℕ) (y : A) → k ≡ i → i < length xs → take (k + 1) (set xs i y) ≡ take k xs ++ y ∷ []
+pub kept_here : {A : Type 0} (xs : List A) (i k : ℕ) (y : A) → k ≡ i → i < length xs
+    → take (k + 1) (set xs i y) ≡ take k xs ++ y ∷ []
 kept_here xs i k y e inside = rw e (take_more_set xs i y inside)
 
-pub kept_below : {A : Type 0} (xs : List A) (i k : ℕ) (y : A) → k < i → i < length xs → take (k + 1) (set (set xs i y) k y) ≡ take k xs ++ y ∷ []
+pub kept_below : {A : Type 0} (xs : List A) (i k : ℕ) (y : A) → k < i → i < length xs
+    → take (k + 1) (set (set xs i y) k y) ≡ take k xs ++ y ∷ []
 kept_below xs i k y lt inside =
     let long : k < length (set xs i y) = omega (arith, length-set xs i y) in
     take_more_set (set xs i y) k y long ∙ ap (λ zs. zs ++ y ∷ []) (take-set-le k xs i y (omega arith))
 
-module _ (calls : List Call) (old : List Entry) (i : ℕ) (inside : i < length old) (seen : map (λ (c : Call). c.before) calls ≡ take i old) where
+module _ (calls : List Call) (old : List Entry) (i : ℕ) (inside : i < length old)
+    (seen : map (λ (c : Call). c.before) calls ≡ take i old) where
   calls_len : length calls ≡ i
   calls_len = sym (length-map calls (λ (c : Call). c.before)) ∙ ap length seen ∙ omega (arith, length-take i old)
 
-  pub seen_more : (c : Call) → ((d : Entry) → c.before ≡ get_or old i d) → map (λ (c : Call). c.before) (calls ++ c ∷ []) ≡ take (i + 1) old
-  seen_more c e = map-append (λ (c : Call). c.before) calls (c ∷ []) ∙ rw (seen, take_more old i c.before inside, ← e c.before) refl
+  pub seen_more : (c : Call) → ((d : Entry) → c.before ≡ get_or old i d)
+      → map (λ (c : Call). c.before) (calls ++ c ∷ []) ≡ take (i + 1) old
+  seen_more c e =
+      map-append (λ (c : Call). c.before) calls (c ∷ []) ∙ rw (seen, take_more old i c.before inside, ← e c.before) refl
 
-  pub order_more : (c : Call) → c.place ≡ i → ((k : ℕ) (d : Call) → k < length calls → (get_or calls k d).place ≡ k) → (k : ℕ) (d : Call) → k < length (calls ++ c ∷ []) → (get_or (calls ++ c ∷ []) k d).place ≡ k
+  pub order_more : (c : Call) → c.place ≡ i → ((k : ℕ) (d : Call) → k < length calls → (get_or calls k d).place ≡ k)
+      → (k : ℕ) (d : Call) → k < length (calls ++ c ∷ []) → (get_or (calls ++ c ∷ []) k d).place ≡ k
   order_more c e o k d l = by (cases_lt k (length calls))
     where
       by : (k < length calls) ⊎ (length calls ≤ k) → (get_or (calls ++ c ∷ []) k d).place ≡ k
@@ -44,8 +52,13 @@ module _ (calls : List Call) (old : List Entry) (i : ℕ) (inside : i < length o
           rw (get_or_at calls c [] d k same) (e ∙ sym calls_len ∙ same)
 
 -- what the calls leave, after one that takes its entry out, and after one that leaves it
-pub removed : (calls : List Call) (c : Call) (kept : List Entry) → c.is_removed ≡ true → kept ≡ map (λ (c : Call). c.after) (filter (λ (c : Call). not c.is_removed) calls) → kept ≡ map (λ (c : Call). c.after) (filter (λ (c : Call). not c.is_removed) (calls ++ c ∷ []))
+pub removed : (calls : List Call) (c : Call) (kept : List Entry) → c.is_removed ≡ true
+    → kept ≡ map (λ (c : Call). c.after) (filter (λ (c : Call). not c.is_removed) calls)
+    → kept ≡ map (λ (c : Call). c.after) (filter (λ (c : Call). not c.is_removed) (calls ++ c ∷ []))
 removed calls c kept b e = rw (filter-append (λ (c : Call). not c.is_removed) calls (c ∷ []), b, append-nil) e
 
-pub stays : (calls : List Call) (c : Call) (kept : List Entry) → c.is_removed ≡ false → kept ≡ map (λ (c : Call). c.after) (filter (λ (c : Call). not c.is_removed) calls) → kept ++ c.after ∷ [] ≡ map (λ (c : Call). c.after) (filter (λ (c : Call). not c.is_removed) (calls ++ c ∷ []))
-stays calls c kept b e = rw (filter-append (λ (c : Call). not c.is_removed) calls (c ∷ []), b, map-append) (ap (λ xs. xs ++ c.after ∷ []) e)
+pub stays : (calls : List Call) (c : Call) (kept : List Entry) → c.is_removed ≡ false
+    → kept ≡ map (λ (c : Call). c.after) (filter (λ (c : Call). not c.is_removed) calls)
+    → kept ++ c.after ∷ [] ≡ map (λ (c : Call). c.after) (filter (λ (c : Call). not c.is_removed) (calls ++ c ∷ []))
+stays calls c kept b e =
+    rw (filter-append (λ (c : Call). not c.is_removed) calls (c ∷ []), b, map-append) (ap (λ xs. xs ++ c.after ∷ []) e)

@@ -1,5 +1,6 @@
 -- What two paths begin with alike.
-use Rattle.std.proofs.Common.{◌≡◌, ℕ, zero, suc, ◌+◌, ◌≤◌, ◌⊎◌, inl, inr, Bool, true, false, List, [], ◌∷◌, length, take, drop, get_or, refl, ap, arith}
+use Rattle.std.proofs.Common.{◌≡◌, ℕ, zero, suc, ◌+◌, ◌≤◌, ◌⊎◌, inl, inr, Bool, true, false, List, [], ◌∷◌, length}
+use Rattle.std.proofs.Common.{take, drop, get_or, refl, ap, arith}
 use Rattle.std.specs.Prelude.{◌==◌}
 use Rattle.std.proofs.lemmas.Bool.Decides.{nat_tests}
 use Rattle.index_entries.specs.Shared.{shared_len}
@@ -10,7 +11,8 @@ shared_end (x ∷ xs) [] h = refl
 shared_end (x ∷ xs) (y ∷ ys) h = elim h [ inl e ↦ absurd (omega arith) | inr e ↦ absurd (omega arith) ]
 
 -- behind a front that is the same of both, the rest is compared
-pub shared_behind : (n : ℕ) (xs ys : List ℕ) → n ≤ length xs → n ≤ length ys → take n xs ≡ take n ys → shared_len xs ys ≡ n + shared_len (drop n xs) (drop n ys)
+pub shared_behind : (n : ℕ) (xs ys : List ℕ) → n ≤ length xs → n ≤ length ys → take n xs ≡ take n ys
+    → shared_len xs ys ≡ n + shared_len (drop n xs) (drop n ys)
 shared_behind zero xs ys first second same = omega arith
 shared_behind (suc n) [] ys first second same = absurd (omega (arith, first))
 shared_behind (suc n) (x ∷ xs) [] first second same = absurd (omega (arith, second))
@@ -26,8 +28,11 @@ shared_front [] ys = refl
 shared_front (x ∷ xs) [] = refl
 shared_front (x ∷ xs) (y ∷ ys) = by (shared_front xs ys) (x == y) refl
   where
-    by : take (shared_len xs ys) xs ≡ take (shared_len xs ys) ys → (b : Bool) → (x == y) ≡ b → take (shared_len (x ∷ xs) (y ∷ ys)) (x ∷ xs) ≡ take (shared_len (x ∷ xs) (y ∷ ys)) (y ∷ ys)
-    by tails true e = let same : x ≡ y = grind (arith, nat_tests, e) in rw (e, same) (ap (λ (zs : List ℕ). y ∷ zs) tails)
+    by : take (shared_len xs ys) xs ≡ take (shared_len xs ys) ys → (b : Bool) → (x == y) ≡ b
+        → take (shared_len (x ∷ xs) (y ∷ ys)) (x ∷ xs) ≡ take (shared_len (x ∷ xs) (y ∷ ys)) (y ∷ ys)
+    by tails true e =
+        let same : x ≡ y = grind (arith, nat_tests, e) in
+        rw (e, same) (ap (λ (zs : List ℕ). y ∷ zs) tails)
     by tails false e = rw e refl
 
 pub shared_within : (xs ys : List ℕ) → shared_len xs ys ≤ length xs

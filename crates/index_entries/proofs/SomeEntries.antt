@@ -1,5 +1,6 @@
 -- All bytes begin with so many entries, or there is a first place where none stands.
-use Rattle.std.proofs.Common.{◌≡◌, ℕ, zero, suc, ◌<◌, ◌⊎◌, inl, inr, List, [], ◌∷◌, ◌++◌, length, take, Option, None, Some, refl, arith}
+use Rattle.std.proofs.Common.{◌≡◌, ℕ, zero, suc, ◌<◌, ◌⊎◌, inl, inr, List, [], ◌∷◌, ◌++◌, length, take, Option, None}
+use Rattle.std.proofs.Common.{Some, refl, arith}
 use Rattle.std.specs.Prelude.{unwrap_or}
 use Rattle.std.specs.Option.{option_map}
 use Rattle.index_parts.specs.declared.hash.Kind.{Kind}
@@ -22,18 +23,27 @@ Decided {A} P = ((x : A) × P x) ⊎ ((x : A) → P x → ⊥)
 abbrev EntryAt : Version → Kind → Option (List ℕ) → List ℕ → Type 0
 EntryAt version kind previous bytes = Decided (λ (x : Record × List ℕ). IsEntry version kind previous bytes x.0 x.1)
 
-entry23_by : (kind : Kind) (bytes : List ℕ) (o : Option ((HeadValues × List ℕ) × List ℕ)) → entry23_at kind bytes ≡ o → Decided (λ (x : Record × List ℕ). IsEntry23 kind bytes x.0 x.1)
+entry23_by : (kind : Kind) (bytes : List ℕ) (o : Option ((HeadValues × List ℕ) × List ℕ)) → entry23_at kind bytes ≡ o
+    → Decided (λ (x : Record × List ℕ). IsEntry23 kind bytes x.0 x.1)
 entry23_by kind bytes (Some x) e = inl ((record_from kind x.0.0 x.0.1, x.1), entry_takes kind bytes x e)
 entry23_by kind bytes None e = inr (λ x h. absurd (cc (entry_again kind bytes x.0 x.1 h, e)))
 
-entry4_by : (kind : Kind) (previous : Option (List ℕ)) (bytes : List ℕ) (o : Option ((HeadValues × ℕ × List ℕ) × List ℕ)) → entry4_at kind (option_map length previous) bytes ≡ o → Decided (λ (x : Record × List ℕ). IsEntry4 kind previous bytes x.0 x.1)
-entry4_by kind previous bytes (Some x) e = inl ((record_from kind x.0.0 (take x.0.1 (unwrap_or previous []) ++ x.0.2), x.1), entry4_takes kind previous (option_map length previous) bytes x refl e)
+entry4_by : (kind : Kind) (previous : Option (List ℕ)) (bytes : List ℕ)
+    (o : Option ((HeadValues × ℕ × List ℕ) × List ℕ)) → entry4_at kind (option_map length previous) bytes ≡ o
+    → Decided (λ (x : Record × List ℕ). IsEntry4 kind previous bytes x.0 x.1)
+entry4_by kind previous bytes (Some x) e =
+    inl (
+      (record_from kind x.0.0 (take x.0.1 (unwrap_or previous []) ++ x.0.2), x.1),
+      entry4_takes kind previous (option_map length previous) bytes x refl e,
+    )
 entry4_by kind previous bytes None e = inr (λ x h. absurd (cc ((entry4_again kind previous bytes x.0 x.1 h).2, e)))
 
-pub entry_reading : (version : Version) (kind : Kind) (previous : Option (List ℕ)) (bytes : List ℕ) → EntryAt version kind previous bytes
+pub entry_reading : (version : Version) (kind : Kind) (previous : Option (List ℕ)) (bytes : List ℕ)
+    → EntryAt version kind previous bytes
 entry_reading V2 kind previous bytes = entry23_by kind bytes (entry23_at kind bytes) refl
 entry_reading V3 kind previous bytes = entry23_by kind bytes (entry23_at kind bytes) refl
-entry_reading V4 kind previous bytes = entry4_by kind previous bytes (entry4_at kind (option_map length previous) bytes) refl
+entry_reading V4 kind previous bytes =
+    entry4_by kind previous bytes (entry4_at kind (option_map length previous) bytes) refl
 
 -- ---- so many entries
 
@@ -53,30 +63,54 @@ record Has (version : Version) (kind : Kind) (previous : Option (List ℕ)) (byt
   whole : length records ≡ count
 
 abbrev RowAt : Version → Kind → Option (List ℕ) → ℕ → List ℕ → Type 0
-RowAt version kind previous count bytes = Has version kind previous bytes count ⊎ Lacks version kind previous bytes count
+RowAt version kind previous count bytes =
+    Has version kind previous bytes count ⊎ Lacks version kind previous bytes count
 
-row_behind : (version : Version) (kind : Kind) (previous : Option (List ℕ)) (count : ℕ) (bytes after : List ℕ) (r : Record) → IsEntry version kind previous bytes r after → RowAt version kind (Some r.path) count after → RowAt version kind previous (suc count) bytes
-row_behind version kind previous count bytes after r h (inl k) = inl (record { records = r ∷ k.records; rest = k.rest; read = (after, h, k.read); whole = omega (arith, k.whole) })
-row_behind version kind previous count bytes after r h (inr k) = inr (record { records = r ∷ k.records; rest = k.rest; read = (after, h, k.read); fewer = omega (arith, k.fewer); none = k.none })
+row_behind : (version : Version) (kind : Kind) (previous : Option (List ℕ)) (count : ℕ) (bytes after : List ℕ)
+    (r : Record) → IsEntry version kind previous bytes r after → RowAt version kind (Some r.path) count after
+    → RowAt version kind previous (suc count) bytes
+row_behind version kind previous count bytes after r h (inl k) =
+    inl (record { records = r ∷ k.records; rest = k.rest; read = (after, h, k.read); whole = omega (arith, k.whole) })
+row_behind version kind previous count bytes after r h (inr k) = inr (record {
+  records = r ∷ k.records;
+  rest = k.rest;
+  read = (after, h, k.read);
+  fewer = omega (arith, k.fewer);
+  none = k.none;
+})
 
-row_by : (version : Version) (kind : Kind) (previous : Option (List ℕ)) (count : ℕ) (bytes : List ℕ) → ((r : Record) (after : List ℕ) → RowAt version kind (Some r.path) count after) → EntryAt version kind previous bytes → RowAt version kind previous (suc count) bytes
-row_by version kind previous count bytes others (inl h) = row_behind version kind previous count bytes h.0.1 h.0.0 h.1 (others h.0.0 h.0.1)
-row_by version kind previous count bytes others (inr none) = inr (record { records = []; rest = bytes; read = refl; fewer = omega arith; none = λ r after h. none (r, after) h })
+row_by : (version : Version) (kind : Kind) (previous : Option (List ℕ)) (count : ℕ) (bytes : List ℕ)
+    → ((r : Record) (after : List ℕ) → RowAt version kind (Some r.path) count after)
+    → EntryAt version kind previous bytes → RowAt version kind previous (suc count) bytes
+row_by version kind previous count bytes others (inl h) =
+    row_behind version kind previous count bytes h.0.1 h.0.0 h.1 (others h.0.0 h.0.1)
+row_by version kind previous count bytes others (inr none) =
+    inr (record { records = []; rest = bytes; read = refl; fewer = omega arith; none = λ r after h. none (r, after) h })
 
-row_reading : (version : Version) (kind : Kind) (previous : Option (List ℕ)) (count : ℕ) (bytes : List ℕ) → RowAt version kind previous count bytes
+row_reading : (version : Version) (kind : Kind) (previous : Option (List ℕ)) (count : ℕ) (bytes : List ℕ)
+    → RowAt version kind previous count bytes
 row_reading version kind previous zero bytes = inl (record { records = []; rest = bytes; read = refl; whole = refl })
-row_reading version kind previous (suc count) bytes = row_by version kind previous count bytes (λ r after. row_reading version kind (Some r.path) count after) (entry_reading version kind previous bytes)
+row_reading version kind previous (suc count) bytes = row_by version kind previous count bytes
+    (λ r after. row_reading version kind (Some r.path) count after) (entry_reading version kind previous bytes)
 
 -- ---- from the front
 
 -- so many entries, and the rest; or the first place below so many where none stands
 abbrev pub EntriesAt : Version → Kind → ℕ → List ℕ → Type 0
 EntriesAt version kind count bytes =
-    ((rs : List Record) × (rest : List ℕ) × AreEntries version kind None bytes rs rest × (length rs ≡ count)) ⊎ ((i : ℕ) × (i < count) × LacksEntry version kind bytes i)
+    ((rs : List Record) × (rest : List ℕ) × AreEntries version kind None bytes rs rest × (length rs ≡ count))
+    ⊎ ((i : ℕ) × (i < count) × LacksEntry version kind bytes i)
 
-entries_by : (version : Version) (kind : Kind) (count : ℕ) (bytes : List ℕ) → RowAt version kind None count bytes → EntriesAt version kind count bytes
+entries_by : (version : Version) (kind : Kind) (count : ℕ) (bytes : List ℕ) → RowAt version kind None count bytes
+    → EntriesAt version kind count bytes
 entries_by version kind count bytes (inl h) = inl (h.records, h.rest, h.read, h.whole)
-entries_by version kind count bytes (inr h) = inr (length h.records, h.fewer, record { records = h.records; rest = h.rest; read = h.read; count = refl; none = h.none })
+entries_by version kind count bytes (inr h) = inr (
+  length h.records,
+  h.fewer,
+  record { records = h.records; rest = h.rest; read = h.read; count = refl; none = h.none },
+)
 
-pub entries_reading : (version : Version) (kind : Kind) (count : ℕ) (bytes : List ℕ) → EntriesAt version kind count bytes
-entries_reading version kind count bytes = entries_by version kind count bytes (row_reading version kind None count bytes)
+pub entries_reading : (version : Version) (kind : Kind) (count : ℕ) (bytes : List ℕ)
+    → EntriesAt version kind count bytes
+entries_reading version kind count bytes =
+    entries_by version kind count bytes (row_reading version kind None count bytes)

@@ -10,11 +10,13 @@ use Rattle.index_entries.specs.Record.{record_in, records_in}
 use Rattle.index_entries.specs.Storable.{IsStorableIn}
 
 -- an id is of the one kind or of the other
-pub variant_of : (id : ObjectId) → ((bytes : List ℕ) × (id ≡ ids.Sha1 bytes)) ⊎ ((bytes : List ℕ) × (id ≡ ids.Sha256 bytes))
+pub variant_of : (id : ObjectId)
+    → ((bytes : List ℕ) × (id ≡ ids.Sha1 bytes)) ⊎ ((bytes : List ℕ) × (id ≡ ids.Sha256 bytes))
 variant_of (ids.Sha1 bytes) = inl (bytes, refl)
 variant_of (ids.Sha256 bytes) = inr (bytes, refl)
 
-module _ (kind : Kind) (storage : List ℕ) (es : List Entry) (i : ℕ) (d : Entry) (path : List ℕ) (within : i < length es) (is : path ≡ (record_in storage (get_or es i d)).path) where
+module _ (kind : Kind) (storage : List ℕ) (es : List Entry) (i : ℕ) (d : Entry) (path : List ℕ) (within : i < length es)
+    (is : path ≡ (record_in storage (get_or es i d)).path) where
   -- the entry at a place, with its path
   abbrev IsStorableHere : List ℕ → Type 0
   IsStorableHere p = IsStorableIn kind (record (record_in storage (get_or es i d)) { path = p })
@@ -23,11 +25,14 @@ module _ (kind : Kind) (storage : List ℕ) (es : List Entry) (i : ℕ) (d : Ent
   pub storable_at : All (IsStorableIn kind) (records_in storage es) → IsStorableHere path
   storable_at all =
       let r = record_in storage (get_or es i d) in
-      let here : IsStorableIn kind (get_or (records_in storage es) i r) = all i r (omega (arith, length-map es (record_in storage))) in
+      let here : IsStorableIn kind (get_or (records_in storage es) i r) =
+      all i r (omega (arith, length-map es (record_in storage))) in
       subst IsStorableHere (sym is) (subst (IsStorableIn kind) (get_or-map (record_in storage) es i d r within) here)
 
   -- those before a place, and the one there
-  pub storable_push : All (IsStorableIn kind) (records_in storage (take i es)) → IsStorableHere path → All (IsStorableIn kind) (records_in storage (take (i + 1) es))
+  pub storable_push : All (IsStorableIn kind) (records_in storage (take i es)) → IsStorableHere path
+      → All (IsStorableIn kind) (records_in storage (take (i + 1) es))
   storable_push all here =
       let r = record_in storage (get_or es i d) in
-      subst (All (IsStorableIn kind)) (sym (map_more (record_in storage) es i d within)) (All-push (IsStorableIn kind) (records_in storage (take i es)) r all (subst IsStorableHere is here))
+      subst (All (IsStorableIn kind)) (sym (map_more (record_in storage) es i d within))
+      (All-push (IsStorableIn kind) (records_in storage (take i es)) r all (subst IsStorableHere is here))

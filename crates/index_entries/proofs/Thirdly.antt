@@ -17,15 +17,19 @@ use Rattle.index_entries.proofs.Sorting.{sorted_map}
 
 module _ {F : Type 0} (g : Mut F (Bor Entry × (Bor Entry × Unit {0})) Ordering) where
   -- the closure may still be called
-  pub still : (o : Ordering) (f : F) (a b : Bor Entry) (r : Ordering) (h : F) → IsOrElse o (λ r h. Called g f (a, (b, tt)) r h) f r h → always_mut g f → always_mut g h
+  pub still : (o : Ordering) (f : F) (a b : Bor Entry) (r : Ordering) (h : F)
+      → IsOrElse o (λ r h. Called g f (a, (b, tt)) r h) f r h → always_mut g f → always_mut g h
   still Less f a b r h told i = subst (always_mut g) (sym told.1) i
   still Equal f a b r h told i = mut_next g f (a, (b, tt)) r h h told refl i
   still Greater f a b r h told i = subst (always_mut g) (sym told.1) i
 
   -- what it answers is as the test says, and so are its later answers
-  pub answered : (by : Entry → Entry → Bool) (o : Ordering) (f : F) (a b : Bor Entry) (r : Ordering) (h : F) → IsOrElse o (λ r h. Called g f (a, (b, tt)) r h) f r h → ComparesAs g by f → (is_lt r ≡ is_below_or o (by a.now b.now)) × ComparesAs g by h
+  pub answered : (by : Entry → Entry → Bool) (o : Ordering) (f : F) (a b : Bor Entry) (r : Ordering) (h : F)
+      → IsOrElse o (λ r h. Called g f (a, (b, tt)) r h) f r h → ComparesAs g by f
+      → (is_lt r ≡ is_below_or o (by a.now b.now)) × ComparesAs g by h
   answered by Less f a b r h told i = (ap is_lt told.0, subst (ComparesAs g by) (sym told.1) i)
-  answered by Equal f a b r h told i = ((i.at ((a, (b, tt)) ∷ []) r h told).0, record { at = λ xs. (i.at ((a, (b, tt)) ∷ xs) r h told).1 })
+  answered by Equal f a b r h told i =
+      ((i.at ((a, (b, tt)) ∷ []) r h told).0, record { at = λ xs. (i.at ((a, (b, tt)) ∷ xs) r h told).1 })
   answered by Greater f a b r h told i = (ap is_lt told.0, subst (ComparesAs g by) (sym told.1) i)
 
 -- ---- by path, by stage, and then by an order, is an order
@@ -34,7 +38,8 @@ module _ (storage : List ℕ) (by : Entry → Entry → Bool) (order : IsStrictW
   abbrev cmp : Entry → Entry → Ordering
   cmp a b = record_cmp (record_in storage a) (record_in storage b)
 
-  back : (o p : Ordering) (b c : Bool) → p ≡ ordering_reverse o → (b ≡ true → c ≡ false) → is_below_or o b ≡ true → is_below_or p c ≡ false
+  back : (o p : Ordering) (b c : Bool) → p ≡ ordering_reverse o → (b ≡ true → c ≡ false) → is_below_or o b ≡ true
+      → is_below_or p c ≡ false
   back Less p b c e h t = rw e refl
   back Equal p b c e h t = rw e (h t)
   back Greater p b c e h t = cc
@@ -43,18 +48,28 @@ module _ (storage : List ℕ) (by : Entry → Entry → Bool) (order : IsStrictW
   turned a b o e = records_total.antisymm (record_in storage b) (record_in storage a) ∙ ap ordering_reverse e
 
   module _ (x y z : Entry) where
-    chained : (o p : Ordering) → cmp x y ≡ o → cmp y z ≡ p → is_below_or o (by x y) ≡ false → is_below_or p (by y z) ≡ false → is_below_or (cmp x z) (by x z) ≡ false
+    chained : (o p : Ordering) → cmp x y ≡ o → cmp y z ≡ p → is_below_or o (by x y) ≡ false
+        → is_below_or p (by y z) ≡ false → is_below_or (cmp x z) (by x z) ≡ false
     chained Less p e f a b = cc
     chained Equal Less e f a b = cc
-    chained Equal Equal e f a b = let q : cmp x z ≡ Equal = records_total.congr (record_in storage x) (record_in storage y) (record_in storage z) e ∙ f in rw q (order.chain x y z a b)
-    chained Equal Greater e f a b = let q : cmp x z ≡ Greater = records_total.congr (record_in storage x) (record_in storage y) (record_in storage z) e ∙ f in rw q refl
+    chained Equal Equal e f a b =
+        let q : cmp x z ≡ Equal =
+        records_total.congr (record_in storage x) (record_in storage y) (record_in storage z) e ∙ f in
+        rw q (order.chain x y z a b)
+    chained Equal Greater e f a b =
+        let q : cmp x z ≡ Greater =
+        records_total.congr (record_in storage x) (record_in storage y) (record_in storage z) e ∙ f in
+        rw q refl
     chained Greater Less e f a b = cc
     chained Greater Equal e f a b =
-        let first : cmp z x ≡ Less = records_total.congr (record_in storage z) (record_in storage y) (record_in storage x) (turned y z Equal f) ∙ turned x y Greater e in
+        let first : cmp z x ≡ Less =
+        records_total.congr (record_in storage z) (record_in storage y) (record_in storage x) (turned y z Equal f)
+        ∙ turned x y Greater e in
         let q : cmp x z ≡ Greater = turned z x Less first in
         rw q refl
     chained Greater Greater e f a b =
-        let first : cmp z x ≡ Less = records_total.trans (record_in storage z) (record_in storage y) (record_in storage x) (turned y z Greater f) (turned x y Greater e) in
+        let first : cmp z x ≡ Less = records_total.trans (record_in storage z) (record_in storage y)
+        (record_in storage x) (turned y z Greater f) (turned x y Greater e) in
         let q : cmp x z ≡ Greater = turned z x Less first in
         rw q refl
 
@@ -71,4 +86,5 @@ module _ (storage : List ℕ) (by : Entry → Entry → Bool) (order : IsStrictW
 
   -- in that order, the entries are in order by path and stage
   pub ordered_first : (xs : List Entry) → IsSortedBy (is_before_by storage by) xs → IsOrdered (records_in storage xs)
-  ordered_first xs s = sorted_map storage xs (λ k d low h. not_below (cmp (get_or xs (k + 1) d) (get_or xs k d)) (by (get_or xs (k + 1) d) (get_or xs k d)) (s k d low h))
+  ordered_first xs s = sorted_map storage xs (λ k d low h.
+      not_below (cmp (get_or xs (k + 1) d) (get_or xs k d)) (by (get_or xs (k + 1) d) (get_or xs k d)) (s k d low h))

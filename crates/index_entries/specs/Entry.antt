@@ -1,5 +1,6 @@
 -- One entry of a file as bytes that stand one after another (gitformat-index, "Index entry").
-use Rattle.std.specs.Prelude.{◌≡◌, ℕ, ◌+◌, ◌-◌, ◌%◌, ◌≤◌, ◌==◌, List, [], ◌++◌, length, take, drop, Option, Some, None, MatchBool, bit_and}
+use Rattle.std.specs.Prelude.{◌≡◌, ℕ, ◌+◌, ◌-◌, ◌%◌, ◌≤◌, ◌==◌, List, [], ◌++◌, length, take, drop, Option, Some, None}
+use Rattle.std.specs.Prelude.{MatchBool, bit_and}
 use Rattle.index_parts.specs.Numbers.{be, number, IsUpTo}
 use Rattle.index_parts.specs.Id.{id_len, make_id}
 use Rattle.index_metadata.specs.Flags.{is_extended, joined_words, stored_flags}

@@ -1,5 +1,6 @@
 -- Entries as bytes (gitformat-index, "Index entry"): the one spelling that is written of a record, and what it keeps.
-use Rattle.std.specs.Prelude.{◌≢◌, ℕ, ◌-◌, ◌%◌, ◌==◌, Bool, not, min, List, [], ◌∷◌, ◌++◌, All, length, map, drop, replicate, bit_and, bit_or, if◌then◌else◌}
+use Rattle.std.specs.Prelude.{◌≢◌, ℕ, ◌-◌, ◌%◌, ◌==◌, Bool, not, min, List, [], ◌∷◌, ◌++◌, All, length, map, drop}
+use Rattle.std.specs.Prelude.{replicate, bit_and, bit_or, if◌then◌else◌}
 use Rattle.std.specs.List.{filter, list_any}
 use Rattle.std.specs.Int.{w16, to_be_bytes}
 use Rattle.index_metadata.specs.Flags.{is_extended, stored_flags, storage_flags, extended_flags}

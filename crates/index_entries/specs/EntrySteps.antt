@@ -1,6 +1,7 @@
 -- Entries at the front of bytes, as functions: a value and the rest, or nothing (gitformat-index, "Index entry").
 -- Public clauses cite none of these.
-use Rattle.std.specs.Prelude.{◌≡◌, ℕ, ◌-◌, ◌%◌, ◌==◌, nat_lt, List, length, take, drop, Option, Some, None, if◌then◌else◌, bit_and}
+use Rattle.std.specs.Prelude.{◌≡◌, ℕ, ◌-◌, ◌%◌, ◌==◌, nat_lt, List, length, take, drop, Option, Some, None}
+use Rattle.std.specs.Prelude.{if◌then◌else◌, bit_and}
 use Rattle.index_parts.specs.Numbers.{be, number}
 use Rattle.index_metadata.specs.Flags.{is_extended, joined_words, stored_flags}
 use Rattle.index_objects.specs.Mode.{stored_mode}
@@ -8,7 +9,6 @@ use Rattle.index_metadata.specs.Stat.{stat_of}
 use Rattle.index_parts.specs.Id.{id_len, make_id}
 use Rattle.index_parts.specs.ReadingSteps.{◌>>=◌, piece_at, split_at_byte, offset_at}
 use Rattle.index_parts.specs.declared.hash.Kind.{Kind}
-use Rattle.index_entries.specs.Entry.{EntryHead}
 use Rattle.index_entries.specs.Record.{Record}
 
 -- an entry up to its path, with both words of flags as numbers; 0 where there is no second word

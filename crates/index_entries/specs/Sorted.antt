@@ -1,6 +1,7 @@
 -- Entries in order, by path and then by stage, and where a list of records isn't so (gitformat-index, "Index entries
 -- are sorted in ascending order").
-use Rattle.std.specs.Prelude.{◌≡◌, ◌≢◌, ℕ, ◌-◌, ◌<◌, Bool, true, false, List, length, take, slice_index_or, Option, Some, None}
+use Rattle.std.specs.Prelude.{◌≡◌, ◌≢◌, ℕ, ◌-◌, ◌<◌, Bool, true, false, List, length, take, slice_index_or, Option}
+use Rattle.std.specs.Prelude.{Some, None}
 use denote.Param.Members.{Mut}
 use denote.Ref.{Bor}
 use Rattle.std.specs.Cmp.{IsStrictWeakOrder}

@@ -3,10 +3,12 @@
 mod delta;
 mod entry;
 
-ghost use Rattle.std.specs.Prelude.{◌≡◌, ◌+◌, ◌<◌, ◌≤◌, ◌^◌, ◌++◌, [], length, false, is_err, All, IfSome, IfNone, OnOk, OnErr};
+ghost use Rattle.std.specs.Prelude.{◌≡◌, ◌+◌, ◌<◌, ◌≤◌, ◌^◌, ◌++◌, [], length, false, is_err, All, IfSome, IfNone};
+ghost use Rattle.std.specs.Prelude.{OnOk, OnErr};
 ghost use Rattle.index_parts.specs.Gathered.{Gathers};
 ghost use Rattle.index_parts.specs.Puts.{Puts};
-ghost use Rattle.index_entries.specs.EntryImage.{chosen_version, entries_in, entry_in, header_bytes, version_by, written};
+ghost use Rattle.index_entries.specs.EntryImage.{chosen_version, entries_in, entry_in, header_bytes, version_by};
+ghost use Rattle.index_entries.specs.EntryImage.{written};
 ghost use Rattle.index_entries.specs.Header.{header_len};
 ghost use Rattle.index_entries.specs.Record.{IsPlaced, record_in, records_in};
 

@@ -1,7 +1,8 @@
 //! One entry at the front of bytes, as lent pieces: for a reader that walks over a file's entries and keeps none of
 //! them.
 
-ghost use Rattle.std.specs.Prelude.{◌≡◌, ◌+◌, ◌*◌, ◌≤◌, ℕ, List, length, Option, Some, IfSome, IfNone, drop, take, unwrap_or, [], ◌++◌};
+ghost use Rattle.std.specs.Prelude.{◌≡◌, ◌+◌, ◌*◌, ◌≤◌, ℕ, List, length, Option, Some, IfSome, IfNone, drop, take};
+ghost use Rattle.std.specs.Prelude.{unwrap_or, [], ◌++◌};
 ghost use Rattle.std.specs.Option.{option_map};
 ghost use Rattle.index_metadata.specs.Flags.{stored_flags, joined_words};
 ghost use Rattle.index_parts.specs.Id.{id_kind};
@@ -9,7 +10,8 @@ ghost use Rattle.index_metadata.specs.Stat.{stat_of};
 ghost use Rattle.index_entries.specs.Entry.{IsEntry23, IsEntry4, IsEntry};
 ghost use Rattle.index_entry_reading.specs.Lent.{lent_record};
 ghost use Rattle.index_entry_reading.specs.LentSteps.{lent_head};
-ghost use Rattle.index_entries.specs.EntrySteps.{IsLong, record_from, second_at, head_at, path_at, entry23_at, shared_of, entry4_at};
+ghost use Rattle.index_entries.specs.EntrySteps.{IsLong, record_from, second_at, head_at, path_at, entry23_at};
+ghost use Rattle.index_entries.specs.EntrySteps.{shared_of, entry4_at};
 ghost use Rattle.index_entries.specs.Record.{Record};
 
 use bitflags::Flags as _;

@@ -1,5 +1,6 @@
 -- Extensions, one after another (gitformat-index, "Extensions").
-use Rattle.std.specs.Prelude.{◌≡◌, ℕ, ◌+◌, ◌-◌, ◌%◌, ◌^◌, nat_lt, List, [], ◌∷◌, ◌++◌, length, Option, Some, None, MatchBool, if◌then◌else◌}
+use Rattle.std.specs.Prelude.{◌≡◌, ℕ, ◌+◌, ◌-◌, ◌%◌, ◌^◌, nat_lt, List, [], ◌∷◌, ◌++◌, length, Option, Some, None}
+use Rattle.std.specs.Prelude.{MatchBool, if◌then◌else◌}
 use Rattle.index_parts.specs.Numbers.{be}
 use Rattle.index_extensions.specs.declared.iter.Iter.{Iter}
 

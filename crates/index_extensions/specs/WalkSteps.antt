@@ -1,6 +1,7 @@
 -- What the readers of extensions find at the front of bytes, as functions: a value and the rest, or nothing
 -- (gitformat-index, "Extensions", "End of Index Entry"). Public clauses cite none of these.
-use Rattle.std.specs.Prelude.{ℕ, ◌-◌, nat_eq, nat_lt, List, [], ◌∷◌, ◌++◌, length, take, drop, codes, Option, Some, None, if◌then◌else◌}
+use Rattle.std.specs.Prelude.{ℕ, ◌-◌, nat_eq, nat_lt, List, [], ◌∷◌, ◌++◌, length, take, drop, codes, Option, Some}
+use Rattle.std.specs.Prelude.{None, if◌then◌else◌}
 use Rattle.std.specs.List.{starts_with}
 use Rattle.index_parts.specs.Numbers.{be}
 use Rattle.index_parts.specs.ReadingSteps.{◌>>=◌, piece_at}

@@ -1,6 +1,7 @@
 //! The end marker, which names the place where the extensions begin (gitformat-index, "End of Index Entry").
 
-ghost use Rattle.std.specs.Prelude.{◌≡◌, ◌≤◌, ◌+◌, ◌++◌, ℕ, length, codes, List, [], ◌∷◌, false, is_err, IfSome, IfNone};
+ghost use Rattle.std.specs.Prelude.{◌≡◌, ◌≤◌, ◌+◌, ◌++◌, ℕ, length, codes, List, [], ◌∷◌, false, is_err, IfSome};
+ghost use Rattle.std.specs.Prelude.{IfNone};
 ghost use Rattle.std.specs.List.{flat_map};
 ghost use Rattle.std.specs.Option.{option_map};
 ghost use Rattle.index_parts.specs.Digest.{digest};

@@ -5,7 +5,8 @@ use Rattle.index_small_extensions.specs.ResolveUndo.{path_stages}
 use Rattle.index_small_extensions.specs.declared.resolve_undo.ResolvePath.{ResolvePath}
 
 -- clones that have the values of their sources
-pub same_paths : (xs ys : List ResolvePath) → AllZip (λ x y. path_stages y ≡ path_stages x) xs ys → map path_stages ys ≡ map path_stages xs
+pub same_paths : (xs ys : List ResolvePath) → AllZip (λ x y. path_stages y ≡ path_stages x) xs ys
+    → map path_stages ys ≡ map path_stages xs
 same_paths [] [] h = refl
 same_paths [] (y ∷ ys) h = absurd h
 same_paths (x ∷ xs) [] h = absurd h

@@ -12,7 +12,10 @@ use Rattle.index_split.specs.declared.link.decode.Error.{Error}
 use Rattle.index_split.specs.declared.link.decode.Error.TheVariants as errors
 
 -- the error of a link, as that of the extension with this name
-pub says_item : (kind : Kind) (i : Item) (e : Error) → is_named (codes "link") i ≡ true → SaysLink kind i.content e → SaysItem kind i (link_error e)
-says_item kind i (errors.Corrupt text) named h = (Link (Corrupt text.now), refl, broken_link (Corrupt text.now) named h refl)
-says_item kind i (errors.BitmapDecode error name) named h = (Link (BitmapDecode error name.now), refl, broken_link (BitmapDecode error name.now) named h refl)
+pub says_item : (kind : Kind) (i : Item) (e : Error) → is_named (codes "link") i ≡ true → SaysLink kind i.content e
+    → SaysItem kind i (link_error e)
+says_item kind i (errors.Corrupt text) named h =
+    (Link (Corrupt text.now), refl, broken_link (Corrupt text.now) named h refl)
+says_item kind i (errors.BitmapDecode error name) named h =
+    (Link (BitmapDecode error name.now), refl, broken_link (BitmapDecode error name.now) named h refl)
 says_item kind i errors.Memory named h = tt

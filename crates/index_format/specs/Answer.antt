@@ -1,5 +1,6 @@
 -- What reading a file gives: the value and the trailer's id, or the first fault (gitformat-index, as a whole).
-use Rattle.std.specs.Prelude.{◌≡◌, ◌≢◌, ℕ, ◌+◌, ◌<◌, ◌||◌, ◌⊎◌, nat_lt, List, ◌++◌, length, drop, codes, Option, Some, None, Result, Ok, Err, MatchBool, MatchResult, if◌then◌else◌}
+use Rattle.std.specs.Prelude.{◌≡◌, ◌≢◌, ℕ, ◌+◌, ◌<◌, ◌||◌, ◌⊎◌, nat_lt, List, ◌++◌, length, drop, codes, Option, Some}
+use Rattle.std.specs.Prelude.{None, Result, Ok, Err, MatchBool, MatchResult, if◌then◌else◌}
 use Rattle.index_parts.specs.Id.{id_len, is_null, make_id}
 use Rattle.index_parts.specs.declared.hash.Kind.{Kind}
 use Rattle.index_parts.specs.declared.hash.ObjectId.{ObjectId}

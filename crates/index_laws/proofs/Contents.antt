@@ -1,5 +1,6 @@
 -- The bytes of a directory are the object of a tree, whose entries are those of its items.
-use Rattle.std.proofs.Common.{◌≡◌, ℕ, ◌<◌, ◌^◌, List, [], ◌∷◌, ◌++◌, true, false, length, All, refl, ap, ◌∙◌, append_assoc, arith, rules}
+use Rattle.std.proofs.Common.{◌≡◌, ℕ, ◌<◌, ◌^◌, List, [], ◌∷◌, ◌++◌, true, false, length, All, refl, ap, ◌∙◌}
+use Rattle.std.proofs.Common.{append_assoc, arith, rules}
 use Rattle.std.specs.List.{AllByRecursion}
 use Rattle.std.proofs.lemmas.List.Elements.{All-from_recursion}
 use Rattle.index_parts.proofs.Digests.{length-digest}
@@ -14,7 +15,8 @@ use Rattle.index_parts.specs.declared.hash.ObjectId.{ObjectId}
 use Rattle.index_parts.specs.declared.hash.ObjectId.TheVariants as ids
 use Rattle.index_objects.specs.declared.object.tree.EntryKind.{EntryKind}
 use Rattle.index_objects.specs.declared.object.tree.EntryKind.TheVariants as kinds
-use Rattle.index_tree_writer.specs.Directory.{Item, Items, leaf, directory, no_more, next, IsName, IsItem, AreItems, content, directory_bytes, item_bytes}
+use Rattle.index_tree_writer.specs.Directory.{Item, Items, leaf, directory, no_more, next, IsName, IsItem, AreItems}
+use Rattle.index_tree_writer.specs.Directory.{content, directory_bytes, item_bytes}
 use Rattle.index_tree_writer.specs.Objects.{tree_mode_text, tree_entry_bytes, tree_id, tree_message}
 
 -- ---- modes
@@ -30,11 +32,37 @@ text_digits kinds.Link = search rules
 text_digits kinds.Commit = search rules
 
 pub mode_is : (k : EntryKind) → IsOctal (tree_mode_text k) (mode_of_kind k)
-mode_is kinds.Tree = record { some = λ e. absurd cc; digits = octal_digits (tree_mode_text kinds.Tree) (text_digits kinds.Tree); value = refl; fits = omega arith }
-mode_is kinds.Blob = record { some = λ e. absurd cc; digits = octal_digits (tree_mode_text kinds.Blob) (text_digits kinds.Blob); value = refl; fits = omega arith }
-mode_is kinds.BlobExecutable = record { some = λ e. absurd cc; digits = octal_digits (tree_mode_text kinds.BlobExecutable) (text_digits kinds.BlobExecutable); value = refl; fits = omega arith }
-mode_is kinds.Link = record { some = λ e. absurd cc; digits = octal_digits (tree_mode_text kinds.Link) (text_digits kinds.Link); value = refl; fits = omega arith }
-mode_is kinds.Commit = record { some = λ e. absurd cc; digits = octal_digits (tree_mode_text kinds.Commit) (text_digits kinds.Commit); value = refl; fits = omega arith }
+mode_is kinds.Tree = record {
+  some = λ e. absurd cc;
+  digits = octal_digits (tree_mode_text kinds.Tree) (text_digits kinds.Tree);
+  value = refl;
+  fits = omega arith;
+}
+mode_is kinds.Blob = record {
+  some = λ e. absurd cc;
+  digits = octal_digits (tree_mode_text kinds.Blob) (text_digits kinds.Blob);
+  value = refl;
+  fits = omega arith;
+}
+mode_is kinds.BlobExecutable = record {
+  some = λ e. absurd cc;
+  digits = octal_digits
+      (tree_mode_text kinds.BlobExecutable) (text_digits kinds.BlobExecutable);
+  value = refl;
+  fits = omega arith;
+}
+mode_is kinds.Link = record {
+  some = λ e. absurd cc;
+  digits = octal_digits (tree_mode_text kinds.Link) (text_digits kinds.Link);
+  value = refl;
+  fits = omega arith;
+}
+mode_is kinds.Commit = record {
+  some = λ e. absurd cc;
+  digits = octal_digits (tree_mode_text kinds.Commit) (text_digits kinds.Commit);
+  value = refl;
+  fits = omega arith;
+}
 
 mode_fits : (k : EntryKind) → mode_of_kind k < 2 ^ 16
 mode_fits kinds.Tree = omega arith
@@ -72,16 +100,20 @@ tree_id_kind kind bytes = made_kind kind (digest kind (tree_message bytes))
 
 pub tree_id_len : (kind : Kind) (bytes : List ℕ) → length (id_bytes (tree_id kind bytes)) ≡ id_len kind
 unfolding tree_id
-tree_id_len kind bytes = ap length (made_bytes kind (digest kind (tree_message bytes))) ∙ length-digest kind (tree_message bytes)
+tree_id_len kind bytes =
+    ap length (made_bytes kind (digest kind (tree_message bytes))) ∙ length-digest kind (tree_message bytes)
 
 -- ---- entries
 
-entry_is : (kind : Kind) (name : List ℕ) (k : EntryKind) (id : ObjectId) (rest : List ℕ) → IsName name → id_kind id ≡ kind → length (id_bytes id) ≡ id_len kind
-    → IsTreeEntry kind (tree_entry_bytes name k id ++ rest) (record { mode = mode_of_kind k; name = name; id = id }) rest
+entry_is : (kind : Kind) (name : List ℕ) (k : EntryKind) (id : ObjectId) (rest : List ℕ) → IsName name
+    → id_kind id ≡ kind → length (id_bytes id) ≡ id_len kind
+    → IsTreeEntry kind (tree_entry_bytes name k id ++ rest)
+    (record { mode = mode_of_kind k; name = name; id = id }) rest
 entry_is kind name k id rest h of_kind len = record {
   text = tree_mode_text k;
   id = id_bytes id;
-  parts = append_assoc (tree_mode_text k) (32 ∷ (name ++ 0 ∷ id_bytes id)) rest ∙ ap (λ (l : List ℕ). tree_mode_text k ++ 32 ∷ l) (append_assoc name (0 ∷ id_bytes id) rest);
+  parts = append_assoc (tree_mode_text k) (32 ∷ (name ++ 0 ∷ id_bytes id)) rest
+      ∙ ap (λ (l : List ℕ). tree_mode_text k ++ 32 ∷ l) (append_assoc name (0 ∷ id_bytes id) rest);
   is_mode = mode_is k;
   fits = mode_fits k;
   named = h.some;
@@ -93,7 +125,8 @@ entry_is kind name k id rest h of_kind len = record {
 -- what an item lists, if it stands in a tree
 abbrev pub listed_directory : Kind → List ℕ → List ℕ → List TreeEntry
 listed_directory kind name [] = []
-listed_directory kind name (b ∷ bytes) = record { mode = mode_of_kind kinds.Tree; name = name; id = tree_id kind (b ∷ bytes) } ∷ []
+listed_directory kind name (b ∷ bytes) =
+    record { mode = mode_of_kind kinds.Tree; name = name; id = tree_id kind (b ∷ bytes) } ∷ []
 
 abbrev pub listed_item : Kind → Item → List TreeEntry
 listed_item kind (leaf name k id true) = []
@@ -104,15 +137,22 @@ abbrev pub listed : Kind → Items → List TreeEntry
 listed kind no_more = []
 listed kind (next x xs) = listed_item kind x ++ listed kind xs
 
-item_is : (kind : Kind) (x : Item) (bytes : List ℕ) (es : List TreeEntry) → IsItem kind x → IsTreeObject kind bytes es → IsTreeObject kind (item_bytes kind x ++ bytes) (listed_item kind x ++ es)
+item_is : (kind : Kind) (x : Item) (bytes : List ℕ) (es : List TreeEntry) → IsItem kind x → IsTreeObject kind bytes es
+    → IsTreeObject kind (item_bytes kind x ++ bytes) (listed_item kind x ++ es)
 item_is kind (leaf name k id true) bytes es h rest = rest
 item_is kind (leaf name k id false) bytes es h rest = (bytes, entry_is kind name k id bytes h.0 h.1 h.2, rest)
 item_is kind (directory name items) bytes es h rest = by (content kind items)
   where
     by : (c : List ℕ) → IsTreeObject kind (directory_bytes kind name c ++ bytes) (listed_directory kind name c ++ es)
     by [] = rest
-    by (b ∷ c) = (bytes, entry_is kind name kinds.Tree (tree_id kind (b ∷ c)) bytes h.0 (tree_id_kind kind (b ∷ c)) (tree_id_len kind (b ∷ c)), rest)
+    by (b ∷ c) = (
+      bytes,
+      entry_is kind name kinds.Tree (tree_id kind (b ∷ c)) bytes h.0 (tree_id_kind kind (b ∷ c))
+          (tree_id_len kind (b ∷ c)),
+      rest,
+    )
 
-pub content_is : (kind : Kind) (items : Items) → AreItems kind items → IsTreeObject kind (content kind items) (listed kind items)
+pub content_is : (kind : Kind) (items : Items) → AreItems kind items
+    → IsTreeObject kind (content kind items) (listed kind items)
 content_is kind no_more h = refl
 content_is kind (next x xs) h = item_is kind x (content kind xs) (listed kind xs) h.0 (content_is kind xs h.1)

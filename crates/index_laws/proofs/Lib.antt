@@ -1,4 +1,5 @@
 mod Contents
+mod PathsApart
 mod ReadBack
 mod RecordFaults
 mod TreeNames

@@ -46,7 +46,8 @@ within_below : (f n : ℕ) → n ≤ f → n < 2 ^ digits_within f n
 within_below zero zero h = lit< tt
 within_below zero (suc n) h = absurd (omega arith)
 within_below (suc f) zero h = lit< tt
-within_below (suc f) (suc n) h = omega (arith, within_below f (suc n / 2) (omega arith), pow-succ' 2 (digits_within f (suc n / 2)))
+within_below (suc f) (suc n) h =
+    omega (arith, within_below f (suc n / 2) (omega arith), pow-succ' 2 (digits_within f (suc n / 2)))
 
 within_above : (f n : ℕ) → n ≤ f → 0 < n → 2 ^ digits_within f n ≤ 2 * n
 within_above f zero h some = absurd (omega arith)
@@ -54,7 +55,12 @@ within_above zero (suc n) h some = absurd (omega arith)
 within_above (suc zero) (suc zero) h some = lit≤ tt
 within_above (suc zero) (suc (suc n)) h some = absurd (omega arith)
 within_above (suc (suc f)) (suc zero) h some = lit≤ tt
-within_above (suc (suc f)) (suc (suc n)) h some = omega (arith, within_above (suc f) (suc (suc n) / 2) (omega arith) (omega arith), pow-succ' 2 (digits_within (suc f) (suc (suc n) / 2)))
+within_above (suc (suc f)) (suc (suc n)) h some =
+    omega (
+      arith,
+      within_above (suc f) (suc (suc n) / 2) (omega arith) (omega arith),
+      pow-succ' 2 (digits_within (suc f) (suc (suc n) / 2)),
+    )
 
 pub digits_below : (n : ℕ) → n < 2 ^ digits n
 unfolding digits

@@ -7,6 +7,7 @@ pub mod Insertion
 pub mod Lookup
 pub mod NamedLists
 pub mod OpenSpans
+pub mod OpenedFronts
 pub mod OrderedAnswers
 pub mod Outer
 pub mod Pairs
@@ -21,6 +22,7 @@ pub mod SharedNames
 pub mod SortedNames
 pub mod SpanOrder
 pub mod SpanTable
+pub mod Stepping
 pub mod TableFound
 pub mod TableMade
 pub mod TableSearch

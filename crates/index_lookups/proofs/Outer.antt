@@ -1,5 +1,6 @@
 -- The order in which a name stands behind all that goes on after it, and what paths that rise say of it.
-use Rattle.std.proofs.Common.{◌≡◌, ◌≢◌, ◌↔◌, ℕ, zero, suc, ◌<◌, ◌≤◌, Bool, true, false, List, [], ◌∷◌, length, take, refl, sym, ap, ◌∙◌, arith}
+use Rattle.std.proofs.Common.{◌≡◌, ◌≢◌, ◌↔◌, ℕ, zero, suc, ◌<◌, ◌≤◌, Bool, true, false, List, [], ◌∷◌, length, take}
+use Rattle.std.proofs.Common.{refl, sym, ap, ◌∙◌, arith}
 use Rattle.std.specs.Cmp.{IsTotalOrder}
 use Rattle.std.specs.Ordering.{nat_cmp, ordering_then}
 use Rattle.std.specs.declared.cmp.Ordering.{Ordering}
@@ -44,7 +45,8 @@ same_name true a b = (outer_same a b, λ e. ap (λ (x : List ℕ). outer_cmp x b
 same_name false a b = same_path a b
 
 -- the longer stands first, where the first bytes decide nothing
-pub outer_by_front : (xs ys : List ℕ) → outer_cmp xs ys ≡ ordering_then (common_cmp xs ys) (nat_cmp (length ys) (length xs))
+pub outer_by_front : (xs ys : List ℕ)
+    → outer_cmp xs ys ≡ ordering_then (common_cmp xs ys) (nat_cmp (length ys) (length xs))
 outer_by_front [] [] = refl
 outer_by_front [] (y ∷ ys) = sym (nat_above (suc (length ys)) 0 (omega arith))
 outer_by_front (x ∷ xs) [] = sym (nat_below 0 (suc (length xs)) (omega arith))
@@ -53,18 +55,32 @@ outer_by_front (x ∷ xs) (y ∷ ys) =
     ∙ sym (then_assoc (nat_cmp x y) (common_cmp xs ys) (nat_cmp (length ys) (length xs)))
     ∙ ap (ordering_then (ordering_then (nat_cmp x y) (common_cmp xs ys))) (sym (nat_suc (length ys) (length xs)))
 
-pub order_by_front : (outer : Bool) (xs ys : List ℕ) (front sizes o : Ordering) → front ≡ common_cmp xs ys → o ≡ ordering_then front sizes → (outer ≡ true → sizes ≡ nat_cmp (length ys) (length xs)) → (outer ≡ false → sizes ≡ nat_cmp (length xs) (length ys)) → o ≡ name_order outer xs ys
-order_by_front true xs ys front sizes o d e f g = e ∙ ap (λ (p : Ordering). ordering_then p sizes) d ∙ ap (ordering_then (common_cmp xs ys)) (f refl) ∙ sym (outer_by_front xs ys)
-order_by_front false xs ys front sizes o d e f g = e ∙ ap (λ (p : Ordering). ordering_then p sizes) d ∙ ap (ordering_then (common_cmp xs ys)) (g refl) ∙ sym (path_by_front xs ys)
+pub order_by_front : (outer : Bool) (xs ys : List ℕ) (front sizes o : Ordering) → front ≡ common_cmp xs ys
+    → o ≡ ordering_then front sizes → (outer ≡ true → sizes ≡ nat_cmp (length ys) (length xs))
+    → (outer ≡ false → sizes ≡ nat_cmp (length xs) (length ys)) → o ≡ name_order outer xs ys
+order_by_front true xs ys front sizes o d e f g = e ∙ ap (λ (p : Ordering). ordering_then p sizes) d
+    ∙ ap (ordering_then (common_cmp xs ys)) (f refl) ∙ sym (outer_by_front xs ys)
+order_by_front false xs ys front sizes o d e f g = e ∙ ap (λ (p : Ordering). ordering_then p sizes) d
+    ∙ ap (ordering_then (common_cmp xs ys)) (g refl) ∙ sym (path_by_front xs ys)
 
 -- ---- what the first bytes say
 
 -- one step: where x stands to y and y to z decide where x stands to z, or leave it to the rest
-step_stays : (x y z : ℕ) (o p : Ordering) (front path new : Ordering) → o ≡ nat_cmp x y → p ≡ nat_cmp y z → (front ≡ Less → path ≢ Greater → new ≡ Less) → ordering_then o front ≡ Less → ordering_then p path ≢ Greater → ordering_then (nat_cmp x z) new ≡ Less
-step_stays x y z Less Less front path new d e f g h = let r : nat_cmp x z ≡ Less = grind (arith, nat_tests, d, e) in rw r refl
-step_stays x y z Less Equal front path new d e f g h = let r : nat_cmp x z ≡ Less = grind (arith, nat_tests, d, e) in rw r refl
-step_stays x y z Equal Less front path new d e f g h = let r : nat_cmp x z ≡ Less = grind (arith, nat_tests, d, e) in rw r refl
-step_stays x y z Equal Equal front path new d e f g h = let r : nat_cmp x z ≡ Equal = grind (arith, nat_tests, d, e) in rw r (f g h)
+step_stays : (x y z : ℕ) (o p : Ordering) (front path new : Ordering) → o ≡ nat_cmp x y → p ≡ nat_cmp y z
+    → (front ≡ Less → path ≢ Greater → new ≡ Less) → ordering_then o front ≡ Less → ordering_then p path ≢ Greater
+    → ordering_then (nat_cmp x z) new ≡ Less
+step_stays x y z Less Less front path new d e f g h =
+    let r : nat_cmp x z ≡ Less = grind (arith, nat_tests, d, e) in
+    rw r refl
+step_stays x y z Less Equal front path new d e f g h =
+    let r : nat_cmp x z ≡ Less = grind (arith, nat_tests, d, e) in
+    rw r refl
+step_stays x y z Equal Less front path new d e f g h =
+    let r : nat_cmp x z ≡ Less = grind (arith, nat_tests, d, e) in
+    rw r refl
+step_stays x y z Equal Equal front path new d e f g h =
+    let r : nat_cmp x z ≡ Equal = grind (arith, nat_tests, d, e) in
+    rw r (f g h)
 step_stays x y z o Greater front path new d e f g h = absurd (h refl)
 step_stays x y z Greater p front path new d e f g h = cc
 
@@ -73,10 +89,12 @@ pub front_stays : (t P Q : List ℕ) → common_cmp t P ≡ Less → path_cmp P 
 front_stays [] P Q e h = cc
 front_stays (x ∷ t) [] Q e h = cc
 front_stays (x ∷ t) (y ∷ P) [] e h = absurd (h refl)
-front_stays (x ∷ t) (y ∷ P) (z ∷ Q) e h = step_stays x y z (nat_cmp x y) (nat_cmp y z) (common_cmp t P) (path_cmp P Q) (common_cmp t Q) refl refl (front_stays t P Q) e h
+front_stays (x ∷ t) (y ∷ P) (z ∷ Q) e h = step_stays x y z (nat_cmp x y) (nat_cmp y z) (common_cmp t P) (path_cmp P Q)
+    (common_cmp t Q) refl refl (front_stays t P Q) e h
 
 -- a front of a path that reaches behind what the next path shares with it stands below that path
-pub front_left : (t P Q : List ℕ) → t ≡ take (length t) P → length t ≤ length P → shared_len P Q < length t → path_cmp P Q ≢ Greater → common_cmp t Q ≡ Less
+pub front_left : (t P Q : List ℕ) → t ≡ take (length t) P → length t ≤ length P → shared_len P Q < length t
+    → path_cmp P Q ≢ Greater → common_cmp t Q ≡ Less
 front_left [] P Q e w l h = absurd (omega arith)
 front_left (x ∷ t) [] Q e w l h = absurd (omega arith)
 front_left (x ∷ t) (y ∷ P) [] e w l h = absurd (h refl)
@@ -88,9 +106,13 @@ front_left (x ∷ t) (y ∷ P) (z ∷ Q) e w l h = by (front_left t P Q) (y == z
     tails : t ≡ take (length t) P
     tails = cc
 
-    by : (t ≡ take (length t) P → length t ≤ length P → shared_len P Q < length t → path_cmp P Q ≢ Greater → common_cmp t Q ≡ Less) → (b : Bool) → (y == z) ≡ b → (o : Ordering) → nat_cmp y z ≡ o → common_cmp (x ∷ t) (z ∷ Q) ≡ Less
+    by : (t ≡ take (length t) P → length t ≤ length P → shared_len P Q < length t → path_cmp P Q ≢ Greater
+        → common_cmp t Q ≡ Less) → (b : Bool) → (y == z) ≡ b → (o : Ordering) → nat_cmp y z ≡ o
+        → common_cmp (x ∷ t) (z ∷ Q) ≡ Less
     by later true d o f =
-        let shorter : shared_len P Q < length t = let k : shared_len (y ∷ P) (z ∷ Q) ≡ suc (shared_len P Q) = rw d refl in omega arith in
+        let shorter : shared_len P Q < length t = let k : shared_len (y ∷ P) (z ∷ Q) ≡ suc (shared_len P Q) =
+        rw d refl in
+        omega arith in
         let level : nat_cmp y z ≡ Equal = grind (arith, nat_tests, d) in
         let same : nat_cmp x z ≡ Equal = ap (λ (n : ℕ). nat_cmp n z) heads ∙ level in
         rw same (later tails (omega arith) shorter (λ g. h (rw level g)))
@@ -105,7 +127,8 @@ outer_of_front (x ∷ t) [] m e = cc
 outer_of_front (x ∷ t) (y ∷ P) zero e = refl
 outer_of_front (x ∷ t) (y ∷ P) (suc m) e = by (outer_of_front t P m) (nat_cmp x y) refl e
   where
-    by : (common_cmp t P ≡ Less → outer_cmp t (take m P) ≡ Less) → (o : Ordering) → nat_cmp x y ≡ o → ordering_then o (common_cmp t P) ≡ Less → ordering_then (nat_cmp x y) (outer_cmp t (take m P)) ≡ Less
+    by : (common_cmp t P ≡ Less → outer_cmp t (take m P) ≡ Less) → (o : Ordering) → nat_cmp x y ≡ o
+        → ordering_then o (common_cmp t P) ≡ Less → ordering_then (nat_cmp x y) (outer_cmp t (take m P)) ≡ Less
     by later Less f g = rw f refl
     by later Equal f g = rw f (later g)
     by later Greater f g = cc
@@ -114,7 +137,10 @@ pub outer_longer : (P : List ℕ) (m n : ℕ) → m < n → n ≤ length P → o
 outer_longer P m zero l w = absurd (omega arith)
 outer_longer [] m (suc n) l w = absurd (omega arith)
 outer_longer (y ∷ P) zero (suc n) l w = refl
-outer_longer (y ∷ P) (suc m) (suc n) l w = let same : nat_cmp y y ≡ Equal = grind (arith, nat_tests) in rw same (outer_longer P m n (omega arith) (omega arith))
+outer_longer (y ∷ P) (suc m) (suc n) l w =
+    let same : nat_cmp y y ≡ Equal = grind (arith, nat_tests) in
+    rw same (outer_longer P m n (omega arith) (omega arith))
 
-pub sizes_folded : (ignore_case : Bool) (a b : List ℕ) → nat_cmp (length a) (length b) ≡ nat_cmp (length (folded ignore_case a)) (length (folded ignore_case b))
+pub sizes_folded : (ignore_case : Bool) (a b : List ℕ)
+    → nat_cmp (length a) (length b) ≡ nat_cmp (length (folded ignore_case a)) (length (folded ignore_case b))
 sizes_folded ignore_case a b = rw (folded_len ignore_case a, folded_len ignore_case b) refl

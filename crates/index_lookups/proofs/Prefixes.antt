@@ -12,10 +12,12 @@ then_assoc Equal b c = refl
 then_assoc Greater b c = refl
 
 -- a prefix in two pieces is compared piece by piece
-pub prefix_in_pieces : (path prefix tail : List ℕ) → prefix_cmp (prefix ++ tail) path ≡ ordering_then (path_cmp (take (length prefix) path) prefix) (path_cmp (take (length tail) (drop (length prefix) path)) tail)
+pub prefix_in_pieces : (path prefix tail : List ℕ) → prefix_cmp (prefix ++ tail) path ≡ ordering_then
+    (path_cmp (take (length prefix) path) prefix) (path_cmp (take (length tail) (drop (length prefix) path)) tail)
 prefix_in_pieces path [] tail = refl
 prefix_in_pieces [] (a ∷ prefix) tail = refl
-prefix_in_pieces (b ∷ path) (a ∷ prefix) tail = ap (ordering_then (nat_cmp b a)) (prefix_in_pieces path prefix tail) ∙ then_assoc (nat_cmp b a) _ _
+prefix_in_pieces (b ∷ path) (a ∷ prefix) tail =
+    ap (ordering_then (nat_cmp b a)) (prefix_in_pieces path prefix tail) ∙ then_assoc (nat_cmp b a) _ _
 
 -- ---- what is below a prefix is so by its front
 
@@ -42,4 +44,5 @@ prefixes_rise zero x y h e = cc
 prefixes_rise (suc n) [] [] h e = h e
 prefixes_rise (suc n) [] (b ∷ y) h e = cc
 prefixes_rise (suc n) (a ∷ x) [] h e = h e
-prefixes_rise (suc n) (a ∷ x) (b ∷ y) h e = then_up (nat_cmp a b) (path_cmp x y) (path_cmp (take n x) (take n y)) h (prefixes_rise n x y) e
+prefixes_rise (suc n) (a ∷ x) (b ∷ y) h e =
+    then_up (nat_cmp a b) (path_cmp x y) (path_cmp (take n x) (take n y)) h (prefixes_rise n x y) e

@@ -1,5 +1,6 @@
 -- Runs of a row of answers, as runs of the records behind it.
-use Rattle.std.proofs.Common.{◌≡◌, ◌≢◌, ℕ, ◌<◌, ◌≤◌, ◌⊎◌, inl, inr, Bool, true, false, List, [], ◌∷◌, ◌++◌, length, get_or, take, map, All, Option, Some, None, refl, sym, ap, ◌∙◌, subst, arith}
+use Rattle.std.proofs.Common.{◌≡◌, ◌≢◌, ℕ, ◌<◌, ◌≤◌, ◌⊎◌, inl, inr, Bool, true, false, List, [], ◌∷◌, ◌++◌, length}
+use Rattle.std.proofs.Common.{get_or, take, map, All, Option, Some, None, refl, sym, ap, ◌∙◌, subst, arith}
 use Rattle.std.proofs.Math.ListN.{get_or-map}
 use Rattle.std.specs.List.{AllPairs, AllWithin}
 use Rattle.std.specs.Ordering.{is_lt, is_le, is_eq}
@@ -21,7 +22,8 @@ use Rattle.index_lookups.proofs.Prefixes.{prefixes_rise, below_by_prefix}
 
 -- ---- what holds of a row holds of the list behind it
 
-pub pairs_map : {X Y : Type 0} (R : Y → Y → Type 0) (f : X → Y) (xs : List X) → AllPairs (λ x y. R (f x) (f y)) xs → AllPairs R (map f xs)
+pub pairs_map : {X Y : Type 0} (R : Y → Y → Type 0) (f : X → Y) (xs : List X) → AllPairs (λ x y. R (f x) (f y)) xs
+    → AllPairs R (map f xs)
 pairs_map R f [] h i j d before within = absurd (omega arith)
 pairs_map {Y} R f (x ∷ xs) h i j d before within =
     let n : length (map f (x ∷ xs)) ≡ length (x ∷ xs) = length-map (x ∷ xs) f in
@@ -31,8 +33,11 @@ pairs_map {Y} R f (x ∷ xs) h i j d before within =
     let Q : Y → Type 0 = λ v. R (f (get_or (x ∷ xs) i x)) v in
     subst P (sym a) (subst Q (sym b) (h i j x before (omega arith)))
 
-pub within_map : {X Y : Type 0} (p : Y → Bool) (f : X → Y) (test : X → Bool) (b : Bool) (xs : List X) (from to : ℕ) → ((x : X) → p (f x) ≡ test x) → AllWithin (λ y. p y ≡ b) (map f xs) from to → AllWithin (λ x. test x ≡ b) xs from to
-within_map p f test b xs from to same h k d low high = sym (same (get_or xs k d)) ∙ ap p (sym (get_or-map f xs k d)) ∙ h k (f d) low high
+pub within_map : {X Y : Type 0} (p : Y → Bool) (f : X → Y) (test : X → Bool) (b : Bool) (xs : List X) (from to : ℕ)
+    → ((x : X) → p (f x) ≡ test x) → AllWithin (λ y. p y ≡ b) (map f xs) from to
+    → AllWithin (λ x. test x ≡ b) xs from to
+within_map p f test b xs from to same h k d low high =
+    sym (same (get_or xs k d)) ∙ ap p (sym (get_or-map f xs k d)) ∙ h k (f d) low high
 
 -- ---- a list that is split by an order gives a rising row
 
@@ -42,13 +47,17 @@ rising_of cmp xs split = record {
   above = pairs_map (λ o q. o ≡ Greater → q ≡ Greater) cmp xs split.above;
 }
 
-pub rising_paths : (path : List ℕ) (rs : List Record) → IsOrderedByPath rs → IsRising (map (λ r. path_cmp r.path path) rs)
+pub rising_paths : (path : List ℕ) (rs : List Record) → IsOrderedByPath rs
+    → IsRising (map (λ r. path_cmp r.path path) rs)
 rising_paths path rs o = rising_of (λ (r : Record). path_cmp r.path path) rs (split_by_path path rs o)
 
-pub split_prefixes : (prefix : List ℕ) (rs : List Record) → IsOrderedByPath rs → IsSplitBy (λ r. prefix_cmp prefix r.path) rs
-split_prefixes prefix rs o = split_by paths_total (λ (r : Record). take (length prefix) r.path) prefix rs (λ i j d before within. prefixes_rise (length prefix) _ _ (o.never_falls i j d before within))
+pub split_prefixes : (prefix : List ℕ) (rs : List Record) → IsOrderedByPath rs
+    → IsSplitBy (λ r. prefix_cmp prefix r.path) rs
+split_prefixes prefix rs o = split_by paths_total (λ (r : Record). take (length prefix) r.path) prefix rs
+    (λ i j d before within. prefixes_rise (length prefix) _ _ (o.never_falls i j d before within))
 
-pub rising_prefixes : (prefix : List ℕ) (rs : List Record) → IsOrderedByPath rs → IsRising (map (λ r. prefix_cmp prefix r.path) rs)
+pub rising_prefixes : (prefix : List ℕ) (rs : List Record) → IsOrderedByPath rs
+    → IsRising (map (λ r. prefix_cmp prefix r.path) rs)
 rising_prefixes prefix rs o = rising_of (λ (r : Record). prefix_cmp prefix r.path) rs (split_prefixes prefix rs o)
 
 -- ---- the run between the two ends
@@ -74,7 +83,8 @@ module _ (os : List Ordering) (low high : ℕ) (p : IsPartedAt false os low) (q 
     in_order = omega arith;
     in_range = q.in_range;
     before = λ k d l u. lt_not_eq (get_or os k d) (p.before k d l u);
-    within = λ k d l u. between (get_or os k d) (p.behind k d l (omega (arith, q.in_range))) (q.before k d (omega arith) u);
+    within =
+        λ k d l u. between (get_or os k d) (p.behind k d l (omega (arith, q.in_range))) (q.before k d (omega arith) u);
     behind = λ k d l u. gt_not_eq (get_or os k d) (q.behind k d l u);
   }
 
@@ -87,18 +97,21 @@ module _ (os : List Ordering) (low high : ℕ) (p : IsPartedAt false os low) (q 
 
 -- ---- and of the list behind the row
 
-module _ {X : Type 0} (cmp : X → Ordering) (test : X → Bool) (same : (x : X) → is_eq (cmp x) ≡ test x) (xs : List X) where
+module _ {X : Type 0} (cmp : X → Ordering) (test : X → Bool) (same : (x : X) → is_eq (cmp x) ≡ test x)
+    (xs : List X) where
   pub run_map : (start end : ℕ) → IsRun is_eq (map cmp xs) start end → IsRun test xs start end
   run_map start end h = record {
     in_order = h.in_order;
     in_range = omega (arith, h.in_range, length-map xs cmp);
     before = within_map is_eq cmp test false xs 0 start same h.before;
     within = within_map is_eq cmp test true xs start end same h.within;
-    behind = λ k d l u. within_map is_eq cmp test false xs end (length (map cmp xs)) same h.behind k d l (omega (arith, length-map xs cmp));
+    behind = λ k d l u. within_map is_eq cmp test false xs end (length (map cmp xs)) same h.behind k d l
+        (omega (arith, length-map xs cmp));
   }
 
   pub range_map : (r : Option (Range ℕ)) → IsRange is_eq (map cmp xs) r → IsRange test xs r
-  range_map None h = λ k d within. within_map is_eq cmp test false xs 0 (length (map cmp xs)) same (λ i e l u. h i e u) k d (omega arith) (omega (arith, length-map xs cmp))
+  range_map None h = λ k d within. within_map is_eq cmp test false xs 0 (length (map cmp xs)) same
+      (λ i e l u. h i e u) k d (omega arith) (omega (arith, length-map xs cmp))
   range_map (Some p) h = (h.0, run_map p.start p.end h.1)
 
 -- ---- the tests that equal answers are
@@ -107,20 +120,27 @@ pub at_is : (path : List ℕ) (r : Record) → is_eq (path_cmp r.path path) ≡ 
 at_is path r = sym (texts_ties r.path path)
 
 pub begins_is : (prefix : List ℕ) (r : Record) → is_eq (prefix_cmp prefix r.path) ≡ begins_with prefix r
-begins_is prefix r = sym (texts_ties (take (length prefix) r.path) prefix) ∙ nat_list_eq_equiv.symm (take (length prefix) r.path) prefix
+begins_is prefix r =
+    sym (texts_ties (take (length prefix) r.path) prefix) ∙ nat_list_eq_equiv.symm (take (length prefix) r.path) prefix
 
 -- ---- how many are in front
 
-pub prefix_count : (prefix : List ℕ) (rs : List Record) (i : ℕ) → IsPartedAt false (map (λ r. prefix_cmp prefix r.path) rs) i → i ≡ insertion_of_path prefix rs
+pub prefix_count : (prefix : List ℕ) (rs : List Record) (i : ℕ)
+    → IsPartedAt false (map (λ r. prefix_cmp prefix r.path) rs) i → i ≡ insertion_of_path prefix rs
 prefix_count prefix rs i h =
     let f : Record → Ordering = λ r. prefix_cmp prefix r.path in
     let n : length (map f rs) ≡ length rs = length-map rs f in
     sym (count_by_is (λ (r : Record). is_lt (path_cmp r.path prefix)) rs i (omega (arith, h.in_range))
-    (within_map is_lt f (λ r. is_lt (path_cmp r.path prefix)) true rs 0 i (λ r. sym (below_by_prefix r.path prefix)) h.before)
-    (λ k d l u. within_map is_lt f (λ r. is_lt (path_cmp r.path prefix)) false rs i (length (map f rs)) (λ r. sym (below_by_prefix r.path prefix)) h.behind k d l (omega arith)))
+    (within_map is_lt f (λ r. is_lt (path_cmp r.path prefix)) true rs 0 i
+    (λ r. sym (below_by_prefix r.path prefix)) h.before)
+    (λ k d l u. within_map is_lt f (λ r. is_lt (path_cmp r.path prefix)) false rs i (length (map f rs))
+    (λ r. sym (below_by_prefix r.path prefix)) h.behind k d l (omega arith)))
 
 -- ---- a prefix with nothing behind it
 
-pub prefix_range : (prefix : List ℕ) (rs : List Record) (r : Option (Range ℕ)) → length prefix ≢ 0 → IsRange (begins_with (prefix ++ [])) rs r → IsPrefixRange prefix rs r
+pub prefix_range : (prefix : List ℕ) (rs : List Record) (r : Option (Range ℕ)) → length prefix ≢ 0
+    → IsRange (begins_with (prefix ++ [])) rs r → IsPrefixRange prefix rs r
 prefix_range [] rs r some h = absurd (some refl)
-prefix_range (b ∷ bs) rs r some h = let P : List ℕ → Type 0 = λ p. IsRange (begins_with p) rs r in subst P (append-nil (b ∷ bs)) h
+prefix_range (b ∷ bs) rs r some h =
+    let P : List ℕ → Type 0 = λ p. IsRange (begins_with p) rs r in
+    subst P (append-nil (b ∷ bs)) h

@@ -1,6 +1,7 @@
 -- Words of eight bytes: what is done to a word is done to each of its bytes, and words stand to one another as their
 -- bytes do.
-use Rattle.std.proofs.Common.{◌≡◌, ℕ, zero, suc, ◌+◌, ◌-◌, ◌*◌, ◌/◌, ◌%◌, ◌^◌, ◌<◌, ◌≤◌, ◌⊎◌, inl, inr, Bool, true, false, List, [], ◌∷◌, ◌++◌, length, length-append, map, refl, sym, ap, ◌∙◌, arith}
+use Rattle.std.proofs.Common.{◌≡◌, ℕ, zero, suc, ◌+◌, ◌-◌, ◌*◌, ◌/◌, ◌%◌, ◌^◌, ◌<◌, ◌≤◌, ◌⊎◌, inl, inr, Bool, true}
+use Rattle.std.proofs.Common.{false, List, [], ◌∷◌, ◌++◌, length, length-append, map, refl, sym, ap, ◌∙◌, arith}
 use Rattle.std.specs.Prelude.{bit_and, bit_or, ◌&&◌, ◌==◌}
 use Rattle.std.specs.Char.{to_ascii_lowercase}
 use Rattle.std.specs.Int.{to_be_bytes, w64}
@@ -44,7 +45,8 @@ module _ (f : ℕ → ℕ) (small : (b : ℕ) → b < 256 → f b < 256) where
       let y : ℕ = f (n % 256) in
       let high : (x * 256 + y) / 256 ≡ x = omega (arith, small (n % 256) (omega arith)) in
       let low : (x * 256 + y) % 256 ≡ y = omega (arith, small (n % 256) (omega arith)) in
-      rw (high, low) (ap (λ (bs : List ℕ). bs ++ y ∷ []) (bytes_each k (n / 256)) ∙ sym (map-append f (bytes_of k (n / 256)) (n % 256 ∷ [])))
+      rw (high, low) (ap (λ (bs : List ℕ). bs ++ y ∷ []) (bytes_each k (n / 256))
+      ∙ sym (map-append f (bytes_of k (n / 256)) (n % 256 ∷ [])))
 
 each_same : (f g : ℕ → ℕ) → ((b : ℕ) → b < 256 → f b ≡ g b) → (k n : ℕ) → each_byte k f n ≡ each_byte k g n
 unfolding each_byte
@@ -71,17 +73,20 @@ module _ (f g : ℕ → ℕ) (f_small : (b : ℕ) → b < 256 → f b < 256) (g_
   unfolding each_byte
   each_and zero n = refl
   each_and (suc k) n =
-      and_block 8 (each_byte k f (n / 256)) (each_byte k g (n / 256)) (f (n % 256)) (g (n % 256)) (f_small (n % 256) (omega arith)) (g_small (n % 256) (omega arith))
+      and_block 8 (each_byte k f (n / 256)) (each_byte k g (n / 256)) (f (n % 256)) (g (n % 256))
+      (f_small (n % 256) (omega arith)) (g_small (n % 256) (omega arith))
       ∙ ap (λ (m : ℕ). m * 256 + bit_and (f (n % 256)) (g (n % 256))) (each_and k (n / 256))
 
   each_or : (k n : ℕ) → bit_or (each_byte k f n) (each_byte k g n) ≡ each_byte k (λ b. bit_or (f b) (g b)) n
   unfolding each_byte
   each_or zero n = refl
   each_or (suc k) n =
-      or_block 8 (each_byte k f (n / 256)) (each_byte k g (n / 256)) (f (n % 256)) (g (n % 256)) (f_small (n % 256) (omega arith)) (g_small (n % 256) (omega arith))
+      or_block 8 (each_byte k f (n / 256)) (each_byte k g (n / 256)) (f (n % 256)) (g (n % 256))
+      (f_small (n % 256) (omega arith)) (g_small (n % 256) (omega arith))
       ∙ ap (λ (m : ℕ). m * 256 + bit_or (f (n % 256)) (g (n % 256))) (each_or k (n / 256))
 
-  and_is : (n x y : ℕ) → x ≡ each_byte 8 f n → y ≡ each_byte 8 g n → bit_and x y ≡ each_byte 8 (λ b. bit_and (f b) (g b)) n
+  and_is : (n x y : ℕ) → x ≡ each_byte 8 f n → y ≡ each_byte 8 g n
+      → bit_and x y ≡ each_byte 8 (λ b. bit_and (f b) (g b)) n
   and_is n x y d e = rw (d, e) (each_and 8 n)
 
   or_is : (n x y : ℕ) → x ≡ each_byte 8 f n → y ≡ each_byte 8 g n → bit_or x y ≡ each_byte 8 (λ b. bit_or (f b) (g b)) n
@@ -136,7 +141,9 @@ passes_at (suc n) p e k l = by (passes_at n p (both _ _ e).1 k) (cases_lt k n)
 
 byte_lowered : (b : ℕ) → b < 256 → bit_or b (upper b / 4) ≡ to_ascii_lowercase b
 unfolding passes_below
-byte_lowered b l = let told = passes_at 256 (λ b. bit_or b (upper b / 4) == to_ascii_lowercase b) refl b l in grind (arith, nat_tests, told)
+byte_lowered b l =
+    let told = passes_at 256 (λ b. bit_or b (upper b / 4) == to_ascii_lowercase b) refl b l in
+    grind (arith, nat_tests, told)
 
 -- ---- the bytes of a word
 
@@ -146,38 +153,57 @@ seven b = bit_and b 0x7f
 seven_small : (b : ℕ) → bit_and b 0x7f ≤ 0x7f
 seven_small b = and_le_r b 0x7f
 
-not_is : (f : ℕ → ℕ) → ((b : ℕ) → b < 256 → f b < 256) → (n x : ℕ) → x ≡ each_byte 8 f n → 0xffffffffffffffff - x ≡ each_byte 8 (λ b. 255 - f b) n
+not_is : (f : ℕ → ℕ) → ((b : ℕ) → b < 256 → f b < 256) → (n x : ℕ) → x ≡ each_byte 8 f n
+    → 0xffffffffffffffff - x ≡ each_byte 8 (λ b. 255 - f b) n
 not_is f small n x e =
-    let whole : each_byte 8 (λ b. f b + (255 - f b)) n ≡ each_byte 8 (λ b. 255) n = each_same (λ b. f b + (255 - f b)) (λ b. 255) (λ b l. omega (arith, small b l)) 8 n in
+    let whole : each_byte 8 (λ b. f b + (255 - f b)) n ≡ each_byte 8 (λ b. 255) n =
+    each_same (λ b. f b + (255 - f b)) (λ b. 255) (λ b l. omega (arith, small b l)) 8 n in
     omega (arith, each_plus f (λ b. 255 - f b) 8 n, whole, all_bits n, e)
 
 quarter : (b : ℕ) → upper b ≡ 4 * (upper b / 4)
 quarter b = omega (arith, and_pow (bit_and (bit_and b 0x7f + 0x3f) (255 - bit_or (bit_and b 0x7f + 0x25) b)) 7)
 
 quarter_is : (n x : ℕ) → x ≡ each_byte 8 upper n → x / 4 ≡ each_byte 8 (λ b. upper b / 4) n
-quarter_is n x e = omega (arith, e, each_same upper (λ b. 4 * (upper b / 4)) (λ b l. quarter b) 8 n, each_four (λ b. upper b / 4) 8 n)
+quarter_is n x e =
+    omega (arith, e, each_same upper (λ b. 4 * (upper b / 4)) (λ b l. quarter b) 8 n, each_four (λ b. upper b / 4) 8 n)
 
 lowered_word : (w : ℕ) → w < 2 ^ 64
-    → bit_or w (bit_and (bit_and (bit_and w 0x7f7f7f7f7f7f7f7f + 0x3f3f3f3f3f3f3f3f) (0xffffffffffffffff - bit_or (bit_and w 0x7f7f7f7f7f7f7f7f + 0x2525252525252525) w)) 0x8080808080808080 / 4) ≡ each_byte 8 to_ascii_lowercase w
+    → bit_or w (bit_and (bit_and (bit_and w 0x7f7f7f7f7f7f7f7f + 0x3f3f3f3f3f3f3f3f)
+    (0xffffffffffffffff - bit_or (bit_and w 0x7f7f7f7f7f7f7f7f + 0x2525252525252525) w)) 0x8080808080808080 / 4)
+    ≡ each_byte 8 to_ascii_lowercase w
 lowered_word w l =
     let itself : w ≡ each_byte 8 (λ b. b) w = sym (each_itself 8 w l) in
-    let low : bit_and w 0x7f7f7f7f7f7f7f7f ≡ each_byte 8 seven w = and_is (λ b. b) (λ b. 0x7f) (λ b s. s) (λ b s. omega arith) w w 0x7f7f7f7f7f7f7f7f itself (sym (seven_bits w)) in
-    let from_a = plus_is seven (λ b. 0x3f) w (bit_and w 0x7f7f7f7f7f7f7f7f) 0x3f3f3f3f3f3f3f3f low (sym (from_a_each w)) in
-    let behind_z = plus_is seven (λ b. 0x25) w (bit_and w 0x7f7f7f7f7f7f7f7f) 0x2525252525252525 low (sym (behind_z_each w)) in
-    let high = or_is (λ b. seven b + 0x25) (λ b. b) (λ b s. omega (arith, seven_small b)) (λ b s. s) w (bit_and w 0x7f7f7f7f7f7f7f7f + 0x2525252525252525) w behind_z itself in
-    let other = not_is (λ b. bit_or (seven b + 0x25) b) (λ b s. or_lt 8 (seven b + 0x25) b (omega (arith, seven_small b)) s) w (bit_or (bit_and w 0x7f7f7f7f7f7f7f7f + 0x2525252525252525) w) high in
-    let letters = and_is (λ b. seven b + 0x3f) (λ b. 255 - bit_or (seven b + 0x25) b) (λ b s. omega (arith, seven_small b)) (λ b s. omega arith) w (bit_and w 0x7f7f7f7f7f7f7f7f + 0x3f3f3f3f3f3f3f3f) (0xffffffffffffffff - bit_or (bit_and w 0x7f7f7f7f7f7f7f7f + 0x2525252525252525) w) from_a other in
-    let bits = and_is (λ b. bit_and (seven b + 0x3f) (255 - bit_or (seven b + 0x25) b)) (λ b. 0x80) (λ b s. omega (arith, and_le_r (seven b + 0x3f) (255 - bit_or (seven b + 0x25) b))) (λ b s. omega arith) w _ 0x8080808080808080 letters (sym (high_bits w)) in
+    let low : bit_and w 0x7f7f7f7f7f7f7f7f ≡ each_byte 8 seven w = and_is (λ b. b) (λ b. 0x7f) (λ b s. s)
+    (λ b s. omega arith) w w 0x7f7f7f7f7f7f7f7f itself (sym (seven_bits w)) in
+    let from_a =
+    plus_is seven (λ b. 0x3f) w (bit_and w 0x7f7f7f7f7f7f7f7f) 0x3f3f3f3f3f3f3f3f low (sym (from_a_each w)) in
+    let behind_z =
+    plus_is seven (λ b. 0x25) w (bit_and w 0x7f7f7f7f7f7f7f7f) 0x2525252525252525 low (sym (behind_z_each w)) in
+    let high = or_is (λ b. seven b + 0x25) (λ b. b) (λ b s. omega (arith, seven_small b)) (λ b s. s) w
+    (bit_and w 0x7f7f7f7f7f7f7f7f + 0x2525252525252525) w behind_z itself in
+    let other =
+    not_is (λ b. bit_or (seven b + 0x25) b) (λ b s. or_lt 8 (seven b + 0x25) b (omega (arith, seven_small b)) s) w
+    (bit_or (bit_and w 0x7f7f7f7f7f7f7f7f + 0x2525252525252525) w) high in
+    let letters = and_is (λ b. seven b + 0x3f) (λ b. 255 - bit_or (seven b + 0x25) b)
+    (λ b s. omega (arith, seven_small b)) (λ b s. omega arith) w (bit_and w 0x7f7f7f7f7f7f7f7f + 0x3f3f3f3f3f3f3f3f)
+    (0xffffffffffffffff - bit_or (bit_and w 0x7f7f7f7f7f7f7f7f + 0x2525252525252525) w) from_a other in
+    let bits = and_is (λ b. bit_and (seven b + 0x3f) (255 - bit_or (seven b + 0x25) b)) (λ b. 0x80)
+    (λ b s. omega (arith, and_le_r (seven b + 0x3f) (255 - bit_or (seven b + 0x25) b)))
+    (λ b s. omega arith) w _ 0x8080808080808080 letters (sym (high_bits w)) in
     let quarters = quarter_is w _ bits in
-    or_is (λ b. b) (λ b. upper b / 4) (λ b s. s) (λ b s. omega (arith, and_le_r (bit_and (seven b + 0x3f) (255 - bit_or (seven b + 0x25) b)) 0x80)) w w _ itself quarters
+    or_is (λ b. b) (λ b. upper b / 4) (λ b s. s) (λ b s.
+    omega (arith, and_le_r (bit_and (seven b + 0x3f) (255 - bit_or (seven b + 0x25) b)) 0x80)) w w _ itself quarters
     ∙ each_same (λ b. bit_or b (upper b / 4)) to_ascii_lowercase byte_lowered 8 w
 
 lower_small : (b : ℕ) → b < 256 → to_ascii_lowercase b < 256
 lower_small b l = grind (arith, nat_tests)
 
 pub lowered : (w : ℕ) → w < 2 ^ 64
-    → to_be_bytes w64 (bit_or w (bit_and (bit_and (bit_and w 0x7f7f7f7f7f7f7f7f + 0x3f3f3f3f3f3f3f3f) (0xffffffffffffffff - bit_or (bit_and w 0x7f7f7f7f7f7f7f7f + 0x2525252525252525) w)) 0x8080808080808080 / 4)) ≡ map to_ascii_lowercase (to_be_bytes w64 w)
-lowered w l = ap (to_be_bytes w64) (lowered_word w l) ∙ be_bytes_are (each_byte 8 to_ascii_lowercase w) ∙ bytes_each to_ascii_lowercase lower_small 8 w ∙ ap (map to_ascii_lowercase) (sym (be_bytes_are w))
+    → to_be_bytes w64 (bit_or w (bit_and (bit_and (bit_and w 0x7f7f7f7f7f7f7f7f + 0x3f3f3f3f3f3f3f3f)
+    (0xffffffffffffffff - bit_or (bit_and w 0x7f7f7f7f7f7f7f7f + 0x2525252525252525) w)) 0x8080808080808080 / 4))
+    ≡ map to_ascii_lowercase (to_be_bytes w64 w)
+lowered w l = ap (to_be_bytes w64) (lowered_word w l) ∙ be_bytes_are (each_byte 8 to_ascii_lowercase w)
+    ∙ bytes_each to_ascii_lowercase lower_small 8 w ∙ ap (map to_ascii_lowercase) (sym (be_bytes_are w))
 
 -- ---- order
 
@@ -194,11 +220,13 @@ then_assoc Less p q = refl
 then_assoc Equal p q = refl
 then_assoc Greater p q = refl
 
-snoc_cmp : (xs ys : List ℕ) (r s : ℕ) → length xs ≡ length ys → path_cmp (xs ++ r ∷ []) (ys ++ s ∷ []) ≡ ordering_then (path_cmp xs ys) (nat_cmp r s)
+snoc_cmp : (xs ys : List ℕ) (r s : ℕ) → length xs ≡ length ys
+    → path_cmp (xs ++ r ∷ []) (ys ++ s ∷ []) ≡ ordering_then (path_cmp xs ys) (nat_cmp r s)
 snoc_cmp [] [] r s e = then_equal (nat_cmp r s)
 snoc_cmp [] (y ∷ ys) r s e = absurd (omega arith)
 snoc_cmp (x ∷ xs) [] r s e = absurd (omega arith)
-snoc_cmp (x ∷ xs) (y ∷ ys) r s e = ap (ordering_then (nat_cmp x y)) (snoc_cmp xs ys r s (omega arith)) ∙ sym (then_assoc (nat_cmp x y) (path_cmp xs ys) (nat_cmp r s))
+snoc_cmp (x ∷ xs) (y ∷ ys) r s e = ap (ordering_then (nat_cmp x y)) (snoc_cmp xs ys r s (omega arith))
+    ∙ sym (then_assoc (nat_cmp x y) (path_cmp xs ys) (nat_cmp r s))
 
 bytes_len : (k n : ℕ) → length (bytes_of k n) ≡ k
 unfolding bytes_of
@@ -209,9 +237,12 @@ bytes_cmp : (k m n : ℕ) → m < 256 ^ k → n < 256 ^ k → path_cmp (bytes_of
 unfolding bytes_of
 bytes_cmp zero m n l u = let d : m ≡ 0 = omega arith in let e : n ≡ 0 = omega arith in rw (d, e) refl
 bytes_cmp (suc k) m n l u =
-    snoc_cmp (bytes_of k (m / 256)) (bytes_of k (n / 256)) (m % 256) (n % 256) (bytes_len k (m / 256) ∙ sym (bytes_len k (n / 256)))
-    ∙ ap (λ (o : Ordering). ordering_then o (nat_cmp (m % 256) (n % 256))) (bytes_cmp k (m / 256) (n / 256) (omega arith) (omega arith))
+    snoc_cmp (bytes_of k (m / 256)) (bytes_of k (n / 256)) (m % 256) (n % 256)
+    (bytes_len k (m / 256) ∙ sym (bytes_len k (n / 256)))
+    ∙ ap (λ (o : Ordering). ordering_then o (nat_cmp (m % 256) (n % 256)))
+    (bytes_cmp k (m / 256) (n / 256) (omega arith) (omega arith))
     ∙ sym (digits_cmp m n)
 
 pub words_cmp : (m n : ℕ) → m < 2 ^ 64 → n < 2 ^ 64 → nat_cmp m n ≡ path_cmp (to_be_bytes w64 m) (to_be_bytes w64 n)
-words_cmp m n l u = sym (bytes_cmp 8 m n l u) ∙ ap (λ (xs : List ℕ). path_cmp xs (bytes_of 8 n)) (sym (be_bytes_are m)) ∙ ap (path_cmp (to_be_bytes w64 m)) (sym (be_bytes_are n))
+words_cmp m n l u = sym (bytes_cmp 8 m n l u) ∙ ap (λ (xs : List ℕ). path_cmp xs (bytes_of 8 n)) (sym (be_bytes_are m))
+    ∙ ap (path_cmp (to_be_bytes w64 m)) (sym (be_bytes_are n))

@@ -1,6 +1,7 @@
 -- Paths and directories with the case of ASCII letters ignored where asked (the library's own). Each definition speaks
 -- of any list.
-use Rattle.std.specs.Prelude.{◌≡◌, ◌↔◌, ℕ, ◌||◌, ◌&&◌, Bool, true, false, List, [], ◌∷◌, ◌++◌, map, All, Contains, Option, position, nat_eq}
+use Rattle.std.specs.Prelude.{◌≡◌, ◌↔◌, ℕ, ◌||◌, ◌&&◌, Bool, true, false, List, [], ◌∷◌, ◌++◌, map, All, Contains}
+use Rattle.std.specs.Prelude.{Option, position, nat_eq}
 use Rattle.std.specs.Char.{to_ascii_lowercase}
 use Rattle.std.specs.List.{AllPairs, list_any, starts_with}
 use Rattle.std.specs.Str.{bytes_eq}

@@ -1,6 +1,7 @@
 -- Which places of a list of records have a path, or begin with a prefix (the library's own). Each definition speaks of
 -- any list; over records ordered by path such places stand together.
-use Rattle.std.specs.Prelude.{◌≡◌, ℕ, ◌<◌, ◌≤◌, ◌⊎◌, Bool, true, false, List, [], ◌∷◌, length, All, Option, Some, None, MatchOption, nat_eq, slice_range}
+use Rattle.std.specs.Prelude.{◌≡◌, ℕ, ◌<◌, ◌≤◌, ◌⊎◌, Bool, true, false, List, [], ◌∷◌, length, All, Option, Some, None}
+use Rattle.std.specs.Prelude.{MatchOption, nat_eq, slice_range}
 use Rattle.std.specs.List.{AllWithin, starts_with}
 use Rattle.std.specs.Option.{option_or}
 use Rattle.std.specs.Str.{bytes_eq}

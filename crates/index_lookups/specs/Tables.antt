@@ -1,6 +1,7 @@
 -- The directories that records stand below, and how far a search by way of them goes (the library's own). Each
 -- definition speaks of any list; a table of directories is made of records ordered by path.
-use Rattle.std.specs.Prelude.{◌≡◌, ◌↔◌, ℕ, zero, suc, ◌≤◌, ◌+◌, ◌==◌, true, List, length, take, Contains, Option, Some, None, slice_index, count_by, if◌then◌else◌}
+use Rattle.std.specs.Prelude.{◌≡◌, ◌↔◌, ℕ, zero, suc, ◌≤◌, ◌+◌, ◌==◌, true, List, length, take, Contains, Option, Some}
+use Rattle.std.specs.Prelude.{None, slice_index, count_by, if◌then◌else◌}
 use Rattle.std.specs.List.{AllPairs, list_any}
 use denote.Ref.{Bor}
 use Rattle.std.specs.declared.cmp.Ordering.TheVariants.{Less}

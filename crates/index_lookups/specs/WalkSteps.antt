@@ -1,12 +1,14 @@
 -- A walk over paths in their order, which gathers the directories that they stand for or below (the library's own).
 -- Public clauses cite none of these.
-use Rattle.std.specs.Prelude.{◌≡◌, ◌≢◌, ℕ, zero, suc, ◌+◌, ◌-◌, ◌<◌, ◌≤◌, ◌==◌, ◌&&◌, ◌||◌, nat_eq, nat_lt, min, max, Bool, true, false, cond, List, [], ◌∷◌, ◌++◌, length, map, take, drop, reverse, All, Contains, slice_index, slice_index_or}
+use Rattle.std.specs.Prelude.{◌≡◌, ◌≢◌, ℕ, zero, suc, ◌+◌, ◌-◌, ◌<◌, ◌≤◌, ◌==◌, ◌&&◌, ◌||◌, nat_eq, nat_lt, min, max}
+use Rattle.std.specs.Prelude.{Bool, true, false, cond, List, [], ◌∷◌, ◌++◌, length, map, take, drop, reverse, All}
+use Rattle.std.specs.Prelude.{Contains, slice_index, slice_index_or}
 use Rattle.std.specs.List.{AllPairs, HoldsAt, starts_with}
 use Rattle.std.specs.declared.cmp.Ordering.TheVariants.{Greater, Less}
 use Rattle.index_entries.specs.Order.{path_cmp}
 use Rattle.index_entries.specs.Record.{Record}
 use Rattle.index_lookups.specs.Folded.{folded, stands_in_folded}
-use Rattle.index_lookups.specs.NameSteps.{NamedValue, named_at, outer_cmp}
+use Rattle.index_lookups.specs.NameSteps.{NamedValue, outer_cmp}
 use Rattle.index_lookups.specs.declared.walk.Span.{Span}
 
 -- a directory, the first place of a record that stands in it, and the place behind the last

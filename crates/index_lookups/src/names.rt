@@ -1,12 +1,14 @@
 //! Names in their order, with the case of ASCII letters ignored where asked, each with the place of an entry.
 
-ghost use Rattle.std.specs.Prelude.{◌≡◌, ◌≢◌, ◌+◌, ◌<◌, ◌≤◌, ℕ, Bool, List, AllPairs, length, map, position, IfOk, false};
+ghost use Rattle.std.specs.Prelude.{◌≡◌, ◌≢◌, ◌+◌, ◌<◌, ◌≤◌, ℕ, Bool, List, AllPairs, length, map, position, IfOk};
+ghost use Rattle.std.specs.Prelude.{false};
 ghost use Rattle.std.specs.List.Sorted.{IsPermutation};
 ghost use Rattle.std.specs.declared.cmp.Ordering.TheVariants.{Greater};
 ghost use Rattle.index_lookups.specs.Digits.{digits};
 ghost use Rattle.index_entries.specs.Record.{Record};
 ghost use Rattle.index_lookups.specs.Folded.{folded};
-ghost use Rattle.index_lookups.specs.NameSteps.{IsPathTable, IsTableOf, common_cmp, name_answers, name_order, named_cmp, named_from, named_value, path_names};
+ghost use Rattle.index_lookups.specs.NameSteps.{IsPathTable, IsTableOf, common_cmp, name_answers, name_order};
+ghost use Rattle.index_lookups.specs.NameSteps.{named_cmp, named_from, named_value, path_names};
 ghost use Rattle.index_lookups.specs.WalkSteps.{AreVisits};
 
 use crate::fold::compare_fronts;

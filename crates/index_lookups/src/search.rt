@@ -1,6 +1,7 @@
 //! The one binary search of what stands in order, which counts its comparisons, and the searches by path.
 
-ghost use Rattle.std.specs.Prelude.{◌≡◌, ◌<◌, ◌≤◌, ◌+◌, ◌-◌, ◌++◌, List, length, map, take, drop, IfOk, IfErr, false, true};
+ghost use Rattle.std.specs.Prelude.{◌≡◌, ◌<◌, ◌≤◌, ◌+◌, ◌-◌, ◌++◌, List, length, map, take, drop, IfOk, IfErr, false};
+ghost use Rattle.std.specs.Prelude.{true};
 ghost use Rattle.std.specs.List.{AllWithin, HoldsAt};
 ghost use Rattle.std.specs.Option.{ok_or};
 ghost use Rattle.std.specs.declared.cmp.Ordering.{Ordering};
@@ -8,7 +9,8 @@ ghost use Rattle.index_metadata.specs.Flags.{stage_code};
 ghost use Rattle.index_lookups.specs.Digits.{digits};
 ghost use Rattle.index_lookups.specs.Lookup.{IsKeyAt, IsPathAt, IsPathGap, insertion_of, place_of};
 ghost use Rattle.index_entries.specs.Order.{IsOrderedByPath, IsStrictlyOrdered};
-ghost use Rattle.index_lookups.specs.SearchSteps.{IsAround, IsBracket, IsEqualAt, IsGapAt, IsPartedAt, IsRising, IsSplitBy, asked_cmp, prefix_answers, prefix_cmp, is_before};
+ghost use Rattle.index_lookups.specs.SearchSteps.{IsAround, IsBracket, IsEqualAt, IsGapAt, IsPartedAt, IsRising};
+ghost use Rattle.index_lookups.specs.SearchSteps.{IsSplitBy, asked_cmp, prefix_answers, prefix_cmp, is_before};
 
 use index_entries::Entry;
 use index_entries::slice::EntrySlice;

@@ -9,7 +9,8 @@ use Rattle.index_merge.specs.Merge.{candidates_from, delete_fault, replace_fault
 use Rattle.index_merge.specs.MergeSteps.{AreRemovedAt}
 
 -- shared records are replaced so far, where these items of the bitmap are left
-pub record IsReplacing (words : List ℕ) (shared split : List Record) (rest : List (Result ℕ Malformed)) (taken : ℕ) (now : List Record) : Type 0 where
+pub record IsReplacing (words : List ℕ) (shared split : List Record) (rest : List (Result ℕ Malformed)) (taken : ℕ)
+    (now : List Record) : Type 0 where
   pub seen : List ℕ
   pub listed : ListPlaces (map Ok seen ++ rest) words
   pub ascending : Ascends 0 (map Ok seen ++ rest)
@@ -18,7 +19,8 @@ pub record IsReplacing (words : List ℕ) (shared split : List Record) (rest : L
   pub replaced : now ≡ candidates_from split seen 0 shared
 
 -- entries are marked so far, where these items of the bitmap are left
-pub record IsMarking (words : List ℕ) (old : List Entry) (rest : List (Result ℕ Malformed)) (now : List Entry) : Type 0 where
+pub record IsMarking (words : List ℕ) (old : List Entry) (rest : List (Result ℕ Malformed))
+    (now : List Entry) : Type 0 where
   pub seen : List ℕ
   pub listed : ListPlaces (map Ok seen ++ rest) words
   pub sound : delete_fault (length old) (map Ok seen ++ rest) ≡ delete_fault (length old) rest

@@ -1,6 +1,7 @@
 -- The merge of a split index's entries into those of its shared index (gitformat-index, "Split index"), over lists of
 -- records.
-use Rattle.std.specs.Prelude.{◌≡◌, ℕ, ◌+◌, ◌==◌, ◌||◌, nat_le, not, List, [], ◌∷◌, ◌++◌, length, drop, codes, Option, Some, None, Result, Ok, Err, if◌then◌else◌, option_and_then, slice_get}
+use Rattle.std.specs.Prelude.{◌≡◌, ℕ, ◌+◌, ◌==◌, ◌||◌, nat_le, not, List, [], ◌∷◌, ◌++◌, length, drop, codes, Option}
+use Rattle.std.specs.Prelude.{Some, None, Result, Ok, Err, if◌then◌else◌, option_and_then, slice_get}
 use Rattle.std.specs.List.{list_any, position_from}
 use Rattle.std.specs.List.Sorted.{IsPermutation, IsSorted, IsStable}
 use Rattle.index_bitmaps.specs.Bits.{ListPlaces}

@@ -1,5 +1,6 @@
 -- What the steps of a merge do (gitformat-index, "Split index"). Clauses that a user meets cite none of these.
-use Rattle.std.specs.Prelude.{◌≡◌, ℕ, zero, suc, ◌<◌, ◌||◌, ◌==◌, false, slice_index_or, List, [], ◌∷◌, length, None, Some, Result}
+use Rattle.std.specs.Prelude.{◌≡◌, ℕ, zero, suc, ◌<◌, ◌||◌, ◌==◌, false, slice_index_or, List, [], ◌∷◌, length, None}
+use Rattle.std.specs.Prelude.{Some, Result}
 use Rattle.std.specs.List.{list_any}
 use Rattle.index_bitmaps.specs.Bits.{ListPlaces}
 use Rattle.index_bitmaps.specs.declared.ewah.iter.Malformed.{Malformed}

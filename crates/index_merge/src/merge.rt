@@ -1,12 +1,14 @@
 //! Merging the entries of a split index into those of its shared index (gitformat-index, "Split index").
 
-ghost use Rattle.std.specs.Prelude.{◌≡◌, ◌<◌, ◌≤◌, ◌++◌, [], ◌∷◌, ℕ, List, All, Some, None, length, slice_get, filter, not, IfOk, IfErr, OnOk};
+ghost use Rattle.std.specs.Prelude.{◌≡◌, ◌<◌, ◌≤◌, ◌++◌, [], ◌∷◌, ℕ, List, All, Some, None, length, slice_get, filter};
+ghost use Rattle.std.specs.Prelude.{not, IfOk, IfErr, OnOk};
 ghost use Rattle.std.specs.Option.{option_map};
 ghost use Rattle.index_bitmaps.specs.Bitmap.{bitmap};
 ghost use Rattle.index_entries.specs.EntryImage.{is_removed};
 ghost use Rattle.index_merge.specs.declared.merge.Error.TheVariants.{Memory};
 ghost use Rattle.index_merge.specs.Merge.{IsMerge, IsMergeFault, place_fault, record_fault, replaced};
-ghost use Rattle.index_merge.specs.MergeSteps.{AreRemovedAt, IsDeleteFault, IsReplaceFault, Keeps, RemovesAt, ReplacesEntries, SaysMerge, changed_at, merge_error};
+ghost use Rattle.index_merge.specs.MergeSteps.{AreRemovedAt, IsDeleteFault, IsReplaceFault, Keeps, RemovesAt};
+ghost use Rattle.index_merge.specs.MergeSteps.{ReplacesEntries, SaysMerge, changed_at, merge_error};
 ghost use Rattle.index_entries.specs.Record.{IsPlaced, record_in, records_in};
 
 use bitflags::Flags as _;

@@ -1,6 +1,7 @@
 -- An offset number, a varint (gitformat-index, version 4: "encoded in the same encoding as the offset for OFS_DELTA
 -- pack entries"): a digit of seven bits a byte, and a continuation bit in each byte but the last.
-use Rattle.std.specs.Prelude.{◌≡◌, ℕ, zero, suc, ◌+◌, ◌-◌, ◌*◌, ◌/◌, ◌%◌, ◌^◌, ◌<◌, ◌≤◌, nat_lt, List, [], ◌∷◌, ◌++◌, length, if◌then◌else◌}
+use Rattle.std.specs.Prelude.{◌≡◌, ℕ, zero, suc, ◌+◌, ◌-◌, ◌*◌, ◌/◌, ◌%◌, ◌^◌, ◌<◌, ◌≤◌, nat_lt, List, [], ◌∷◌, ◌++◌}
+use Rattle.std.specs.Prelude.{length, if◌then◌else◌}
 
 -- the continuation bit is bit 7: each byte but the last has it, the last hasn't, and there is a last
 abbrev pub AreContinued : List ℕ → Type 0
@@ -35,7 +36,8 @@ pub record StartsWithOffset (bytes : List ℕ) (n : ℕ) (rest : List ℕ) : Typ
 -- higher part less one, with the continuation bit in each byte
 unfoldable pub continued_bytes : ℕ → ℕ → List ℕ
 continued_bytes zero n = []
-continued_bytes (suc most) n = if nat_lt n 128 then [] else continued_bytes most (n / 128 - 1) ++ (128 + (n / 128 - 1) % 128) ∷ []
+continued_bytes (suc most) n =
+    if nat_lt n 128 then [] else continued_bytes most (n / 128 - 1) ++ (128 + (n / 128 - 1) % 128) ∷ []
 
 -- the one spelling of a number that has at most 64 bits, which are at most ten bytes
 unfoldable pub offset_bytes : ℕ → List ℕ

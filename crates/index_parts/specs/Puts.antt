@@ -3,8 +3,8 @@ use Rattle.std.specs.Prelude.{◌≡◌, ℕ, List, is_err, Result}
 use Rattle.index_parts.specs.declared.hash.io.Out.{Ghosts}
 use Rattle.index_parts.specs.Taking.{Takes}
 
--- An Ok took these bytes whole, and an Err a prefix of them; the writer has failed where the call has, and its loans are
--- as before.
+-- An Ok took these bytes whole, and an Err a prefix of them; the writer has failed where the call has, and its loans
+-- are as before.
 pub record Puts {S T E : Type 0} (writer : Ghosts S) (old new : S) (answer : Result T E) (bytes : List ℕ) : Type 0 where
   pub takes : Takes writer.taken writer.hashed old new answer bytes
   pub failed : writer.failed new ≡ is_err answer

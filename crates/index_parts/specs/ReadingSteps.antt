@@ -1,6 +1,7 @@
 -- What the readers find at the front of bytes, as functions: a value and the rest, or nothing (gitformat-index). The
 -- relations of Numbers and Offset say the same in the format's words. Clauses that a user meets cite none of these.
-use Rattle.std.specs.Prelude.{ℕ, ◌+◌, ◌-◌, ◌*◌, ◌%◌, ◌^◌, ◌==◌, ◌&&◌, nat_le, nat_lt, List, [], ◌∷◌, length, take, drop, Bool, Option, Some, None, if◌then◌else◌, position}
+use Rattle.std.specs.Prelude.{ℕ, ◌+◌, ◌-◌, ◌*◌, ◌%◌, ◌^◌, ◌==◌, ◌&&◌, nat_le, nat_lt, List, [], ◌∷◌, length, take, drop}
+use Rattle.std.specs.Prelude.{Bool, Option, Some, None, if◌then◌else◌, position}
 use Rattle.std.specs.Option.{option_map}
 use Rattle.index_parts.specs.Numbers.{be}
 use Rattle.index_parts.specs.Id.{id_len, make_id}
@@ -27,7 +28,8 @@ object_id_at kind bytes = piece_at (id_len kind) bytes >>= λ piece. Some (make_
 
 -- the bytes before the first b, and those after it; there are at least two bytes
 abbrev pub split_at_byte : ℕ → List ℕ → Option (List ℕ × List ℕ)
-split_at_byte b bytes = if nat_lt (length bytes) 2 then None else option_map (λ place. (take place bytes, drop (place + 1) bytes)) (position (λ x. x == b) bytes)
+split_at_byte b bytes = if nat_lt (length bytes) 2 then None else option_map
+    (λ place. (take place bytes, drop (place + 1) bytes)) (position (λ x. x == b) bytes)
 
 -- the offset number at the front, where the bytes before gave so much, and the rest
 abbrev pub offset_from : ℕ → List ℕ → Option (ℕ × List ℕ)

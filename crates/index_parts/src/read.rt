@@ -7,7 +7,8 @@ ghost use Rattle.std.specs.Prelude.{◌≡◌, ◌==◌, ◌+◌, ◌*◌, ◌�
 ghost use Rattle.std.specs.Option.{option_map};
 ghost use Rattle.index_parts.specs.Numbers.{number};
 ghost use Rattle.index_parts.specs.Limit.{IsWithin, is_within};
-ghost use Rattle.index_parts.specs.ReadingSteps.{piece_at, split_at_byte, offset_at, number_at, object_id_at, is_octal_digit, octal_of};
+ghost use Rattle.index_parts.specs.ReadingSteps.{piece_at, split_at_byte, offset_at, number_at, object_id_at};
+ghost use Rattle.index_parts.specs.ReadingSteps.{is_octal_digit, octal_of};
 
 pub use crate::bytes::is_null;
 use crate::bytes::{from_be_u32, from_be_u64};

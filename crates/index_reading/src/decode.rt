@@ -3,7 +3,8 @@
 pub mod entries;
 pub mod header;
 
-ghost use Rattle.std.specs.Prelude.{◌≡◌, ◌≤◌, ◌+◌, ◌*◌, ◌||◌, not, nat_lt, false, length, Ok, IfOk, IfErr, IfSome, OnOk, All};
+ghost use Rattle.std.specs.Prelude.{◌≡◌, ◌≤◌, ◌+◌, ◌*◌, ◌||◌, not, nat_lt, false, length, Ok, IfOk, IfErr, IfSome};
+ghost use Rattle.std.specs.Prelude.{OnOk, All};
 ghost use Rattle.index_parts.specs.Id.{id_kind, id_len};
 ghost use Rattle.index_format.specs.Outcome.{outcome_of};
 ghost use Rattle.index_format.specs.Answer.{Answer, IsVerified, IsAnswer, IsBehindHeader, IsEnding};
@@ -156,8 +157,8 @@ pub struct Declared {
     pub paths: usize,
 }
 
-/// What the header declares, the head of a file of so many bytes, whose end marker names this offset, or which has none.
-/// None where the header is at fault, or the count passes what such a file can hold or the limit.
+/// What the header declares, the head of a file of so many bytes, whose end marker names this offset, or which has
+/// none. None where the header is at fault, or the count passes what such a file can hold or the limit.
 pub fn declared_by(
     head: &[u8],
     len: usize,

@@ -1,5 +1,6 @@
 -- Blocks of the offset table, one after another, and the table that they make.
-use Rattle.std.proofs.Common.{◌≡◌, ℕ, zero, suc, ◌+◌, ◌-◌, ◌/◌, take, drop, ◌*◌, ◌%◌, ◌<◌, List, [], ◌∷◌, ◌++◌, length, refl, sym, ap, subst, ◌∙◌, arith}
+use Rattle.std.proofs.Common.{◌≡◌, ℕ, zero, suc, ◌+◌, ◌-◌, ◌/◌, take, drop, ◌*◌, ◌%◌, ◌<◌, List, [], ◌∷◌, ◌++◌, length}
+use Rattle.std.proofs.Common.{refl, sym, ap, subst, ◌∙◌, arith}
 use Rattle.std.specs.Prelude.{◌≢◌}
 use Rattle.std.proofs.lemmas.List.{length-append, length-drop, length-take-le, nil_from_length, take-append-drop}
 use Rattle.std.proofs.lemmas.Option.{same_Some}
@@ -11,7 +12,8 @@ use Rattle.index_small_extensions.specs.declared.index_entry_offset_table.Offset
 
 -- pieces of one length at the front of the same bytes are one
 same_fronts : (a b c d : List ℕ) → a ++ b ≡ c ++ d → length a ≡ length c → ◌≡◌ {A = List ℕ × List ℕ} (a, b) (c, d)
-same_fronts a b c d e len = same_Some _ _ (sym (piece_again (length c) a b len) ∙ ap (piece_at (length c)) e ∙ piece_again (length c) c d refl)
+same_fronts a b c d e len =
+    same_Some _ _ (sym (piece_again (length c) a b len) ∙ ap (piece_at (length c)) e ∙ piece_again (length c) c d refl)
 
 pub same_front : (a b c d : List ℕ) → a ++ b ≡ c ++ d → length a ≡ length c → a ≡ c
 same_front a b c d e len = ap (λ (p : List ℕ × List ℕ). p.0) (same_fronts a b c d e len)
@@ -21,27 +23,40 @@ same_back a b c d e len = ap (λ (p : List ℕ × List ℕ). p.1) (same_fronts a
 
 -- ---- blocks
 
-pub block_len : (bytes : List ℕ) (o : Offset) (rest : List ℕ) → IsEntryBlock bytes o rest → length bytes ≡ 8 + length rest
-block_len bytes o rest h = omega (arith, ap length h.parts, length-append h.place (h.count ++ rest), length-append h.count rest, h.place_len, h.count_len)
+pub block_len : (bytes : List ℕ) (o : Offset) (rest : List ℕ) → IsEntryBlock bytes o rest
+    → length bytes ≡ 8 + length rest
+block_len bytes o rest h = omega (
+  arith,
+  ap length h.parts,
+  length-append h.place (h.count ++ rest),
+  length-append h.count rest,
+  h.place_len,
+  h.count_len,
+)
 
-pub blocks_push : (bytes : List ℕ) (blocks : List Offset) (o : Offset) (middle rest : List ℕ) → AreEntryBlocks bytes blocks middle → IsEntryBlock middle o rest → AreEntryBlocks bytes (blocks ++ o ∷ []) rest
+pub blocks_push : (bytes : List ℕ) (blocks : List Offset) (o : Offset) (middle rest : List ℕ)
+    → AreEntryBlocks bytes blocks middle → IsEntryBlock middle o rest → AreEntryBlocks bytes (blocks ++ o ∷ []) rest
 blocks_push bytes [] o middle rest h e = (rest, subst (λ (l : List ℕ). IsEntryBlock l o rest) (sym h) e, refl)
 blocks_push bytes (x ∷ blocks) o middle rest h e = (h.0, h.1, blocks_push h.0 blocks o middle rest h.2 e)
 
-pub blocks_len : (bytes : List ℕ) (blocks : List Offset) (rest : List ℕ) → AreEntryBlocks bytes blocks rest → length bytes ≡ 8 * length blocks + length rest
+pub blocks_len : (bytes : List ℕ) (blocks : List Offset) (rest : List ℕ) → AreEntryBlocks bytes blocks rest
+    → length bytes ≡ 8 * length blocks + length rest
 blocks_len bytes [] rest h = omega (arith, ap length h)
 blocks_len bytes (o ∷ blocks) rest h = omega (arith, block_len bytes o h.0 h.1, blocks_len h.0 blocks rest h.2)
 
 -- where the bytes are whole blocks, fewer bytes than a block has are none
-pub blocks_all : (bytes : List ℕ) (blocks : List Offset) (rest : List ℕ) → AreEntryBlocks bytes blocks rest → length bytes % 8 ≡ 0 → length rest < 8 → AreEntryBlocks bytes blocks []
-blocks_all bytes blocks rest h whole lt = subst (λ (r : List ℕ). AreEntryBlocks bytes blocks r) (nil_from_length rest (omega (arith, blocks_len bytes blocks rest h))) h
+pub blocks_all : (bytes : List ℕ) (blocks : List Offset) (rest : List ℕ) → AreEntryBlocks bytes blocks rest
+    → length bytes % 8 ≡ 0 → length rest < 8 → AreEntryBlocks bytes blocks []
+blocks_all bytes blocks rest h whole lt = subst (λ (r : List ℕ). AreEntryBlocks bytes blocks r)
+    (nil_from_length rest (omega (arith, blocks_len bytes blocks rest h))) h
 
 -- bytes of another number are no blocks
 pub blocks_whole : (bytes : List ℕ) (blocks : List Offset) → AreEntryBlocks bytes blocks [] → length bytes % 8 ≡ 0
 blocks_whole bytes blocks h = omega (arith, blocks_len bytes blocks [] h)
 
 -- bytes of such a number are blocks
-pub blocks_of_len : (n : ℕ) (bytes : List ℕ) → length bytes ≡ 8 * n → (blocks : List Offset) × AreEntryBlocks bytes blocks []
+pub blocks_of_len : (n : ℕ) (bytes : List ℕ) → length bytes ≡ 8 * n
+    → (blocks : List Offset) × AreEntryBlocks bytes blocks []
 blocks_of_len zero bytes len = ([], nil_from_length bytes (omega (arith, len)))
 blocks_of_len (suc n) bytes len =
     let behind : List ℕ = drop 4 bytes in
@@ -67,7 +82,8 @@ blocks_there bytes whole = blocks_of_len (length bytes / 8) bytes (omega (arith,
 -- ---- the table
 
 -- what a table says of its first four bytes and of the others
-pub table_parts : (bytes : List ℕ) (blocks : List Offset) (n : ℕ) (rest : List ℕ) → IsTable bytes blocks → StartsWithNumber 4 bytes n rest → (n ≡ 1) × AreEntryBlocks rest blocks [] × (length rest ≡ 0 → ⊥)
+pub table_parts : (bytes : List ℕ) (blocks : List Offset) (n : ℕ) (rest : List ℕ) → IsTable bytes blocks
+    → StartsWithNumber 4 bytes n rest → (n ≡ 1) × AreEntryBlocks rest blocks [] × (length rest ≡ 0 → ⊥)
 table_parts bytes blocks n rest h s =
     let e : s.spelling ++ rest ≡ h.version ++ h.rest = sym s.parts ∙ h.parts in
     let len : length s.spelling ≡ length h.version = s.size ∙ sym h.version_len in
@@ -80,8 +96,17 @@ table_parts bytes blocks n rest h s =
     some_left rest [] k n z = n refl
     some_left rest (b ∷ bs) k n z = absurd (omega (arith, block_len rest b k.0 k.1))
 
-pub table_from : (bytes : List ℕ) (blocks : List Offset) (n : ℕ) (rest : List ℕ) → StartsWithNumber 4 bytes n rest → n ≡ 1 → (length rest ≡ 0 → ⊥) → AreEntryBlocks rest blocks [] → IsTable bytes blocks
-table_from bytes blocks n rest s one left are = record { version = s.spelling; rest = rest; parts = s.parts; version_len = s.size; version_is = sym s.value ∙ one; some = some_blocks blocks are; are_blocks = are }
+pub table_from : (bytes : List ℕ) (blocks : List Offset) (n : ℕ) (rest : List ℕ) → StartsWithNumber 4 bytes n rest
+    → n ≡ 1 → (length rest ≡ 0 → ⊥) → AreEntryBlocks rest blocks [] → IsTable bytes blocks
+table_from bytes blocks n rest s one left are = record {
+  version = s.spelling;
+  rest = rest;
+  parts = s.parts;
+  version_len = s.size;
+  version_is = sym s.value ∙ one;
+  some = some_blocks blocks are;
+  are_blocks = are;
+}
   where
     some_blocks : (bs : List Offset) → AreEntryBlocks rest bs [] → bs ≢ []
     some_blocks [] k = λ _. left (ap length k)

@@ -1,5 +1,6 @@
 -- What is read of a mode is spelled so, and what is spelled so is read.
-use Rattle.std.proofs.Common.{◌≡◌, ℕ, ◌≤◌, Bool, true, false, cond, eqb, List, [], ◌∷◌, length, Some, All, refl, ap, ◌∙◌, arith}
+use Rattle.std.proofs.Common.{◌≡◌, ℕ, ◌≤◌, Bool, true, false, cond, eqb, List, [], ◌∷◌, length, Some, All, refl, ap}
+use Rattle.std.proofs.Common.{◌∙◌, arith}
 use Rattle.std.specs.Prelude.{◌≢◌}
 use Rattle.std.proofs.lemmas.Bool.{eqb-true, ne_eqb}
 use Rattle.std.proofs.lemmas.List.Elements.{All-cons, All-head}
@@ -9,7 +10,8 @@ use Rattle.index_parts.specs.ReadingSteps.{octal_of}
 use Rattle.index_small_extensions.specs.ModeDigits.{IsMode, plain, plus}
 use Rattle.index_small_extensions.specs.ResolveUndoSteps.{mode_of}
 
-mode_by : (b : ℕ) (text : List ℕ) (n : ℕ) (t : Bool) → eqb b 43 ≡ t → cond t (octal_of text) (octal_of (b ∷ text)) ≡ Some n → IsMode (b ∷ text) n
+mode_by : (b : ℕ) (text : List ℕ) (n : ℕ) (t : Bool) → eqb b 43 ≡ t
+    → cond t (octal_of text) (octal_of (b ∷ text)) ≡ Some n → IsMode (b ∷ text) n
 mode_by b text n true p e = plus text (ap (λ (s : ℕ). s ∷ text) (eqb-true b 43 p)) (octal_takes text n e)
 mode_by b text n false p e = plain (octal_takes (b ∷ text) n e)
 
@@ -35,7 +37,8 @@ octal_apart text n h = octal_without 0 text n (λ digit. absurd (omega (arith, d
 
 pub mode_apart : (text : List ℕ) (n : ℕ) → IsMode text n → All (λ x. x ≢ 0) text
 mode_apart text n (plain h) = octal_apart text n h
-mode_apart text n (plus digits parts h) = rw parts (All-cons (λ x. x ≢ 0) 43 digits (λ e. omega arith) (octal_apart digits n h))
+mode_apart text n (plus digits parts h) =
+    rw parts (All-cons (λ x. x ≢ 0) 43 digits (λ e. omega arith) (octal_apart digits n h))
 
 pub mode_some : (text : List ℕ) (n : ℕ) → IsMode text n → 1 ≤ length text
 mode_some text n (plain h) = octal_some text n h

@@ -1,6 +1,7 @@
 -- What the readers of the file system monitor find at the front of bytes, as functions: a value and the rest, or
 -- nothing (gitformat-index, "File System Monitor cache"). Public clauses cite none of these.
-use Rattle.std.specs.Prelude.{◌≡◌, ℕ, ◌+◌, ◌*◌, ◌==◌, ◌&&◌, nat_le, Bool, List, [], length, Option, Some, None, if◌then◌else◌}
+use Rattle.std.specs.Prelude.{◌≡◌, ℕ, ◌+◌, ◌*◌, ◌==◌, ◌&&◌, nat_le, Bool, List, [], length, Option, Some, None}
+use Rattle.std.specs.Prelude.{if◌then◌else◌}
 use Rattle.index_bitmaps.specs.Bitmap.{Bitmap, IsBitmap}
 use Rattle.index_parts.specs.Numbers.{number}
 use Rattle.index_parts.specs.ReadingSteps.{◌>>=◌, split_at_byte, number_at}

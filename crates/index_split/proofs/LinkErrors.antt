@@ -16,12 +16,23 @@ nil_of (b ∷ l) e = let none : length (b ∷ l) ≡ 0 = eqb-true (length (b ∷
 pub some_of : (l : List ℕ) → eqb (length l) 0 ≡ false → l ≢ []
 some_of l e = λ k. eqb-false (length l) 0 e (ap length k)
 
-pub says_delete : (kind : Kind) (bytes : List ℕ) (id : ObjectId) (maps : List ℕ) (e : Error) → StartsWithId kind bytes id maps → maps ≢ [] → SaysBitmap (codes "delete") maps e → SaysLink kind bytes e
+pub says_delete : (kind : Kind) (bytes : List ℕ) (id : ObjectId) (maps : List ℕ) (e : Error)
+    → StartsWithId kind bytes id maps → maps ≢ [] → SaysBitmap (codes "delete") maps e → SaysLink kind bytes e
 says_delete kind bytes id maps (errors.Corrupt text) starts some h = absurd h
-says_delete kind bytes id maps (errors.BitmapDecode error name) starts some h = no_delete id maps error starts some h.0 (ap (λ (n : List ℕ). BitmapDecode error n) h.1)
-says_delete kind bytes id maps errors.Memory starts some h = record { id = id; maps = maps; starts = starts; has_bitmap = h }
+says_delete kind bytes id maps (errors.BitmapDecode error name) starts some h =
+    no_delete id maps error starts some h.0 (ap (λ (n : List ℕ). BitmapDecode error n) h.1)
+says_delete kind bytes id maps errors.Memory starts some h =
+    record { id = id; maps = maps; starts = starts; has_bitmap = h }
 
-pub says_replace : (kind : Kind) (bytes : List ℕ) (id : ObjectId) (maps after : List ℕ) (delete : Bitmap) (e : Error) → StartsWithId kind bytes id maps → IsBitmap maps delete after → SaysBitmap (codes "replace") after e → SaysLink kind bytes e
+pub says_replace : (kind : Kind) (bytes : List ℕ) (id : ObjectId) (maps after : List ℕ) (delete : Bitmap) (e : Error)
+    → StartsWithId kind bytes id maps → IsBitmap maps delete after → SaysBitmap (codes "replace") after e
+    → SaysLink kind bytes e
 says_replace kind bytes id maps after delete (errors.Corrupt text) starts first h = absurd h
-says_replace kind bytes id maps after delete (errors.BitmapDecode error name) starts first h = no_replace id maps after delete error starts first h.0 (ap (λ (n : List ℕ). BitmapDecode error n) h.1)
-says_replace kind bytes id maps after delete errors.Memory starts first h = record { id = id; maps = maps; starts = starts; has_bitmap = record { value = delete; rest = after; is_bitmap = first } }
+says_replace kind bytes id maps after delete (errors.BitmapDecode error name) starts first h =
+    no_replace id maps after delete error starts first h.0 (ap (λ (n : List ℕ). BitmapDecode error n) h.1)
+says_replace kind bytes id maps after delete errors.Memory starts first h = record {
+  id = id;
+  maps = maps;
+  starts = starts;
+  has_bitmap = record { value = delete; rest = after; is_bitmap = first };
+}

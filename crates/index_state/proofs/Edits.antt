@@ -7,11 +7,16 @@ use Rattle.index_state.specs.Edits.{with_entries}
 use Rattle.index_entries.specs.Record.{IsPlaced, records_in}
 use Rattle.index_state.specs.State.{PathsInStorage, contents, entries_of, storage_of}
 
-pub entries_of-with_entries : (s : State) (es : List Entry) → length es ≡ length (entries_of s) → entries_of (with_entries s es) ≡ es
+pub entries_of-with_entries : (s : State) (es : List Entry) → length es ≡ length (entries_of s)
+    → entries_of (with_entries s es) ≡ es
 entries_of-with_entries s es h = with_items_is s.parts.entries es (h ∙ sym s.parts.entries.ok.0)
 
-pub contents-with_entries : (s : State) (es : List Entry) → length es ≡ length (entries_of s) → contents (with_entries s es) ≡ record (contents s) { records = records_in (storage_of s) es }
-contents-with_entries s es h = ap (λ (items : List Entry). record (contents s) { records = records_in (storage_of s) items }) (entries_of-with_entries s es h)
+pub contents-with_entries : (s : State) (es : List Entry) → length es ≡ length (entries_of s)
+    → contents (with_entries s es) ≡ record (contents s) { records = records_in (storage_of s) es }
+contents-with_entries s es h =
+    ap (λ (items : List Entry). record (contents s) { records = records_in (storage_of s) items })
+    (entries_of-with_entries s es h)
 
-pub stored-with_entries : (s : State) (es : List Entry) → length es ≡ length (entries_of s) → All (IsPlaced (length (storage_of s))) es → PathsInStorage (with_entries s es)
+pub stored-with_entries : (s : State) (es : List Entry) → length es ≡ length (entries_of s)
+    → All (IsPlaced (length (storage_of s))) es → PathsInStorage (with_entries s es)
 stored-with_entries s es h placed = rw (entries_of-with_entries s es h) placed

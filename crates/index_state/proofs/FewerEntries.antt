@@ -8,10 +8,27 @@ use Rattle.index_format.specs.Contents.{Contents}
 use Rattle.index_format.specs.Storable.{IsStorable}
 
 -- other records in place of the value's, where what holds of each of those, whatever its flags, holds of each of these
-pub flags_storable : (v : Contents) (rs : List Record) → IsStorable v → ((P : Record → Type 0) → ((r : Record) (flags : ℕ) → P r → P (record r { flags = flags })) → All P v.records → All P rs) → IsStorable (with_records v rs)
+pub flags_storable : (v : Contents) (rs : List Record) → IsStorable v → ((P : Record → Type 0)
+    → ((r : Record) (flags : ℕ) → P r → P (record r { flags = flags })) → All P v.records → All P rs)
+    → IsStorable (with_records v rs)
 flags_storable v rs h keeps = record {
   ids = keeps (λ r. id_kind r.id ≡ v.kind) (λ r flags p. p) h.ids;
   paths = keeps (λ r. 4095 ≤ length r.path → All (λ b. b ≢ 0) r.path) (λ r flags p. p) h.paths;
-  fits = keeps IsSized (λ r flags p. record { ctime_secs = p.ctime_secs; ctime_nsecs = p.ctime_nsecs; mtime_secs = p.mtime_secs; mtime_nsecs = p.mtime_nsecs; dev = p.dev; ino = p.ino; uid = p.uid; gid = p.gid; size = p.size; mode = p.mode; id = p.id }) h.fits;
+  fits = keeps IsSized (λ r flags p.
+      record {
+        ctime_secs = p.ctime_secs;
+        ctime_nsecs = p.ctime_nsecs;
+        mtime_secs = p.mtime_secs;
+        mtime_nsecs =
+            p.mtime_nsecs;
+        dev = p.dev;
+        ino = p.ino;
+        uid = p.uid;
+        gid = p.gid;
+        size = p.size;
+        mode = p.mode;
+        id = p.id;
+      })
+      h.fits;
   tree = h.tree;
 }

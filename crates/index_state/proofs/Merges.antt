@@ -37,13 +37,16 @@ sized_replaced r s p q = record {
 
 module _ (b : BitmapPair) (shared old new : Contents) (m : IsMerged b shared old new) where
   -- what all records of both have
-  merged_have : (P : Record → Type 0) → ((r s : Record) → P r → P s → P (replaced r (Some s))) → All P old.records → All P shared.records → All P new.records
-  merged_have P closed mine theirs = all_merged P closed old.records mine b.delete.words b.replace.words shared.records new.records theirs m.is
+  merged_have : (P : Record → Type 0) → ((r s : Record) → P r → P s → P (replaced r (Some s))) → All P old.records
+      → All P shared.records → All P new.records
+  merged_have P closed mine theirs =
+      all_merged P closed old.records mine b.delete.words b.replace.words shared.records new.records theirs m.is
 
   pub merged_storable : IsStorable old → IsStorable shared → shared.kind ≡ old.kind → IsStorable new
   merged_storable mine theirs same =
       let kind : old.kind ≡ new.kind = sym (ap (λ (v : Contents). v.kind) m.others) in
-      let ids = merged_have (λ r. id_kind r.id ≡ old.kind) (λ r s p q. q) mine.ids (subst (λ (k : Kind). All (λ r. id_kind r.id ≡ k) shared.records) same theirs.ids) in
+      let ids = merged_have (λ r. id_kind r.id ≡ old.kind) (λ r s p q. q) mine.ids
+      (subst (λ (k : Kind). All (λ r. id_kind r.id ≡ k) shared.records) same theirs.ids) in
       record {
         ids = subst (λ (k : Kind). All (λ r. id_kind r.id ≡ k) new.records) kind ids;
         paths = merged_have HasLegalPath (λ r s p q. p) mine.paths theirs.paths;
@@ -52,13 +55,19 @@ module _ (b : BitmapPair) (shared old new : Contents) (m : IsMerged b shared old
       }
 
 -- entries that were merged have ids of the kind that all had
-pub merged_ids : (kind : Kind) (delete_words replace_words storage split_storage new_storage : List ℕ) (shared split new : List Entry)
-    → IsMerge delete_words replace_words (records_in storage shared) (records_in split_storage split) (records_in new_storage new) → IdsAreOf kind split → IdsAreOf kind shared → IdsAreOf kind new
+pub merged_ids : (kind : Kind) (delete_words replace_words storage split_storage new_storage : List ℕ)
+    (shared split new : List Entry)
+    → IsMerge delete_words replace_words (records_in storage shared) (records_in split_storage split)
+    (records_in new_storage new) → IdsAreOf kind split → IdsAreOf kind shared → IdsAreOf kind new
 merged_ids kind delete_words replace_words storage split_storage new_storage shared split new m mine theirs =
-    entries_have kind new_storage new (all_merged (λ r. id_kind r.id ≡ kind) (λ r s p q. q) (records_in split_storage split) (records_of kind split_storage split mine) delete_words replace_words (records_in storage shared) (records_in new_storage new) (records_of kind storage shared theirs) m)
+    entries_have kind new_storage new (all_merged (λ r. id_kind r.id ≡ kind) (λ r s p q. q)
+    (records_in split_storage split) (records_of kind split_storage split mine) delete_words replace_words
+    (records_in storage shared) (records_in new_storage new) (records_of kind storage shared theirs) m)
 
 -- a fault of the entries is one of the link
-pub says_dissolve : (e : MergeError) (l : LinkValue) (b : BitmapPair) (shared split : Contents) → shared.extensions.link ≡ None → l.bitmaps ≡ Some b
-    → SaysMerge e (IsMergeFault b.delete.words b.replace.words shared.records split.records) → SaysDissolve (merge_error e) l shared split
+pub says_dissolve : (e : MergeError) (l : LinkValue) (b : BitmapPair) (shared split : Contents)
+    → shared.extensions.link ≡ None → l.bitmaps ≡ Some b
+    → SaysMerge e (IsMergeFault b.delete.words b.replace.words shared.records split.records)
+    → SaysDissolve (merge_error e) l shared split
 says_dissolve (merges.Corrupt text) l b shared split none some h = broken b text.now none some h refl
 says_dissolve merges.Memory l b shared split none some h = tt

@@ -1,4 +1,5 @@
--- An empty index is storable, so is one of leaves alone; it stays so where an entry is added that is, where entries move, and where one is taken out.
+-- An empty index is storable, so is one of leaves alone; it stays so where an entry is added that is, where entries
+-- move, and where one is taken out.
 use Rattle.std.proofs.Common.{◌≡◌, ℕ, ◌<◌, ◌≤◌, List, ◌∷◌, length, get_or, All}
 use Rattle.std.specs.Prelude.{◌≢◌, IfSome}
 use Rattle.std.proofs.lemmas.List.Elements.{All-nil, All-push, All-tail, All-weaker}
@@ -21,25 +22,45 @@ abbrev HasLegalPath : Record → Type 0
 HasLegalPath r = 4095 ≤ length r.path → All (λ b. b ≢ 0) r.path
 
 pub empty_storable : (kind : Kind) (time : FileTime) → IsStorable (empty_contents kind time)
-empty_storable kind time = record { ids = All-nil (λ r. id_kind r.id ≡ kind); paths = All-nil HasLegalPath; fits = All-nil IsSized; tree = tt }
+empty_storable kind time =
+    record { ids = All-nil (λ r. id_kind r.id ≡ kind); paths = All-nil HasLegalPath; fits = All-nil IsSized; tree = tt }
 
-pub push_storable : (v : Contents) (r : Record) → IsStorable v → id_kind r.id ≡ v.kind → (4095 ≤ length r.path → All (λ b. b ≢ 0) r.path) → IsSized r → IsStorable (with_record v r)
-push_storable v r h id path fits = record { ids = All-push (λ x. id_kind x.id ≡ v.kind) v.records r h.ids id; paths = All-push HasLegalPath v.records r h.paths path; fits = All-push IsSized v.records r h.fits fits; tree = h.tree }
+pub push_storable : (v : Contents) (r : Record) → IsStorable v → id_kind r.id ≡ v.kind
+    → (4095 ≤ length r.path → All (λ b. b ≢ 0) r.path) → IsSized r → IsStorable (with_record v r)
+push_storable v r h id path fits = record {
+  ids = All-push (λ x. id_kind x.id ≡ v.kind) v.records r h.ids id;
+  paths =
+      All-push HasLegalPath v.records r h.paths path;
+  fits = All-push IsSized v.records r h.fits fits;
+  tree = h.tree;
+}
 
 -- other records in place of the value's, where what holds of each of those holds of each of these
-keeps_storable : (v : Contents) (rs : List Record) → IsStorable v → ((P : Record → Type 0) → All P v.records → All P rs) → IsStorable (with_records v rs)
-keeps_storable v rs h keeps = record { ids = keeps (λ r. id_kind r.id ≡ v.kind) h.ids; paths = keeps HasLegalPath h.paths; fits = keeps IsSized h.fits; tree = h.tree }
+keeps_storable : (v : Contents) (rs : List Record) → IsStorable v → ((P : Record → Type 0) → All P v.records → All P rs)
+    → IsStorable (with_records v rs)
+keeps_storable v rs h keeps = record {
+  ids = keeps (λ r. id_kind r.id ≡ v.kind) h.ids;
+  paths = keeps HasLegalPath h.paths;
+  fits = keeps IsSized h.fits;
+  tree = h.tree;
+}
 
-pub permuted_storable : (v : Contents) (rs : List Record) → IsPermutation v.records rs → IsStorable v → IsStorable (with_records v rs)
+pub permuted_storable : (v : Contents) (rs : List Record) → IsPermutation v.records rs → IsStorable v
+    → IsStorable (with_records v rs)
 permuted_storable v rs moved h = keeps_storable v rs h (λ P. All-permutation P v.records rs moved)
 
-pub fewer_storable : (v : Contents) (storage : List ℕ) (es : List Entry) (i : ℕ) (e : Entry) → v.records ≡ records_in storage es → i < length es → e ≡ get_or es i e → IsStorable v → IsStorable (with_records v (records_in storage (remove es i)))
+pub fewer_storable : (v : Contents) (storage : List ℕ) (es : List Entry) (i : ℕ) (e : Entry)
+    → v.records ≡ records_in storage es → i < length es → e ≡ get_or es i e → IsStorable v
+    → IsStorable (with_records v (records_in storage (remove es i)))
 fewer_storable v storage es i e is inside read h =
-    let moved : IsPermutation (records_in storage es) (record_in storage e ∷ records_in storage (remove es i)) = IsPermutation-map (record_in storage) es (e ∷ remove es i) (IsPermutation-remove es i e inside read) in
-    keeps_storable v (records_in storage (remove es i)) h (λ P a. All-tail P (record_in storage e) (records_in storage (remove es i)) (All-permutation P (records_in storage es) _ moved (rw is at a)))
+    let moved : IsPermutation (records_in storage es) (record_in storage e ∷ records_in storage (remove es i)) =
+    IsPermutation-map (record_in storage) es (e ∷ remove es i) (IsPermutation-remove es i e inside read) in
+    keeps_storable v (records_in storage (remove es i)) h (λ P a. All-tail P (record_in storage e)
+    (records_in storage (remove es i)) (All-permutation P (records_in storage es) _ moved (rw is at a)))
 
 -- records that a file holds all of, in an index with nothing else
-pub fitting_storable : (kind : Kind) (time : FileTime) (rs : List Record) → All (FitsFile kind) rs → IsStorable (with_records (empty_contents kind time) rs)
+pub fitting_storable : (kind : Kind) (time : FileTime) (rs : List Record) → All (FitsFile kind) rs
+    → IsStorable (with_records (empty_contents kind time) rs)
 fitting_storable kind time rs h = record {
   ids = All-weaker (FitsFile kind) (λ r. id_kind r.id ≡ kind) (λ r f. f.id) rs h;
   paths = All-weaker (FitsFile kind) HasLegalPath (λ r f long. f.path) rs h;
@@ -50,7 +71,8 @@ fitting_storable kind time rs h = record {
 -- ---- what is looked at
 
 -- the records are storable one by one, and so is the tree
-pub parts_storable : (v : Contents) → All (IsStorableIn v.kind) v.records → IfSome v.extensions.tree (IsStorableTree v.kind) → IsStorable v
+pub parts_storable : (v : Contents) → All (IsStorableIn v.kind) v.records
+    → IfSome v.extensions.tree (IsStorableTree v.kind) → IsStorable v
 parts_storable v all tree = record {
   ids = All-weaker (IsStorableIn v.kind) (λ r. id_kind r.id ≡ v.kind) (λ r h. h.id) v.records all;
   paths = All-weaker (IsStorableIn v.kind) HasLegalPath (λ r h. h.plain) v.records all;

@@ -4,7 +4,9 @@ use Rattle.index_cached_tree.specs.Agreement.{Trees}
 use Rattle.index_extensions.specs.ExtensionValue.{or_else}
 use Rattle.index_cached_tree.specs.Sound.{IsSoundTree, CountsAtMost}
 use Rattle.index_cached_tree.specs.Tree.{Node}
-use Rattle.index_cached_tree.specs.TreeFaults.{TreeFault, root_with_name, too_few_counted, too_many_entries, out_of_order, no_tree, missing_directory, other_number, too_many_counted, tree_fault, first_fault, excess_in, IsErrorOf, Judges, SaysTree}
+use Rattle.index_cached_tree.specs.TreeFaults.{TreeFault, root_with_name, too_few_counted, too_many_entries}
+use Rattle.index_cached_tree.specs.TreeFaults.{out_of_order, no_tree, missing_directory, other_number, too_many_counted}
+use Rattle.index_cached_tree.specs.TreeFaults.{tree_fault, first_fault, excess_in, IsErrorOf, Judges, SaysTree}
 use Rattle.index_cached_tree.specs.declared.verify.Error.{Error}
 use Rattle.index_cached_tree.specs.declared.verify.Error.TheVariants as errors
 use Rattle.index_cached_tree.proofs.Sounds.{no_fault_of, no_fault_with, says_after}
@@ -29,7 +31,9 @@ no_fault t h = by (tree_fault t) refl
     by (Some fault) e = let found = error_of fault in absurd (no_fault_of t found.0 h (fault, e, found.1))
 
 -- a fault of the second check is that of both, where the tree by itself is sound
-pub later_fault : {T : Type 0} (r : Result T Error) (entries : ℕ) (t : Node) → IsSoundTree t → IfErr r (λ e. SaysTree e (excess_in entries t)) → IfErr r (λ e. SaysTree e (or_else (tree_fault t) (excess_in entries t)))
+pub later_fault : {T : Type 0} (r : Result T Error) (entries : ℕ) (t : Node) → IsSoundTree t
+    → IfErr r (λ e. SaysTree e (excess_in entries t))
+    → IfErr r (λ e. SaysTree e (or_else (tree_fault t) (excess_in entries t)))
 later_fault (Ok x) entries t h k = k
 later_fault (Err e) entries t h k = says_after e (tree_fault t) (excess_in entries t) (no_fault t h) k
 
@@ -37,7 +41,10 @@ later_fault (Err e) entries t h k = says_after e (tree_fault t) (excess_in entri
 
 module _ (entries : ℕ) (trees : Trees) (t : Node) where
   -- behind a first check that passed, the second check's answer is that of both
-  pub judged_later : (first second : Result (Unit {0}) Error) → IsOk first → Judges trees t first → (IsOk second → CountsAtMost entries t) → IfErr second (λ e. SaysTree e (excess_in entries t)) → JudgesExtensions entries trees (Some t) second
+  pub judged_later : (first second : Result (Unit {0}) Error) → IsOk first → Judges trees t first
+      → (IsOk second → CountsAtMost entries t) → IfErr second (λ e. SaysTree e (excess_in entries t))
+      → JudgesExtensions entries trees (Some t) second
   judged_later (Ok u) (Ok v) passed agreed within said = ((agreed.0, within refl), agreed.1)
-  judged_later (Ok u) (Err e) passed agreed within said = inr (says_after e (first_fault (Some trees) t) (excess_in entries t) (no_fault_with trees t agreed.0 agreed.1) said)
+  judged_later (Ok u) (Err e) passed agreed within said = inr
+      (says_after e (first_fault (Some trees) t) (excess_in entries t) (no_fault_with trees t agreed.0 agreed.1) said)
   judged_later (Err f) second passed agreed within said = let failed : false ≡ true = passed in absurd cc

@@ -2,7 +2,8 @@
 use Rattle.std.specs.Prelude.{ℕ, List}
 use Rattle.index_entries.specs.Record.{Record}
 use Rattle.index_entries.specs.declared.Entry.{Entry}
-use Rattle.index_format.specs.Contents.{Contents, PartsInStorage, parts_contents, parts_entries, parts_records, parts_storage}
+use Rattle.index_format.specs.Contents.{Contents, PartsInStorage, parts_contents, parts_entries, parts_records}
+use Rattle.index_format.specs.Contents.{parts_storage}
 use Rattle.index_state.specs.declared.State.{State}
 
 abbrev pub entries_of : State → List Entry

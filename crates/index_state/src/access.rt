@@ -9,8 +9,8 @@ mod storable;
 mod storage;
 
 ghost use Rattle.std.specs.Borrow.{sem};
-ghost use Rattle.std.specs.Option.{ok_or, option_copied};
-ghost use Rattle.std.specs.Prelude.{◌≡◌, ◌≢◌, ◌+◌, ◌<◌, ◌≤◌, All, Contains, length, option_and_then, slice_get, IfOk, IfErr, IfSome, OnOk, OnErr};
+ghost use Rattle.std.specs.Prelude.{◌≡◌, ◌≢◌, ◌+◌, ◌<◌, ◌≤◌, All, Contains, length, option_and_then, slice_get, IfOk};
+ghost use Rattle.std.specs.Prelude.{IfErr, IfSome, OnOk, OnErr, ok_or, option_copied};
 ghost use Rattle.index_metadata.specs.Flags.{stage_code};
 ghost use Rattle.index_parts.specs.Id.{id_kind};
 ghost use Rattle.index_lookups.specs.Digits.{digits};

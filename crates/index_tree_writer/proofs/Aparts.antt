@@ -1,5 +1,6 @@
 -- Paths that begin with others, and the leaves that a later path may begin with.
-use Rattle.std.proofs.Common.{◌≡◌, ◌⊎◌, inl, inr, ℕ, List, [], ◌∷◌, ◌++◌, Bool, true, false, All, AllPairs, Contains, length, take, drop, get_or, eqb, refl, sym, ap, subst, ◌∙◌, append_assoc, arith}
+use Rattle.std.proofs.Common.{◌≡◌, ◌⊎◌, inl, inr, ℕ, List, [], ◌∷◌, ◌++◌, Bool, true, false, All, AllPairs, Contains}
+use Rattle.std.proofs.Common.{length, take, drop, get_or, eqb, refl, sym, ap, subst, ◌∙◌, append_assoc, arith}
 use Rattle.std.specs.Ordering.{nat_cmp, ordering_then}
 use Rattle.std.specs.declared.cmp.Ordering.{Ordering}
 use Rattle.std.specs.declared.cmp.Ordering.TheVariants.{Less, Equal, Greater}
@@ -7,7 +8,8 @@ use Rattle.std.specs.Cmp.Lexicographic.{pointwise}
 use Rattle.std.proofs.lemmas.Bool.Decides.{Decides-eqb}
 use Rattle.std.proofs.lemmas.Cmp.{tied_itself, nat_cmp_total, nat_list_cmp_total}
 use Rattle.std.proofs.lemmas.List.{append-nil, get_or_append_left, get_or_default, length-append}
-use Rattle.std.proofs.lemmas.List.Elements.{All-contains, Contains-append_cases, Contains-append_left, Contains-push, Contains-push_cases}
+use Rattle.std.proofs.lemmas.List.Elements.{All-contains, Contains-append_cases, Contains-append_left, Contains-push}
+use Rattle.std.proofs.lemmas.List.Elements.{Contains-push_cases}
 use Rattle.std.proofs.lemmas.List.Prefix.{front_rest}
 use Rattle.std.proofs.lemmas.List.Quantifiers.{all_pairs_push}
 use Rattle.std.proofs.lemmas.Map.Lookups.{exact_unsigned}
@@ -65,10 +67,12 @@ between (x ∷ p) (y ∷ q) (z ∷ r) e d b = by (between p q r) (nat_cmp x y) r
     rest : r ≡ p ++ b.0
     rest = cc (b.1)
 
-    same : (path_cmp p q ≡ Less → path_cmp q r ≡ Less → BeginsWith r p → BeginsWith q p) → x ≡ y → path_cmp p q ≡ Less → BeginsWith (y ∷ q) (x ∷ p)
+    same : (path_cmp p q ≡ Less → path_cmp q r ≡ Less → BeginsWith r p → BeginsWith q p) → x ≡ y → path_cmp p q ≡ Less
+        → BeginsWith (y ∷ q) (x ∷ p)
     same again s less =
         let turned : ordering_then (nat_cmp y z) (path_cmp q r) ≡ Less = d in
-        let tie : nat_cmp y z ≡ Equal = subst (λ (i : ℕ). nat_cmp y i ≡ Equal) (sym s ∙ sym first) (tied_itself nat_cmp_total y) in
+        let tie : nat_cmp y z ≡ Equal =
+        subst (λ (i : ℕ). nat_cmp y i ≡ Equal) (sym s ∙ sym first) (tied_itself nat_cmp_total y) in
         let below : path_cmp q r ≡ Less = subst (λ (o : Ordering). ordering_then o (path_cmp q r) ≡ Less) tie turned in
         let inner = again less below (b.0, rest) in
         (inner.0, ap (λ (i : ℕ). i ∷ q) (sym s) ∙ ap (λ (l : Path). x ∷ l) inner.1)
@@ -76,11 +80,13 @@ between (x ∷ p) (y ∷ q) (z ∷ r) e d b = by (between p q r) (nat_cmp x y) r
     above : nat_cmp x y ≡ Less → ⊥
     above less =
         let turned : ordering_then (nat_cmp y z) (path_cmp q r) ≡ Less = d in
-        let more : nat_cmp y z ≡ Greater = subst (λ (i : ℕ). nat_cmp y i ≡ Greater) (sym first) (nat_cmp_total.antisymm y x ∙ rw less refl) in
+        let more : nat_cmp y z ≡ Greater =
+        subst (λ (i : ℕ). nat_cmp y i ≡ Greater) (sym first) (nat_cmp_total.antisymm y x ∙ rw less refl) in
         let wrong : Greater ≡ Less = subst (λ (o : Ordering). ordering_then o (path_cmp q r) ≡ Less) more turned in
         absurd cc
 
-    by : (path_cmp p q ≡ Less → path_cmp q r ≡ Less → BeginsWith r p → BeginsWith q p) → (o : Ordering) → nat_cmp x y ≡ o → ordering_then o (path_cmp p q) ≡ Less → BeginsWith (y ∷ q) (x ∷ p)
+    by : (path_cmp p q ≡ Less → path_cmp q r ≡ Less → BeginsWith r p → BeginsWith q p) → (o : Ordering)
+        → nat_cmp x y ≡ o → ordering_then o (path_cmp p q) ≡ Less → BeginsWith (y ∷ q) (x ∷ p)
     by again Less is less = absurd (above is)
     by again Greater is less = absurd cc
     by again Equal is less = same again (exact_unsigned x y is) less
@@ -108,8 +114,10 @@ below_or_same p top q t s a b h = by t a
     by : (l : Path) → top ≡ p ++ l → (top ≡ p) ⊎ IsBelow top p
     by [] e = inl (e ∙ append-nil p)
     by (c ∷ l) e =
-        let whole : p ++ (c ∷ (l ++ s)) ≡ p ++ 47 ∷ h.0 = sym (append_assoc p (c ∷ l) s) ∙ ap (λ (x : Path). x ++ s) (sym e) ∙ sym b ∙ h.1 in
-        let rest : c ∷ (l ++ s) ≡ 47 ∷ h.0 = sym (front_rest (p ++ (c ∷ (l ++ s))) p (c ∷ (l ++ s)) refl) ∙ ap (drop (length p)) whole ∙ front_rest (p ++ 47 ∷ h.0) p (47 ∷ h.0) refl in
+        let whole : p ++ (c ∷ (l ++ s)) ≡ p ++ 47 ∷ h.0 =
+        sym (append_assoc p (c ∷ l) s) ∙ ap (λ (x : Path). x ++ s) (sym e) ∙ sym b ∙ h.1 in
+        let rest : c ∷ (l ++ s) ≡ 47 ∷ h.0 = sym (front_rest (p ++ (c ∷ (l ++ s))) p (c ∷ (l ++ s)) refl)
+        ∙ ap (drop (length p)) whole ∙ front_rest (p ++ 47 ∷ h.0) p (47 ∷ h.0) refl in
         let slash : c ≡ 47 = cc (rest) in
         inr (l, e ∙ ap (λ (i : ℕ). p ++ i ∷ l) slash)
 
@@ -130,16 +138,19 @@ pairs_front : (R : Staged → Staged → Type 0) (xs ys : List Staged) → AllPa
 pairs_front R xs ys h i j d lt within =
     let a : get_or (xs ++ ys) i d ≡ get_or xs i d = get_or_append_left xs ys d i (omega (arith, lt, within)) in
     let b : get_or (xs ++ ys) j d ≡ get_or xs j d = get_or_append_left xs ys d j within in
-    subst (λ (y : Staged). R (get_or xs i d) y) b (subst (λ (x : Staged). R x (get_or (xs ++ ys) j d)) a (h i j d lt (omega (arith, within, length-append xs ys))))
+    subst (λ (y : Staged). R (get_or xs i d) y) b (subst (λ (x : Staged). R x (get_or (xs ++ ys) j d)) a
+    (h i j d lt (omega (arith, within, length-append xs ys))))
 
 last_at : (xs : List Staged) (y d : Staged) → get_or (xs ++ y ∷ []) (length xs) d ≡ y
 last_at [] y d = refl
 last_at (x ∷ xs) y d = last_at xs y d
 
-pub pairs_last : (R : Staged → Staged → Type 0) (xs : List Staged) (y x : Staged) → AllPairs R (xs ++ y ∷ []) → Contains xs x → R x y
+pub pairs_last : (R : Staged → Staged → Type 0) (xs : List Staged) (y x : Staged) → AllPairs R (xs ++ y ∷ [])
+    → Contains xs x → R x y
 pairs_last R xs y x h c =
     let a : get_or (xs ++ y ∷ []) c.0 x ≡ x = get_or_append_left xs (y ∷ []) x c.0 c.1 ∙ c.2 in
-    subst (λ (z : Staged). R x z) (last_at xs y x) (subst (λ (z : Staged). R z (get_or (xs ++ y ∷ []) (length xs) x)) a (h c.0 (length xs) x c.1 (omega (arith, length-append xs (y ∷ [])))))
+    subst (λ (z : Staged). R x z) (last_at xs y x) (subst (λ (z : Staged). R z (get_or (xs ++ y ∷ []) (length xs) x)) a
+    (h c.0 (length xs) x c.1 (omega (arith, length-append xs (y ∷ [])))))
 
 abbrev Chained : Staged → Staged → Type 0
 Chained f g = BeginsWith g.path f.path × (path_cmp f.path g.path ≡ Less)
@@ -149,9 +160,13 @@ abbrev pub Last : List Staged → Path → Type 0
 Last fs q = (fs ≡ []) ⊎ EndsWith fs (λ f. BeginsWith q f.path × (LiesIn q f → ⊥))
 
 apart_itself : (p q : Path) → path_cmp p q ≡ Less → q ≡ p → ⊥
-apart_itself p q e s = let less : path_cmp p p ≡ Less = subst (λ (x : Path). path_cmp p x ≡ Less) s e in let tie = tied_itself nat_list_cmp_total p in absurd (cc (tie, less))
+apart_itself p q e s =
+    let less : path_cmp p p ≡ Less = subst (λ (x : Path). path_cmp p x ≡ Less) s e in
+    let tie = tied_itself nat_list_cmp_total p in
+    absurd (cc (tie, less))
 
-module _ (ss fs kept gone : List Staged) (x : Staged) (h : MayBegin ss fs) (parts : fs ≡ kept ++ gone) (taken : All (λ f. BeginsWith x.path f.path → ⊥) gone) (last : Last kept x.path) (rise : Follows ss x.path) where
+module _ (ss fs kept gone : List Staged) (x : Staged) (h : MayBegin ss fs) (parts : fs ≡ kept ++ gone)
+    (taken : All (λ f. BeginsWith x.path f.path → ⊥) gone) (last : Last kept x.path) (rise : Follows ss x.path) where
   abbrev q : Path
   q = x.path
 
@@ -206,18 +221,23 @@ module _ (ss fs kept gone : List Staged) (x : Staged) (h : MayBegin ss fs) (part
   before : (r : Path) → Follows (ss ++ x ∷ []) r → Follows ss r
   before r f p c = f p (Contains-append_left ss (x ∷ []) p c)
 
-  past_more : (p : Staged) → Contains (ss ++ x ∷ []) p → Contains (kept ++ x ∷ []) p ⊎ ((r : Path) → Follows (ss ++ x ∷ []) r → BeginsWith r p.path → ⊥)
+  past_more : (p : Staged) → Contains (ss ++ x ∷ []) p
+      → Contains (kept ++ x ∷ []) p ⊎ ((r : Path) → Follows (ss ++ x ∷ []) r → BeginsWith r p.path → ⊥)
   past_more p c = by (Contains-push_cases ss x p c)
     where
-      held : Contains ss p → Contains kept p ⊎ Contains gone p → Contains (kept ++ x ∷ []) p ⊎ ((r : Path) → Follows (ss ++ x ∷ []) r → BeginsWith r p.path → ⊥)
+      held : Contains ss p → Contains kept p ⊎ Contains gone p
+          → Contains (kept ++ x ∷ []) p ⊎ ((r : Path) → Follows (ss ++ x ∷ []) r → BeginsWith r p.path → ⊥)
       held a (inl d) = inl (Contains-append_left kept (x ∷ []) p d)
-      held a (inr d) = inr (λ r f b. All-contains (λ f. BeginsWith q f.path → ⊥) gone p taken d (between p.path q r (rise p a) (f x (Contains-push ss x)) b))
+      held a (inr d) = inr (λ r f b. All-contains (λ f. BeginsWith q f.path → ⊥) gone p taken d
+          (between p.path q r (rise p a) (f x (Contains-push ss x)) b))
 
-      old : Contains ss p → Contains fs p ⊎ ((r : Path) → Follows ss r → BeginsWith r p.path → ⊥) → Contains (kept ++ x ∷ []) p ⊎ ((r : Path) → Follows (ss ++ x ∷ []) r → BeginsWith r p.path → ⊥)
+      old : Contains ss p → Contains fs p ⊎ ((r : Path) → Follows ss r → BeginsWith r p.path → ⊥)
+          → Contains (kept ++ x ∷ []) p ⊎ ((r : Path) → Follows (ss ++ x ∷ []) r → BeginsWith r p.path → ⊥)
       old a (inl d) = held a (Contains-append_cases kept gone p (subst (λ (l : List Staged). Contains l p) parts d))
       old a (inr d) = inr (λ r f b. d r (before r f) b)
 
-      by : Contains ss p ⊎ (x ≡ p) → Contains (kept ++ x ∷ []) p ⊎ ((r : Path) → Follows (ss ++ x ∷ []) r → BeginsWith r p.path → ⊥)
+      by : Contains ss p ⊎ (x ≡ p)
+          → Contains (kept ++ x ∷ []) p ⊎ ((r : Path) → Follows (ss ++ x ∷ []) r → BeginsWith r p.path → ⊥)
       by (inl a) = old a (h.past p a)
       by (inr s) = inl (subst (Contains (kept ++ x ∷ [])) s (Contains-push kept x))
 
@@ -237,16 +257,20 @@ module _ (ss fs kept gone : List Staged) (x : Staged) (h : MayBegin ss fs) (part
       by : Contains ss p ⊎ (x ≡ p) → Contains ss u ⊎ (x ≡ u) → ⊥
       by (inl c) (inl d) = h.apart.below p u c d below
       by (inl c) (inr s) = not_in p c (inl (subst (λ (y : Staged). IsBelow y.path p.path) (sym s) below))
-      by (inr s) (inl d) = not_after u.path q (rise u d) (below_begins u.path q (subst (λ (y : Staged). IsBelow u.path y.path) (sym s) below))
-      by (inr s) (inr t) = longer q (subst (λ (y : Staged). IsBelow y.path q) (sym t) (subst (λ (y : Staged). IsBelow u.path y.path) (sym s) below))
+      by (inr s) (inl d) = not_after u.path q (rise u d)
+          (below_begins u.path q (subst (λ (y : Staged). IsBelow u.path y.path) (sym s) below))
+      by (inr s) (inr t) = longer q (subst (λ (y : Staged). IsBelow y.path q) (sym t)
+          (subst (λ (y : Staged). IsBelow u.path y.path) (sym s) below))
 
-  inside_more : (p u : Staged) → Contains (ss ++ x ∷ []) p → Contains (ss ++ x ∷ []) u → IsInside u.path p → u.path ≡ p.path
+  inside_more : (p u : Staged) → Contains (ss ++ x ∷ []) p → Contains (ss ++ x ∷ []) u → IsInside u.path p
+      → u.path ≡ p.path
   inside_more p u a b inside = by (Contains-push_cases ss x p a) (Contains-push_cases ss x u b)
     where
       by : Contains ss p ⊎ (x ≡ p) → Contains ss u ⊎ (x ≡ u) → u.path ≡ p.path
       by (inl c) (inl d) = h.apart.inside p u c d inside
       by (inl c) (inr s) = absurd (not_in p c (inr (subst (λ (y : Staged). IsInside y.path p) (sym s) inside)))
-      by (inr s) (inl d) = absurd (not_after u.path q (rise u d) (subst (λ (y : Staged). BeginsWith u.path y.path) (sym s) inside.1))
+      by (inr s) (inl d) =
+          absurd (not_after u.path q (rise u d) (subst (λ (y : Staged). BeginsWith u.path y.path) (sym s) inside.1))
       by (inr s) (inr t) = ap (λ (y : Staged). y.path) (sym t ∙ s)
 
   pub kept_more : MayBegin (ss ++ x ∷ []) (kept ++ x ∷ [])

@@ -1,5 +1,6 @@
 -- A directory that is begun: nothing, one more item, and the end.
-use Rattle.std.proofs.Common.{◌≡◌, ℕ, ◌+◌, ◌<◌, ◌||◌, List, [], ◌∷◌, ◌++◌, Bool, true, false, length, map, get_or, All, Option, Some, None, refl, sym, ap, subst, ◌∙◌, append_assoc, arith}
+use Rattle.std.proofs.Common.{◌≡◌, ℕ, ◌+◌, ◌<◌, ◌||◌, List, [], ◌∷◌, ◌++◌, Bool, true, false, length, map, get_or, All}
+use Rattle.std.proofs.Common.{Option, Some, None, refl, sym, ap, subst, ◌∙◌, append_assoc, arith}
 use Rattle.std.specs.Prelude.{◌≢◌, if◌then◌else◌}
 use Rattle.std.specs.declared.cmp.Ordering.TheVariants.{Less}
 use Rattle.std.proofs.lemmas.Cmp.{nat_list_cmp_total}
@@ -15,29 +16,38 @@ use Rattle.index_entries.specs.Order.{path_cmp}
 use Rattle.index_entries.specs.TreeOrder.{IsGitOrdered, sorted_name}
 use Rattle.index_cached_tree.specs.Tree.{Node, node, node_of, nodes_from}
 use Rattle.index_tree_writer.specs.Cached.{AreItemNodes, AreNodes, IsCached, IsNodeWhere, leaf_nodes}
-use Rattle.index_tree_writer.specs.Directory.{Item, Items, leaf, directory, no_more, IsName, IsItem, content, leaf_count, directory_bytes, directory_object, item_bytes, leaf_bytes, entries, entry_of, items_id, item_leaves, leaves, item_objects, objects, objects_below, key}
+use Rattle.index_tree_writer.specs.Directory.{Item, Items, leaf, directory, no_more, IsName, IsItem, content}
+use Rattle.index_tree_writer.specs.Directory.{leaf_count, directory_bytes, directory_object, item_bytes, leaf_bytes}
+use Rattle.index_tree_writer.specs.Directory.{entries, entry_of, items_id, item_leaves, leaves, item_objects, objects}
+use Rattle.index_tree_writer.specs.Directory.{objects_below, key}
 use Rattle.index_tree_writer.specs.Objects.{Taken, tree_id, with_objects}
 use Rattle.index_tree_writer.specs.Staged.{Staged}
 use Rattle.index_tree_writer.specs.WritingSteps.{Ahead, IsBegunDirectory, IsFinished, IsMadeNode, any_later}
 use Rattle.index_tree_writer.specs.declared.write.Made.{Made}
-use Rattle.index_tree_writer.proofs.Pushes.{push, leaves_push, content_push, objects_push, entries_push, nodes_push, made_push, leaves_under, under}
+use Rattle.index_tree_writer.proofs.Pushes.{push, leaves_push, content_push, objects_push, entries_push, nodes_push}
+use Rattle.index_tree_writer.proofs.Pushes.{made_push, leaves_under, under}
 
 with_none : (known : Taken) → with_objects known [] ≡ known
 with_none None = refl
 with_none (Some taken) = ap Some (append-nil taken)
 
-with_both : (known : Taken) (a b : List (ObjectId × List ℕ)) → with_objects (with_objects known a) b ≡ with_objects known (a ++ b)
+with_both : (known : Taken) (a b : List (ObjectId × List ℕ))
+    → with_objects (with_objects known a) b ≡ with_objects known (a ++ b)
 with_both None a b = refl
 with_both (Some taken) a b = ap Some (append_assoc taken a b)
 
 abbrev Follows : List ℕ → TreeEntry → Type 0
 Follows last e = (s : List ℕ) → path_cmp last s ≡ Less → path_cmp (sorted_name e) s ≡ Less
 
-pub begun_none : (kind : Kind) (left : List Staged) (m : Made) (old : Taken) → m.bytes.items ≡ [] → m.children.items ≡ [] → m.count ≡ 0 → m.later ≡ false → All (Ahead []) left → IsBegunDirectory kind [] left m old old
+pub begun_none : (kind : Kind) (left : List Staged) (m : Made) (old : Taken) → m.bytes.items ≡ [] → m.children.items
+    ≡ [] → m.count ≡ 0 → m.later ≡ false → All (Ahead []) left → IsBegunDirectory kind [] left m old old
 begun_none kind left m old b n c l a = record {
   items = no_more;
   made = tt;
-  ordered = record { components = All-nil (λ e. All (λ b. b ≢ 47) e.name); less = λ i j d lt within. absurd (omega (arith, within)) };
+  ordered = record {
+    components = All-nil (λ e. All (λ b. b ≢ 47) e.name);
+    less = λ i j d lt within. absurd (omega (arith, within));
+  };
   last = [];
   follows = All-nil (Follows []);
   ahead = a;
@@ -59,41 +69,58 @@ or_assoc false b c = refl
 
 pub any_later-append : (a b : List Staged) → any_later (a ++ b) ≡ any_later a || any_later b
 any_later-append [] b = refl
-any_later-append (s ∷ a) b = ap (λ (x : Bool). s.later || x) (any_later-append a b) ∙ sym (or_assoc s.later (any_later a) (any_later b))
+any_later-append (s ∷ a) b =
+    ap (λ (x : Bool). s.later || x) (any_later-append a b) ∙ sym (or_assoc s.later (any_later a) (any_later b))
 
 -- one more item, whose sorted name follows
-pub begun_push : (kind : Kind) (staged left : List Staged) (m : Made) (old new : Taken) (h : IsBegunDirectory kind staged left m old new)
-    → (x : Item) (shown : List ℕ) (more left_then : List Staged) (n : Made) (newer : Taken) (us : List Node) → IsItem kind x → sorted_name (entry_of kind x) ≡ shown → path_cmp h.last shown ≡ Less → All (Ahead shown) left_then
-    → item_leaves [] x ≡ more → n.bytes.items ≡ m.bytes.items ++ item_bytes kind x → map node_of n.children.items ≡ map node_of m.children.items ++ us → AreItemNodes kind x us
-    → n.count ≡ m.count + length more → n.later ≡ m.later || any_later more → newer ≡ with_objects new (item_objects kind x)
+pub begun_push : (kind : Kind) (staged left : List Staged) (m : Made) (old new : Taken)
+    (h : IsBegunDirectory kind staged left m old new)
+    → (x : Item) (shown : List ℕ) (more left_then : List Staged) (n : Made) (newer : Taken) (us : List Node)
+    → IsItem kind x → sorted_name (entry_of kind x) ≡ shown → path_cmp h.last shown ≡ Less
+    → All (Ahead shown) left_then
+    → item_leaves [] x ≡ more → n.bytes.items ≡ m.bytes.items ++ item_bytes kind x
+    → map node_of n.children.items ≡ map node_of m.children.items ++ us → AreItemNodes kind x us
+    → n.count ≡ m.count + length more → n.later ≡ m.later || any_later more
+    → newer ≡ with_objects new (item_objects kind x)
     → IsBegunDirectory kind (staged ++ more) left_then n old newer
-begun_push kind staged left m old new h x shown more left_then n newer us made is follows ahead listed bytes children nodes count later stored =
-    let less : (k : ℕ) (d : TreeEntry) → k < length (entries kind h.items) → path_cmp (sorted_name (get_or (entries kind h.items) k d)) (sorted_name (entry_of kind x)) ≡ Less =
-    λ k d within. h.follows k d within (sorted_name (entry_of kind x)) (subst (λ (s : List ℕ). path_cmp h.last s ≡ Less) (sym is) follows) in
+begun_push kind staged left m old new h x shown more left_then n newer us made is follows ahead listed bytes children
+    nodes count later stored =
+    let less : (k : ℕ) (d : TreeEntry) → k < length (entries kind h.items)
+    → path_cmp (sorted_name (get_or (entries kind h.items) k d)) (sorted_name (entry_of kind x)) ≡ Less =
+    λ k d within. h.follows k d within (sorted_name (entry_of kind x))
+    (subst (λ (s : List ℕ). path_cmp h.last s ≡ Less) (sym is) follows) in
     record {
       items = push h.items x;
       made = made_push kind h.items x h.made made;
       ordered = subst IsGitOrdered (sym (entries_push kind h.items x)) (record {
-        components = All-push (λ e. All (λ b. b ≢ 47) e.name) (entries kind h.items) (entry_of kind x) h.ordered.components (component_of kind x made);
-        less = all_pairs_push (λ d e. path_cmp (sorted_name d) (sorted_name e) ≡ Less) (entries kind h.items) (entry_of kind x) h.ordered.less less;
+        components = All-push (λ e. All (λ b. b ≢ 47) e.name) (entries kind h.items)
+            (entry_of kind x) h.ordered.components (component_of kind x made);
+        less = all_pairs_push (λ d e. path_cmp (sorted_name d) (sorted_name e) ≡ Less) (entries kind h.items)
+            (entry_of kind x) h.ordered.less less;
       });
       last = shown;
       follows = subst (λ (es : List TreeEntry). All (Follows shown) es) (sym (entries_push kind h.items x))
           (All-push (Follows shown) (entries kind h.items) (entry_of kind x)
-          (All-weaker (Follows h.last) (Follows shown) (λ e f s lt. f s (nat_list_cmp_total.trans h.last shown s follows lt)) (entries kind h.items) h.follows)
+          (All-weaker (Follows h.last) (Follows shown)
+          (λ e f s lt. f s (nat_list_cmp_total.trans h.last shown s follows lt)) (entries kind h.items) h.follows)
           (λ s lt. subst (λ (t : List ℕ). path_cmp t s ≡ Less) (sym is) lt));
       ahead = ahead;
-      listed = leaves_push [] h.items x ∙ ap (λ (l : List Staged). l ++ item_leaves [] x) h.listed ∙ ap (λ (l : List Staged). staged ++ l) listed;
+      listed = leaves_push [] h.items x ∙ ap (λ (l : List Staged). l ++ item_leaves [] x) h.listed
+          ∙ ap (λ (l : List Staged). staged ++ l) listed;
       is_content = bytes ∙ ap (λ (l : List ℕ). l ++ item_bytes kind x) h.is_content ∙ sym (content_push kind h.items x);
-      nodes = subst (AreNodes kind (push h.items x)) (sym children) (nodes_push kind h.items x (map node_of m.children.items) us h.nodes nodes);
+      nodes = subst (AreNodes kind (push h.items x)) (sym children)
+          (nodes_push kind h.items x (map node_of m.children.items) us h.nodes nodes);
       count = count ∙ ap (λ (i : ℕ). i + length more) h.count ∙ sym (length-append staged more);
       later = later ∙ ap (λ (b : Bool). b || any_later more) h.later ∙ sym (any_later-append staged more);
-      stored = stored ∙ ap (λ (k : Taken). with_objects k (item_objects kind x)) h.stored ∙ with_both old (objects_below kind h.items) (item_objects kind x) ∙ ap (with_objects old) (sym (objects_push kind h.items x));
+      stored = stored ∙ ap (λ (k : Taken). with_objects k (item_objects kind x)) h.stored
+          ∙ with_both old (objects_below kind h.items) (item_objects kind x)
+          ∙ ap (with_objects old) (sym (objects_push kind h.items x));
     }
 
 -- ---- a leaf
 
-pub leaf_sorted : (name : List ℕ) (k : EntryKind) (id : ObjectId) (later : Bool) (kind : Kind) → sorted_name (entry_of kind (leaf name k id later)) ≡ key name k
+pub leaf_sorted : (name : List ℕ) (k : EntryKind) (id : ObjectId) (later : Bool) (kind : Kind)
+    → sorted_name (entry_of kind (leaf name k id later)) ≡ key name k
 leaf_sorted name kinds.Tree id later kind = refl
 leaf_sorted name kinds.Blob id later kind = append-nil name
 leaf_sorted name kinds.BlobExecutable id later kind = append-nil name
@@ -104,14 +131,19 @@ or_false : (b : Bool) → b || false ≡ b
 or_false true = refl
 or_false false = refl
 
-pub begun_leaf : (kind : Kind) (staged left : List Staged) (m : Made) (old new : Taken) (h : IsBegunDirectory kind staged left m old new)
-    → (name : List ℕ) (s : Staged) (left_then : List Staged) (n : Made) → IsItem kind (leaf name s.kind s.id s.later) → s.path ≡ key name s.kind → path_cmp h.last s.path ≡ Less → All (Ahead s.path) left_then
-    → n.bytes.items ≡ m.bytes.items ++ leaf_bytes name s.kind s.id s.later → map node_of n.children.items ≡ map node_of m.children.items ++ leaf_nodes name s.kind s.id s.later
+pub begun_leaf : (kind : Kind) (staged left : List Staged) (m : Made) (old new : Taken)
+    (h : IsBegunDirectory kind staged left m old new)
+    → (name : List ℕ) (s : Staged) (left_then : List Staged) (n : Made) → IsItem kind (leaf name s.kind s.id s.later)
+    → s.path ≡ key name s.kind → path_cmp h.last s.path ≡ Less → All (Ahead s.path) left_then
+    → n.bytes.items ≡ m.bytes.items ++ leaf_bytes name s.kind s.id s.later
+    → map node_of n.children.items ≡ map node_of m.children.items ++ leaf_nodes name s.kind s.id s.later
     → n.count ≡ m.count + 1 → n.later ≡ m.later || s.later
     → IsBegunDirectory kind (staged ++ s ∷ []) left_then n old new
 begun_leaf kind staged left m old new h name s left_then n made is follows ahead bytes children count later =
-    begun_push kind staged left m old new h (leaf name s.kind s.id s.later) s.path (s ∷ []) left_then n new (leaf_nodes name s.kind s.id s.later) made (leaf_sorted name s.kind s.id s.later kind ∙ sym is) follows ahead
-    (ap (λ (p : List ℕ). record { path = p; kind = s.kind; id = s.id; later = s.later } ∷ []) (sym is)) bytes children refl count (later ∙ ap (λ (b : Bool). m.later || b) (sym (or_false s.later))) (sym (with_none new))
+    begun_push kind staged left m old new h (leaf name s.kind s.id s.later) s.path (s ∷ []) left_then n new
+    (leaf_nodes name s.kind s.id s.later) made (leaf_sorted name s.kind s.id s.later kind ∙ sym is) follows ahead
+    (ap (λ (p : List ℕ). record { path = p; kind = s.kind; id = s.id; later = s.later } ∷ []) (sym is)) bytes children
+    refl count (later ∙ ap (λ (b : Bool). m.later || b) (sym (or_false s.later))) (sym (with_none new))
 
 -- ---- a directory
 
@@ -119,36 +151,59 @@ some_leaves : (items : Items) (staged : List Staged) → leaves [] items ≡ sta
 some_leaves items staged e some nothing = some (sym e ∙ ap (leaves []) nothing)
 
 -- what is made of a directory
-pub finished_cached : (kind : Kind) (staged left : List Staged) (m : Made) (old new : Taken) (h : IsBegunDirectory kind staged left m old new) → (name : List ℕ) (t : Node) → IsFinished kind name m t → IsCached kind name h.items t
+pub finished_cached : (kind : Kind) (staged left : List Staged) (m : Made) (old new : Taken)
+    (h : IsBegunDirectory kind staged left m old new) → (name : List ℕ) (t : Node) → IsFinished kind name m t
+    → IsCached kind name h.items t
 finished_cached kind staged left m old new h name t f =
     let same : tree_id kind m.bytes.items ≡ items_id kind h.items = ap (tree_id kind) h.is_content in
-    let number : (if m.later then None else Some m.count) ≡ leaf_count (leaves [] h.items) = rw (h.later, h.count) (ap leaf_count (sym h.listed)) in
-    (map node_of m.children.items, h.nodes, (f.0, f.1, f.2, f.3 ∙ ap (λ (i : ObjectId). node name i (if m.later then None else Some m.count) (nodes_from f.0)) same ∙ ap (λ (n : Option ℕ). node name (items_id kind h.items) n (nodes_from f.0)) number))
+    let number : (if m.later then None else Some m.count) ≡ leaf_count (leaves [] h.items) =
+    rw (h.later, h.count) (ap leaf_count (sym h.listed)) in (
+      map node_of m.children.items,
+      h.nodes,
+      (
+        f.0,
+        f.1,
+        f.2,
+        f.3 ∙ ap (λ (i : ObjectId). node name i (if m.later then None else Some m.count)
+            (nodes_from f.0)) same ∙ ap (λ (n : Option ℕ). node name (items_id kind h.items) n (nodes_from f.0)) number,
+      ),
+    )
 
-node_where : (bytes other : List ℕ) (P Q : Node → Type 0) (ts : List Node) → bytes ≡ other → ((t : Node) → P t → Q t) → IsNodeWhere bytes P ts → IsNodeWhere other Q ts
+node_where : (bytes other : List ℕ) (P Q : Node → Type 0) (ts : List Node) → bytes ≡ other → ((t : Node) → P t → Q t)
+    → IsNodeWhere bytes P ts → IsNodeWhere other Q ts
 node_where bytes other P Q ts e f h = subst (λ (l : List ℕ). IsNodeWhere l Q ts) e (by bytes h)
   where
     by : (l : List ℕ) → IsNodeWhere l P ts → IsNodeWhere l Q ts
     by [] g = g
     by (b ∷ l) g = (g.0, g.1, f g.0 g.2)
 
-pub begun_directory : (kind : Kind) (staged left : List Staged) (m : Made) (old new : Taken) (h : IsBegunDirectory kind staged left m old new)
-    → (name shown : List ℕ) (inner later left_then : List Staged) (i n : Made) (middle newer : Taken) (us : List Node) → IsName name → shown ≡ name ++ 47 ∷ [] → path_cmp h.last shown ≡ Less → All (Ahead shown) left_then
+pub begun_directory : (kind : Kind) (staged left : List Staged) (m : Made) (old new : Taken)
+    (h : IsBegunDirectory kind staged left m old new)
+    → (name shown : List ℕ) (inner later left_then : List Staged) (i n : Made) (middle newer : Taken) (us : List Node)
+    → IsName name → shown ≡ name ++ 47 ∷ [] → path_cmp h.last shown ≡ Less → All (Ahead shown) left_then
     → inner ≢ [] → map (under shown) inner ≡ later → IsBegunDirectory kind inner [] i new middle
-    → n.bytes.items ≡ m.bytes.items ++ directory_bytes kind name i.bytes.items → map node_of n.children.items ≡ map node_of m.children.items ++ us → IsMadeNode kind name i us
-    → n.count ≡ m.count + i.count → n.later ≡ m.later || i.later → newer ≡ with_objects middle (directory_object kind i.bytes.items)
+    → n.bytes.items ≡ m.bytes.items ++ directory_bytes kind name i.bytes.items
+    → map node_of n.children.items ≡ map node_of m.children.items ++ us → IsMadeNode kind name i us
+    → n.count ≡ m.count + i.count → n.later ≡ m.later || i.later
+    → newer ≡ with_objects middle (directory_object kind i.bytes.items)
     → IsBegunDirectory kind (staged ++ later) left_then n old newer
-begun_directory kind staged left m old new h name shown inner later left_then i n middle newer us named is follows ahead some listed w bytes children nodes count flag stored =
+begun_directory kind staged left m old new h name shown inner later left_then i n middle newer us named is follows ahead
+    some listed w bytes children nodes count flag stored =
     let x : Item = directory name w.items in
     let made : IsItem kind x = (named, some_leaves w.items inner w.listed some, w.made, w.ordered) in
     let below : leaves ([] ++ (name ++ 47 ∷ [])) w.items ≡ later =
-    ap (λ (p : List ℕ). leaves p w.items) (sym (append-nil (name ++ 47 ∷ []))) ∙ leaves_under (name ++ 47 ∷ []) [] w.items ∙ ap (λ (p : List ℕ). map (under p) (leaves [] w.items)) (sym is) ∙ ap (map (under shown)) w.listed ∙ listed in
+    ap (λ (p : List ℕ). leaves p w.items) (sym (append-nil (name ++ 47 ∷ [])))
+    ∙ leaves_under (name ++ 47 ∷ []) [] w.items ∙ ap (λ (p : List ℕ). map (under p) (leaves [] w.items)) (sym is)
+    ∙ ap (map (under shown)) w.listed ∙ listed in
     let number : length inner ≡ length later = sym (length-map inner (under shown)) ∙ ap length listed in
     let flags : any_later inner ≡ any_later later = later_under inner ∙ ap any_later listed in
-    begun_push kind staged left m old new h x shown later left_then n newer us made (sym is) follows ahead below (bytes ∙ ap (λ (l : List ℕ). m.bytes.items ++ directory_bytes kind name l) w.is_content) children
-    (node_where i.bytes.items (content kind w.items) (IsFinished kind name i) (IsCached kind name w.items) us w.is_content (λ t f. finished_cached kind inner [] i new middle w name t f) nodes)
+    begun_push kind staged left m old new h x shown later left_then n newer us made (sym is) follows ahead below
+    (bytes ∙ ap (λ (l : List ℕ). m.bytes.items ++ directory_bytes kind name l) w.is_content) children
+    (node_where i.bytes.items (content kind w.items) (IsFinished kind name i) (IsCached kind name w.items) us
+    w.is_content (λ t f. finished_cached kind inner [] i new middle w name t f) nodes)
     (count ∙ ap (λ (j : ℕ). m.count + j) (w.count ∙ number)) (flag ∙ ap (λ (b : Bool). m.later || b) (w.later ∙ flags))
-    (stored ∙ ap (λ (k : Taken). with_objects k (directory_object kind i.bytes.items)) w.stored ∙ with_both new (objects_below kind w.items) (directory_object kind i.bytes.items)
+    (stored ∙ ap (λ (k : Taken). with_objects k (directory_object kind i.bytes.items)) w.stored
+    ∙ with_both new (objects_below kind w.items) (directory_object kind i.bytes.items)
     ∙ ap (λ (l : List ℕ). with_objects new (objects_below kind w.items ++ directory_object kind l)) w.is_content)
   where
     later_under : (ss : List Staged) → any_later ss ≡ any_later (map (under shown) ss)
@@ -156,12 +211,19 @@ begun_directory kind staged left m old new h name shown inner later left_then i 
     later_under (s ∷ ss) = ap (λ (b : Bool). s.later || b) (later_under ss)
 
 -- its own object behind those below it
-pub begun_root : (kind : Kind) (staged left : List Staged) (m : Made) (old new : Taken) (h : IsBegunDirectory kind staged left m old new) (newer : Taken) → newer ≡ with_objects new ((tree_id kind m.bytes.items, m.bytes.items) ∷ []) → newer ≡ with_objects old (objects kind h.items)
+pub begun_root : (kind : Kind) (staged left : List Staged) (m : Made) (old new : Taken)
+    (h : IsBegunDirectory kind staged left m old new) (newer : Taken)
+    → newer ≡ with_objects new ((tree_id kind m.bytes.items, m.bytes.items) ∷ [])
+    → newer ≡ with_objects old (objects kind h.items)
 begun_root kind staged left m old new h newer e =
-    e ∙ ap (λ (k : Taken). with_objects k ((tree_id kind m.bytes.items, m.bytes.items) ∷ [])) h.stored ∙ with_both old (objects_below kind h.items) ((tree_id kind m.bytes.items, m.bytes.items) ∷ [])
+    e ∙ ap (λ (k : Taken). with_objects k ((tree_id kind m.bytes.items, m.bytes.items) ∷ [])) h.stored
+    ∙ with_both old (objects_below kind h.items) ((tree_id kind m.bytes.items, m.bytes.items) ∷ [])
     ∙ ap (λ (b : List ℕ). with_objects old (objects_below kind h.items ++ (tree_id kind b, b) ∷ [])) h.is_content
 
 -- ---- the same by equal parts
 
-pub begun_same : (kind : Kind) (old new : Taken) (m : Made) (s q left left_then : List Staged) → q ≡ s → left_then ≡ left → IsBegunDirectory kind s left m old new → IsBegunDirectory kind q left_then m old new
-begun_same kind old new m s q left left_then es el h = subst (λ (x : List Staged). IsBegunDirectory kind x left_then m old new) (sym es) (subst (λ (x : List Staged). IsBegunDirectory kind s x m old new) (sym el) h)
+pub begun_same : (kind : Kind) (old new : Taken) (m : Made) (s q left left_then : List Staged) → q ≡ s
+    → left_then ≡ left → IsBegunDirectory kind s left m old new → IsBegunDirectory kind q left_then m old new
+begun_same kind old new m s q left left_then es el h =
+    subst (λ (x : List Staged). IsBegunDirectory kind x left_then m old new) (sym es)
+    (subst (λ (x : List Staged). IsBegunDirectory kind s x m old new) (sym el) h)

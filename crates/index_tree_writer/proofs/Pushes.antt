@@ -7,7 +7,9 @@ use Rattle.index_parts.specs.declared.hash.ObjectId.{ObjectId}
 use Rattle.index_objects.specs.declared.object.tree.EntryKind.TheVariants as kinds
 use Rattle.index_cached_tree.specs.Tree.{Node}
 use Rattle.index_tree_writer.specs.Cached.{AreItemNodes, AreNodes}
-use Rattle.index_tree_writer.specs.Directory.{Item, Items, leaf, directory, no_more, next, IsItem, AreItems, content, item_bytes, entries, entry_of, item_leaves, leaves, item_objects, objects_below, key}
+use Rattle.index_tree_writer.specs.Directory.{Item, Items, leaf, directory, no_more, next, IsItem, AreItems, content}
+use Rattle.index_tree_writer.specs.Directory.{item_bytes, entries, entry_of, item_leaves, leaves, item_objects}
+use Rattle.index_tree_writer.specs.Directory.{objects_below, key}
 use Rattle.index_tree_writer.specs.Staged.{Staged}
 
 -- the same with a prefix
@@ -18,25 +20,40 @@ abbrev pub push : Items → Item → Items
 push no_more x = next x no_more
 push (next y ys) x = next y (push ys x)
 
-pub leaves_push : (front : List ℕ) (xs : Items) (x : Item) → leaves front (push xs x) ≡ leaves front xs ++ item_leaves front x
+pub leaves_push : (front : List ℕ) (xs : Items) (x : Item)
+    → leaves front (push xs x) ≡ leaves front xs ++ item_leaves front x
 leaves_push front no_more x = append-nil (item_leaves front x)
-leaves_push front (next y ys) x = ap (λ (l : List Staged). item_leaves front y ++ l) (leaves_push front ys x) ∙ sym (append_assoc (item_leaves front y) (leaves front ys) (item_leaves front x))
+leaves_push front (next y ys) x = ap (λ (l : List Staged). item_leaves front y ++ l) (leaves_push front ys x)
+    ∙ sym (append_assoc (item_leaves front y) (leaves front ys) (item_leaves front x))
 
-pub content_push : (kind : Kind) (xs : Items) (x : Item) → content kind (push xs x) ≡ content kind xs ++ item_bytes kind x
+pub content_push : (kind : Kind) (xs : Items) (x : Item)
+    → content kind (push xs x) ≡ content kind xs ++ item_bytes kind x
 content_push kind no_more x = append-nil (item_bytes kind x)
-content_push kind (next y ys) x = ap (λ (l : List ℕ). item_bytes kind y ++ l) (content_push kind ys x) ∙ sym (append_assoc (item_bytes kind y) (content kind ys) (item_bytes kind x))
+content_push kind (next y ys) x = ap (λ (l : List ℕ). item_bytes kind y ++ l) (content_push kind ys x)
+    ∙ sym (append_assoc (item_bytes kind y) (content kind ys) (item_bytes kind x))
 
-pub objects_push : (kind : Kind) (xs : Items) (x : Item) → objects_below kind (push xs x) ≡ objects_below kind xs ++ item_objects kind x
+pub objects_push : (kind : Kind) (xs : Items) (x : Item)
+    → objects_below kind (push xs x) ≡ objects_below kind xs ++ item_objects kind x
 objects_push kind no_more x = append-nil (item_objects kind x)
-objects_push kind (next y ys) x = ap (λ (l : List (ObjectId × List ℕ)). item_objects kind y ++ l) (objects_push kind ys x) ∙ sym (append_assoc (item_objects kind y) (objects_below kind ys) (item_objects kind x))
+objects_push kind (next y ys) x =
+    ap (λ (l : List (ObjectId × List ℕ)). item_objects kind y ++ l) (objects_push kind ys x)
+    ∙ sym (append_assoc (item_objects kind y) (objects_below kind ys) (item_objects kind x))
 
-pub entries_push : (kind : Kind) (xs : Items) (x : Item) → entries kind (push xs x) ≡ entries kind xs ++ entry_of kind x ∷ []
+pub entries_push : (kind : Kind) (xs : Items) (x : Item)
+    → entries kind (push xs x) ≡ entries kind xs ++ entry_of kind x ∷ []
 entries_push kind no_more x = refl
 entries_push kind (next y ys) x = ap (λ (l : List TreeEntry). entry_of kind y ∷ l) (entries_push kind ys x)
 
-pub nodes_push : (kind : Kind) (xs : Items) (x : Item) (ts us : List Node) → AreNodes kind xs ts → AreItemNodes kind x us → AreNodes kind (push xs x) (ts ++ us)
+pub nodes_push : (kind : Kind) (xs : Items) (x : Item) (ts us : List Node) → AreNodes kind xs ts
+    → AreItemNodes kind x us → AreNodes kind (push xs x) (ts ++ us)
 nodes_push kind no_more x ts us h i = (us, [], ap (λ (l : List Node). l ++ us) h ∙ sym (append-nil us), i, refl)
-nodes_push kind (next y ys) x ts us h i = (h.0, h.1 ++ us, ap (λ (l : List Node). l ++ us) h.2 ∙ append_assoc h.0 h.1 us, h.3, nodes_push kind ys x h.1 us h.4 i)
+nodes_push kind (next y ys) x ts us h i = (
+  h.0,
+  h.1 ++ us,
+  ap (λ (l : List Node). l ++ us) h.2 ∙ append_assoc h.0 h.1 us,
+  h.3,
+  nodes_push kind ys x h.1 us h.4 i,
+)
 
 pub made_push : (kind : Kind) (xs : Items) (x : Item) → AreItems kind xs → IsItem kind x → AreItems kind (push xs x)
 made_push kind no_more x h i = (i, tt)
@@ -46,8 +63,11 @@ made_push kind (next y ys) x h i = (h.0, made_push kind ys x h.1 i)
 
 mutual
   item_under : (f front : List ℕ) (x : Item) → item_leaves (f ++ front) x ≡ map (under f) (item_leaves front x)
-  item_under f front (leaf name k id later) = ap (λ (p : List ℕ). record { path = p; kind = k; id = id; later = later } ∷ []) (append_assoc f front (key name k))
-  item_under f front (directory name items) = ap (λ (p : List ℕ). leaves p items) (append_assoc f front (key name kinds.Tree)) ∙ leaves_under f (front ++ key name kinds.Tree) items
+  item_under f front (leaf name k id later) = ap
+      (λ (p : List ℕ). record { path = p; kind = k; id = id; later = later } ∷ []) (append_assoc f front (key name k))
+  item_under f front (directory name items) =
+      ap (λ (p : List ℕ). leaves p items) (append_assoc f front (key name kinds.Tree))
+      ∙ leaves_under f (front ++ key name kinds.Tree) items
 
   pub leaves_under : (f front : List ℕ) (xs : Items) → leaves (f ++ front) xs ≡ map (under f) (leaves front xs)
   leaves_under f front no_more = refl

@@ -1,5 +1,6 @@
 -- A search among children that are sorted by their names finds one that has a name, or none has it.
-use Rattle.std.proofs.Common.{◌≡◌, ℕ, ◌+◌, ◌<◌, ◌≤◌, Bool, true, false, ltb, List, [], ◌∷◌, All, Bor, length, map, get_or, Option, Some, None, refl, sym, ap, subst, ◌∙◌, arith}
+use Rattle.std.proofs.Common.{◌≡◌, ℕ, ◌+◌, ◌<◌, ◌≤◌, Bool, true, false, ltb, List, [], ◌∷◌, All, Bor, length, map}
+use Rattle.std.proofs.Common.{get_or, Option, Some, None, refl, sym, ap, subst, ◌∙◌, arith}
 use Rattle.std.specs.Prelude.{◌≢◌, Result, Ok, Err}
 use Rattle.std.specs.Cmp.Lexicographic.{slice_cmp}
 use Rattle.std.specs.Fn.{Called, ComputesKey}
@@ -30,22 +31,27 @@ stand name t = slice_cmp nat_cmp (name_of (node_of t)) name
 
 -- ---- answers rise where names do
 
-index_rises : (o p : Ordering) → (o ≡ Equal → p ≡ Greater) → (o ≡ Greater → p ≡ Greater) → ordering_index o ≤ ordering_index p
+index_rises : (o p : Ordering) → (o ≡ Equal → p ≡ Greater) → (o ≡ Greater → p ≡ Greater)
+    → ordering_index o ≤ ordering_index p
 index_rises Less p e g = omega arith
 index_rises Equal p e g = rw (e refl) (omega arith)
 index_rises Greater p e g = rw (g refl) (omega arith)
 
-rises_to : (name a b : List ℕ) → slice_cmp nat_cmp a b ≡ Less → ordering_index (slice_cmp nat_cmp a name) ≤ ordering_index (slice_cmp nat_cmp b name)
+rises_to : (name a b : List ℕ) → slice_cmp nat_cmp a b ≡ Less
+    → ordering_index (slice_cmp nat_cmp a name) ≤ ordering_index (slice_cmp nat_cmp b name)
 rises_to name a b less =
     let above : slice_cmp nat_cmp b a ≡ Greater = nat_list_cmp_total.antisymm b a ∙ ap ordering_reverse less in
     index_rises (slice_cmp nat_cmp a name) (slice_cmp nat_cmp b name)
     (λ e. nat_list_cmp_total.antisymm b name ∙ ap ordering_reverse (sym (nat_list_cmp_total.congr a name b e) ∙ less))
-    (λ g. nat_list_cmp_total.antisymm b name ∙ ap ordering_reverse (nat_list_cmp_total.trans name a b (nat_list_cmp_total.antisymm name a ∙ ap ordering_reverse g) less))
+    (λ g. nat_list_cmp_total.antisymm b name ∙ ap ordering_reverse
+    (nat_list_cmp_total.trans name a b (nat_list_cmp_total.antisymm name a ∙ ap ordering_reverse g) less))
 
-rises_or_ties : (name a b : List ℕ) → is_lt (slice_cmp nat_cmp b a) ≡ false → ordering_index (slice_cmp nat_cmp a name) ≤ ordering_index (slice_cmp nat_cmp b name)
+rises_or_ties : (name a b : List ℕ) → is_lt (slice_cmp nat_cmp b a) ≡ false
+    → ordering_index (slice_cmp nat_cmp a name) ≤ ordering_index (slice_cmp nat_cmp b name)
 rises_or_ties name a b h = by (slice_cmp nat_cmp a b) refl
   where
-    by : (o : Ordering) → slice_cmp nat_cmp a b ≡ o → ordering_index (slice_cmp nat_cmp a name) ≤ ordering_index (slice_cmp nat_cmp b name)
+    by : (o : Ordering) → slice_cmp nat_cmp a b ≡ o
+        → ordering_index (slice_cmp nat_cmp a name) ≤ ordering_index (slice_cmp nat_cmp b name)
     by Less e = rises_to name a b e
     by Equal e = rw (exact_bytes a b e) (omega arith)
     by Greater e =
@@ -53,15 +59,21 @@ rises_or_ties name a b h = by (slice_cmp nat_cmp a b) refl
         let clash : true ≡ false = sym (ap is_lt less) ∙ h in
         absurd cc
 
-stands_rise : (name : List ℕ) (ts : List Tree) → IsSorted name_cmp (map node_of ts) → IsNonDecreasingBy (λ t. ordering_index (stand name t)) ts
-stands_rise name ts s = IsNonDecreasingBy-from_all_adjacent (λ t. ordering_index (stand name t)) ts (λ k d lt. rises_or_ties name (name_of (node_of (get_or ts k d))) (name_of (node_of (get_or ts (k + 1) d))) (at k d lt))
+stands_rise : (name : List ℕ) (ts : List Tree) → IsSorted name_cmp (map node_of ts)
+    → IsNonDecreasingBy (λ t. ordering_index (stand name t)) ts
+stands_rise name ts s = IsNonDecreasingBy-from_all_adjacent (λ t. ordering_index (stand name t)) ts (λ k d lt.
+    rises_or_ties name (name_of (node_of (get_or ts k d))) (name_of (node_of (get_or ts (k + 1) d))) (at k d lt))
   where
-    at : (k : ℕ) (d : Tree) → k + 1 < length ts → is_lt (name_cmp (node_of (get_or ts (k + 1) d)) (node_of (get_or ts k d))) ≡ false
+    at : (k : ℕ) (d : Tree) → k + 1 < length ts
+        → is_lt (name_cmp (node_of (get_or ts (k + 1) d)) (node_of (get_or ts k d))) ≡ false
     at k d lt =
-        let a : get_or (map node_of ts) k (node_of d) ≡ node_of (get_or ts k d) = get_or-map node_of ts k d (node_of d) (omega (arith, lt)) in
-        let b : get_or (map node_of ts) (k + 1) (node_of d) ≡ node_of (get_or ts (k + 1) d) = get_or-map node_of ts (k + 1) d (node_of d) lt in
+        let a : get_or (map node_of ts) k (node_of d) ≡ node_of (get_or ts k d) =
+        get_or-map node_of ts k d (node_of d) (omega (arith, lt)) in
+        let b : get_or (map node_of ts) (k + 1) (node_of d) ≡ node_of (get_or ts (k + 1) d) =
+        get_or-map node_of ts (k + 1) d (node_of d) lt in
         subst (λ (x : Node). is_lt (name_cmp (node_of (get_or ts (k + 1) d)) x) ≡ false) a
-        (subst (λ (y : Node). is_lt (name_cmp y (get_or (map node_of ts) k (node_of d))) ≡ false) b (s k (node_of d) (omega arith) (omega (arith, lt, length-map ts node_of))))
+        (subst (λ (y : Node). is_lt (name_cmp y (get_or (map node_of ts) k (node_of d))) ≡ false) b
+        (s k (node_of d) (omega arith) (omega (arith, lt, length-map ts node_of))))
 
 -- ---- what is found
 
@@ -69,28 +81,36 @@ abbrev pub Finds : List ℕ → List Tree → Result ℕ ℕ → Type 0
 Finds name ts (Ok i) = (i < length ts) × ((d : Tree) → stand name (get_or ts i d) ≡ Equal)
 Finds name ts (Err i) = All (NotNamed name) (map node_of ts)
 
-unequal : (name : List ℕ) (ts : List Tree) (i : ℕ) → ((k : ℕ) (d : Tree) → 0 ≤ k → k < i → stand name (get_or ts k d) ≡ Less) → ((k : ℕ) (d : Tree) → i ≤ k → k < length ts → stand name (get_or ts k d) ≡ Greater)
+unequal : (name : List ℕ) (ts : List Tree) (i : ℕ)
+    → ((k : ℕ) (d : Tree) → 0 ≤ k → k < i → stand name (get_or ts k d) ≡ Less)
+    → ((k : ℕ) (d : Tree) → i ≤ k → k < length ts → stand name (get_or ts k d) ≡ Greater)
     → (k : ℕ) (d : Tree) → k < length ts → name_of (node_of (get_or ts k d)) ≢ name
 unequal name ts i low high k d lt e = by (ltb k i) refl
   where
     tie : stand name (get_or ts k d) ≡ Equal
-    tie = subst (λ (l : List ℕ). slice_cmp nat_cmp (name_of (node_of (get_or ts k d))) l ≡ Equal) e (tied_itself nat_list_cmp_total (name_of (node_of (get_or ts k d))))
+    tie = subst (λ (l : List ℕ). slice_cmp nat_cmp (name_of (node_of (get_or ts k d))) l ≡ Equal) e
+        (tied_itself nat_list_cmp_total (name_of (node_of (get_or ts k d))))
 
     by : (b : Bool) → ltb k i ≡ b → ⊥
     by true h = let l = low k d (omega arith) (ltb-true k i h) in let t = tie in absurd (cc (l, t))
     by false h = let l = high k d (ltb-false k i h) lt in let t = tie in absurd (cc (l, t))
 
-each_apart : (name : List ℕ) (ts : List Tree) → ((k : ℕ) (d : Tree) → k < length ts → name_of (node_of (get_or ts k d)) ≢ name) → All (NotNamed name) (map node_of ts)
+each_apart : (name : List ℕ) (ts : List Tree)
+    → ((k : ℕ) (d : Tree) → k < length ts → name_of (node_of (get_or ts k d)) ≢ name)
+    → All (NotNamed name) (map node_of ts)
 each_apart name [] h = λ k d within. absurd (omega (arith, within))
 each_apart name (t ∷ ts) h = λ k d within e.
     let lt : k < length (t ∷ ts) = omega (arith, within, length-map (t ∷ ts) node_of) in
     h k t lt (sym (ap name_of (get_or-map node_of (t ∷ ts) k t d lt)) ∙ e)
 
-pub searched : {F : Type 0} (g : Mut F (Bor Tree × Unit {0}) Ordering) (f : F) (name : List ℕ) (ts : List Tree) (r : Result ℕ ℕ) → IsSorted name_cmp (map node_of ts) → IsSearchInRange r (length ts)
+pub searched : {F : Type 0} (g : Mut F (Bor Tree × Unit {0}) Ordering) (f : F) (name : List ℕ) (ts : List Tree)
+    (r : Result ℕ ℕ) → IsSorted name_cmp (map node_of ts) → IsSearchInRange r (length ts)
     → ((ord : Tree → Ordering) → ComputesKey g ord f → IsBinarySearchResult ord ts r)
-    → ((a : Bor Tree × Unit {0}) (o : Ordering) (f' : F) → Called g f a o f' → (o ≡ slice_cmp nat_cmp (name_of (node_of a.0.now)) name) × (f' ≡ f))
+    → ((a : Bor Tree × Unit {0}) (o : Ordering) (f' : F) → Called g f a o f'
+    → (o ≡ slice_cmp nat_cmp (name_of (node_of a.0.now)) name) × (f' ≡ f))
     → Finds name ts r
-searched g f name ts r sorted range at calls = by r range (at (stand name) (always_returns_same g (λ a o. o ≡ stand name a.0.now) f calls))
+searched g f name ts r sorted range at calls =
+    by r range (at (stand name) (always_returns_same g (λ a o. o ≡ stand name a.0.now) f calls))
   where
     by : (r : Result ℕ ℕ) → IsSearchInRange r (length ts) → IsBinarySearchResult (stand name) ts r → Finds name ts r
     by (Ok i) lt h = (lt, h)
@@ -98,23 +118,28 @@ searched g f name ts r sorted range at calls = by r range (at (stand name) (alwa
 
 -- ---- the children of what is given
 
-sorted_children : (given : Option Node) (ts : List Node) → IsGiving given → children_of given ≡ nodes_from ts → IsSorted name_cmp ts
+sorted_children : (given : Option Node) (ts : List Node) → IsGiving given → children_of given ≡ nodes_from ts
+    → IsSorted name_cmp ts
 sorted_children given ts h e = by given h.3 e
   where
     empty : none ≡ nodes_from ts → IsSorted name_cmp ts
     empty z = subst (IsSorted name_cmp) (same_nodes [] ts z) (λ k d low within. absurd (omega (arith, within)))
 
-    by : (given : Option Node) → GivesNode h.0 h.2 (staged_at h.2 h.1) given → children_of given ≡ nodes_from ts → IsSorted name_cmp ts
+    by : (given : Option Node) → GivesNode h.0 h.2 (staged_at h.2 h.1) given → children_of given ≡ nodes_from ts
+        → IsSorted name_cmp ts
     by None (nothing some later) z = empty z
-    by (Some t) (its_tree n items u is some nodes) z = subst (IsSorted name_cmp) (same_nodes nodes.2.0 ts (ap (λ (x : Node). children_of (Some x)) (sym nodes.2.3) ∙ z)) nodes.2.2
+    by (Some t) (its_tree n items u is some nodes) z = subst (IsSorted name_cmp)
+        (same_nodes nodes.2.0 ts (ap (λ (x : Node). children_of (Some x)) (sym nodes.2.3) ∙ z)) nodes.2.2
     by (Some t) (whole n id u is w) z = empty (ap (λ (x : Node). children_of (Some x)) (sym w) ∙ z)
 
-module _ (given : Option (Bor Tree)) (b : Bor Tree) (is : given ≡ Some b) (ts : List Tree) (value : ts ≡ (out-Tree b.now).children.items) (name : List ℕ) where
+module _ (given : Option (Bor Tree)) (b : Bor Tree) (is : given ≡ Some b) (ts : List Tree)
+    (value : ts ≡ (out-Tree b.now).children.items) (name : List ℕ) where
   abbrev as_node : Option Node
   as_node = option_map (λ t. node_of t.now) given
 
   pub kids : as_node ≡ Some (node_of b.now) → children_of as_node ≡ nodes_from (map node_of ts)
-  kids e = ap children_of e ∙ ap (λ (x : Node). children_of (Some x)) (node_of-out b.now) ∙ ap (λ (l : List Tree). nodes_from (map node_of l)) (sym value)
+  kids e = ap children_of e ∙ ap (λ (x : Node). children_of (Some x)) (node_of-out b.now)
+      ∙ ap (λ (l : List Tree). nodes_from (map node_of l)) (sym value)
 
   its_kids : children_of as_node ≡ nodes_from (map node_of ts)
   its_kids = kids (ap (λ (o : Option (Bor Tree)). option_map (λ t. node_of t.now) o) is)
@@ -125,9 +150,14 @@ module _ (given : Option (Bor Tree)) (b : Bor Tree) (is : given ≡ Some b) (ts 
   pub none_found : (r : Result ℕ ℕ) (i : ℕ) → r ≡ Err i → Finds name ts r → IsChildOf as_node name None
   none_found r i e h = (map node_of ts, its_kids, subst (Finds name ts) e h)
 
-  pub one_found : (r : Result ℕ ℕ) (i : ℕ) (x : Tree) → r ≡ Ok i → x ≡ get_or ts i x → Finds name ts r → IsChildOf as_node name (Some (node_of x))
+  pub one_found : (r : Result ℕ ℕ) (i : ℕ) (x : Tree) → r ≡ Ok i → x ≡ get_or ts i x → Finds name ts r
+      → IsChildOf as_node name (Some (node_of x))
   one_found r i x e at h =
       let f = subst (Finds name ts) e h in
-      let here : get_or (map node_of ts) i (node_of x) ≡ node_of x = get_or-map node_of ts i x (node_of x) f.0 ∙ ap node_of (sym at) in
-      let tie : stand name x ≡ Equal = ap (stand name) at ∙ f.1 x in
-      (map node_of ts, its_kids, ((i, omega (arith, f.0, length-map ts node_of), here), exact_bytes (name_of (node_of x)) name tie))
+      let here : get_or (map node_of ts) i (node_of x) ≡ node_of x =
+      get_or-map node_of ts i x (node_of x) f.0 ∙ ap node_of (sym at) in
+      let tie : stand name x ≡ Equal = ap (stand name) at ∙ f.1 x in (
+        map node_of ts,
+        its_kids,
+        ((i, omega (arith, f.0, length-map ts node_of), here), exact_bytes (name_of (node_of x)) name tie),
+      )

@@ -1,5 +1,7 @@
 -- Steps of writing a directory.
-use Rattle.std.proofs.Common.{◌≡◌, ◌⊎◌, inl, inr, ℕ, zero, suc, ◌+◌, ◌-◌, ◌<◌, ◌≤◌, ◌^◌, ◌==◌, ◌||◌, List, [], ◌∷◌, ◌++◌, All, Bool, false, Option, Some, None, length, map, drop, get_or, refl, sym, ap, subst, ◌∙◌, arith}
+use Rattle.std.proofs.Common.{◌≡◌, ◌⊎◌, inl, inr, ℕ, zero, suc, ◌+◌, ◌-◌, ◌<◌, ◌≤◌, ◌^◌, ◌==◌, ◌||◌, List, [], ◌∷◌}
+use Rattle.std.proofs.Common.{◌++◌, All, Bool, false, Option, Some, None, length, map, drop, get_or, refl, sym, ap}
+use Rattle.std.proofs.Common.{subst, ◌∙◌, arith}
 use Rattle.std.specs.Prelude.{◌≢◌}
 use Rattle.std.specs.List.{HoldsAt, slice_range}
 use Rattle.std.specs.Option.{option_map, option_to_list}
@@ -17,16 +19,21 @@ use Rattle.index_tree_writer.specs.Directory.{IsName, directory_bytes, directory
 use Rattle.index_tree_writer.specs.Refusals.{BeginsWith, IsInside}
 use Rattle.index_tree_writer.specs.Staged.{Staged, cut, staged_entry, staged_in, staged_of}
 use Rattle.index_tree_writer.specs.Objects.{Taken, with_objects}
-use Rattle.index_tree_writer.specs.WritingSteps.{Ahead, Goes, IsBegunDirectory, IsComponent, IsLeaf, IsMadeNode, IsReady, StopsAt, staged_below}
+use Rattle.index_tree_writer.specs.WritingSteps.{Ahead, Goes, IsBegunDirectory, IsComponent, IsLeaf, IsMadeNode}
+use Rattle.index_tree_writer.specs.WritingSteps.{IsReady, StopsAt, staged_below}
 use Rattle.index_tree_writer.specs.declared.leaf.Leaf.{Leaf}
 use Rattle.index_tree_writer.specs.declared.write.Made.{Made}
 use Rattle.index_tree_writer.proofs.Begun.{begun_directory, begun_leaf, begun_same}
-use Rattle.index_tree_writer.proofs.PathNames.{Leaves, NoSlash, ahead_from, leaf_name, path_some, some_from, slash_behind, whole_component}
-use Rattle.index_tree_writer.proofs.Ranges.{below_few, below_parts, cut_under, no_record, one_of, range_none, range_one, range_parts, staged_at}
-use Rattle.index_tree_writer.proofs.Ready.{ahead_directory, named_behind, pairs_head, ready_back, ready_behind, ready_front}
+use Rattle.index_tree_writer.proofs.PathNames.{Leaves, NoSlash, ahead_from, leaf_name, path_some, some_from}
+use Rattle.index_tree_writer.proofs.PathNames.{slash_behind, whole_component}
+use Rattle.index_tree_writer.proofs.Ranges.{below_few, below_parts, cut_under, no_record, one_of, range_none, range_one}
+use Rattle.index_tree_writer.proofs.Ranges.{range_parts, staged_at}
+use Rattle.index_tree_writer.proofs.Ready.{ahead_directory, named_behind, pairs_head, ready_back, ready_behind}
+use Rattle.index_tree_writer.proofs.Ready.{ready_front}
 use Rattle.index_tree_writer.proofs.Pushes.{under}
 
-pub node_some : (bytes : List ℕ) (r : Bool) → r ≡ (length bytes == 0) → r ≡ false → (P : Node → Type 0) (t : Node) → P t → IsNodeWhere bytes P (t ∷ [])
+pub node_some : (bytes : List ℕ) (r : Bool) → r ≡ (length bytes == 0) → r ≡ false → (P : Node → Type 0) (t : Node) → P t
+    → IsNodeWhere bytes P (t ∷ [])
 node_some [] r e z P t h = absurd (some_from {X = ℕ} [] r e z (refl))
 node_some (b ∷ bytes) r e z P t h = (t, refl, h)
 
@@ -46,43 +53,63 @@ all_back P (x ∷ xs) ys h = all_back P xs ys (All-tail P x (xs ++ ys) h)
 
 -- ---- the record at a place
 
-module _ (rs : List Record) (front a : ℕ) (o : Option Leaf) (lt : a < length rs) (h : HoldsAt (λ r. option_map staged_of o ≡ staged_entry r) rs a) where
+module _ (rs : List Record) (front a : ℕ) (o : Option Leaf) (lt : a < length rs)
+    (h : HoldsAt (λ r. option_map staged_of o ≡ staged_entry r) rs a) where
   one_below : staged_below front (slice_range rs a (a + 1)) ≡ map (cut front) (option_to_list (option_map staged_of o))
   one_below = ap (map (cut front)) (staged_at rs a (option_map staged_of o) lt h)
 
   pub none_below : o ≡ None → staged_below front (slice_range rs a (a + 1)) ≡ []
   none_below z = one_below ∙ ap (λ (p : Option Leaf). map (cut front) (option_to_list (option_map staged_of p))) z
 
-  pub some_below : (leaf : Leaf) → o ≡ Some leaf → staged_below front (slice_range rs a (a + 1)) ≡ cut front (staged_of leaf) ∷ []
+  pub some_below : (leaf : Leaf) → o ≡ Some leaf
+      → staged_below front (slice_range rs a (a + 1)) ≡ cut front (staged_of leaf) ∷ []
   some_below leaf z = one_below ∙ ap (λ (p : Option Leaf). map (cut front) (option_to_list (option_map staged_of p))) z
 
 -- whether it goes on so
-pub goes_yes : (front : ℕ) (shown : List ℕ) (r : Record) (o : Option Leaf) (leaf : Leaf) → o ≡ Some leaf → option_map staged_of o ≡ staged_entry r → BeginsWith (drop front leaf.path.now) shown → All (Goes front shown) (staged_in (r ∷ []))
+pub goes_yes : (front : ℕ) (shown : List ℕ) (r : Record) (o : Option Leaf) (leaf : Leaf) → o ≡ Some leaf
+    → option_map staged_of o ≡ staged_entry r → BeginsWith (drop front leaf.path.now) shown
+    → All (Goes front shown) (staged_in (r ∷ []))
 goes_yes front shown r o leaf is e b =
-    let listed : staged_in (r ∷ []) ≡ staged_of leaf ∷ [] = one_of r (option_map staged_of o) e ∙ ap (λ (p : Option Leaf). option_to_list (option_map staged_of p)) is in
-    subst (All (Goes front shown)) (sym listed) (All-cons (Goes front shown) (staged_of leaf) [] b (All-nil (Goes front shown)))
+    let listed : staged_in (r ∷ []) ≡ staged_of leaf ∷ [] =
+    one_of r (option_map staged_of o) e ∙ ap (λ (p : Option Leaf). option_to_list (option_map staged_of p)) is in
+    subst (All (Goes front shown)) (sym listed)
+    (All-cons (Goes front shown) (staged_of leaf) [] b (All-nil (Goes front shown)))
 
 -- a run of records that go on alike, one more
-pub run_more : (rs : List Record) (front : ℕ) (shown : List ℕ) (start a : ℕ) → start ≤ a → a < length rs → All (Goes front shown) (staged_in (slice_range rs start a)) → HoldsAt (λ r. All (Goes front shown) (staged_in (r ∷ []))) rs a
+pub run_more : (rs : List Record) (front : ℕ) (shown : List ℕ) (start a : ℕ) → start ≤ a → a < length rs
+    → All (Goes front shown) (staged_in (slice_range rs start a))
+    → HoldsAt (λ r. All (Goes front shown) (staged_in (r ∷ []))) rs a
     → All (Goes front shown) (staged_in (slice_range rs start (a + 1)))
 run_more rs front shown start a le lt h g =
-    let parts : staged_in (slice_range rs start (a + 1)) ≡ staged_in (slice_range rs start a) ++ staged_in (get_or rs a no_record ∷ []) = ap staged_in (range_parts rs start a (a + 1) le (omega arith)) ∙ filter_parts in
-    subst (All (Goes front shown)) (sym parts) (All-append (Goes front shown) (staged_in (slice_range rs start a)) (staged_in (get_or rs a no_record ∷ [])) h (g no_record))
+    let parts : staged_in (slice_range rs start (a + 1))
+    ≡ staged_in (slice_range rs start a) ++ staged_in (get_or rs a no_record ∷ []) =
+    ap staged_in (range_parts rs start a (a + 1) le (omega arith)) ∙ filter_parts in
+    subst (All (Goes front shown)) (sym parts) (All-append (Goes front shown) (staged_in (slice_range rs start a))
+    (staged_in (get_or rs a no_record ∷ [])) h (g no_record))
   where
-    filter_parts : staged_in (slice_range rs start a ++ slice_range rs a (a + 1)) ≡ staged_in (slice_range rs start a) ++ staged_in (get_or rs a no_record ∷ [])
-    filter_parts = filter_map-append staged_entry (slice_range rs start a) (slice_range rs a (a + 1)) ∙ ap (λ (l : List Record). staged_in (slice_range rs start a) ++ staged_in l) (range_one rs a no_record lt)
+    filter_parts : staged_in (slice_range rs start a ++ slice_range rs a (a + 1))
+        ≡ staged_in (slice_range rs start a) ++ staged_in (get_or rs a no_record ∷ [])
+    filter_parts = filter_map-append staged_entry (slice_range rs start a) (slice_range rs a (a + 1))
+        ∙ ap (λ (l : List Record). staged_in (slice_range rs start a) ++ staged_in l) (range_one rs a no_record lt)
 
-pub run_one : (rs : List Record) (front : ℕ) (shown : List ℕ) (a : ℕ) → a < length rs → HoldsAt (λ r. All (Goes front shown) (staged_in (r ∷ []))) rs a → All (Goes front shown) (staged_in (slice_range rs a (a + 1)))
-run_one rs front shown a lt g = subst (λ (l : List Record). All (Goes front shown) (staged_in l)) (sym (range_one rs a no_record lt)) (g no_record)
+pub run_one : (rs : List Record) (front : ℕ) (shown : List ℕ) (a : ℕ) → a < length rs
+    → HoldsAt (λ r. All (Goes front shown) (staged_in (r ∷ []))) rs a
+    → All (Goes front shown) (staged_in (slice_range rs a (a + 1)))
+run_one rs front shown a lt g =
+    subst (λ (l : List Record). All (Goes front shown) (staged_in l)) (sym (range_one rs a no_record lt)) (g no_record)
 
-pub cut_under_all : (front : ℕ) (shown : List ℕ) (ss : List Staged) → All (Goes front shown) ss → map (under shown) (map (cut (front + length shown)) ss) ≡ map (cut front) ss
+pub cut_under_all : (front : ℕ) (shown : List ℕ) (ss : List Staged) → All (Goes front shown) ss
+    → map (under shown) (map (cut (front + length shown)) ss) ≡ map (cut front) ss
 cut_under_all front shown [] h = refl
 cut_under_all front shown (s ∷ ss) h =
-    let first : under shown (cut (front + length shown) s) ≡ cut front s = cut_under front shown s (All-head (Goes front shown) s ss h) in
-    let rest : map (under shown) (map (cut (front + length shown)) ss) ≡ map (cut front) ss = cut_under_all front shown ss (All-tail (Goes front shown) s ss h) in
+    let first : under shown (cut (front + length shown) s) ≡ cut front s =
+    cut_under front shown s (All-head (Goes front shown) s ss h) in
+    let rest : map (under shown) (map (cut (front + length shown)) ss) ≡ map (cut front) ss =
+    cut_under_all front shown ss (All-tail (Goes front shown) s ss h) in
     rw (first, rest) refl
 
-first_behind : (path : List ℕ) (name shown : List ℕ) → path ≢ [] → IsComponent path name shown → path_cmp [] shown ≡ Less
+first_behind : (path : List ℕ) (name shown : List ℕ) → path ≢ [] → IsComponent path name shown
+    → path_cmp [] shown ≡ Less
 first_behind path name [] some c = absurd (by c.is)
   where
     by : ([] ≡ name ++ 47 ∷ []) ⊎ (([] ≡ name) × (path ≡ name)) → ⊥
@@ -92,28 +119,40 @@ first_behind path name (b ∷ shown) some c = refl
 
 -- at first all is ahead
 pub ahead_none : (kind : Kind) (levels : ℕ) (left : List Staged) → IsReady kind levels left → All (Ahead []) left
-ahead_none kind levels left h = λ k d within name shown c. let l = h.each k d within in first_behind (get_or left k d).path name shown (path_some l.check levels (get_or left k d).kind (get_or left k d).path l.path) c
+ahead_none kind levels left h = λ k d within name shown c.
+    let l = h.each k d within in
+    first_behind (get_or left k d).path name shown
+    (path_some l.check levels (get_or left k d).kind (get_or left k d).path l.path) c
 
 -- ---- one step
 
-module _ (rs : List Record) (kind : Kind) (front start at end levels : ℕ) (old new : Taken) (m : Made) (low : start ≤ at) (lt : at < end) (within : end ≤ length rs)
+module _ (rs : List Record) (kind : Kind) (front start at end levels : ℕ) (old new : Taken) (m : Made)
+    (low : start ≤ at) (lt : at < end) (within : end ≤ length rs)
     (ready : IsReady kind levels (staged_below front (slice_range rs start end)))
-    (begun : IsBegunDirectory kind (staged_below front (slice_range rs start at)) (staged_below front (slice_range rs at end)) m old new)
+    (begun : IsBegunDirectory kind (staged_below front (slice_range rs start at))
+    (staged_below front (slice_range rs at end)) m old new)
     (o : Option Leaf) (h : HoldsAt (λ r. option_map staged_of o ≡ staged_entry r) rs at) where
   inside : at < length rs
   inside = omega arith
 
   -- what is left of a record that stages nothing
-  pub begun_skip : o ≡ None → IsBegunDirectory kind (staged_below front (slice_range rs start (at + 1))) (staged_below front (slice_range rs (at + 1) end)) m old new
+  pub begun_skip : o ≡ None → IsBegunDirectory kind (staged_below front (slice_range rs start (at + 1)))
+      (staged_below front (slice_range rs (at + 1) end)) m old new
   begun_skip z =
       let nothing = none_below rs front at o inside h z in
       let done : staged_below front (slice_range rs start (at + 1)) ≡ staged_below front (slice_range rs start at) =
-      below_parts front rs start at (at + 1) low (omega arith) ∙ ap (λ (l : List Staged). staged_below front (slice_range rs start at) ++ l) nothing ∙ append-nil (staged_below front (slice_range rs start at)) in
+      below_parts front rs start at (at + 1) low (omega arith)
+      ∙ ap (λ (l : List Staged). staged_below front (slice_range rs start at) ++ l) nothing
+      ∙ append-nil (staged_below front (slice_range rs start at)) in
       let left : staged_below front (slice_range rs (at + 1) end) ≡ staged_below front (slice_range rs at end) =
-      sym (below_parts front rs at (at + 1) end (omega arith) (omega arith) ∙ ap (λ (l : List Staged). l ++ staged_below front (slice_range rs (at + 1) end)) nothing) in
-      begun_same kind old new m (staged_below front (slice_range rs start at)) (staged_below front (slice_range rs start (at + 1))) (staged_below front (slice_range rs at end)) (staged_below front (slice_range rs (at + 1) end)) done left begun
+      sym (below_parts front rs at (at + 1) end (omega arith) (omega arith)
+      ∙ ap (λ (l : List Staged). l ++ staged_below front (slice_range rs (at + 1) end)) nothing) in
+      begun_same kind old new m (staged_below front (slice_range rs start at))
+      (staged_below front (slice_range rs start (at + 1))) (staged_below front (slice_range rs at end))
+      (staged_below front (slice_range rs (at + 1) end)) done left begun
 
-  module _ (leaf : Leaf) (is : o ≡ Some leaf) (tail name shown : List ℕ) (tailed : tail ≡ drop front leaf.path.now) (comp : IsComponent tail name shown) where
+  module _ (leaf : Leaf) (is : o ≡ Some leaf) (tail name shown : List ℕ) (tailed : tail ≡ drop front leaf.path.now)
+      (comp : IsComponent tail name shown) where
     abbrev s : Staged
     s = cut front (staged_of leaf)
 
@@ -121,10 +160,12 @@ module _ (rs : List Record) (kind : Kind) (front start at end levels : ℕ) (old
     behind = staged_below front (slice_range rs (at + 1) end)
 
     left : staged_below front (slice_range rs at end) ≡ s ∷ behind
-    left = below_parts front rs at (at + 1) end (omega arith) (omega arith) ∙ ap (λ (l : List Staged). l ++ behind) (some_below rs front at o inside h leaf is)
+    left = below_parts front rs at (at + 1) end (omega arith) (omega arith)
+        ∙ ap (λ (l : List Staged). l ++ behind) (some_below rs front at o inside h leaf is)
 
     ready_left : IsReady kind levels (s ∷ behind)
-    ready_left = subst (IsReady kind levels) left (ready_back kind levels (staged_below front (slice_range rs start at)) (staged_below front (slice_range rs at end))
+    ready_left = subst (IsReady kind levels) left (ready_back kind levels (staged_below front (slice_range rs start at))
+        (staged_below front (slice_range rs at end))
         (subst (IsReady kind levels) (below_parts front rs start at end low (omega arith)) ready))
 
     at_leaf : IsLeaf kind levels s
@@ -145,12 +186,14 @@ module _ (rs : List Record) (kind : Kind) (front start at end levels : ℕ) (old
       whole = whole_component s.path name shown comp_s (subst (λ (t : List ℕ). length t ≤ length shown) tailed short)
 
       named : IsName name × (s.path ≡ key name s.kind)
-      named = leaf_name at_leaf.check levels s.kind s.path name at_leaf.path (subst (IsComponent s.path name) (sym whole) comp_s)
+      named = leaf_name at_leaf.check levels s.kind s.path name at_leaf.path
+          (subst (IsComponent s.path name) (sym whole) comp_s)
 
       ahead : All (Ahead s.path) behind
       ahead = λ k d within.
           let t = get_or behind k d in
-          ahead_from s.path t (above k d within) (by s.kind refl t (pairs_head (λ s t. IsInside t.path s → ⊥) s behind ready_left.outside k d within))
+          ahead_from s.path t (above k d within)
+          (by s.kind refl t (pairs_head (λ s t. IsInside t.path s → ⊥) s behind ready_left.outside k d within))
         where
           by : (k : EntryKind) → s.kind ≡ k → (t : Staged) → (IsInside t.path s → ⊥) → Leaves s.path t.path
           by kinds.Tree e t out = inr (name, named.1 ∙ ap (key name) e, named.0.component, λ b. out (e, b))
@@ -160,17 +203,23 @@ module _ (rs : List Record) (kind : Kind) (front start at end levels : ℕ) (old
           by kinds.Commit e t out = inl (subst NoSlash (sym (named.1 ∙ ap (key name) e)) named.0.component)
 
       done : staged_below front (slice_range rs start (at + 1)) ≡ staged_below front (slice_range rs start at) ++ s ∷ []
-      done = below_parts front rs start at (at + 1) low (omega arith) ∙ ap (λ (l : List Staged). staged_below front (slice_range rs start at) ++ l) (some_below rs front at o inside h leaf is)
+      done = below_parts front rs start at (at + 1) low (omega arith)
+          ∙ ap (λ (l : List Staged). staged_below front (slice_range rs start at) ++ l)
+          (some_below rs front at o inside h leaf is)
 
-      pub begun_more : (n : Made) → n.bytes.items ≡ m.bytes.items ++ leaf_bytes name leaf.kind leaf.id leaf.later → map node_of n.children.items ≡ map node_of m.children.items ++ leaf_nodes name leaf.kind leaf.id leaf.later
-          → n.count ≡ m.count + 1 → n.later ≡ m.later || leaf.later → IsBegunDirectory kind (staged_below front (slice_range rs start (at + 1))) behind n old new
+      pub begun_more : (n : Made) → n.bytes.items ≡ m.bytes.items ++ leaf_bytes name leaf.kind leaf.id leaf.later
+          → map node_of n.children.items ≡ map node_of m.children.items ++ leaf_nodes name leaf.kind leaf.id leaf.later
+          → n.count ≡ m.count + 1 → n.later ≡ m.later || leaf.later
+          → IsBegunDirectory kind (staged_below front (slice_range rs start (at + 1))) behind n old new
       begun_more n bytes children count later =
           subst (λ (l : List Staged). IsBegunDirectory kind l behind n old new) (sym done)
-          (begun_leaf kind (staged_below front (slice_range rs start at)) (staged_below front (slice_range rs at end)) m old new begun name s behind n (named.0, at_leaf.of_kind, at_leaf.len) named.1
+          (begun_leaf kind (staged_below front (slice_range rs start at)) (staged_below front (slice_range rs at end)) m
+          old new begun name s behind n (named.0, at_leaf.of_kind, at_leaf.len) named.1
           (subst (λ (l : List ℕ). path_cmp begun.last l ≡ Less) (sym whole) follows) ahead bytes children count later)
 
     -- ---- a directory
-    module _ (long : length shown < length tail) (stop : ℕ) (more : at < stop) (high : stop ≤ end) (run : All (Goes front shown) (staged_in (slice_range rs at stop))) where
+    module _ (long : length shown < length tail) (stop : ℕ) (more : at < stop) (high : stop ≤ end)
+        (run : All (Goes front shown) (staged_in (slice_range rs at stop))) where
       slashed : shown ≡ name ++ 47 ∷ []
       slashed = slash_behind tail name shown comp long
 
@@ -181,71 +230,119 @@ module _ (rs : List Record) (kind : Kind) (front start at end levels : ℕ) (old
       first = cut (front + length shown) (staged_of leaf)
 
       pub inner_is : staged_below (front + length shown) (slice_range rs at stop) ≡ first ∷ others
-      inner_is = below_parts (front + length shown) rs at (at + 1) stop (omega arith) (omega arith) ∙ ap (λ (l : List Staged). l ++ others) (some_below rs (front + length shown) at o inside h leaf is)
+      inner_is = below_parts (front + length shown) rs at (at + 1) stop (omega arith) (omega arith)
+          ∙ ap (λ (l : List Staged). l ++ others) (some_below rs (front + length shown) at o inside h leaf is)
 
-      pub listed : map (under shown) (staged_below (front + length shown) (slice_range rs at stop)) ≡ staged_below front (slice_range rs at stop)
+      pub listed : map (under shown) (staged_below (front + length shown) (slice_range rs at stop))
+          ≡ staged_below front (slice_range rs at stop)
       listed = cut_under_all front shown (staged_in (slice_range rs at stop)) run
 
       first_some : first.path ≢ []
-      first_some e = omega (arith, long, ap length tailed, ap length e, length-drop front leaf.path.now, length-drop (front + length shown) leaf.path.now)
+      first_some e = omega (
+        arith,
+        long,
+        ap length tailed,
+        ap length e,
+        length-drop front leaf.path.now,
+        length-drop (front + length shown) leaf.path.now,
+      )
 
       ready_run : IsReady kind levels (map (under shown) (first ∷ others))
       ready_run = subst (IsReady kind levels) (sym listed ∙ ap (map (under shown)) inner_is)
-          (ready_front kind levels (staged_below front (slice_range rs at stop)) (staged_below front (slice_range rs stop end))
+          (ready_front kind levels (staged_below front (slice_range rs at stop))
+          (staged_below front (slice_range rs stop end))
           (subst (IsReady kind levels) (below_parts front rs at stop end (omega arith) high)
-          (ready_back kind levels (staged_below front (slice_range rs start at)) (staged_below front (slice_range rs at end)) (subst (IsReady kind levels) (below_parts front rs start at end low (omega arith)) ready))))
+          (ready_back kind levels (staged_below front (slice_range rs start at))
+          (staged_below front (slice_range rs at end))
+          (subst (IsReady kind levels) (below_parts front rs start at end low (omega arith)) ready))))
 
       pub ready_inner : IsReady kind (levels - 1) (staged_below (front + length shown) (slice_range rs at stop))
-      ready_inner = subst (IsReady kind (levels - 1)) (sym inner_is) (ready_behind kind levels name shown slashed comp.component first others first_some ready_run)
+      ready_inner = subst (IsReady kind (levels - 1)) (sym inner_is)
+          (ready_behind kind levels name shown slashed comp.component first others first_some ready_run)
 
       pub a_level : IsName name × (0 < levels)
-      a_level = named_behind kind levels name shown slashed comp.component first first_some (All-head (IsLeaf kind levels) (under shown first) (map (under shown) others) ready_run.each)
+      a_level = named_behind kind levels name shown slashed comp.component first first_some
+          (All-head (IsLeaf kind levels) (under shown first) (map (under shown) others) ready_run.each)
 
       pub front_fits : front + length shown ≤ length leaf.path.now
       front_fits = omega (arith, long, ap length tailed, length-drop front leaf.path.now)
 
-      ahead_stop : (staged_below front (slice_range rs stop end) ≡ []) ⊎ HoldsAt (StopsAt front shown) rs stop → (stop < end) ⊎ (stop ≡ end) → (head : Staged) (more : List Staged) → staged_below front (slice_range rs stop end) ≡ head ∷ more → BeginsWith head.path shown → ⊥
+      ahead_stop : (staged_below front (slice_range rs stop end) ≡ []) ⊎ HoldsAt (StopsAt front shown) rs stop
+          → (stop < end) ⊎ (stop ≡ end) → (head : Staged) (more : List Staged)
+          → staged_below front (slice_range rs stop end) ≡ head ∷ more → BeginsWith head.path shown → ⊥
       ahead_stop (inl z) place head rest e b = absurd (cc (z, e))
-      ahead_stop (inr f) (inr z) head rest e b = absurd (cc (ap (staged_below front) (ap (slice_range rs stop) (sym z) ∙ range_none rs stop), e))
+      ahead_stop (inr f) (inr z) head rest e b =
+          absurd (cc (ap (staged_below front) (ap (slice_range rs stop) (sym z) ∙ range_none rs stop), e))
       ahead_stop (inr f) (inl l) head rest e b =
           let g = f no_record in
-          let one : staged_in (slice_range rs stop (stop + 1)) ≡ g.0 ∷ [] = ap staged_in (range_one rs stop no_record (omega arith)) ∙ one_of (get_or rs stop no_record) (Some g.0) (sym g.1) in
+          let one : staged_in (slice_range rs stop (stop + 1)) ≡ g.0 ∷ [] =
+          ap staged_in (range_one rs stop no_record (omega arith))
+          ∙ one_of (get_or rs stop no_record) (Some g.0) (sym g.1) in
           let whole : cut front g.0 ∷ staged_below front (slice_range rs (stop + 1) end) ≡ head ∷ rest =
-          sym (below_parts front rs stop (stop + 1) end (omega arith) (omega arith) ∙ ap (λ (l : List Staged). map (cut front) l ++ staged_below front (slice_range rs (stop + 1) end)) one) ∙ e in
+          sym (below_parts front rs stop (stop + 1) end (omega arith) (omega arith)
+          ∙ ap (λ (l : List Staged). map (cut front) l ++ staged_below front (slice_range rs (stop + 1) end)) one)
+          ∙ e in
           let same : cut front g.0 ≡ head = cc in
           g.2 (subst (λ (t : Staged). BeginsWith t.path shown) (sym same) b)
 
-      behind_stop : behind ≡ staged_below front (slice_range rs (at + 1) stop) ++ staged_below front (slice_range rs stop end)
+      behind_stop : behind
+          ≡ staged_below front (slice_range rs (at + 1) stop) ++ staged_below front (slice_range rs stop end)
       behind_stop = below_parts front rs (at + 1) stop end (omega arith) high
 
       ready_stop : IsReady kind levels (staged_below front (slice_range rs stop end))
-      ready_stop = ready_back kind levels (staged_below front (slice_range rs (at + 1) stop)) (staged_below front (slice_range rs stop end)) (subst (IsReady kind levels) behind_stop (ready_back kind levels (s ∷ []) behind ready_left))
+      ready_stop = ready_back kind levels (staged_below front (slice_range rs (at + 1) stop))
+          (staged_below front (slice_range rs stop end))
+          (subst (IsReady kind levels) behind_stop (ready_back kind levels (s ∷ []) behind ready_left))
 
       above_stop : All (λ t. path_cmp s.path t.path ≡ Less) (staged_below front (slice_range rs stop end))
-      above_stop = all_back (λ t. path_cmp s.path t.path ≡ Less) (staged_below front (slice_range rs (at + 1) stop)) (staged_below front (slice_range rs stop end)) (subst (All (λ t. path_cmp s.path t.path ≡ Less)) behind_stop above)
+      above_stop = all_back (λ t. path_cmp s.path t.path ≡ Less) (staged_below front (slice_range rs (at + 1) stop))
+          (staged_below front (slice_range rs stop end))
+          (subst (All (λ t. path_cmp s.path t.path ≡ Less)) behind_stop above)
 
-      ahead_dir : (stop ≡ end) ⊎ HoldsAt (StopsAt front shown) rs stop → All (Ahead shown) (staged_below front (slice_range rs stop end))
-      ahead_dir f = ahead_directory name shown comp_s.rest (staged_below front (slice_range rs stop end)) slashed comp.component
-          (subst (λ (p : List ℕ). All (λ t. path_cmp p t.path ≡ Less) (staged_below front (slice_range rs stop end))) comp_s.parts above_stop) ready_stop.rise (by f)
+      ahead_dir : (stop ≡ end) ⊎ HoldsAt (StopsAt front shown) rs stop
+          → All (Ahead shown) (staged_below front (slice_range rs stop end))
+      ahead_dir f =
+          ahead_directory name shown comp_s.rest (staged_below front (slice_range rs stop end)) slashed comp.component
+          (subst (λ (p : List ℕ). All (λ t. path_cmp p t.path ≡ Less) (staged_below front (slice_range rs stop end)))
+          comp_s.parts above_stop) ready_stop.rise (by f)
         where
           order : (stop < end) ⊎ (stop ≡ end)
           order = nat_below_or_same stop end high
 
-          by : (stop ≡ end) ⊎ HoldsAt (StopsAt front shown) rs stop → (head : Staged) (rest : List Staged) → staged_below front (slice_range rs stop end) ≡ head ∷ rest → BeginsWith head.path shown → ⊥
-          by (inl z) = ahead_stop (inl (ap (staged_below front) (ap (slice_range rs stop) (sym z) ∙ range_none rs stop))) order
+          by : (stop ≡ end) ⊎ HoldsAt (StopsAt front shown) rs stop → (head : Staged) (rest : List Staged)
+              → staged_below front (slice_range rs stop end) ≡ head ∷ rest → BeginsWith head.path shown → ⊥
+          by (inl z) =
+              ahead_stop (inl (ap (staged_below front) (ap (slice_range rs stop) (sym z) ∙ range_none rs stop))) order
           by (inr g) = ahead_stop (inr g) order
 
-      pub begun_over : (stop ≡ end) ⊎ HoldsAt (StopsAt front shown) rs stop → (i n : Made) (middle newer : Taken) → IsBegunDirectory kind (staged_below (front + length shown) (slice_range rs at stop)) [] i new middle
-          → n.bytes.items ≡ m.bytes.items ++ directory_bytes kind name i.bytes.items → (us : List Node) × (map node_of n.children.items ≡ map node_of m.children.items ++ us) × IsMadeNode kind name i us
-          → n.count ≡ m.count + i.count → n.later ≡ m.later || i.later → newer ≡ with_objects middle (directory_object kind i.bytes.items)
-          → IsBegunDirectory kind (staged_below front (slice_range rs start stop)) (staged_below front (slice_range rs stop end)) n old newer
+      pub begun_over : (stop ≡ end) ⊎ HoldsAt (StopsAt front shown) rs stop → (i n : Made) (middle newer : Taken)
+          → IsBegunDirectory kind (staged_below (front + length shown) (slice_range rs at stop)) [] i new middle
+          → n.bytes.items ≡ m.bytes.items ++ directory_bytes kind name i.bytes.items → (us : List Node)
+          × (map node_of n.children.items ≡ map node_of m.children.items ++ us) × IsMadeNode kind name i us
+          → n.count ≡ m.count + i.count → n.later ≡ m.later || i.later
+          → newer ≡ with_objects middle (directory_object kind i.bytes.items)
+          → IsBegunDirectory kind (staged_below front (slice_range rs start stop))
+          (staged_below front (slice_range rs stop end)) n old newer
       begun_over f i n middle newer w bytes nodes count later stored =
-          subst (λ (l : List Staged). IsBegunDirectory kind l (staged_below front (slice_range rs stop end)) n old newer) (sym (below_parts front rs start at stop low (omega arith)))
-          (begun_directory kind (staged_below front (slice_range rs start at)) (staged_below front (slice_range rs at end)) m old new begun name shown (staged_below (front + length shown) (slice_range rs at stop)) (staged_below front (slice_range rs at stop))
-          (staged_below front (slice_range rs stop end)) i n middle newer nodes.0 a_level.0 slashed follows (ahead_dir f) (λ z. absurd (cc (inner_is, z))) listed w bytes nodes.1 nodes.2 count later stored)
+          subst (λ (l : List Staged). IsBegunDirectory kind l (staged_below front (slice_range rs stop end)) n old
+          newer) (sym (below_parts front rs start at stop low (omega arith)))
+          (begun_directory kind (staged_below front (slice_range rs start at))
+          (staged_below front (slice_range rs at end)) m old new begun name shown (staged_below
+          (front + length shown) (slice_range rs at stop)) (staged_below front (slice_range rs at stop))
+          (staged_below front (slice_range rs stop end)) i n middle newer nodes.0 a_level.0 slashed follows
+          (ahead_dir f) (λ z. absurd (cc (inner_is, z))) listed w bytes nodes.1 nodes.2 count later stored)
 
-      pub counts_fit : length rs < 2 ^ 31 → (i : Made) (middle : Taken) → IsBegunDirectory kind (staged_below (front + length shown) (slice_range rs at stop)) [] i new middle → m.count + i.count < 2 ^ 31
-      counts_fit few i middle w = omega (arith, few, begun.count, w.count, below_few front rs start at (omega arith), below_few (front + length shown) rs at stop (omega arith))
+      pub counts_fit : length rs < 2 ^ 31 → (i : Made) (middle : Taken)
+          → IsBegunDirectory kind (staged_below (front + length shown) (slice_range rs at stop)) [] i new middle
+          → m.count + i.count < 2 ^ 31
+      counts_fit few i middle w = omega (
+        arith,
+        few,
+        begun.count,
+        w.count,
+        below_few front rs start at (omega arith),
+        below_few (front + length shown) rs at stop (omega arith),
+      )
 
   pub count_fits : length rs < 2 ^ 31 → m.count < 2 ^ 31
   count_fits few = omega (arith, few, begun.count, below_few front rs start at (omega arith))

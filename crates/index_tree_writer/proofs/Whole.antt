@@ -1,5 +1,6 @@
 -- All entries: what they stage is ready to be written.
-use Rattle.std.proofs.Common.{◌≡◌, ℕ, ◌<◌, List, [], ◌∷◌, All, AllPairs, Bool, true, false, Option, Some, None, length, map, get_or, refl, sym, ap, subst, ◌∙◌, arith}
+use Rattle.std.proofs.Common.{◌≡◌, ℕ, ◌<◌, List, [], ◌∷◌, All, AllPairs, Bool, true, false, Option, Some, None, length}
+use Rattle.std.proofs.Common.{map, get_or, refl, sym, ap, subst, ◌∙◌, arith}
 use Rattle.std.specs.Prelude.{if◌then◌else◌}
 use Rattle.std.specs.List.{slice_range}
 use Rattle.std.specs.Option.{option_map}
@@ -31,25 +32,37 @@ module _ (check : Check) (kind : Kind) where
   leaf_fit : (r : Record) (x : Staged) → IsFit check kind r → staged_entry r ≡ Some x → IsLeaf kind 2048 x
   leaf_fit r x h e = by (is_removed r.flags) refl (named_kind r.mode) refl e
     where
-      by : (b : Bool) → is_removed r.flags ≡ b → (k : Option EntryKind) → named_kind r.mode ≡ k → (if b then None else option_map (λ k. record { path = r.path; kind = k; id = r.id; later = is_intended r.flags }) k) ≡ Some x → IsLeaf kind 2048 x
+      by : (b : Bool) → is_removed r.flags ≡ b → (k : Option EntryKind) → named_kind r.mode ≡ k → (if b then None else
+          option_map (λ k. record { path = r.path; kind = k; id = r.id; later = is_intended r.flags }) k) ≡ Some x
+          → IsLeaf kind 2048 x
       by true f k n d = absurd cc
       by false f None n d = absurd cc
       by false f (Some k) n d =
           let fit = h f in
           let kind_is : fit.1.0 ≡ k = same_Some fit.1.0 k (sym fit.1.1.0 ∙ n) in
-          subst (IsLeaf kind 2048) (same_Some (record { path = r.path; kind = k; id = r.id; later = is_intended r.flags }) x d)
-          (record { check = check; path = subst (λ (j : EntryKind). IsTreePath check 2048 j r.path) kind_is fit.1.1.1; of_kind = fit.2.0; len = fit.2.1 })
+          subst (IsLeaf kind 2048)
+          (same_Some (record { path = r.path; kind = k; id = r.id; later = is_intended r.flags }) x d)
+          (record {
+            check = check;
+            path = subst (λ (j : EntryKind). IsTreePath check 2048 j r.path) kind_is fit.1.1.1;
+            of_kind = fit.2.0;
+            len = fit.2.1;
+          })
 
   each_leaf : (rs : List Record) → All (IsFit check kind) rs → All (IsLeaf kind 2048) (staged_in rs)
   each_leaf [] h = All-nil (IsLeaf kind 2048)
   each_leaf (r ∷ rs) h = by (each_leaf rs (All-tail (IsFit check kind) r rs h)) (staged_entry r) refl
     where
-      by : All (IsLeaf kind 2048) (staged_in rs) → (o : Option Staged) → staged_entry r ≡ o → All (IsLeaf kind 2048) (staged_in (r ∷ rs))
+      by : All (IsLeaf kind 2048) (staged_in rs) → (o : Option Staged) → staged_entry r ≡ o
+          → All (IsLeaf kind 2048) (staged_in (r ∷ rs))
       by rest None e = rw e rest
-      by rest (Some x) e = rw e (All-cons (IsLeaf kind 2048) x (staged_in rs) (leaf_fit r x (All-head (IsFit check kind) r rs h) e) rest)
+      by rest (Some x) e =
+          rw e (All-cons (IsLeaf kind 2048) x (staged_in rs) (leaf_fit r x (All-head (IsFit check kind) r rs h) e) rest)
 
-  pub ready_whole : (rs : List Record) → IsStrictlyOrdered rs → AreFit check kind rs → IsReady kind 2048 (staged_below 0 (slice_range rs 0 (length rs)))
-  ready_whole rs ordered fit = subst (IsReady kind 2048) (sym (whole_below rs)) (record { each = each_leaf rs fit.each; rise = rise; outside = outside })
+  pub ready_whole : (rs : List Record) → IsStrictlyOrdered rs → AreFit check kind rs
+      → IsReady kind 2048 (staged_below 0 (slice_range rs 0 (length rs)))
+  ready_whole rs ordered fit = subst (IsReady kind 2048) (sym (whole_below rs))
+      (record { each = each_leaf rs fit.each; rise = rise; outside = outside })
     where
       rise : AllPairs (λ s t. path_cmp s.path t.path ≡ Less) (staged_in rs)
       rise = staged_rise check kind rs ordered.less fit.each
@@ -60,7 +73,9 @@ module _ (check : Check) (kind : Kind) where
           let s = get_or ss i d in
           let t = get_or ss j d in
           let short : i < length ss = omega (arith, lt, within) in
-          let same : t.path ≡ s.path = fit.apart.inside s t (i, short, get_or_default ss i s d short) (j, within, get_or_default ss j t d within) inside in
-          let less : path_cmp s.path s.path ≡ Less = subst (λ (p : List ℕ). path_cmp s.path p ≡ Less) same (rise i j d lt within) in
+          let same : t.path ≡ s.path = fit.apart.inside s t (i, short, get_or_default ss i s d short)
+          (j, within, get_or_default ss j t d within) inside in
+          let less : path_cmp s.path s.path ≡ Less =
+          subst (λ (p : List ℕ). path_cmp s.path p ≡ Less) same (rise i j d lt within) in
           let tie = tied_itself nat_list_cmp_total s.path in
           absurd (cc (tie, less))

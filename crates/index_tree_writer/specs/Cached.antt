@@ -6,7 +6,8 @@ use Rattle.index_parts.specs.declared.hash.ObjectId.{ObjectId}
 use Rattle.index_objects.specs.declared.object.tree.EntryKind.{EntryKind}
 use Rattle.index_objects.specs.declared.object.tree.EntryKind.TheVariants as kinds
 use Rattle.index_cached_tree.specs.Tree.{Node, node, none, nodes_from, name_cmp}
-use Rattle.index_tree_writer.specs.Directory.{Item, Items, leaf, directory, no_more, next, content, leaves, leaf_count, items_id}
+use Rattle.index_tree_writer.specs.Directory.{Item, Items, leaf, directory, no_more, next, content, leaves, leaf_count}
+use Rattle.index_tree_writer.specs.Directory.{items_id}
 
 -- the node of a leaf that stands for a directory: one entry, and no children
 abbrev pub leaf_nodes : List ℕ → EntryKind → ObjectId → Bool → List Node

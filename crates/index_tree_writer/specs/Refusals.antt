@@ -1,5 +1,6 @@
 -- Which records have trees, or why they have none (git-write-tree; gitformat-index, "Index entry").
-use Rattle.std.specs.Prelude.{◌≡◌, ◌≢◌, ◌⊎◌, ℕ, suc, ◌^◌, ◌<◌, ◌≤◌, List, [], ◌∷◌, ◌++◌, All, Contains, length, Bool, false, Option, Some, None}
+use Rattle.std.specs.Prelude.{◌≡◌, ◌≢◌, ◌⊎◌, ℕ, suc, ◌^◌, ◌<◌, ◌≤◌, List, [], ◌∷◌, ◌++◌, All, Contains, length, Bool}
+use Rattle.std.specs.Prelude.{false, Option, Some, None}
 use Rattle.bstr.specs.Owned.{bstring_bytes}
 use Rattle.index_parts.specs.Id.{id_bytes, id_kind, id_len, is_null}
 use Rattle.index_metadata.specs.Flags.{stage_number}

@@ -1,5 +1,6 @@
 -- How a node that entries give stands for a directory. Public clauses cite none of these.
-use Rattle.std.specs.Prelude.{◌≡◌, ◌≢◌, ◌⊎◌, ℕ, List, [], ◌∷◌, ◌-◌, ◌++◌, All, Contains, false, true, length, take, Option, Some, None}
+use Rattle.std.specs.Prelude.{◌≡◌, ◌≢◌, ◌⊎◌, ℕ, List, [], ◌∷◌, ◌-◌, ◌++◌, All, Contains, false, true, length, take}
+use Rattle.std.specs.Prelude.{Option, Some, None}
 use Rattle.bstr.specs.Owned.{bstring_bytes}
 use Rattle.index_parts.specs.declared.hash.Kind.{Kind}
 use Rattle.index_parts.specs.declared.hash.ObjectId.{ObjectId}

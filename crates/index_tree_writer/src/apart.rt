@@ -1,6 +1,7 @@
 //! Paths that lie in others.
 
-ghost use Rattle.std.specs.Prelude.{◌≡◌, ◌≤◌, ◌⊎◌, ◌++◌, [], ◌∷◌, None, IfSome, List, true, false, All, take, drop, length};
+ghost use Rattle.std.specs.Prelude.{◌≡◌, ◌≤◌, ◌⊎◌, ◌++◌, [], ◌∷◌, None, IfSome, List, true, false, All, take, drop};
+ghost use Rattle.std.specs.Prelude.{length};
 ghost use Rattle.index_tree_writer.specs.ApartSteps.{EndsWith};
 ghost use Rattle.index_tree_writer.specs.Refusals.{BeginsWith, LiesIn};
 ghost use Rattle.index_tree_writer.specs.Staged.{staged_of};

@@ -1,6 +1,7 @@
 //! Whether entries have trees.
 
-ghost use Rattle.std.specs.Prelude.{◌≡◌, ◌↔◌, ◌<◌, ◌^◌, ◌++◌, [], ◌∷◌, ℕ, List, IsTrue, IfOk, IfErr, OnOk, length, take};
+ghost use Rattle.std.specs.Prelude.{◌≡◌, ◌↔◌, ◌<◌, ◌^◌, ◌++◌, [], ◌∷◌, ℕ, List, IsTrue, IfOk, IfErr, OnOk, length};
+ghost use Rattle.std.specs.Prelude.{take};
 ghost use Rattle.std.specs.List.{HoldsAt};
 ghost use Rattle.index_parts.specs.Id.{id_bytes, id_kind, id_len};
 ghost use Rattle.index_entries.specs.Order.{IsStrictlyOrdered};

@@ -1,6 +1,7 @@
 //! Whether a cached tree has the ids and the counts that the entries give.
 
-ghost use Rattle.std.specs.Prelude.{◌≡◌, ◌↔◌, ◌<◌, ◌^◌, [], ℕ, List, All, None, Some, IfOk, IfErr, IsTrue, OnOk, length};
+ghost use Rattle.std.specs.Prelude.{◌≡◌, ◌↔◌, ◌<◌, ◌^◌, [], ℕ, List, All, None, Some, IfOk, IfErr, IsTrue, OnOk};
+ghost use Rattle.std.specs.Prelude.{length};
 ghost use Rattle.std.specs.Cmp.Lexicographic.{slice_cmp};
 ghost use Rattle.std.specs.Option.{option_map};
 ghost use Rattle.std.specs.Ordering.{nat_cmp};
@@ -11,7 +12,8 @@ ghost use Rattle.index_cached_tree.specs.Tree.{name_of, node_of};
 ghost use Rattle.index_tree_writer.specs.Refusals.{AreFit};
 ghost use Rattle.index_tree_writer.specs.Staged.{Staged, staged_in};
 ghost use Rattle.index_tree_writer.specs.TreeIds.{AreRight, IsRight, SaysTreeIds, any_name, spots};
-ghost use Rattle.index_tree_writer.specs.TreeIdsSteps.{GivesAt, IsChildOf, IsGiving, IsPassedOn, IsSaid, SaysFirst, SaysSpot, parent_path, tells};
+ghost use Rattle.index_tree_writer.specs.TreeIdsSteps.{GivesAt, IsChildOf, IsGiving, IsPassedOn, IsSaid, SaysFirst};
+ghost use Rattle.index_tree_writer.specs.TreeIdsSteps.{SaysSpot, parent_path, tells};
 ghost use Rattle.index_tree_writer.specs.declared.tree_ids.Error.TheVariants.{Memory};
 
 use crate::Error as WriteError;

@@ -1,6 +1,7 @@
 //! Writing the trees of entries.
 
-ghost use Rattle.std.specs.Prelude.{◌≡◌, ◌⊎◌, ◌+◌, ◌<◌, ◌≤◌, ◌^◌, ◌++◌, ◌||◌, [], ◌∷◌, ℕ, List, IsTrue, false, length, drop, map, All, IfOk, IfErr, OnOk, Some, slice_range};
+ghost use Rattle.std.specs.Prelude.{◌≡◌, ◌⊎◌, ◌+◌, ◌<◌, ◌≤◌, ◌^◌, ◌++◌, ◌||◌, [], ◌∷◌, ℕ, List, IsTrue, false, length};
+ghost use Rattle.std.specs.Prelude.{drop, map, All, IfOk, IfErr, OnOk, Some, slice_range};
 ghost use Rattle.std.specs.List.{HoldsAt};
 ghost use Rattle.std.specs.List.Sorted.{IsPermutation, IsSorted};
 ghost use Rattle.index_objects.specs.declared.object.tree.EntryKind.TheVariants as kinds;
@@ -8,11 +9,13 @@ ghost use Rattle.index_entries.specs.Order.{IsStrictlyOrdered};
 ghost use Rattle.index_cached_tree.specs.Tree.{Node, name_cmp, node_of};
 ghost use Rattle.index_cached_tree.specs.declared.Tree.TheViews.{out-Tree};
 ghost use Rattle.index_tree_writer.specs.Cached.{IsCached, leaf_nodes};
-ghost use Rattle.index_tree_writer.specs.Directory.{IsTreeOf, Items, directory_bytes, directory_object, leaf_bytes, objects};
+ghost use Rattle.index_tree_writer.specs.Directory.{IsTreeOf, Items, directory_bytes, directory_object, leaf_bytes};
+ghost use Rattle.index_tree_writer.specs.Directory.{objects};
 ghost use Rattle.index_tree_writer.specs.Objects.{tree_id, with_objects};
 ghost use Rattle.index_tree_writer.specs.Refusals.{AreFit, BeginsWith, AreRefused, SaysTreesFault};
 ghost use Rattle.index_tree_writer.specs.Staged.{Staged, staged_in};
-ghost use Rattle.index_tree_writer.specs.WritingSteps.{Goes, IsBegunDirectory, IsFinished, IsMadeNode, IsReady, StopsAt, staged_below};
+ghost use Rattle.index_tree_writer.specs.WritingSteps.{Goes, IsBegunDirectory, IsFinished, IsMadeNode, IsReady};
+ghost use Rattle.index_tree_writer.specs.WritingSteps.{StopsAt, staged_below};
 
 use crate::check::{MAX_LEVELS, check_entries};
 use crate::error::Error;

@@ -9,8 +9,10 @@ module _ (found : Found) (bytes : List ℕ) where
   pub found_none : (answer : Option Kind) → answer ≡ None → Answers found (Ok answer) bytes → found ≡ absent
   found_none answer is h = subst (λ (x : Option Kind). Answers found (Ok x) bytes) is h
 
-  pub found_some : (answer : Option Kind) (kind : Kind) → answer ≡ Some kind → Answers found (Ok answer) bytes → found ≡ object kind bytes
+  pub found_some : (answer : Option Kind) (kind : Kind) → answer ≡ Some kind → Answers found (Ok answer) bytes
+      → found ≡ object kind bytes
   found_some answer kind is h = subst (λ (x : Option Kind). Answers found (Ok x) bytes) is h
 
-  pub found_fault : (error : Error) (number : ℕ) → error ≡ errors.Fault number → Answers found (Err error) bytes → found ≡ fault number
+  pub found_fault : (error : Error) (number : ℕ) → error ≡ errors.Fault number → Answers found (Err error) bytes
+      → found ≡ fault number
   found_fault error number is h = subst (λ (x : Error). Answers found (Err x) bytes) is h

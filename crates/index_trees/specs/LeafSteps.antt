@@ -1,5 +1,6 @@
 -- What the steps of a walk over trees do ("Pro Git", "Git Objects"). Public clauses cite none of these.
-use Rattle.std.specs.Prelude.{◌≡◌, ℕ, ◌≤◌, List, [], ◌∷◌, ◌++◌, Bool, Option, Some, None, Ok, Err, flat_map, take, drop, length}
+use Rattle.std.specs.Prelude.{◌≡◌, ℕ, ◌≤◌, List, [], ◌∷◌, ◌++◌, Bool, Option, Some, None, Ok, Err, flat_map, take, drop}
+use Rattle.std.specs.Prelude.{length}
 use Rattle.index_objects.specs.Mode.{mode_of_kind}
 use Rattle.index_objects.specs.Object.{Found}
 use Rattle.index_objects.specs.TreeObject.{TreeEntry, IsTreeObject}
@@ -8,7 +9,8 @@ use Rattle.index_parts.specs.declared.hash.ObjectId.{ObjectId}
 use Rattle.index_objects.specs.declared.object.tree.EntryKind.{EntryKind}
 use Rattle.index_entries.specs.Record.{Record}
 use Rattle.index_objects.specs.NameCheck.{refusal_as}
-use Rattle.index_trees.specs.Leaves.{LeavesAnswer, LeavesFault, InvalidComponent, Yields, zero_stat, with_leaves, some_entries, whole_tree}
+use Rattle.index_trees.specs.Leaves.{LeavesAnswer, LeavesFault, InvalidComponent, Yields, zero_stat, with_leaves}
+use Rattle.index_trees.specs.Leaves.{some_entries, whole_tree}
 use Rattle.index_trees.specs.declared.walk.Level.{Level}
 use Rattle.index_trees.specs.declared.walk.Listed.{Listed}
 use Rattle.index_trees.specs.declared.walk.Next.{Next}

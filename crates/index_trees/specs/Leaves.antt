@@ -12,7 +12,6 @@ use Rattle.index_parts.specs.declared.hash.Kind.{Kind}
 use Rattle.index_parts.specs.declared.hash.ObjectId.{ObjectId}
 use Rattle.index_objects.specs.declared.object.Kind.{Kind as ObjectKind}
 use Rattle.index_objects.specs.declared.object.Kind.TheVariants as objects
-use Rattle.index_objects.specs.declared.object.tree.EntryKind.{EntryKind}
 use Rattle.index_objects.specs.declared.object.tree.EntryKind.TheVariants as kinds
 use Rattle.index_entries.specs.Record.{Record}
 use Rattle.index_trees.specs.declared.error.Error.{Error}

@@ -4,7 +4,9 @@ ghost use Rattle.std.specs.Prelude.{◌≡◌, ◌≤◌, ◌++◌, [], ◌∷�
 ghost use Rattle.index_objects.specs.NameCheck.{refusal_as};
 ghost use Rattle.index_trees.specs.Leaves.{SaysLeaves};
 ghost use Rattle.index_trees.specs.declared.error.Error.TheVariants.{Memory};
-ghost use Rattle.index_trees.specs.LeafSteps.{BeginsTree, WalkHasFault, IsPacked, IsRefusedName, IsSoundWalk, IsSomeTree, ListsOn, ListsFault, EndsOrReaches, last_leaf, listed_records, unlisted};
+ghost use Rattle.index_trees.specs.LeafSteps.{BeginsTree, WalkHasFault, IsPacked, IsRefusedName, IsSoundWalk};
+ghost use Rattle.index_trees.specs.LeafSteps.{IsSomeTree, ListsOn, ListsFault, EndsOrReaches, last_leaf};
+ghost use Rattle.index_trees.specs.LeafSteps.{listed_records, unlisted};
 
 use crate::error::Error;
 use bstr::BString;

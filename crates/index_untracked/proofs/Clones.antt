@@ -4,7 +4,8 @@ use Rattle.std.specs.List.{AllZip}
 use Rattle.std.proofs.lemmas.List.Elements.{same_from_all_zip}
 
 -- clones that have the values of their sources
-pub same_values : {A B : Type 0} (R : A → A → Type 0) (f : A → B) → ((x y : A) → R x y → f y ≡ f x) → (xs ys : List A) → AllZip R xs ys → map f ys ≡ map f xs
+pub same_values : {A B : Type 0} (R : A → A → Type 0) (f : A → B) → ((x y : A) → R x y → f y ≡ f x) → (xs ys : List A)
+    → AllZip R xs ys → map f ys ≡ map f xs
 same_values R f each [] [] h = refl
 same_values R f each [] (y ∷ ys) h = absurd h
 same_values R f each (x ∷ xs) [] h = absurd h

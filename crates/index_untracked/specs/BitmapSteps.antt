@@ -1,6 +1,7 @@
 -- Directories of a list changed one by one, as the readers of an untracked cache do it (gitformat-index, "Untracked
 -- cache"). Public clauses cite none of these.
-use Rattle.std.specs.Prelude.{◌≡◌, ℕ, zero, suc, ◌==◌, Bool, false, true, List, [], ◌∷◌, map, Option, Some, None, if◌then◌else◌}
+use Rattle.std.specs.Prelude.{◌≡◌, ℕ, zero, suc, ◌==◌, Bool, false, true, List, [], ◌∷◌, map, Option, Some, None}
+use Rattle.std.specs.Prelude.{if◌then◌else◌}
 use Rattle.std.specs.List.{enumerate_from}
 use Rattle.index_parts.specs.Id.{make_id}
 use Rattle.index_parts.specs.declared.hash.Kind.{Kind}

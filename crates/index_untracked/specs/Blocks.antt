@@ -1,6 +1,7 @@
 -- The directory blocks of an untracked cache (gitformat-index, "Untracked cache"): one within another, as plain data,
 -- which bytes encode them, and the list of directories that they are.
-use Rattle.std.specs.Prelude.{◌≡◌, ℕ, ◌+◌, ◌*◌, ◌/◌, ◌≤◌, max, Bool, false, List, [], ◌∷◌, ◌++◌, length, map, Option, None}
+use Rattle.std.specs.Prelude.{◌≡◌, ℕ, ◌+◌, ◌*◌, ◌/◌, ◌≤◌, max, Bool, false, List, [], ◌∷◌, ◌++◌, length, map, Option}
+use Rattle.std.specs.Prelude.{None}
 use Rattle.bstr.specs.Owned.{bstring_bytes}
 use Rattle.index_parts.specs.Numbers.{IsUpTo}
 use Rattle.index_parts.specs.Offset.{IsOffset}

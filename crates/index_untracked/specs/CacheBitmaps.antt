@@ -1,6 +1,7 @@
 -- What stands behind the directory blocks of an untracked cache (gitformat-index, "Untracked cache"): three bitmaps
 -- over the directories, the stats and the ids of those that two of them have, and one byte.
-use Rattle.std.specs.Prelude.{◌≡◌, ℕ, ◌<◌, ◌≤◌, ◌==◌, List, [], ◌∷◌, ◌++◌, All, length, map, Option, Some, None, Ok, if◌then◌else◌}
+use Rattle.std.specs.Prelude.{◌≡◌, ℕ, ◌<◌, ◌≤◌, ◌==◌, List, [], ◌∷◌, ◌++◌, All, length, map, Option, Some, None, Ok}
+use Rattle.std.specs.Prelude.{if◌then◌else◌}
 use Rattle.std.specs.List.{concat, enumerate_from, list_any}
 use Rattle.std.specs.Option.{option_map}
 use Rattle.index_bitmaps.specs.Bitmap.{Bitmap, IsBitmap}

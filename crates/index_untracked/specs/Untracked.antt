@@ -1,12 +1,14 @@
 -- The untracked cache (gitformat-index, "Untracked cache") as plain data, and which bytes encode one.
-use Rattle.std.specs.Prelude.{◌≡◌, ◌≢◌, ℕ, zero, suc, ◌*◌, ◌≤◌, List, [], ◌∷◌, ◌++◌, All, IfSome, length, map, Option, Some, None, if◌then◌else◌}
+use Rattle.std.specs.Prelude.{◌≡◌, ◌≢◌, ℕ, zero, suc, ◌*◌, ◌≤◌, List, [], ◌∷◌, ◌++◌, All, IfSome, length, map, Option}
+use Rattle.std.specs.Prelude.{Some, None, if◌then◌else◌}
 use Rattle.std.specs.List.{AllByRecursion}
 use Rattle.bstr.specs.Owned.{bstring_bytes}
 use Rattle.index_parts.specs.Numbers.{be}
 use Rattle.index_parts.specs.Id.{id_len, id_kind, is_null, make_id}
 use Rattle.index_parts.specs.Offset.{IsOffset}
 use Rattle.index_parts.specs.declared.hash.Kind.{Kind}
-use Rattle.index_untracked.specs.Blocks.{Block, HasBlockHead, IsBlock, block_depth, block_size, DirectoryValue, directory_value, listed}
+use Rattle.index_untracked.specs.Blocks.{Block, HasBlockHead, IsBlock, block_depth, block_size, DirectoryValue}
+use Rattle.index_untracked.specs.Blocks.{directory_value, listed}
 use Rattle.index_parts.specs.Limit.{IsWithin}
 use Rattle.index_untracked.specs.CacheBitmaps.{IsTail}
 use Rattle.index_untracked.specs.CachedStat.{cached_stat}

@@ -1,13 +1,16 @@
 //! What stands behind the directory blocks.
 
-ghost use Rattle.std.specs.Prelude.{◌≡◌, ◌≢◌, ◌<◌, ◌*◌, ◌==◌, ℕ, false, List, All, map, length, Ok, IsTrue, IfOk, IfSome, IfNone};
+ghost use Rattle.std.specs.Prelude.{◌≡◌, ◌≢◌, ◌<◌, ◌*◌, ◌==◌, ℕ, false, List, All, map, length, Ok, IsTrue, IfOk};
+ghost use Rattle.std.specs.Prelude.{IfSome, IfNone};
 ghost use Rattle.std.specs.List.{AllByRecursion, list_any};
 ghost use Rattle.index_bitmaps.specs.Bitmap.{Bitmap, IsBitmap, bitmap};
 ghost use Rattle.index_bitmaps.specs.Bits.{ListPlaces};
 ghost use Rattle.index_parts.specs.Id.{id_len};
 ghost use Rattle.index_untracked.specs.Blocks.{DirectoryValue, directory_value};
-ghost use Rattle.index_untracked.specs.BitmapSteps.{changed_directory, with_stat, with_exclude, checked, last_at, by_some, by_true, each, IsBare};
-ghost use Rattle.index_untracked.specs.CacheBitmaps.{DirectoryBitmaps as Places, ListsBelow, AreBitmaps, ArePieces, IsTail};
+ghost use Rattle.index_untracked.specs.BitmapSteps.{changed_directory, with_stat, with_exclude, checked, last_at};
+ghost use Rattle.index_untracked.specs.BitmapSteps.{by_some, by_true, each, IsBare};
+ghost use Rattle.index_untracked.specs.CacheBitmaps.{DirectoryBitmaps as Places, ListsBelow, AreBitmaps, ArePieces};
+ghost use Rattle.index_untracked.specs.CacheBitmaps.{IsTail};
 ghost use Rattle.index_untracked.specs.CacheSteps.{own_bitmaps};
 
 use super::Directory;
@@ -37,8 +40,8 @@ fn places_in(
     ensures below { IfOk result (λ found. IfSome found (λ v. All (λ p. p < count) v.items)) }
     ensures none { IfOk result
         (λ found. IfNone found ((places : List ℕ)
-        → ListPlaces (map Ok places) (bitmap bitmaps.now).words → All (λ place. place < count) places
-        → ⊥)) }
+        → ListPlaces (map Ok places) (bitmap bitmaps.now).words
+        → All (λ place. place < count) places → ⊥)) }
 {
     let mut places = Vec::new(alloc);
     let mut positions = bitmaps.positions();

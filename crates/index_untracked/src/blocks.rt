@@ -4,7 +4,8 @@ ghost use Rattle.std.specs.Prelude.{◌≡◌, ◌<◌, ◌≤◌, ◌++◌, ℕ
 ghost use Rattle.std.specs.Option.{option_map};
 ghost use Rattle.bstr.specs.Owned.{bstring_bytes};
 ghost use Rattle.index_untracked.specs.Blocks.{Block, HasBlockHead, IsBlock, block_depth, directory_value, listed};
-ghost use Rattle.index_untracked.specs.CacheSteps.{is_allowed, block_head_at, lent_block_head, names_at, start_at, own_start};
+ghost use Rattle.index_untracked.specs.CacheSteps.{is_allowed, block_head_at, lent_block_head, names_at, start_at};
+ghost use Rattle.index_untracked.specs.CacheSteps.{own_start};
 ghost use Rattle.index_untracked.specs.BitmapSteps.{changed_directory, with_subs};
 
 use super::Directory;

@@ -6,8 +6,11 @@ use Rattle.std.proofs.lemmas.List.{take-take}
 use Rattle.std.proofs.Math.Seq.{take-add}
 
 -- a piece behind the front of a list that has grown since
-pub front_grown : (old new : List ℕ) (hashed end : ℕ) → StartsWith new old → hashed ≤ length old → hashed ≤ end → take hashed old ++ slice_range new hashed end ≡ take end new
+pub front_grown : (old new : List ℕ) (hashed end : ℕ) → StartsWith new old → hashed ≤ length old → hashed ≤ end
+    → take hashed old ++ slice_range new hashed end ≡ take end new
 front_grown old new hashed end grows within ordered =
-    let same : take hashed old ≡ take hashed new = ap (take hashed) (sym grows) ∙ take-take hashed (length old) new within in
+    let same : take hashed old ≡ take hashed new =
+    ap (take hashed) (sym grows) ∙ take-take hashed (length old) new within in
     let sum : hashed + (end - hashed) ≡ end = omega arith in
-    ap (λ (l : List ℕ). l ++ slice_range new hashed end) same ∙ sym (take-add hashed (end - hashed) new) ∙ ap (λ (n : ℕ). take n new) sum
+    ap (λ (l : List ℕ). l ++ slice_range new hashed end) same ∙ sym (take-add hashed (end - hashed) new)
+    ∙ ap (λ (n : ℕ). take n new) sum

@@ -1,5 +1,6 @@
 -- Steps of reading in windows follow one another.
-use Rattle.std.proofs.Common.{◌≡◌, ℕ, ◌+◌, ◌-◌, ◌≤◌, ◌<◌, List, [], ◌∷◌, ◌++◌, length, take, drop, true, Option, None, refl, sym, ap, subst, ◌∙◌, append_assoc, append-nil, arith, get_or, Fits, w8}
+use Rattle.std.proofs.Common.{◌≡◌, ℕ, ◌+◌, ◌-◌, ◌≤◌, ◌<◌, List, [], ◌++◌, length, take, drop, true, Option, None, refl}
+use Rattle.std.proofs.Common.{sym, ap, subst, ◌∙◌, append_assoc, append-nil, arith, get_or, Fits, w8}
 use Rattle.std.proofs.KnownBytes.{Consumes-nil, Consumes-trans}
 use Rattle.std.proofs.lemmas.List.{length-append, length-drop, drop-append-le, drop-drop, take-append-drop}
 use Rattle.std.proofs.lemmas.List.Elements.{All-nil, All-append, All-from_get_or}
@@ -28,7 +29,8 @@ module _ (plan : Plan) where
     consumed = Consumes-nil m.left;
     kind_stays = refl;
     hashed = λ is message k. subst (Holds m.hasher) (sym (append-nil message)) k;
-    read = λ all k. subst (λ (l : List ℕ). AreEntries plan.version plan.kind None l m.records (drop m.decoded m.window)) (sym (append-nil all)) k;
+    read = λ all k. subst (λ (l : List ℕ). AreEntries plan.version plan.kind None l m.records (drop m.decoded m.window))
+        (sym (append-nil all)) k;
     inside = inside;
   }
 
@@ -36,20 +38,24 @@ module _ (plan : Plan) where
   on_trans a b c n m p q = record {
     more = p.more ++ q.more;
     taken = p.taken ++ q.taken;
-    bytes = sym (append_assoc a.window p.more q.more) ∙ ap (λ (l : List ℕ). l ++ q.more) p.bytes ∙ append_assoc p.taken b.window q.more ∙ ap (λ (l : List ℕ). p.taken ++ l) q.bytes ∙ sym (append_assoc p.taken q.taken c.window);
+    bytes = sym (append_assoc a.window p.more q.more) ∙ ap (λ (l : List ℕ). l ++ q.more) p.bytes ∙ append_assoc p.taken
+        b.window q.more ∙ ap (λ (l : List ℕ). p.taken ++ l) q.bytes ∙ sym (append_assoc p.taken q.taken c.window);
     len = omega (arith, length-append p.more q.more, p.len, q.len);
     are_bytes = All-append (λ b. b < 256) p.taken q.taken p.are_bytes q.are_bytes;
     consumed = Consumes-trans a.left b.left c.left p.more q.more p.consumed q.consumed;
     kind_stays = q.kind_stays ∙ p.kind_stays;
-    hashed = λ is message k. subst (Holds c.hasher) (append_assoc message p.taken q.taken) (q.hashed is (message ++ p.taken) (p.hashed is message k));
-    read = λ all k. subst (λ (l : List ℕ). AreEntries plan.version plan.kind None l c.records (drop c.decoded c.window)) (append_assoc all p.more q.more) (q.read (all ++ p.more) (p.read all k));
+    hashed = λ is message k. subst (Holds c.hasher) (append_assoc message p.taken q.taken)
+        (q.hashed is (message ++ p.taken) (p.hashed is message k));
+    read = λ all k. subst (λ (l : List ℕ). AreEntries plan.version plan.kind None l c.records (drop c.decoded c.window))
+        (append_assoc all p.more q.more) (q.read (all ++ p.more) (p.read all k));
     inside = q.inside;
   }
 
   -- bytes come into the window
   pub on_fill : (left new : Option (List ℕ)) (h : Hasher) (w grown more : List ℕ) (place : ℕ) (rs : List Record)
       → place ≤ length w → grown ≡ w ++ more → Consumes left new more
-      → IsReadOn plan (record { left = left; hasher = h; window = w; decoded = place; records = rs }) (record { left = new; hasher = h; window = grown; decoded = place; records = rs }) (length more)
+      → IsReadOn plan (record { left = left; hasher = h; window = w; decoded = place; records = rs })
+      (record { left = new; hasher = h; window = grown; decoded = place; records = rs }) (length more)
   on_fill left new h w grown more place rs inside e consumed = record {
     more = more;
     taken = [];
@@ -59,7 +65,9 @@ module _ (plan : Plan) where
     consumed = consumed;
     kind_stays = refl;
     hashed = λ is message k. subst (Holds h) (sym (append-nil message)) k;
-    read = λ all k. subst (λ (l : List ℕ). AreEntries plan.version plan.kind None (all ++ more) rs l) (sym (ap (drop place) e ∙ drop-append-le place w more inside)) (entries_grow plan.version plan.kind None all rs (drop place w) more k);
+    read = λ all k. subst (λ (l : List ℕ). AreEntries plan.version plan.kind None (all ++ more) rs l)
+        (sym (ap (drop place) e ∙ drop-append-le place w more inside))
+        (entries_grow plan.version plan.kind None all rs (drop place w) more k);
     inside = omega (arith, ap length e, length-append w more);
   }
 
@@ -70,15 +78,28 @@ module _ (plan : Plan) where
       rw len (ap (drop (length taken)) e ∙ drop-append_seam taken rest)
 
   -- entries are decoded, and a front of what was decoded leaves the window
-  pub on_take : (left : Option (List ℕ)) (old new : Hasher) (w rest taken : List ℕ) (place done : ℕ) (rs ss : List Record)
-      → AreBytes (take done w) → place ≤ length w → drop place w ≡ taken ++ rest → done ≤ length w - length rest → hasher_kind new ≡ hasher_kind old
+  pub on_take : (left : Option (List ℕ)) (old new : Hasher) (w rest taken : List ℕ) (place done : ℕ)
+      (rs ss : List Record)
+      → AreBytes (take done w) → place ≤ length w → drop place w ≡ taken ++ rest → done ≤ length w - length rest
+      → hasher_kind new ≡ hasher_kind old
       → (plan.is_hashed ≡ true → (m : List ℕ) → Holds old m → Holds new (m ++ take done w))
-      → ((all : List ℕ) → AreEntries plan.version plan.kind None all rs (drop place w) → AreEntries plan.version plan.kind None all ss rest)
-      → IsReadOn plan (record { left = left; hasher = old; window = w; decoded = place; records = rs }) (record { left = left; hasher = new; window = drop done w; decoded = length w - length rest - done; records = ss }) 0
+      → ((all : List ℕ) → AreEntries plan.version plan.kind None all rs (drop place w)
+      → AreEntries plan.version plan.kind None all ss rest)
+      → IsReadOn plan (record { left = left; hasher = old; window = w; decoded = place; records = rs }) (record {
+        left =
+            left;
+        hasher = new;
+        window = drop done w;
+        decoded = length w - length rest - done;
+        records = ss;
+      }) 0
   on_take left old new w rest taken place done rs ss are_bytes inside e le kind_stays hashed read =
-      let whole : w ≡ (take place w ++ taken) ++ rest = sym (take-append-drop place w) ∙ ap (λ (l : List ℕ). take place w ++ l) e ∙ sym (append_assoc (take place w) taken rest) in
+      let whole : w ≡ (take place w ++ taken) ++ rest = sym (take-append-drop place w)
+      ∙ ap (λ (l : List ℕ). take place w ++ l) e ∙ sym (append_assoc (take place w) taken rest) in
       let sum : done + (length w - length rest - done) ≡ length w - length rest = omega arith in
-      let at : drop (length w - length rest - done) (drop done w) ≡ rest = drop-drop (length w - length rest - done) done w ∙ ap (λ (n : ℕ). drop n w) sum ∙ end_at w (take place w ++ taken) rest whole in
+      let at : drop (length w - length rest - done) (drop done w) ≡ rest =
+      drop-drop (length w - length rest - done) done w ∙ ap (λ (n : ℕ). drop n w) sum
+      ∙ end_at w (take place w ++ taken) rest whole in
       record {
         more = [];
         taken = take done w;
@@ -88,6 +109,7 @@ module _ (plan : Plan) where
         consumed = Consumes-nil left;
         kind_stays = kind_stays;
         hashed = hashed;
-        read = λ all k. subst (λ (l : List ℕ). AreEntries plan.version plan.kind None (all ++ []) ss l) (sym at) (subst (λ (l : List ℕ). AreEntries plan.version plan.kind None l ss rest) (sym (append-nil all)) (read all k));
+        read = λ all k. subst (λ (l : List ℕ). AreEntries plan.version plan.kind None (all ++ []) ss l) (sym at) (subst
+            (λ (l : List ℕ). AreEntries plan.version plan.kind None l ss rest) (sym (append-nil all)) (read all k));
         inside = omega (arith, length-drop done w);
       }

@@ -1,5 +1,6 @@
 -- What reading in windows comes to: the answer of all bytes.
-use Rattle.std.proofs.Common.{◌≡◌, ℕ, ◌+◌, ◌≤◌, Bool, true, false, cond, ltb, List, [], ◌∷◌, ◌++◌, length, take, drop, Option, None, refl, sym, ap, subst, ◌∙◌, append_assoc, arith}
+use Rattle.std.proofs.Common.{◌≡◌, ℕ, ◌+◌, ◌≤◌, Bool, true, false, cond, ltb, List, [], ◌∷◌, ◌++◌, length, take, drop}
+use Rattle.std.proofs.Common.{Option, None, refl, sym, ap, ◌∙◌, append_assoc, arith}
 use Rattle.std.specs.Prelude.{Result, Ok, Err, Some, IfSome, nat_eq}
 use Rattle.std.specs.Io.KnownBytes.{Consumes, IsAtEnd}
 use Rattle.std.proofs.KnownBytes.{Consumes-trans, Consumes-whole}
@@ -25,33 +26,42 @@ use Rattle.index_window.specs.Windowed.{Moment, IsReadOn}
 use Rattle.index_window.specs.declared.windows.Plan.{Plan}
 
 -- four bytes at a place stay where bytes come behind
-number_grows : (bytes more : List ℕ) (at : ℕ) → at + 4 ≤ length bytes → take 4 (drop at (bytes ++ more)) ≡ take 4 (drop at bytes)
-number_grows bytes more at le = ap (take 4) (drop-append-le at bytes more (omega arith)) ∙ take-append-le 4 (drop at bytes) more (omega (arith, length-drop at bytes))
+number_grows : (bytes more : List ℕ) (at : ℕ) → at + 4 ≤ length bytes
+    → take 4 (drop at (bytes ++ more)) ≡ take 4 (drop at bytes)
+number_grows bytes more at le = ap (take 4) (drop-append-le at bytes more (omega arith))
+    ∙ take-append-le 4 (drop at bytes) more (omega (arith, length-drop at bytes))
 
-signed_grows : (bytes more : List ℕ) → 12 ≤ length bytes → starts_with nat_eq (bytes ++ more) signature ≡ starts_with nat_eq bytes signature
+signed_grows : (bytes more : List ℕ) → 12 ≤ length bytes
+    → starts_with nat_eq (bytes ++ more) signature ≡ starts_with nat_eq bytes signature
 signed_grows [] more h = absurd (omega arith)
 signed_grows (a ∷ []) more h = absurd (omega arith)
 signed_grows (a ∷ b ∷ []) more h = absurd (omega arith)
 signed_grows (a ∷ b ∷ c ∷ []) more h = absurd (omega arith)
 signed_grows (a ∷ b ∷ c ∷ d ∷ l) more h = refl
 
-header_grows : (kind : Kind) (bytes more : List ℕ) → 12 + id_len kind ≤ length bytes → header_of kind (bytes ++ more) ≡ header_of kind bytes
+header_grows : (kind : Kind) (bytes more : List ℕ) → 12 + id_len kind ≤ length bytes
+    → header_of kind (bytes ++ more) ≡ header_of kind bytes
 header_grows kind bytes more le =
-    let a : ltb (length (bytes ++ more)) (12 + id_len kind) ≡ false = le-ltb _ _ (omega (arith, length-append bytes more)) in
+    let a : ltb (length (bytes ++ more)) (12 + id_len kind) ≡ false =
+    le-ltb _ _ (omega (arith, length-append bytes more)) in
     let b : ltb (length bytes) (12 + id_len kind) ≡ false = le-ltb _ _ le in
     rw (a, b, signed_grows bytes more (omega arith), number_grows bytes more 4 (omega arith)) refl
 
-guarded : (t : Bool) (e : HeaderFault) (r : Result Version HeaderFault) (v : Version) → cond t (Err e) r ≡ Ok v → t ≡ false
+guarded : (t : Bool) (e : HeaderFault) (r : Result Version HeaderFault) (v : Version) → cond t (Err e) r ≡ Ok v
+    → t ≡ false
 guarded true e r v h = absurd cc
 guarded false e r v h = refl
 
 -- a header that stands is as long as one, with a trailer
-pub header_long : (kind : Kind) (bytes : List ℕ) (v : Version) → header_of kind bytes ≡ Ok v → 12 + id_len kind ≤ length bytes
+pub header_long : (kind : Kind) (bytes : List ℕ) (v : Version) → header_of kind bytes ≡ Ok v
+    → 12 + id_len kind ≤ length bytes
 header_long kind bytes v h = ltb-false _ _ (guarded (ltb (length bytes) (12 + id_len kind)) _ _ v h)
 
-module _ (plan : Plan) (time : FileTime) (options : Options) (offset : Option ℕ) (a b : Moment) (n : ℕ) (tail more : List ℕ) (len : ℕ) (x : Parts × Option ObjectId) where
+module _ (plan : Plan) (time : FileTime) (options : Options) (offset : Option ℕ) (a b : Moment) (n : ℕ)
+    (tail more : List ℕ) (len : ℕ) (x : Parts × Option ObjectId) where
   parts_of : (r : IsReadOn plan a b n) → tail ≡ b.window ++ more → r.taken ++ tail ≡ a.window ++ (r.more ++ more)
-  parts_of r tail-is = ap (λ (l : List ℕ). r.taken ++ l) tail-is ∙ sym (append_assoc r.taken b.window more) ∙ ap (λ (l : List ℕ). l ++ more) (sym r.bytes) ∙ append_assoc a.window r.more more
+  parts_of r tail-is = ap (λ (l : List ℕ). r.taken ++ l) tail-is ∙ sym (append_assoc r.taken b.window more)
+      ∙ ap (λ (l : List ℕ). l ++ more) (sym r.bytes) ∙ append_assoc a.window r.more more
 
   -- the bytes are those that a reader with known bytes had left
   pub whole_of_windows : (all end : Option (List ℕ)) → (r : IsReadOn plan a b n) → tail ≡ b.window ++ more
@@ -59,11 +69,14 @@ module _ (plan : Plan) (time : FileTime) (options : Options) (offset : Option �
       → IfSome all (λ left. r.taken ++ tail ≡ left)
   whole_of_windows all end r tail-is front rest at-end =
       let parts : r.taken ++ tail ≡ a.window ++ (r.more ++ more) = parts_of r tail-is in
-      Consumes-whole all end (a.window ++ (r.more ++ more)) (λ left. r.taken ++ tail ≡ left) (Consumes-trans all a.left end a.window (r.more ++ more) front (Consumes-trans a.left b.left end r.more more r.consumed rest)) at-end parts
+      Consumes-whole all end (a.window ++ (r.more ++ more)) (λ left. r.taken ++ tail ≡ left)
+      (Consumes-trans all a.left end a.window (r.more ++ more) front
+      (Consumes-trans a.left b.left end r.more more r.consumed rest)) at-end parts
 
   -- the answer to all bytes
   pub answer_of_windows : header_of plan.kind a.window ≡ Ok plan.version → plan.count ≡ count_of a.window
-      → ltb (most_entries len offset plan.kind plan.version) plan.count ≡ false → is_too_large options.alloc_limit_bytes plan.count len offset plan.kind plan.version ≡ false
+      → ltb (most_entries len offset plan.kind plan.version) plan.count ≡ false
+      → is_too_large options.alloc_limit_bytes plan.count len offset plan.kind plan.version ≡ false
       → a.decoded ≡ 12 → a.records ≡ [] → length b.records ≡ plan.count
       → (r : IsReadOn plan a b n) → tail ≡ b.window ++ more → length a.window + n + length more ≡ len
       → IsMarker plan.kind (r.taken ++ tail) offset
@@ -75,16 +88,28 @@ module _ (plan : Plan) (time : FileTime) (options : Options) (offset : Option �
       let behind : List ℕ = r.more ++ more in
       let long = header_long plan.kind first plan.version header in
       let parts : bytes ≡ first ++ behind = parts_of r tail-is in
-      let size : length bytes ≡ len = omega (arith, ap length parts, length-append first behind, length-append r.more more, r.len, len-is) in
-      let count : count_of bytes ≡ count_of first = ap count_of parts ∙ rw (number_grows first behind 8 (omega arith)) refl in
-      let body : drop 12 bytes ≡ (drop 12 first ++ r.more) ++ more = ap (drop 12) parts ∙ drop-append-le 12 first behind (omega arith) ∙ sym (append_assoc (drop 12 first) r.more more) in
-      let rest : drop b.decoded tail ≡ drop b.decoded b.window ++ more = ap (drop b.decoded) tail-is ∙ drop-append-le b.decoded b.window more r.inside in
-      let start : AreEntries plan.version plan.kind None (drop 12 first) a.records (drop a.decoded first) = rw (none, at) refl in
-      let entries : AreEntries plan.version plan.kind None ((drop 12 first ++ r.more) ++ more) b.records (drop b.decoded b.window ++ more) = entries_grow plan.version plan.kind None (drop 12 first ++ r.more) b.records (drop b.decoded b.window) more (r.read (drop 12 first) start) in
-      let entries-all : AreEntries plan.version plan.kind None (drop 12 bytes) b.records (drop b.decoded tail) = rw (body, rest) entries in
+      let size : length bytes ≡ len =
+      omega (arith, ap length parts, length-append first behind, length-append r.more more, r.len, len-is) in
+      let count : count_of bytes ≡ count_of first =
+      ap count_of parts ∙ rw (number_grows first behind 8 (omega arith)) refl in
+      let body : drop 12 bytes ≡ (drop 12 first ++ r.more) ++ more = ap (drop 12) parts
+      ∙ drop-append-le 12 first behind (omega arith) ∙ sym (append_assoc (drop 12 first) r.more more) in
+      let rest : drop b.decoded tail ≡ drop b.decoded b.window ++ more =
+      ap (drop b.decoded) tail-is ∙ drop-append-le b.decoded b.window more r.inside in
+      let start : AreEntries plan.version plan.kind None (drop 12 first) a.records (drop a.decoded first) =
+      rw (none, at) refl in
+      let entries : AreEntries plan.version plan.kind None ((drop 12 first ++ r.more) ++ more) b.records
+      (drop b.decoded b.window ++ more) = entries_grow plan.version plan.kind None
+      (drop 12 first ++ r.more) b.records (drop b.decoded b.window) more (r.read (drop 12 first) start) in
+      let entries-all : AreEntries plan.version plan.kind None (drop 12 bytes) b.records (drop b.decoded tail) =
+      rw (body, rest) entries in
       let total : count_of bytes ≡ plan.count = count ∙ sym counted in
-      let is-behind : IsBehindHeader plan.kind time options plan.version (count_of bytes) (drop 12 bytes) (Ok (parts_contents x.0, x.1)) = has b.records (drop b.decoded tail) entries-all (all-read ∙ sym total) ending in
-      answer_from plan.kind time options bytes plan.version offset (Ok x) (ap (header_of plan.kind) parts ∙ header_grows plan.kind first behind long ∙ header) marker (rw (size, total) few) (rw (size, total) small) is-behind
+      let is-behind : IsBehindHeader plan.kind time options plan.version (count_of bytes) (drop 12 bytes)
+      (Ok (parts_contents x.0, x.1)) =
+      has b.records (drop b.decoded tail) entries-all (all-read ∙ sym total) ending in
+      answer_from plan.kind time options bytes plan.version offset (Ok x)
+      (ap (header_of plan.kind) parts ∙ header_grows plan.kind first behind long ∙ header) marker
+      (rw (size, total) few) (rw (size, total) small) is-behind
 
 -- ---- what is said of a value, if there is one
 
@@ -92,6 +117,7 @@ pub some_then : {A : Type 0} (o : Option A) (P Q : A → Type 0) → ((x : A) �
 some_then None P Q f h = tt
 some_then (Some x) P Q f h = f x h
 
-pub some_with : {A : Type 0} (o : Option A) (P Q R S T : A → Type 0) → ((x : A) → P x → Q x → R x → S x → T x) → IfSome o P → IfSome o Q → IfSome o R → IfSome o S → IfSome o T
+pub some_with : {A : Type 0} (o : Option A) (P Q R S T : A → Type 0) → ((x : A) → P x → Q x → R x → S x → T x)
+    → IfSome o P → IfSome o Q → IfSome o R → IfSome o S → IfSome o T
 some_with None P Q R S T f p q r s = tt
 some_with (Some x) P Q R S T f p q r s = f x p q r s

@@ -1,5 +1,5 @@
 -- A file that is read in windows: from one moment of reading to a later one (the library's own).
-use Rattle.std.specs.Prelude.{◌≡◌, ℕ, ◌≤◌, Bool, true, List, ◌++◌, length, drop, Option, None}
+use Rattle.std.specs.Prelude.{◌≡◌, ℕ, ◌≤◌, true, List, ◌++◌, length, drop, Option, None}
 use Rattle.std.specs.Io.KnownBytes.{Consumes}
 use Rattle.index_parts.specs.Digest.{hasher_kind, Holds}
 use Rattle.index_parts.specs.declared.hash.Hasher.{Hasher}

@@ -1,6 +1,6 @@
 //! A large index file on the disk.
 
-ghost use Rattle.std.specs.Prelude.{◌≡◌, ℕ, List, IfOk, IfSome, Ok};
+ghost use Rattle.std.specs.Prelude.{ℕ, List, IfOk, IfSome, Ok};
 ghost use Rattle.index_entries.specs.Record.{IdsAreOf};
 ghost use Rattle.index_format.specs.Answer.{IsAnswer};
 ghost use Rattle.index_format.specs.Contents.{ExtensionIdsAreOf, PartsInStorage, parts_contents, parts_entries};

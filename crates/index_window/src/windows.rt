@@ -1,6 +1,7 @@
 //! A large index that is read in windows.
 
-ghost use Rattle.std.specs.Prelude.{◌≡◌, ◌≤◌, ◌+◌, ◌++◌, ℕ, List, Option, All, [], drop, length, vec_len, IfOk, IfSome, OnOk, Ok, None, false, true};
+ghost use Rattle.std.specs.Prelude.{◌≡◌, ◌≤◌, ◌+◌, ◌++◌, ℕ, List, Option, All, [], drop, length, vec_len, IfOk, IfSome};
+ghost use Rattle.std.specs.Prelude.{OnOk, Ok, None, false, true};
 ghost use Rattle.index_entries.specs.Record.{AreBytes, IdsAreOf, has_directory};
 ghost use Rattle.index_extensions.specs.EndMarker.{IsMarker};
 ghost use Rattle.index_format.specs.Answer.{IsAnswer, IsEnding};

@@ -5,10 +5,10 @@ mod items;
 mod layout;
 pub mod storable;
 
-ghost use Rattle.std.specs.Prelude.{◌≡◌, ◌≤◌, ◌<◌, ◌^◌, ◌↔◌, length, false, is_err, IfOk, IsTrue, OnOk};
+ghost use Rattle.std.specs.Prelude.{◌≡◌, ◌<◌, ◌↔◌, false, IfOk, IsTrue, OnOk};
 ghost use Rattle.index_parts.specs.Taking.{Hashes};
 ghost use Rattle.index_parts.specs.Puts.{Puts};
-ghost use Rattle.index_format.specs.Image.{image_version, unmarked, body};
+ghost use Rattle.index_format.specs.Image.{image_version, body};
 ghost use Rattle.index_format.specs.LayoutSteps.{header_and_entries, IsLayout};
 ghost use Rattle.index_format.specs.Contents.{PartsInStorage, parts_contents};
 ghost use Rattle.index_format.specs.Storable.{CanEncode, IsWritable};

@@ -10,7 +10,10 @@ pub returns : goal.returns
 returns t c =
     let source = out-Tree c.args.tree.now in
     let all = c.deref-child-items.result.now in
-    let name : c.in_ok-name.name.items ≡ source.name.items = same_from_all_zip (λ (x : ℕ) (y : ℕ). y ≡ x) source.name.items c.in_ok-name.name.items c.in_ok-name.ensures.cases (λ x y e. e) in
-    let whole : take c.loop-child.child-index all ≡ all = take_all c.loop-child.child-index all c.loop-child-test.false in
-    let children : map node_of c.loop-child.children.items ≡ map node_of source.children.items = c.loop-child.invariant ∙ ap (map node_of) (whole ∙ c.deref-child-items.ensures.value) in
+    let name : c.in_ok-name.name.items ≡ source.name.items = same_from_all_zip
+    (λ (x : ℕ) (y : ℕ). y ≡ x) source.name.items c.in_ok-name.name.items c.in_ok-name.ensures.cases (λ x y e. e) in
+    let whole : take c.loop-child.child-index all ≡ all =
+    take_all c.loop-child.child-index all c.loop-child-test.false in
+    let children : map node_of c.loop-child.children.items ≡ map node_of source.children.items =
+    c.loop-child.invariant ∙ ap (map node_of) (whole ∙ c.deref-child-items.ensures.value) in
     node_of-roll _ ∙ rw (name, children) (sym (node_of-out c.args.tree.now))

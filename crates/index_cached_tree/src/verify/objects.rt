@@ -10,7 +10,8 @@ ghost use Rattle.index_cached_tree.specs.Agreement.{Trees, AreTrees, directories
 ghost use Rattle.index_cached_tree.specs.Sound.{RiseFrom};
 ghost use Rattle.index_cached_tree.specs.Tree.{name_of, node_of, nodes_from};
 ghost use Rattle.index_cached_tree.specs.declared.verify.Error.TheVariants.{Memory};
-ghost use Rattle.index_cached_tree.specs.TreeFaults.{no_tree, child_fault, missing_fault, listed_fault, SaysTree, SaysOrWants};
+ghost use Rattle.index_cached_tree.specs.TreeFaults.{no_tree, child_fault, missing_fault, listed_fault, SaysTree};
+ghost use Rattle.index_cached_tree.specs.TreeFaults.{SaysOrWants};
 
 use super::Error;
 use crate::Tree;

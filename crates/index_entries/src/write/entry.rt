@@ -4,7 +4,8 @@ ghost use Rattle.std.specs.Prelude.{◌≡◌, ◌+◌, ◌<◌, ◌^◌, ◌++�
 ghost use Rattle.index_metadata.specs.Flags.{is_extended};
 ghost use Rattle.index_parts.specs.Puts.{Puts};
 ghost use Rattle.index_entries.specs.Entry.{head_bytes};
-ghost use Rattle.index_entries.specs.EntryImage.{be16, numbers_of, first_word, head_of, second_word, unpadded, padding, entry_bytes, entry_in, is_removed};
+ghost use Rattle.index_entries.specs.EntryImage.{be16, numbers_of, first_word, head_of, second_word, unpadded, padding};
+ghost use Rattle.index_entries.specs.EntryImage.{entry_bytes, entry_in, is_removed};
 ghost use Rattle.index_entries.specs.Record.{IsPlaced, record_in};
 
 use crate::sizes::{ENTRY_ALIGN, FLAGS_LEN, NUMBERS_LEN};

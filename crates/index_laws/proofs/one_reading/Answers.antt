@@ -17,7 +17,8 @@ pub returns-clause-tree : goal.returns-clause-tree
 returns-clause-tree c = λ kind limit. record { some = tree_reading kind limit; one = tree_reading_one kind limit }
 
 pub returns-clause-link : goal.returns-clause-link
-returns-clause-link c = λ kind. record { some = link_reading kind; one = λ bytes. one_read (IsLink kind) bytes (one_link kind bytes) }
+returns-clause-link c =
+    λ kind. record { some = link_reading kind; one = λ bytes. one_read (IsLink kind) bytes (one_link kind bytes) }
 
 pub returns-clause-link_fault : goal.returns-clause-link_fault
 returns-clause-link_fault c = one_link_fault
@@ -26,7 +27,8 @@ pub returns-clause-resolve_undo : goal.returns-clause-resolve_undo
 returns-clause-resolve_undo c = λ kind. record { some = resolve_undo_reading kind; one = resolve_undo_reading_one kind }
 
 pub returns-clause-untracked : goal.returns-clause-untracked
-returns-clause-untracked c = λ kind limit. record { some = cache_reading kind limit; one = cache_reading_one kind limit }
+returns-clause-untracked c =
+    λ kind limit. record { some = cache_reading kind limit; one = cache_reading_one kind limit }
 
 pub returns-clause-fs_monitor : goal.returns-clause-fs_monitor
 returns-clause-fs_monitor c = record { some = monitor_reading; one = monitor_reading_one }

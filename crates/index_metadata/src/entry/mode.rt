@@ -2,7 +2,8 @@
 
 ghost use Rattle.std.specs.Prelude.{◌≡◌, ◌⊎◌, ⊤, [], ◌∷◌, codes, ◌==◌, ◌&&◌, if◌then◌else◌};
 ghost use Rattle.std.specs.Option.{option_map};
-ghost use Rattle.index_objects.specs.Mode.{stored_mode, directory_mode, commit_mode, file_mode, executable_mode, link_mode, mode_of_kind, named_kind};
+ghost use Rattle.index_objects.specs.Mode.{stored_mode, directory_mode, commit_mode, file_mode, executable_mode};
+ghost use Rattle.index_objects.specs.Mode.{link_mode, mode_of_kind, named_kind};
 ghost use Rattle.index_metadata.specs.ModeChange.{change_of, change_due, mode_after, other_bit};
 
 use bitflags::{Flag, Flags, bitflag_items};

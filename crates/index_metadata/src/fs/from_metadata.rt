@@ -2,7 +2,8 @@
 
 ghost use Rattle.std.specs.Prelude.{◌≡◌, ◌&&◌, ◌^◌, ◌%◌};
 ghost use Rattle.std.specs.Option.{option_map};
-ghost use Rattle.index_metadata.specs.ModeChange.{change_of, change_due, is_file_kind, is_directory_kind, is_symlink_kind};
+ghost use Rattle.index_metadata.specs.ModeChange.{change_of, change_due, is_file_kind, is_directory_kind};
+ghost use Rattle.index_metadata.specs.ModeChange.{is_symlink_kind};
 ghost use Rattle.index_metadata.specs.Stat.{stored_time, stat_of_file};
 
 use super::Metadata;

@@ -5,7 +5,8 @@ ghost use Rattle.std.specs.Iterator.{at_most};
 ghost use Rattle.std.specs.Option.{option_map};
 ghost use Rattle.index_objects.specs.Mode.{mode_of_kind};
 ghost use Rattle.index_objects.specs.TreeObjectSteps.{tree_mode_of, tree_entry_at};
-ghost use Rattle.index_objects.specs.TreeObject.{Gives, is_tree_mode, kind_of_mode, kind_of_entries, tree_entry_of, unread_entries};
+ghost use Rattle.index_objects.specs.TreeObject.{Gives, is_tree_mode, kind_of_mode, kind_of_entries, tree_entry_of};
+ghost use Rattle.index_objects.specs.TreeObject.{unread_entries};
 
 use index_parts::hash::{Kind, ObjectId};
 use index_parts::read;

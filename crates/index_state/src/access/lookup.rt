@@ -3,7 +3,8 @@
 ghost use Rattle.std.specs.Bool.{OnTrue};
 ghost use Rattle.std.specs.List.{list_any};
 ghost use Rattle.std.specs.Option.{ok_or, option_copied, option_map};
-ghost use Rattle.std.specs.Prelude.{◌≡◌, ◌↔◌, ℕ, ◌+◌, ◌<◌, ◌≤◌, Contains, List, Option, length, take, is_some, option_and_then, slice_get, true, IfErr, IfOk, IfSome, IsTrue};
+ghost use Rattle.std.specs.Prelude.{◌≡◌, ◌↔◌, ℕ, ◌+◌, ◌<◌, ◌≤◌, Contains, List, Option, length, take, is_some};
+ghost use Rattle.std.specs.Prelude.{option_and_then, slice_get, true, IfErr, IfOk, IfSome, IsTrue};
 ghost use Rattle.std.specs.declared.ops.Range.{Range};
 ghost use Rattle.index_metadata.specs.Flags.{stage_code};
 ghost use Rattle.index_lookups.specs.Closest.{closest, stands_in};

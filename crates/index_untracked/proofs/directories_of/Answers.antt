@@ -14,17 +14,21 @@ pub returns-then-len-count-clause-read : goal.returns-then-len-count-clause-read
 returns-then-len-count-clause-read c = λ ds p.
     let h = rw c.in-Some.is at c.in_ok-rest.ensures.some in
     let items = c.read_block.new.directories.items in
-    let are : map directory_value items ≡ listed 0 h.0 = h.3 ∙ ap (λ (l : List Directory). map directory_value l ++ listed (length l) h.0) c.new-directories.ensures.items in
-    let number : length items ≡ block_size h.0 = sym (length-map items directory_value) ∙ ap length are ∙ listed_len 0 h.0 in
+    let are : map directory_value items ≡ listed 0 h.0 = h.3
+    ∙ ap (λ (l : List Directory). map directory_value l ++ listed (length l) h.0) c.new-directories.ensures.items in
+    let number : length items ≡ block_size h.0 =
+    sym (length-map items directory_value) ∙ ap length are ∙ listed_len 0 h.0 in
     let some : c.args.count ≡ 0 → ⊥ = search rules in
-    let q = root_of c.args.kind c.args.limit c.args.count c.args.bytes.now h.0 c.in-Some.rest.now ds h.1 (nest_of c.args.kind c.args.limit c.args.count c.args.bytes.now ds some p) in
+    let q = root_of c.args.kind c.args.limit c.args.count c.args.bytes.now h.0 c.in-Some.rest.now ds h.1
+    (nest_of c.args.kind c.args.limit c.args.count c.args.bytes.now ds some p) in
     let len : c.len.result ≡ length items = search rules in
     c.if-len-count.true (len ∙ number ∙ q.size)
 
 pub read_bitmaps-requires : goal.read_bitmaps-requires
 read_bitmaps-requires c =
     let h = rw c.in-Some.is at c.in_ok-rest.ensures.some in
-    let are : map directory_value c.read_block.new.directories.items ≡ listed 0 h.0 = h.3 ∙ ap (λ (l : List Directory). map directory_value l ++ listed (length l) h.0) c.new-directories.ensures.items in
+    let are : map directory_value c.read_block.new.directories.items ≡ listed 0 h.0 = h.3
+    ∙ ap (λ (l : List Directory). map directory_value l ++ listed (length l) h.0) c.new-directories.ensures.items in
     subst (AllByRecursion IsBare) (sym are) (listed_unmarked 0 h.0)
 
 pub returns-then-not-branch-clause-read : goal.returns-then-not-branch-clause-read
@@ -32,10 +36,13 @@ returns-then-not-branch-clause-read c = λ ds p.
     let h = rw c.in-Some.is at c.in_ok-rest.ensures.some in
     let items = c.read_block.new.directories.items in
     let rest = c.in-Some.rest.now in
-    let are : map directory_value items ≡ listed 0 h.0 = h.3 ∙ ap (λ (l : List Directory). map directory_value l ++ listed (length l) h.0) c.new-directories.ensures.items in
+    let are : map directory_value items ≡ listed 0 h.0 = h.3
+    ∙ ap (λ (l : List Directory). map directory_value l ++ listed (length l) h.0) c.new-directories.ensures.items in
     let some : c.args.count ≡ 0 → ⊥ = search rules in
-    let q = root_of c.args.kind c.args.limit c.args.count c.args.bytes.now h.0 rest ds h.1 (nest_of c.args.kind c.args.limit c.args.count c.args.bytes.now ds some p) in
-    c.in_ok-read_bitmaps.ensures.torn c.if-not-branch.true ds (subst (λ (l : List DirectoryValue). IsTail c.args.kind l rest ds) (sym are) q.is_tail)
+    let q = root_of c.args.kind c.args.limit c.args.count c.args.bytes.now h.0 rest ds h.1
+    (nest_of c.args.kind c.args.limit c.args.count c.args.bytes.now ds some p) in
+    c.in_ok-read_bitmaps.ensures.torn c.if-not-branch.true ds
+    (subst (λ (l : List DirectoryValue). IsTail c.args.kind l rest ds) (sym are) q.is_tail)
 
 pub returns-clause-read : goal.returns-clause-read
 returns-clause-read c =
@@ -43,15 +50,21 @@ returns-clause-read c =
     let items = c.read_block.new.directories.items in
     let rest = c.in-Some.rest.now in
     let ds = map directory_value c.read_bitmaps.new.directories.items in
-    let are : map directory_value items ≡ listed 0 h.0 = h.3 ∙ ap (λ (l : List Directory). map directory_value l ++ listed (length l) h.0) c.new-directories.ensures.items in
-    let number : length items ≡ block_size h.0 = sym (length-map items directory_value) ∙ ap length are ∙ listed_len 0 h.0 in
+    let are : map directory_value items ≡ listed 0 h.0 = h.3
+    ∙ ap (λ (l : List Directory). map directory_value l ++ listed (length l) h.0) c.new-directories.ensures.items in
+    let number : length items ≡ block_size h.0 =
+    sym (length-map items directory_value) ∙ ap length are ∙ listed_len 0 h.0 in
     let some : c.args.count ≡ 0 → ⊥ = search rules in
     let len : length items ≡ c.args.count = search rules in
-    let tail : IsTail c.args.kind (listed 0 h.0) rest ds = subst (λ (l : List DirectoryValue). IsTail c.args.kind l rest ds) are (c.in_ok-read_bitmaps.ensures.whole c.if-not-branch.false) in
-    nest_is c.args.kind c.args.limit c.args.count c.args.bytes.now ds some (record { root = h.0; rest = rest; is_root = h.1; shallow = h.2; size = sym number ∙ len; is_tail = tail })
+    let tail : IsTail c.args.kind (listed 0 h.0) rest ds =
+    subst (λ (l : List DirectoryValue). IsTail c.args.kind l rest ds) are
+    (c.in_ok-read_bitmaps.ensures.whole c.if-not-branch.false) in
+    nest_is c.args.kind c.args.limit c.args.count c.args.bytes.now ds some
+    (record { root = h.0; rest = rest; is_root = h.1; shallow = h.2; size = sym number ∙ len; is_tail = tail })
 
 pub returns-in_err-read_bitmaps-clause-memory : goal.returns-in_err-read_bitmaps-clause-memory
 returns-in_err-read_bitmaps-clause-memory c =
     let h = rw c.in-Some.is at c.in_ok-rest.ensures.some in
     let some : c.args.count ≡ 0 → ⊥ = search rules in
-    at_err c.from_residual-in_err-read_bitmaps.result (first_block c.args.limit c.args.count c.args.bytes.now h.0 c.in-Some.rest.now some h.1)
+    at_err c.from_residual-in_err-read_bitmaps.result
+    (first_block c.args.limit c.args.count c.args.bytes.now h.0 c.in-Some.rest.now some h.1)

@@ -11,8 +11,10 @@ pub returns-in_err-put_header_and_entries : goal.returns-in_err-put_header_and_e
 returns-in_err-put_header_and_entries g c =
     let v = parts_contents c.args.parts.now in
     let o = c.args.options in
-    puts_stopped c.from_residual.result (flat_map item_bytes (items_of v o) ++ flat_map item_bytes (marker_of v o)) c.from_residual.ensures.0 (body_is v o) c.in_err-put_header_and_entries.ensures
+    puts_stopped c.from_residual.result (flat_map item_bytes (items_of v o) ++ flat_map item_bytes (marker_of v o))
+    c.from_residual.ensures.0 (body_is v o) c.in_err-put_header_and_entries.ensures
 
 pub returns : goal.returns
 returns g c =
-    puts_is c.put_extensions.result (body_is (parts_contents c.args.parts.now) c.args.options) (puts_after c.put_extensions.result c.in_ok-put_header_and_entries.ensures c.put_extensions.ensures)
+    puts_is c.put_extensions.result (body_is (parts_contents c.args.parts.now) c.args.options)
+    (puts_after c.put_extensions.result c.in_ok-put_header_and_entries.ensures c.put_extensions.ensures)

@@ -9,13 +9,18 @@ pub returns-in_err-put : goal.returns-in_err-put
 returns-in_err-put g c =
     let v = parts_contents c.args.parts.now in
     let o = c.args.options in
-    let header : c.header.result ≡ header_bytes (image_version v o) (length (written v.records)) = rw (c.header.ensures, c.requires.layout.is_version, c.requires.layout.is_count) refl in
-    puts_broken c.from_residual.result (entries_bytes v o) c.from_residual.ensures.0 (ap (λ h. h ++ entries_bytes v o) header) c.in_err-put.ensures.bytes c.in_err-put.ensures.has_failed c.in_err-put.ensures.loan
+    let header : c.header.result ≡ header_bytes (image_version v o) (length (written v.records)) =
+    rw (c.header.ensures, c.requires.layout.is_version, c.requires.layout.is_count) refl in
+    puts_broken c.from_residual.result (entries_bytes v o) c.from_residual.ensures.0 (ap (λ h. h ++ entries_bytes v o)
+    header) c.in_err-put.ensures.bytes c.in_err-put.ensures.has_failed c.in_err-put.ensures.loan
 
 pub returns : goal.returns
 returns g c =
     let v = parts_contents c.args.parts.now in
     let o = c.args.options in
-    let header : c.header.result ≡ header_bytes (image_version v o) (length (written v.records)) = rw (c.header.ensures, c.requires.layout.is_version, c.requires.layout.is_count) refl in
+    let header : c.header.result ≡ header_bytes (image_version v o) (length (written v.records)) =
+    rw (c.header.ensures, c.requires.layout.is_version, c.requires.layout.is_count) refl in
     let whole = ap (λ h. h ++ entries_bytes v o) header in
-    puts_is c.put_entries.result whole (puts_then c.put_entries.result c.in_ok-put.ensures.bytes c.in_ok-put.ensures.loan (rw (c.deref.ensures.value, c.deref-2.ensures.value, c.requires.layout.is_version) at c.put_entries.ensures))
+    puts_is c.put_entries.result whole
+    (puts_then c.put_entries.result c.in_ok-put.ensures.bytes c.in_ok-put.ensures.loan
+    (rw (c.deref.ensures.value, c.deref-2.ensures.value, c.requires.layout.is_version) at c.put_entries.ensures))

@@ -10,4 +10,5 @@ decreases-push_node l = l.levels
 abbrev pub invariant-loop-i : goal.invariant-loop-i
 invariant-loop-i l =
     IsRow l.kind l.limit l.levels l._i l.initial.rest (map node_of l.children.items) l.rest
-    × ((ts : List Node) (end : List ℕ) → IsRow l.kind l.limit l.levels l.head.number l.initial.rest ts end → (us : List Node) × IsRow l.kind l.limit l.levels (l.head.number - l._i) l.rest us end)
+    × ((ts : List Node) (end : List ℕ) → IsRow l.kind l.limit l.levels l.head.number l.initial.rest ts end
+    → (us : List Node) × IsRow l.kind l.limit l.levels (l.head.number - l._i) l.rest us end)

@@ -6,4 +6,5 @@ use Rattle.index_cached_tree.proofs.storable.+is_storable_within.Given as goal
 
 -- bytes can hold all children where they can hold those from here on
 abbrev pub invariant-loop-child : goal.invariant-loop-child
-invariant-loop-child l = AreStorableWithin l.kind l.levels (row_of_trees l.children) ↔ AreStorableWithin l.kind l.levels (row_of_trees (drop l.child-index l.children))
+invariant-loop-child l = AreStorableWithin l.kind l.levels (row_of_trees l.children) ↔ AreStorableWithin l.kind l.levels
+    (row_of_trees (drop l.child-index l.children))

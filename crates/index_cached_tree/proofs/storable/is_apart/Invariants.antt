@@ -7,4 +7,5 @@ use Rattle.index_cached_tree.proofs.storable.is_apart.Given as goal
 
 -- the node is apart from all where it is from those from here on
 abbrev pub invariant-loop-other : goal.invariant-loop-other
-invariant-loop-other l = IsApartFrom (node_of l.tree) (row_of_trees l.others) ↔ IsApartFrom (node_of l.tree) (row_of_trees (drop l.other-index l.others))
+invariant-loop-other l = IsApartFrom (node_of l.tree) (row_of_trees l.others) ↔ IsApartFrom (node_of l.tree)
+    (row_of_trees (drop l.other-index l.others))

@@ -8,4 +8,5 @@ use Rattle.index_cached_tree.proofs.storable.names_rise.Given as goal
 
 -- all rise where those from here on do
 abbrev pub invariant-loop-tree : goal.invariant-loop-tree
-invariant-loop-tree l = RiseFrom None (row_of_trees l.trees) ↔ RiseFrom (option_map (λ t. node_of t.now) l.before) (row_of_trees (drop l.tree-index l.trees))
+invariant-loop-tree l = RiseFrom None (row_of_trees l.trees) ↔ RiseFrom (option_map (λ t. node_of t.now) l.before)
+    (row_of_trees (drop l.tree-index l.trees))

@@ -8,4 +8,5 @@ use Rattle.index_cached_tree.proofs.verify.+verify_node.Given as goal
 
 -- the first fault of the children is that of those from here on
 abbrev pub invariant-loop-child : goal.invariant-loop-child
-invariant-loop-child g l = (trees : Option Trees) → AreLooked (option_map (λ o. g.F.Find.found o.now) l.objects) trees → nodes_fault trees (row_of_trees l.children) ≡ nodes_fault trees (row_of_trees (drop l.child-index l.children))
+invariant-loop-child g l = (trees : Option Trees) → AreLooked (option_map (λ o. g.F.Find.found o.now) l.objects) trees
+    → nodes_fault trees (row_of_trees l.children) ≡ nodes_fault trees (row_of_trees (drop l.child-index l.children))

@@ -6,4 +6,5 @@ use Rattle.index_cached_tree.proofs.verify.check_object.Goals as goal
 
 pub returns-clause-err : goal.returns-clause-err
 returns-clause-err g c =
-    rw c.in-Some.is (IfErr-weaker c.check_tree.result _ _ (λ e s. looked_said (g.F.Find.found c.in-Some.objects.now) c.args.id c.args.children.now (eqb-false _ _ (sym c.if-is_empty.ensures)) e s) c.check_tree.ensures.err)
+    rw c.in-Some.is (IfErr-weaker c.check_tree.result _ _ (λ e s. looked_said (g.F.Find.found c.in-Some.objects.now)
+    c.args.id c.args.children.now (eqb-false _ _ (sym c.if-is_empty.ensures)) e s) c.check_tree.ensures.err)

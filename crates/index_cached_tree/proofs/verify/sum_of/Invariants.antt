@@ -10,5 +10,6 @@ use Rattle.index_cached_tree.proofs.verify.sum_of.Given as goal
 abbrev pub invariant-loop-tree : goal.invariant-loop-tree
 invariant-loop-tree l = record {
   counted : l.sum + entries_sum (row_of_trees (drop l.tree-index l.siblings)) ≡ entries_sum (row_of_trees l.siblings);
-  so_far : row_fault l.parent_id 0 None (row_of_trees l.siblings) ≡ row_fault l.parent_id l.sum (option_map (λ t. node_of t.now) l.before) (row_of_trees (drop l.tree-index l.siblings));
+  so_far : row_fault l.parent_id 0 None (row_of_trees l.siblings) ≡ row_fault l.parent_id l.sum
+      (option_map (λ t. node_of t.now) l.before) (row_of_trees (drop l.tree-index l.siblings));
 }

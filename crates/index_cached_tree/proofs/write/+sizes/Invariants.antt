@@ -7,4 +7,5 @@ use Rattle.index_cached_tree.proofs.write.+sizes.Given as goal
 
 -- what is left behind the trees before this one
 abbrev pub invariant-room_behind_all-loop-tree : goal.invariant-room_behind_all-loop-tree
-invariant-room_behind_all-loop-tree l = room_left l.room (length (flat_map (λ t. node_bytes (node_of t)) (take l.tree-index l.trees))) ≡ Some l.left
+invariant-room_behind_all-loop-tree l =
+    room_left l.room (length (flat_map (λ t. node_bytes (node_of t)) (take l.tree-index l.trees))) ≡ Some l.left

@@ -16,6 +16,17 @@ pub returns-clause-len : goal.returns-clause-len
 returns-clause-len c =
     let r = record_in c.args.storage.now c.args.self.now in
     let previous = c.args.previous.now in
-    let shared : c.shared_len-shared.result ≡ shared_len previous r.path = c.shared_len-shared.ensures.value ∙ ap (shared_len previous) c.path_in.ensures in
-    let number : length c.split_at.result.1.now ≡ length (offset_bytes (length previous - shared_len previous r.path)) = ap length (c.split_at.ensures.back ∙ c.offset-start.ensures.bytes) ∙ ap (λ n. length (offset_bytes (length previous - n))) shared in
-    omega (arith, shared, number, length_delta previous r, c.unpadded_len.ensures.len, path_within r, shared_within_second previous r.path)
+    let shared : c.shared_len-shared.result ≡ shared_len previous r.path =
+    c.shared_len-shared.ensures.value ∙ ap (shared_len previous) c.path_in.ensures in
+    let number : length c.split_at.result.1.now ≡ length (offset_bytes (length previous - shared_len previous r.path)) =
+    ap length (c.split_at.ensures.back ∙ c.offset-start.ensures.bytes)
+    ∙ ap (λ n. length (offset_bytes (length previous - n))) shared in
+    omega (
+      arith,
+      shared,
+      number,
+      length_delta previous r,
+      c.unpadded_len.ensures.len,
+      path_within r,
+      shared_within_second previous r.path,
+    )

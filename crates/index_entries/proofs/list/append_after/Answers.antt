@@ -11,10 +11,16 @@ returns-clause-appended c =
     let shared = slice_range s c.args.shared.start c.args.shared.end in
     let path = shared ++ c.args.path.now in
     let e : Entry = made_entry c.args.entry c.len-start.result c.len-end.result in
-    let grown : c.extend_from_slice.new.self.items ≡ s ++ path = c.in_ok-extend_from_slice.ensures.items ∙ ap (λ (l : List ℕ). l ++ c.args.path.now) c.in_ok-copy_to_end.ensures.copied ∙ ap (λ (l : List ℕ). l ++ slice_range l c.args.shared.start c.args.shared.end ++ c.args.path.now) c.reserve.ensures.items ∙ append_assoc s shared c.args.path.now in
-    let added : c.push_reserved.new.self.items ≡ c.args.entries.now.items ++ e ∷ [] = c.push_reserved.ensures.items ∙ ap (λ (x : Entry). c.reserve-2.new.self.items ++ x ∷ []) c.make_entry.ensures ∙ ap (λ (l : List Entry). l ++ e ∷ []) c.reserve-2.ensures.items in
+    let grown : c.extend_from_slice.new.self.items ≡ s ++ path = c.in_ok-extend_from_slice.ensures.items
+    ∙ ap (λ (l : List ℕ). l ++ c.args.path.now) c.in_ok-copy_to_end.ensures.copied
+    ∙ ap (λ (l : List ℕ). l ++ slice_range l c.args.shared.start c.args.shared.end ++ c.args.path.now)
+    c.reserve.ensures.items ∙ append_assoc s shared c.args.path.now in
+    let added : c.push_reserved.new.self.items ≡ c.args.entries.now.items ++ e ∷ [] =
+    c.push_reserved.ensures.items ∙ ap (λ (x : Entry). c.reserve-2.new.self.items ++ x ∷ []) c.make_entry.ensures
+    ∙ ap (λ (l : List Entry). l ++ e ∷ []) c.reserve-2.ensures.items in
     let start : c.len-start.result ≡ length s = c.len-start.ensures ∙ c.reserve.ensures.len ∙ c.args.storage.now.ok.0 in
-    let end : c.len-end.result ≡ length (s ++ path) = c.len-end.ensures ∙ c.extend_from_slice.new.self.ok.0 ∙ ap length grown in
+    let end : c.len-end.result ≡ length (s ++ path) =
+    c.len-end.ensures ∙ c.extend_from_slice.new.self.ok.0 ∙ ap length grown in
     record {
       entry = e;
       entries = added;

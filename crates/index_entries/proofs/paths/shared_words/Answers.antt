@@ -12,6 +12,7 @@ loop-len-preserved c =
       within = omega (arith, c.loop-len-test.true);
       first = c.loop-len.invariant.first;
       second = c.loop-len.invariant.second;
-      same = take-add n 8 c.args.a.now ∙ ap (λ (front : List ℕ). front ++ take 8 (drop n c.args.a.now)) c.loop-len.invariant.same
+      same = take-add n 8 c.args.a.now
+          ∙ ap (λ (front : List ℕ). front ++ take 8 (drop n c.args.a.now)) c.loop-len.invariant.same
           ∙ ap (λ (word : List ℕ). take n c.args.b.now ++ word) words ∙ sym (take-add n 8 c.args.b.now);
     }

@@ -10,23 +10,34 @@ use Rattle.index_entries.proofs.write.put_behind.Goals as goal
 pub returns-in_err-put-clause-fault : goal.returns-in_err-put-clause-fault
 returns-in_err-put-clause-fault g c =
     let old = c.args.block.now.bytes in
-    let back : take (length old) c.put.new.out.bytes ≡ old = held_before _ _ c.args.block.now c.put.new.out old c.put.new.out.bytes _ c.put.result (sym c.is_ok.ensures.value ∙ c.if-is_ok.false) refl refl c.put.ensures.takes in
-    let piece : c.as_slice.result.now ≡ old = c.as_slice.ensures ∙ ap (λ (h : Gathered). h.bytes) c.cut_to.ensures ∙ ap (λ n. take n c.put.new.out.bytes) c.len-len.ensures ∙ back in
+    let back : take (length old) c.put.new.out.bytes ≡ old =
+    held_before _ _ c.args.block.now c.put.new.out old c.put.new.out.bytes _ c.put.result
+    (sym c.is_ok.ensures.value ∙ c.if-is_ok.false) refl refl c.put.ensures.takes in
+    let piece : c.as_slice.result.now ≡ old = c.as_slice.ensures ∙ ap (λ (h : Gathered). h.bytes) c.cut_to.ensures
+    ∙ ap (λ n. take n c.put.new.out.bytes) c.len-len.ensures ∙ back in
     let entry = entry_in c.args.version c.args.previous.now (record_in c.args.storage.now c.args.entry.now) in
-    on_err _ (puts_broken c.from_residual.result entry c.from_residual.ensures.0 (ap (λ (l : List ℕ). l ++ entry) piece) c.in_err-put.ensures.bytes c.in_err-put.ensures.has_failed c.in_err-put.ensures.loan)
+    on_err _ (puts_broken c.from_residual.result entry c.from_residual.ensures.0 (ap (λ (l : List ℕ). l ++ entry) piece)
+    c.in_err-put.ensures.bytes c.in_err-put.ensures.has_failed c.in_err-put.ensures.loan)
 
 pub returns-clause-gathered : goal.returns-clause-gathered
 returns-clause-gathered g c =
     let old = c.args.block.now.bytes in
-    let back : take (length old) c.put.new.out.bytes ≡ old = held_before _ _ c.args.block.now c.put.new.out old c.put.new.out.bytes _ c.put.result (sym c.is_ok.ensures.value ∙ c.if-is_ok.false) refl refl c.put.ensures.takes in
-    let piece : c.as_slice.result.now ≡ old = c.as_slice.ensures ∙ ap (λ (h : Gathered). h.bytes) c.cut_to.ensures ∙ ap (λ n. take n c.put.new.out.bytes) c.len-len.ensures ∙ back in
+    let back : take (length old) c.put.new.out.bytes ≡ old =
+    held_before _ _ c.args.block.now c.put.new.out old c.put.new.out.bytes _ c.put.result
+    (sym c.is_ok.ensures.value ∙ c.if-is_ok.false) refl refl c.put.ensures.takes in
+    let piece : c.as_slice.result.now ≡ old = c.as_slice.ensures ∙ ap (λ (h : Gathered). h.bytes) c.cut_to.ensures
+    ∙ ap (λ n. take n c.put.new.out.bytes) c.len-len.ensures ∙ back in
     let took = rw piece at c.in_ok-put.ensures.bytes in
-    gathers_none c.put-3.result c.cut_to-2.new.self.bytes (ap (λ (h : Gathered). h.bytes) c.cut_to-2.ensures) (puts_then c.put-3.result took c.in_ok-put.ensures.loan c.put-3.ensures)
+    gathers_none c.put-3.result c.cut_to-2.new.self.bytes (ap (λ (h : Gathered). h.bytes) c.cut_to-2.ensures)
+    (puts_then c.put-3.result took c.in_ok-put.ensures.loan c.put-3.ensures)
 
 pub returns-clause-fault : goal.returns-clause-fault
 returns-clause-fault g c =
     let old = c.args.block.now.bytes in
-    let back : take (length old) c.put.new.out.bytes ≡ old = held_before _ _ c.args.block.now c.put.new.out old c.put.new.out.bytes _ c.put.result (sym c.is_ok.ensures.value ∙ c.if-is_ok.false) refl refl c.put.ensures.takes in
-    let piece : c.as_slice.result.now ≡ old = c.as_slice.ensures ∙ ap (λ (h : Gathered). h.bytes) c.cut_to.ensures ∙ ap (λ n. take n c.put.new.out.bytes) c.len-len.ensures ∙ back in
+    let back : take (length old) c.put.new.out.bytes ≡ old =
+    held_before _ _ c.args.block.now c.put.new.out old c.put.new.out.bytes _ c.put.result
+    (sym c.is_ok.ensures.value ∙ c.if-is_ok.false) refl refl c.put.ensures.takes in
+    let piece : c.as_slice.result.now ≡ old = c.as_slice.ensures ∙ ap (λ (h : Gathered). h.bytes) c.cut_to.ensures
+    ∙ ap (λ n. take n c.put.new.out.bytes) c.len-len.ensures ∙ back in
     let took = rw piece at c.in_ok-put.ensures.bytes in
     on_err _ (puts_then c.put-3.result took c.in_ok-put.ensures.loan c.put-3.ensures)

@@ -8,6 +8,7 @@ use Rattle.index_entries.proofs.write.put_entries.Given as goal
 abbrev pub invariant-loop-entry : goal.invariant-loop-entry
 invariant-loop-entry g l = record {
   room : l.block.is_full ≡ false;
-  so_far : Gathers g.W.Out l.fn.out l.out l.block.bytes (entries_in l.version [] (written_of l.storage (take l.entry-index l.entries)));
+  so_far : Gathers g.W.Out l.fn.out l.out l.block.bytes
+      (entries_in l.version [] (written_of l.storage (take l.entry-index l.entries)));
   last : l.previous ≡ last_of [] (written_of l.storage (take l.entry-index l.entries));
 }

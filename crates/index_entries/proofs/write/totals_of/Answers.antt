@@ -4,7 +4,8 @@ use Rattle.std.proofs.lemmas.List.{take_all}
 use Rattle.index_metadata.specs.Flags.{is_extended}
 use Rattle.index_entries.specs.EntryImage.{chosen_version, entries_in, version_by}
 use Rattle.index_entries.specs.Record.{records_in}
-use Rattle.index_entries.proofs.Written.{any_push, any_record, count_push, counted_entries, last_of, last_push, length_push, too_large_at, written_of, written_skip}
+use Rattle.index_entries.proofs.Written.{any_push, any_record, count_push, counted_entries, last_of, last_push}
+use Rattle.index_entries.proofs.Written.{length_push, too_large_at, written_of, written_skip}
 use Rattle.index_entries.proofs.write.totals_of.Goals as goal
 use Rattle.index_entries.proofs.write.totals_of.Goals.{then-not-is_removed+else-end-from, else-not-is_removed}
 
@@ -12,8 +13,13 @@ pub returns-then-end-from-clause-none : goal.returns-then-end-from-clause-none
 returns-then-end-from-clause-none c =
     let rs = written_of c.args.storage.now c.args.entries.now in
     let b = list_any (λ r. is_extended r.flags) (records_in c.args.storage.now c.args.entries.now) in
-    let large : c.from.result < 12 + length (entries_in c.version_by-counted.result [] rs) = too_large_at c.version_by-counted.result c.args.storage.now c.args.entries.now c.loop-entry.entry-index _ _ _ _ _ c.written_len-end.ensures.len c.loop-entry.invariant.path c.loop-entry.invariant.so_far c.loop-entry-test.true (search rules) c.if-end-from.true in
-    let same : entries_in (chosen_version c.args.choice (records_in c.args.storage.now c.args.entries.now)) [] rs ≡ entries_in c.version_by-counted.result [] rs = counted_entries c.args.choice b [] rs ∙ ap (λ v. entries_in v [] rs) (sym c.version_by-counted.ensures) in
+    let large : c.from.result < 12 + length (entries_in c.version_by-counted.result [] rs) =
+    too_large_at c.version_by-counted.result c.args.storage.now c.args.entries.now c.loop-entry.entry-index _ _ _ _
+    _ c.written_len-end.ensures.len c.loop-entry.invariant.path c.loop-entry.invariant.so_far c.loop-entry-test.true
+    (search rules) c.if-end-from.true in
+    let same : entries_in (chosen_version c.args.choice (records_in c.args.storage.now c.args.entries.now)) [] rs
+    ≡ entries_in c.version_by-counted.result [] rs =
+    counted_entries c.args.choice b [] rs ∙ ap (λ v. entries_in v [] rs) (sym c.version_by-counted.ensures) in
     omega (arith, large, ap length same)
 
 pub loop-entry-preserved : goal.loop-entry-preserved
@@ -27,17 +33,27 @@ loop-entry-preserved c =
       | then-not-is_removed+else-end-from w ↦
           let kept = sym c.is_removed.ensures ∙ w.if-not-is_removed.true in
           record {
-            extended = any_push (λ e. is_extended e.flags.0) es i _ c.loop-entry-test.true h.extended (c.contains-is_extended.ensures tt);
+            extended = any_push (λ e. is_extended e.flags.0) es i _ c.loop-entry-test.true h.extended
+                (c.contains-is_extended.ensures tt);
             counted = omega (arith, w.count-is, h.counted, count_push storage es i _ c.loop-entry-test.true kept);
             few = omega (arith, w.count-is, h.few);
-            so_far = omega (arith, w.end-is, h.so_far, w.written_len-end.ensures.len, length_push v storage es i _ c.loop-entry.last.now c.loop-entry-test.true kept h.path);
+            so_far = omega (
+              arith,
+              w.end-is,
+              h.so_far,
+              w.written_len-end.ensures.len,
+              length_push v storage es i _ c.loop-entry.last.now c.loop-entry-test.true kept h.path,
+            );
             small = omega (arith, w.end-is, w.if-end-from.false, w.from.ensures);
-            path = ap (λ p. p.now) w.last-is ∙ w.path_in-last.ensures ∙ last_push storage es i _ c.loop-entry-test.true kept;
+            path = ap (λ p. p.now) w.last-is ∙ w.path_in-last.ensures
+                ∙ last_push storage es i _ c.loop-entry-test.true kept;
           }
       | else-not-is_removed w ↦
-          let skip : written_of storage (take (i + 1) es) ≡ written_of storage (take i es) = written_skip storage es i _ c.loop-entry-test.true (sym c.is_removed.ensures ∙ w.if-not-is_removed.false) in
+          let skip : written_of storage (take (i + 1) es) ≡ written_of storage (take i es) = written_skip storage es i _
+          c.loop-entry-test.true (sym c.is_removed.ensures ∙ w.if-not-is_removed.false) in
           record {
-            extended = any_push (λ e. is_extended e.flags.0) es i _ c.loop-entry-test.true h.extended (c.contains-is_extended.ensures tt);
+            extended = any_push (λ e. is_extended e.flags.0) es i _ c.loop-entry-test.true h.extended
+                (c.contains-is_extended.ensures tt);
             counted = w.count-is ∙ h.counted ∙ sym (ap length skip);
             few = omega (arith, w.count-is, h.few);
             so_far = w.end-is ∙ h.so_far ∙ sym (ap (λ rs. 12 + length (entries_in v [] rs)) skip);
@@ -48,6 +64,8 @@ loop-entry-preserved c =
 
 pub returns-clause-version : goal.returns-clause-version
 returns-clause-version c =
-    let whole : take c.loop-entry.entry-index c.args.entries.now ≡ c.args.entries.now = take_all c.loop-entry.entry-index c.args.entries.now (omega (arith, c.loop-entry-test.false)) in
-    let all : c.loop-entry.is_extended ≡ list_any (λ e. is_extended e.flags.0) c.args.entries.now = c.loop-entry.invariant.extended ∙ ap (list_any (λ e. is_extended e.flags.0)) whole in
+    let whole : take c.loop-entry.entry-index c.args.entries.now ≡ c.args.entries.now =
+    take_all c.loop-entry.entry-index c.args.entries.now (omega (arith, c.loop-entry-test.false)) in
+    let all : c.loop-entry.is_extended ≡ list_any (λ e. is_extended e.flags.0) c.args.entries.now =
+    c.loop-entry.invariant.extended ∙ ap (list_any (λ e. is_extended e.flags.0)) whole in
     c.version_by.ensures ∙ ap (version_by c.args.choice) (all ∙ sym (any_record c.args.storage.now c.args.entries.now))

@@ -17,7 +17,8 @@ or_false true = refl
 or_false false = refl
 
 folder_push : (rs : List Record) (r : Record) → has_directory (rs ++ r ∷ []) ≡ (has_directory rs || eqb r.mode 0o040000)
-folder_push rs r = list_any-append (λ (x : Record). eqb x.mode 0o040000) rs (r ∷ []) ∙ ap (λ (b : Bool). has_directory rs || b) (or_false (eqb r.mode 0o040000))
+folder_push rs r = list_any-append (λ (x : Record). eqb x.mode 0o040000) rs (r ∷ [])
+    ∙ ap (λ (b : Bool). has_directory rs || b) (or_false (eqb r.mode 0o040000))
 
 ap2or : {a b x y : Bool} → a ≡ b → x ≡ y → (a || x) ≡ (b || y)
 ap2or p q = rw (p, q) refl
@@ -29,10 +30,13 @@ entries-preserved c =
     let last = last_path None before in
     let found = c.in-Some.ensures.found last (sym c.last_len.ensures) in
     let r = lent_record last c.in-Some.lent in
-    let stored : c.push_after.new.self.records ≡ before ++ r ∷ [] = ap (λ (h : Held). h.records) c.in_ok-push_after.ensures.pushed in
+    let stored : c.push_after.new.self.records ≡ before ++ r ∷ [] =
+    ap (λ (h : Held). h.records) c.in_ok-push_after.ensures.pushed in
     record {
-      read = λ all given. rw stored (entries_push c.args.version c.args.kind None all before r c.entries.rest.now c.in-Some.after.now (h.read all given) found);
-      end = end_before c.args.bytes.now h.end.0 c.entries.rest.now c.in-Some.after.now h.end.1 (entry_end c.args.version c.args.kind last c.entries.rest.now r c.in-Some.after.now found);
+      read = λ all given. rw stored (entries_push c.args.version c.args.kind None all before r c.entries.rest.now
+          c.in-Some.after.now (h.read all given) found);
+      end = end_before c.args.bytes.now h.end.0 c.entries.rest.now c.in-Some.after.now h.end.1
+          (entry_end c.args.version c.args.kind last c.entries.rest.now r c.in-Some.after.now found);
       count = ap length stored ∙ omega (arith, length-append before (r ∷ []), h.count);
       ids = rw stored (All-push (λ (x : Record). id_kind x.id ≡ c.args.kind) before r h.ids c.in-Some.ensures.kind);
       sparse = ap2or h.sparse c.is_sparse.ensures ∙ sym (ap has_directory stored ∙ folder_push before r);

@@ -7,7 +7,8 @@ use Rattle.index_entry_reading.proofs.entries.entries_in.Given as goal
 
 abbrev pub invariant-entries : goal.invariant-entries
 invariant-entries l = record {
-  read : (all : List ℕ) → AreEntries l.version l.kind None all l.fn.first.list.records l.bytes → AreEntries l.version l.kind None all l.first.list.records l.rest;
+  read : (all : List ℕ) → AreEntries l.version l.kind None all l.fn.first.list.records l.bytes
+      → AreEntries l.version l.kind None all l.first.list.records l.rest;
   end : (taken : List ℕ) × (l.bytes ≡ taken ++ l.rest);
   count : length l.first.list.records ≡ l.index;
   ids : All (λ r. id_kind r.id ≡ l.kind) l.first.list.records;

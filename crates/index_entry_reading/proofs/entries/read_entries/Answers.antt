@@ -6,7 +6,8 @@ pub returns-then-len-count-clause-fault : goal.returns-then-len-count-clause-fau
 returns-then-len-count-clause-fault c =
     let bytes = c.args.bytes.now in
     let records = c.entries_in.new.first.list.records in
-    let start : AreEntries c.args.version c.args.kind None bytes c.in_ok-list.list.records bytes = rw c.in_ok-list.ensures refl in
+    let start : AreEntries c.args.version c.args.kind None bytes c.in_ok-list.list.records bytes =
+    rw c.in_ok-list.ensures refl in
     let few : length records < c.args.count = search rules in
     let counted : length records ≡ c.len-len.result = search rules in (
       search rules,

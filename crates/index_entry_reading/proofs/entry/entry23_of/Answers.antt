@@ -9,10 +9,13 @@ if_none None P p = p
 if_none (Some x) P p = tt
 
 pub returns-in_err-head-clause-none : goal.returns-in_err-head-clause-none
-returns-in_err-head-clause-none c = if_none c.from_residual.result _ (λ r rest h. absurd (cc (entry_again c.args.kind c.args.bytes.now r rest h, c.in_err-head.ensures)))
+returns-in_err-head-clause-none c = if_none c.from_residual.result _
+    (λ r rest h. absurd (cc (entry_again c.args.kind c.args.bytes.now r rest h, c.in_err-head.ensures)))
 
 pub lent_of-requires : goal.lent_of-requires
-lent_of-requires c = entry_long c.args.kind c.args.bytes.now ((lent_head c.in_ok-head.head, c.in_ok-head.path.now), c.in_ok-head.rest.now) (sym c.in_ok-head.ensures)
+lent_of-requires c = entry_long c.args.kind c.args.bytes.now
+    ((lent_head c.in_ok-head.head, c.in_ok-head.path.now), c.in_ok-head.rest.now) (sym c.in_ok-head.ensures)
 
 pub returns-clause-found : goal.returns-clause-found
-returns-clause-found c = λ previous. rw (c.lent_of.ensures.record previous) (entry_takes c.args.kind c.args.bytes.now ((lent_head c.in_ok-head.head, c.in_ok-head.path.now), c.in_ok-head.rest.now) (sym c.in_ok-head.ensures))
+returns-clause-found c = λ previous. rw (c.lent_of.ensures.record previous) (entry_takes c.args.kind c.args.bytes.now
+    ((lent_head c.in_ok-head.head, c.in_ok-head.path.now), c.in_ok-head.rest.now) (sym c.in_ok-head.ensures))

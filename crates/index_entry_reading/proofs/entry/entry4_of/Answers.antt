@@ -16,10 +16,17 @@ returns-in_err-head-clause-none c = if_none c.from_residual.result _ (λ previou
     absurd (cc (found.2, same, c.in_err-head.ensures)))
 
 pub lent_of-requires : goal.lent_of-requires
-lent_of-requires c = (entry4_long c.args.kind c.args.room c.args.bytes.now ((lent_head c.in_ok-head.head, c.in_ok-head.shared, c.in_ok-head.tail.now), c.in_ok-head.rest.now) (sym c.in_ok-head.ensures)).0
+lent_of-requires c = (entry4_long c.args.kind c.args.room c.args.bytes.now
+    ((lent_head c.in_ok-head.head, c.in_ok-head.shared, c.in_ok-head.tail.now), c.in_ok-head.rest.now)
+    (sym c.in_ok-head.ensures)).0
 
 pub returns-clause-found : goal.returns-clause-found
-returns-clause-found c = λ previous room. rw (c.lent_of.ensures.record previous) (entry4_takes c.args.kind previous c.args.room c.args.bytes.now ((lent_head c.in_ok-head.head, c.in_ok-head.shared, c.in_ok-head.tail.now), c.in_ok-head.rest.now) room (sym c.in_ok-head.ensures))
+returns-clause-found c =
+    λ previous room. rw (c.lent_of.ensures.record previous) (entry4_takes c.args.kind previous c.args.room
+    c.args.bytes.now ((lent_head c.in_ok-head.head, c.in_ok-head.shared, c.in_ok-head.tail.now), c.in_ok-head.rest.now)
+    room (sym c.in_ok-head.ensures))
 
 pub returns-clause-shared : goal.returns-clause-shared
-returns-clause-shared c = rw c.lent_of.ensures.shared (entry4_long c.args.kind c.args.room c.args.bytes.now ((lent_head c.in_ok-head.head, c.in_ok-head.shared, c.in_ok-head.tail.now), c.in_ok-head.rest.now) (sym c.in_ok-head.ensures)).1
+returns-clause-shared c = rw c.lent_of.ensures.shared (entry4_long c.args.kind c.args.room c.args.bytes.now
+    ((lent_head c.in_ok-head.head, c.in_ok-head.shared, c.in_ok-head.tail.now), c.in_ok-head.rest.now)
+    (sym c.in_ok-head.ensures)).1

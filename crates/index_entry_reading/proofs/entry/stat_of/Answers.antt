@@ -6,4 +6,5 @@ use Rattle.index_entry_reading.proofs.entry.stat_of.Goals as goal
 pub returns : goal.returns
 returns c =
     let n = c.args.numbers.now in
-    c.stat.ensures ∙ ap (λ (l : List ℕ). stat_of (take 24 n) l) (take_all (length n - 28) (drop 28 n) (omega (arith, length-drop 28 n)))
+    c.stat.ensures ∙ ap (λ (l : List ℕ). stat_of (take 24 n) l)
+    (take_all (length n - 28) (drop 28 n) (omega (arith, length-drop 28 n)))

@@ -17,8 +17,10 @@ returns-clause-found c =
     let directory = c.args.directory.now in
     let rs = c.args.entries.now in
     let cmp : Record → Ordering = λ r. prefix_cmp (directory ++ 47 ∷ []) r.path in
-    let P : Option ℕ → Type 0 = λ r. IfSome r (λ i. (i < length rs) × HoldsAt (λ r. is_below directory r ≡ true) rs i) in
-    subst P (sym c.ok.ensures.value) (below_found directory rs c.search_within.result.0 (equal_at cmp rs c.search_within.result.0 c.search_within.ensures.found))
+    let P : Option ℕ → Type 0 =
+    λ r. IfSome r (λ i. (i < length rs) × HoldsAt (λ r. is_below directory r ≡ true) rs i) in
+    subst P (sym c.ok.ensures.value) (below_found directory rs c.search_within.result.0
+    (equal_at cmp rs c.search_within.result.0 c.search_within.ensures.found))
 
 pub returns-clause-answer : goal.returns-clause-answer
 returns-clause-answer c = λ o.

@@ -9,4 +9,5 @@ pub returns-clause-found : goal.returns-clause-found
 returns-clause-found c =
     let rs = c.args.entries.now in
     let P : Bool → Type 0 = λ b. OnTrue b (list_any (stands_in c.args.path.now) rs ≡ true) in
-    subst P (sym c.is_some.ensures) (any_given (stands_in c.args.path.now) rs c.closest_place.result c.closest_place.ensures.found)
+    subst P (sym c.is_some.ensures)
+    (any_given (stands_in c.args.path.now) rs c.closest_place.result c.closest_place.ensures.found)

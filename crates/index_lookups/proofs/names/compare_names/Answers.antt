@@ -10,6 +10,10 @@ returns c =
     let a = c.args.a.now in
     let b = c.args.b.now in
     elim c.if-outer.branch [
-      | then-outer w ↦ order_by_front c.args.outer (folded i a) (folded i b) c.compare_starts.result c.if-outer.sizes c.then.result c.compare_starts.ensures c.then.ensures (λ e. w.sizes-is ∙ w.cmp-sizes.ensures ∙ sizes_folded i b a) (λ e. cc)
-      | else-outer w ↦ order_by_front c.args.outer (folded i a) (folded i b) c.compare_starts.result c.if-outer.sizes c.then.result c.compare_starts.ensures c.then.ensures (λ e. cc) (λ e. w.sizes-is ∙ w.cmp-sizes-else-outer.ensures ∙ sizes_folded i a b)
+      | then-outer w ↦
+          order_by_front c.args.outer (folded i a) (folded i b) c.compare_starts.result c.if-outer.sizes c.then.result
+          c.compare_starts.ensures c.then.ensures (λ e. w.sizes-is ∙ w.cmp-sizes.ensures ∙ sizes_folded i b a) (λ e. cc)
+      | else-outer w ↦ order_by_front c.args.outer (folded i a)
+          (folded i b) c.compare_starts.result c.if-outer.sizes c.then.result c.compare_starts.ensures c.then.ensures
+          (λ e. cc) (λ e. w.sizes-is ∙ w.cmp-sizes-else-outer.ensures ∙ sizes_folded i a b)
     ]

@@ -8,4 +8,5 @@ pub returns : goal.returns
 returns c =
     let a = c.args.a.now in
     let b = c.args.b.now in
-    c.cmp.ensures ∙ front_of_both c.min-len.result a b c.min-len.ensures ∙ ap (λ (i : Bool). common_cmp (folded i a) (folded i b)) (sym c.if-ignore_case.false)
+    c.cmp.ensures ∙ front_of_both c.min-len.result a b c.min-len.ensures
+    ∙ ap (λ (i : Bool). common_cmp (folded i a) (folded i b)) (sym c.if-ignore_case.false)

@@ -3,7 +3,8 @@ use Rattle.std.specs.List.Sorted.{IsPermutation}
 use Rattle.std.proofs.lemmas.List.{length-map}
 use Rattle.index_lookups.specs.Folded.{is_at_folded}
 use Rattle.index_lookups.specs.NameSteps.{named_value, path_names}
-use Rattle.index_lookups.proofs.TableMade.{keys_are, table_made, path_keys_length, paths_pass, paths_have, paths_alike, AreNamedIn}
+use Rattle.index_lookups.proofs.TableMade.{keys_are, table_made, path_keys_length, paths_pass, paths_have, paths_alike}
+use Rattle.index_lookups.proofs.TableMade.{AreNamedIn}
 use Rattle.index_lookups.proofs.Visits.{visits_sorted}
 use Rattle.index_lookups.proofs.names.path_table.Goals as goal
 
@@ -12,8 +13,12 @@ returns-clause-table c =
     let ignore_case = c.args.ignore_case in
     let names = c.in_ok-names.names.items in
     let rs = c.args.entries.now in (
-      table_made ignore_case path_names (is_at_folded ignore_case) rs (map named_value names) (map named_value c.sort_names.new.names.items) (subst (AreNamedIn path_names rs) (sym c.in_ok-names.ensures) (keys_are path_names rs)) c.sort_names.ensures.permutation c.sort_names.ensures.ordered (paths_pass ignore_case) (paths_have ignore_case) (paths_alike ignore_case),
-      c.sort_names.ensures.len ∙ sym (length-map names named_value) ∙ ap length c.in_ok-names.ensures ∙ path_keys_length 0 rs,
+      table_made ignore_case path_names (is_at_folded ignore_case) rs (map named_value names)
+          (map named_value c.sort_names.new.names.items) (subst (AreNamedIn path_names rs) (sym c.in_ok-names.ensures)
+          (keys_are path_names rs)) c.sort_names.ensures.permutation c.sort_names.ensures.ordered
+          (paths_pass ignore_case) (paths_have ignore_case) (paths_alike ignore_case),
+      c.sort_names.ensures.len ∙ sym (length-map names named_value) ∙ ap length c.in_ok-names.ensures
+          ∙ path_keys_length 0 rs,
     )
 
 pub returns-clause-visits : goal.returns-clause-visits
@@ -21,6 +26,8 @@ returns-clause-visits c =
     let names = c.in_ok-names.names.items in
     let rs = c.args.entries.now in
     let sorted = c.sort_names.new.names.items in
-    visits_sorted c.args.ignore_case rs (map named_value sorted) (subst (λ (ks : _). IsPermutation ks (map named_value sorted)) c.in_ok-names.ensures c.sort_names.ensures.permutation)
-    (length-map sorted named_value ∙ c.sort_names.ensures.len ∙ sym (length-map names named_value) ∙ ap length c.in_ok-names.ensures ∙ path_keys_length 0 rs)
+    visits_sorted c.args.ignore_case rs (map named_value sorted) (subst
+    (λ (ks : _). IsPermutation ks (map named_value sorted)) c.in_ok-names.ensures c.sort_names.ensures.permutation)
+    (length-map sorted named_value ∙ c.sort_names.ensures.len ∙ sym (length-map names named_value)
+    ∙ ap length c.in_ok-names.ensures ∙ path_keys_length 0 rs)
     c.sort_names.ensures.ordered

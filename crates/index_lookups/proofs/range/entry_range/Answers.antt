@@ -8,4 +8,5 @@ pub returns-clause-exactly : goal.returns-clause-exactly
 returns-clause-exactly c = λ o.
     let path = c.args.path.now in
     let rs = c.args.entries.now in
-    range_map (λ (r : Record). path_cmp r.path path) (is_at path) (at_is path) rs c.run_of.result (c.run_of.ensures.exactly (rising_paths path rs o))
+    range_map (λ (r : Record). path_cmp r.path path) (is_at path) (at_is path) rs c.run_of.result
+    (c.run_of.ensures.exactly (rising_paths path rs o))

@@ -10,6 +10,7 @@ pub returns-clause-exactly : goal.returns-clause-exactly
 returns-clause-exactly c = λ o.
     let prefix = c.args.prefix.now in
     let rs = c.args.entries.now in
-    let found = range_map (λ (r : Record). prefix_cmp (prefix ++ []) r.path) (begins_with (prefix ++ [])) (begins_is (prefix ++ [])) rs c.run_of.result (c.run_of.ensures.exactly (rising_prefixes (prefix ++ []) rs o)) in
+    let found = range_map (λ (r : Record). prefix_cmp (prefix ++ []) r.path) (begins_with (prefix ++ [])) (begins_is
+    (prefix ++ [])) rs c.run_of.result (c.run_of.ensures.exactly (rising_prefixes (prefix ++ []) rs o)) in
     let e = c.is_empty.ensures in let f = c.if-is_empty.false in
     prefix_range prefix rs c.run_of.result (λ z. grind (arith, nat_tests, e, f, z)) found

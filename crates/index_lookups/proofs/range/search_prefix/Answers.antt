@@ -8,6 +8,7 @@ pub returns-clause-place : goal.returns-clause-place
 returns-clause-place c = λ o.
     let prefix = c.args.prefix.now in
     let rs = c.args.entries.now in
-    let place = prefix_count (prefix ++ []) rs c.part.result.0 (c.part.ensures.parts (rising_prefixes (prefix ++ []) rs o)) in
+    let place =
+    prefix_count (prefix ++ []) rs c.part.result.0 (c.part.ensures.parts (rising_prefixes (prefix ++ []) rs o)) in
     let P : List ℕ → Type 0 = λ p. c.part.result.0 ≡ insertion_of_path p rs in
     subst P (append-nil prefix) place

@@ -9,7 +9,8 @@ returns-then-not-passes-clause-around g c =
     let told : is_before true c.compare.result ≡ false = sym c.passes.ensures ∙ c.if-not-passes.true in
     λ rising front. record {
       before = c.loop-low.invariant.before rising front;
-      behind = behind_middle true (g.R.Ordered.answers c.args.places.now) last c.compare.result (omega arith) c.compare.ensures told rising;
+      behind = behind_middle true (g.R.Ordered.answers c.args.places.now) last c.compare.result
+          (omega arith) c.compare.ensures told rising;
     }
 
 pub loop-low-preserved : goal.loop-low-preserved
@@ -20,5 +21,6 @@ loop-low-preserved g c =
       from = omega arith;
       in_range = omega arith;
       whole = c.loop-low.invariant.whole;
-      before = λ rising front. before_middle true (g.R.Ordered.answers c.args.places.now) last c.compare.result (omega arith) c.compare.ensures told rising;
+      before = λ rising front. before_middle true (g.R.Ordered.answers c.args.places.now) last c.compare.result
+          (omega arith) c.compare.ensures told rising;
     }

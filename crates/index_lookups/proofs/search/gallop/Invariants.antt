@@ -8,7 +8,9 @@ invariant-loop-low g l = record {
   from : l.start ≤ l.low;
   in_range : l.low ≤ l.end;
   whole : l.end ≡ length (g.R.Ordered.answers l.places);
-  before : IsRising (g.R.Ordered.answers l.places) → AllWithin (λ o. is_before true o ≡ true) (g.R.Ordered.answers l.places) 0 l.start → AllWithin (λ o. is_before true o ≡ true) (g.R.Ordered.answers l.places) 0 l.low;
+  before : IsRising (g.R.Ordered.answers l.places)
+      → AllWithin (λ o. is_before true o ≡ true) (g.R.Ordered.answers l.places) 0 l.start
+      → AllWithin (λ o. is_before true o ≡ true) (g.R.Ordered.answers l.places) 0 l.low;
 }
 
 abbrev pub decreases-loop-low : goal.decreases-loop-low

@@ -16,7 +16,11 @@ loop-low-init g c = record {
 }
 
 pub overflow_add-count : goal.overflow_add-count
-overflow_add-count g c = omega (arith, digits_left 0 (c.loop-low.high - c.loop-low.low) (omega arith) (omega arith), digits_small (c.args.end - c.args.start))
+overflow_add-count g c = omega (
+  arith,
+  digits_left 0 (c.loop-low.high - c.loop-low.low) (omega arith) (omega arith),
+  digits_small (c.args.end - c.args.start),
+)
 
 pub loop-low-preserved-then-passes : goal.loop-low-preserved-then-passes
 loop-low-preserved-then-passes g c =
@@ -26,9 +30,13 @@ loop-low-preserved-then-passes g c =
       from = omega arith;
       in_order = omega arith;
       in_range = omega arith;
-      cost = omega (arith, digits_left (c.loop-low.high - (middle + 1)) (c.loop-low.high - c.loop-low.low) (omega arith) (omega arith));
+      cost = omega (
+        arith,
+        digits_left (c.loop-low.high - (middle + 1)) (c.loop-low.high - c.loop-low.low) (omega arith) (omega arith),
+      );
       some = λ h. omega arith;
-      before = λ rising around. before_middle c.args.after (g.R.Ordered.answers c.args.places.now) middle c.compare.result (omega arith) c.compare.ensures told rising;
+      before = λ rising around. before_middle c.args.after
+          (g.R.Ordered.answers c.args.places.now) middle c.compare.result (omega arith) c.compare.ensures told rising;
       behind = c.loop-low.invariant.behind;
     }
 
@@ -40,8 +48,12 @@ loop-low-preserved g c =
       from = omega arith;
       in_order = omega arith;
       in_range = omega arith;
-      cost = omega (arith, digits_left (middle - c.loop-low.low) (c.loop-low.high - c.loop-low.low) (omega arith) (omega arith));
+      cost = omega (
+        arith,
+        digits_left (middle - c.loop-low.low) (c.loop-low.high - c.loop-low.low) (omega arith) (omega arith),
+      );
       some = λ h. omega arith;
       before = c.loop-low.invariant.before;
-      behind = λ rising around. behind_middle c.args.after (g.R.Ordered.answers c.args.places.now) middle c.compare.result (omega arith) c.compare.ensures told rising;
+      behind = λ rising around. behind_middle c.args.after
+          (g.R.Ordered.answers c.args.places.now) middle c.compare.result (omega arith) c.compare.ensures told rising;
     }

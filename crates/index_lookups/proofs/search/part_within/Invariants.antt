@@ -11,8 +11,11 @@ invariant-loop-low g l = record {
   in_range : l.high ≤ l.end;
   cost : l.count + digits (l.high - l.low) ≤ digits (l.end - l.start);
   some : l.start < l.end → 1 ≤ l.count + (l.high - l.low);
-  before : IsRising (g.R.Ordered.answers l.places) → IsAround l.after (g.R.Ordered.answers l.places) l.start l.end → AllWithin (λ o. is_before l.after o ≡ true) (g.R.Ordered.answers l.places) 0 l.low;
-  behind : IsRising (g.R.Ordered.answers l.places) → IsAround l.after (g.R.Ordered.answers l.places) l.start l.end → AllWithin (λ o. is_before l.after o ≡ false) (g.R.Ordered.answers l.places) l.high (length (g.R.Ordered.answers l.places));
+  before : IsRising (g.R.Ordered.answers l.places) → IsAround l.after (g.R.Ordered.answers l.places) l.start l.end
+      → AllWithin (λ o. is_before l.after o ≡ true) (g.R.Ordered.answers l.places) 0 l.low;
+  behind : IsRising (g.R.Ordered.answers l.places) → IsAround l.after (g.R.Ordered.answers l.places) l.start l.end
+      → AllWithin (λ o. is_before l.after o ≡ false) (g.R.Ordered.answers l.places) l.high
+      (length (g.R.Ordered.answers l.places));
 }
 
 abbrev pub decreases-loop-low : goal.decreases-loop-low

@@ -7,4 +7,5 @@ pub directories_of-requires : goal.directories_of-requires
 directories_of-requires c = visits_ordered c.args.entries.now c.requires
 
 pub returns : goal.returns
-returns c = ok_then c.directories_of.result _ _ (λ v x. spans_are c.args.entries.now v.items c.requires x) c.directories_of.ensures
+returns c = ok_then c.directories_of.result _ _
+    (λ v x. spans_are c.args.entries.now v.items c.requires x) c.directories_of.ensures

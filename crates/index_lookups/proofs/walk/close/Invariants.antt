@@ -7,7 +7,8 @@ abbrev pub invariant-loop-live : goal.invariant-loop-live
 invariant-loop-live l = record {
   within : length l.live.items ≤ length l.fn.live.items;
   left : map span_value l.live.items ≡ take (length l.live.items) (map span_value l.fn.live.items);
-  moved : map span_value l.closed.items ≡ map span_value l.fn.closed.items ++ reverse (drop (length l.live.items) (map span_value l.fn.live.items));
+  moved : map span_value l.closed.items
+      ≡ map span_value l.fn.closed.items ++ reverse (drop (length l.live.items) (map span_value l.fn.live.items));
   long : All (λ s. l.len ≤ length s.name) (drop (length l.live.items) (map span_value l.fn.live.items));
 }
 

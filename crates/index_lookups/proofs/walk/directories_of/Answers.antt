@@ -11,7 +11,8 @@ use Rattle.index_lookups.proofs.walk.directories_of.Goals as goal
 use Rattle.index_lookups.proofs.walk.directories_of.Goals.{then-own, else-own}
 
 pub loop-turn-init : goal.loop-turn-init
-loop-turn-init c = rw (c.new-closed.ensures.items, c.new-live.ensures.items) (at_first c.args.own c.args.ignore_case c.args.entries.now (visits c.args.sorted c.args.entries.now))
+loop-turn-init c = rw (c.new-closed.ensures.items, c.new-live.ensures.items)
+    (at_first c.args.own c.args.ignore_case c.args.entries.now (visits c.args.sorted c.args.entries.now))
 
 pub entry-requires : goal.entry-requires
 entry-requires c =
@@ -40,15 +41,24 @@ loop-turn-preserved c =
     let stands = c.if-own.stands in
     let within : turn < length vs = omega (arith, c.loop-turn-test.true, c.len-turn-end.ensures, c.requires.len) in
     let told : (d : Record) → stands ≡ (c.args.own && is_directory (get_or rs visit.place d)) = elim c.if-own.branch [
-      | then-own w ↦ (λ d. asked_own c.args.own stands (is_directory (get_or rs visit.place d)) w.if-own.true (w.stands-is ∙ w.is_wanted-stands.ensures ∙ is_directory_of rs visit.place w.entry.result.now w.entry.ensures d))
-      | else-own w ↦ (λ d. not_asked c.args.own stands (is_directory (get_or rs visit.place d)) w.if-own.false (w.stands-is ∙ w.if-own.false))
+      | then-own w ↦
+          (λ d. asked_own c.args.own stands (is_directory (get_or rs visit.place d)) w.if-own.true (w.stands-is
+          ∙ w.is_wanted-stands.ensures ∙ is_directory_of rs visit.place w.entry.result.now w.entry.ensures d))
+      | else-own w ↦ (λ d. not_asked c.args.own stands (is_directory (get_or rs visit.place d)) w.if-own.false
+          (w.stands-is ∙ w.if-own.false))
     ] in
-    at_next c.args.own c.args.ignore_case rs vs c.requires turn c.loop-turn.last.now (map span_value c.loop-turn.closed.items) (map span_value c.loop-turn.live.items) c.loop-turn.invariant visit stands c.shared_names-shared.result (map span_value c.step.new.closed.items) (map span_value c.step.new.live.items)
+    at_next c.args.own c.args.ignore_case rs vs c.requires turn c.loop-turn.last.now
+    (map span_value c.loop-turn.closed.items)
+    (map span_value c.loop-turn.live.items) c.loop-turn.invariant visit stands c.shared_names-shared.result
+    (map span_value c.step.new.closed.items) (map span_value c.step.new.live.items)
     within c.visit_at-visit.ensures told c.shared_names-shared.ensures.value c.in_ok-step.ensures
 
 pub returns : goal.returns
 returns c =
     let rs = c.args.entries.now in
     let vs = visits c.args.sorted c.args.entries.now in
-    at_end c.args.own c.args.ignore_case rs vs c.requires c.loop-turn.turn c.loop-turn.last.now (map span_value c.loop-turn.closed.items) (map span_value c.loop-turn.live.items) c.loop-turn.invariant (map span_value c.close.new.closed.items)
-    (omega (arith, c.loop-turn-test.false, c.len-turn-end.ensures, c.requires.len)) (closed_all _ _ _ _ c.in_ok-close.ensures)
+    at_end c.args.own c.args.ignore_case rs vs c.requires c.loop-turn.turn c.loop-turn.last.now
+    (map span_value c.loop-turn.closed.items) (map span_value c.loop-turn.live.items) c.loop-turn.invariant
+    (map span_value c.close.new.closed.items)
+    (omega (arith, c.loop-turn-test.false, c.len-turn-end.ensures, c.requires.len))
+    (closed_all _ _ _ _ c.in_ok-close.ensures)

@@ -13,7 +13,13 @@ returns c =
     let rs = c.args.entries.now in
     let spans : List Span = c.in_ok-spans.spans.items in
     let items : List Span = c.deref-span-items.result.now in
-    let table : IsTableOf true i (stands_in_folded i) rs (map start_value (map span_value spans)) × NamedValuesRise true i (map start_value (map span_value spans)) = table_of_extents i rs (map span_value spans) c.in_ok-spans.ensures in
-    let whole : take c.loop-span.span-index items ≡ spans = take_all c.loop-span.span-index items (omega (arith, c.loop-span-test.false)) ∙ c.deref-span-items.ensures.value in
-    let same : map named_value c.loop-span.names.items ≡ map start_value (map span_value spans) = c.loop-span.invariant ∙ ap (λ (xs : List Span). map start_value (map span_value xs)) whole in
-    subst (λ (ks : List NamedValue). IsTableOf true i (stands_in_folded i) rs ks × NamedValuesRise true i ks) (sym same) table
+    let table : IsTableOf true i (stands_in_folded i) rs (map start_value (map span_value spans))
+    × NamedValuesRise true i (map start_value (map span_value spans)) =
+    table_of_extents i rs (map span_value spans) c.in_ok-spans.ensures in
+    let whole : take c.loop-span.span-index items ≡ spans =
+    take_all c.loop-span.span-index items (omega (arith, c.loop-span-test.false))
+    ∙ c.deref-span-items.ensures.value in
+    let same : map named_value c.loop-span.names.items ≡ map start_value (map span_value spans) =
+    c.loop-span.invariant ∙ ap (λ (xs : List Span). map start_value (map span_value xs)) whole in
+    subst (λ (ks : List NamedValue). IsTableOf true i (stands_in_folded i) rs ks × NamedValuesRise true i ks)
+    (sym same) table

@@ -5,4 +5,5 @@ use Rattle.index_lookups.proofs.Extents.{start_value}
 use Rattle.index_lookups.proofs.walk.directory_table.Given as goal
 
 abbrev pub invariant-loop-span : goal.invariant-loop-span
-invariant-loop-span l = map named_value l.names.items ≡ map start_value (map span_value (take l.span-index l.span-items))
+invariant-loop-span l =
+    map named_value l.names.items ≡ map start_value (map span_value (take l.span-index l.span-items))

@@ -7,4 +7,6 @@ pub returns : goal.returns
 returns c =
     let path = c.args.path.now in
     c.loop-len.invariant.opens
-    ∙ ap (λ (ss : _). map span_value c.args.live.now.items ++ ss) (opened_upto c.args.own path c.args.place c.args.from c.loop-len.len (suc (length path)) (omega (arith, c.loop-len-test.false)) (λ h. omega (arith, c.loop-len.auto.len-end, h)) (λ h. c.loop-len.invariant.past (omega (arith, h))))
+    ∙ ap (λ (ss : _). map span_value c.args.live.now.items ++ ss) (opened_upto c.args.own path c.args.place c.args.from
+    c.loop-len.len (suc (length path)) (omega (arith, c.loop-len-test.false))
+    (λ h. omega (arith, c.loop-len.auto.len-end, h)) (λ h. c.loop-len.invariant.past (omega (arith, h))))

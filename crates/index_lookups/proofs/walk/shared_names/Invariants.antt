@@ -7,7 +7,8 @@ abbrev pub invariant-loop-len : goal.invariant-loop-len
 invariant-loop-len l = record {
   first : l.len ≤ length l.a;
   second : l.len ≤ length l.b;
-  value : shared_len (folded true l.a) (folded true l.b) ≡ l.len + shared_len (drop l.len (folded true l.a)) (drop l.len (folded true l.b));
+  value : shared_len (folded true l.a) (folded true l.b)
+      ≡ l.len + shared_len (drop l.len (folded true l.a)) (drop l.len (folded true l.b));
 }
 
 abbrev pub decreases-loop-len : goal.decreases-loop-len

@@ -19,5 +19,6 @@ returns-in-None c = λ d.
     let within : c.args.turn < length rs = omega (arith, path_keys_length 0 rs) in
     let z : Record = some_of rs c.args.turn within in
     let level : 0 + c.args.turn ≡ c.args.turn = omega arith in
-    let visit : get_or (named_from path_names 0 rs) c.args.turn d ≡ named_at c.args.turn (get_or rs c.args.turn z).path = rw level at (visit_of 0 rs c.args.turn z d within) in
+    let visit : get_or (named_from path_names 0 rs) c.args.turn d
+    ≡ named_at c.args.turn (get_or rs c.args.turn z).path = rw level at (visit_of 0 rs c.args.turn z d within) in
     rw c.in-None.is (visit ∙ ap (named_at c.args.turn) (c.path.ensures z))

@@ -19,7 +19,8 @@ loop-entry-preserved c =
     let i = c.loop-entry.entry-index in
     let own = records_in c.args.storage.now.items c.args.entries.now.items in
     record {
-      appended = c.in_ok-append_entry.ensures.appended ∙ one_more own c.args.split_storage.now split i _ _ c.loop-entry-test.true c.loop-entry.invariant.appended;
+      appended = c.in_ok-append_entry.ensures.appended
+          ∙ one_more own c.args.split_storage.now split i _ _ c.loop-entry-test.true c.loop-entry.invariant.appended;
       placed = c.in_ok-append_entry.ensures.placed;
     }
 
@@ -29,6 +30,7 @@ returns c =
     let i = c.loop-entry.entry-index in
     let all : take i split ≡ split = take_all i split (omega arith) in
     record {
-      appended = c.loop-entry.invariant.appended ∙ ap (λ l. records_in c.args.storage.now.items c.args.entries.now.items ++ records_in c.args.split_storage.now l) all;
+      appended = c.loop-entry.invariant.appended ∙ ap (λ l. records_in c.args.storage.now.items c.args.entries.now.items
+          ++ records_in c.args.split_storage.now l) all;
       placed = c.loop-entry.invariant.placed;
     }

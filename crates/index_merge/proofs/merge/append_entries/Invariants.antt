@@ -4,6 +4,7 @@ use Rattle.index_merge.proofs.merge.append_entries.Given as goal
 
 abbrev pub invariant-loop-entry : goal.invariant-loop-entry
 invariant-loop-entry l = record {
-  appended : records_in l.storage.items l.entries.items ≡ records_in l.fn.storage.items l.fn.entries.items ++ records_in l.split_storage (take l.entry-index l.split);
+  appended : records_in l.storage.items l.entries.items
+      ≡ records_in l.fn.storage.items l.fn.entries.items ++ records_in l.split_storage (take l.entry-index l.split);
   placed : All (IsPlaced (length l.storage.items)) l.entries.items;
 }

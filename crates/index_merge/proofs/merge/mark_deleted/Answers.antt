@@ -5,14 +5,27 @@ use Rattle.index_merge.proofs.Merging.{marked_none, marking_step, marking_broken
 use Rattle.index_merge.proofs.merge.mark_deleted.Goals as goal
 
 pub loop-position-init : goal.loop-position-init
-loop-position-init c = (search rules, search rules, record { seen = []; listed = c.positions-positions.ensures.places; sound = refl; marked = marked_none c.args.entries.now.items })
+loop-position-init c = (
+  search rules,
+  search rules,
+  record {
+    seen = [];
+    listed = c.positions-positions.ensures.places;
+    sound = refl;
+    marked = marked_none c.args.entries.now.items;
+  },
+)
 
 pub loop-position-preserved : goal.loop-position-preserved
 loop-position-preserved c =
     let rest = items_left c.next.new.self in
     let run = c.loop-position.invariant.2 in
-    let step = c.in-Some.ensures.steps ∙ ap (λ (x : Result ℕ Malformed). x ∷ rest) c.in-Ok.is in
-    (search rules, search rules, marking_step _ _ _ rest _ run c.in-Ok.place _ step (omega arith) (c.mark_at.ensures run.seen c.args.entries.now.items run.marked))
+    let step = c.in-Some.ensures.steps ∙ ap (λ (x : Result ℕ Malformed). x ∷ rest) c.in-Ok.is in (
+      search rules,
+      search rules,
+      marking_step _ _ _ rest _ run c.in-Ok.place _ step (omega arith)
+          (c.mark_at.ensures run.seen c.args.entries.now.items run.marked),
+    )
 
 pub returns-clause-marked : goal.returns-clause-marked
 returns-clause-marked c = marking_done _ _ _ [] _ c.loop-position.invariant.2 c.in_default.ensures.steps.0

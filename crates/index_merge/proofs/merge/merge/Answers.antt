@@ -19,15 +19,23 @@ returns-clause-merged c =
     let taken = c.in_ok-taken.taken in
     let mid = records_in c.args.storage.now.items c.replace_entries.new.shared.items in
     let rep = rw c.deref.ensures.value at c.in_ok-taken.ensures.replaced in
-    let others = ap (records_in split_storage) c.split_at.ensures.back ∙ sym (drop-map (record_in split_storage) taken c.args.split.now) in
-    let whole : records_in storage c.append_entries.new.entries.items ≡ mid ++ drop taken (records_in split_storage c.args.split.now) = c.in_ok-append_entries.ensures.appended ∙ ap (λ l. mid ++ l) others in
+    let others = ap (records_in split_storage) c.split_at.ensures.back
+    ∙ sym (drop-map (record_in split_storage) taken c.args.split.now) in
+    let whole : records_in storage c.append_entries.new.entries.items
+    ≡ mid ++ drop taken (records_in split_storage c.args.split.now) =
+    c.in_ok-append_entries.ensures.appended ∙ ap (λ l. mid ++ l) others in
     let keeps = rw c.deref-2.ensures.value at c.in_ok-keep_others.ensures.retained in
-    let permutation = IsPermutation-map (record_in storage) c.keep_others.new.entries.items c.sort.new.entries.items c.in_ok-sort.ensures.permutation in
+    let permutation = IsPermutation-map
+    (record_in storage) c.keep_others.new.entries.items c.sort.new.entries.items c.in_ok-sort.ensures.permutation in
     let sorted = rw c.deref-3.ensures.value at c.in_ok-sort.ensures.ordered in
     let stable = rw c.deref-3.ensures.value at c.in_ok-sort.ensures.stable_records in
-    merged_all _ _ (records_in c.args.storage.now.items c.args.entries.now.items) (records_in split_storage c.args.split.now) mid (records_in storage c.append_entries.new.entries.items) taken rep whole (records_in storage c.keep_others.new.entries.items) (records_in storage c.sort.new.entries.items) keeps permutation sorted stable
+    merged_all _ _ (records_in c.args.storage.now.items c.args.entries.now.items)
+    (records_in split_storage c.args.split.now) mid (records_in storage c.append_entries.new.entries.items) taken
+    rep whole (records_in storage c.keep_others.new.entries.items)
+    (records_in storage c.sort.new.entries.items) keeps permutation sorted stable
 
 pub returns-clause-placed : goal.returns-clause-placed
 returns-clause-placed c =
     let len = length c.append_entries.new.storage.items in
-    All-permutation (IsPlaced len) c.keep_others.new.entries.items c.sort.new.entries.items c.in_ok-sort.ensures.permutation (rw c.deref-2.ensures.value at c.in_ok-keep_others.ensures.placed)
+    All-permutation (IsPlaced len) c.keep_others.new.entries.items c.sort.new.entries.items
+    c.in_ok-sort.ensures.permutation (rw c.deref-2.ensures.value at c.in_ok-keep_others.ensures.placed)

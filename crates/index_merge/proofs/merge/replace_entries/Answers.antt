@@ -10,7 +10,19 @@ use Rattle.index_merge.proofs.merge.replace_entries.Goals as goal
 
 pub loop-position-init : goal.loop-position-init
 loop-position-init c =
-    let run : IsReplacing c.args.replace.now.words.items (records_in c.args.storage.now c.args.shared.now.items) (records_in c.args.split_storage.now c.args.split.now) (items_left c.positions-positions.result) 0 (records_in c.args.storage.now c.args.shared.now.items) = record { seen = []; listed = c.positions-positions.ensures.places; ascending = c.positions-positions.ensures.ascending; sound = refl; number = refl; replaced = sym (no_candidates (records_in c.args.split_storage.now c.args.split.now) 0 (records_in c.args.storage.now c.args.shared.now.items)) } in
+    let run : IsReplacing c.args.replace.now.words.items (records_in c.args.storage.now c.args.shared.now.items)
+    (records_in c.args.split_storage.now c.args.split.now) (items_left c.positions-positions.result) 0
+    (records_in c.args.storage.now c.args.shared.now.items) =
+    record {
+      seen = [];
+      listed = c.positions-positions.ensures.places;
+      ascending =
+          c.positions-positions.ensures.ascending;
+      sound = refl;
+      number = refl;
+      replaced = sym (no_candidates (records_in
+          c.args.split_storage.now c.args.split.now) 0 (records_in c.args.storage.now c.args.shared.now.items));
+    } in
     (search rules, search rules, run, c.requires.placed, omega arith)
 
 pub loop-position-preserved : goal.loop-position-preserved
@@ -40,4 +52,5 @@ returns-in_err-replace_at-clause-fault c =
     let rest = items_left c.next.new.self in
     let step = c.in-Some.ensures.steps ∙ ap (λ (x : Result ℕ Malformed). x ∷ rest) c.in-Ok.is in
     let p = err_from_is_err_and c.from_residual.result c.from_residual.ensures.1 in
-    rw (p.1, p.2) (says_weaker c.in_err-replace_at.field-0.0 _ _ (λ fault h. replacing_fault _ _ _ _ rest _ _ c.loop-position.invariant.2 c.in-Ok.place fault step h) c.in_err-replace_at.ensures.fault)
+    rw (p.1, p.2) (says_weaker c.in_err-replace_at.field-0.0 _ _ (λ fault h. replacing_fault _ _ _ _ rest _ _
+    c.loop-position.invariant.2 c.in-Ok.place fault step h) c.in_err-replace_at.ensures.fault)

@@ -8,6 +8,7 @@ use Rattle.index_merge.proofs.merge.replace_entries.Given as goal
 abbrev pub invariant-loop-position : goal.invariant-loop-position
 invariant-loop-position l =
     (goal.iterator-loop-position).can_next l.positions × (goal.iterator-loop-position).is_finite l.positions
-    × IsReplacing (bitmap l.replace).words (records_in l.storage l.fn.shared.items) (records_in l.split_storage l.split) (items_left l.positions) l.taken (records_in l.storage l.shared.items)
+    × IsReplacing (bitmap l.replace).words (records_in l.storage l.fn.shared.items) (records_in l.split_storage l.split)
+    (items_left l.positions) l.taken (records_in l.storage l.shared.items)
     × All (IsPlaced (length l.storage)) l.shared.items
     × (l.taken ≤ length l.split)

@@ -7,9 +7,12 @@ use Rattle.index_merge.proofs.merge.take_at.Goals as goal
 
 pub returns-clause-replaced : goal.returns-clause-replaced
 returns-clause-replaced c = λ storage split_storage.
-    change_set storage (λ r. replaced r (Some (record_in split_storage c.args.by.now))) c.args.shared.now.items c.args.place c.index_mut-entry.result.now _ c.requires c.index_mut-entry.ensures.value refl
+    change_set storage (λ r. replaced r (Some (record_in split_storage c.args.by.now))) c.args.shared.now.items
+    c.args.place c.index_mut-entry.result.now _ c.requires c.index_mut-entry.ensures.value refl
 
 pub returns-clause-placed : goal.returns-clause-placed
 returns-clause-placed c = λ len all.
-    let here : IsPlaced len c.index_mut-entry.result.now = subst (IsPlaced len) (sym c.index_mut-entry.ensures.value) (all c.args.place c.index_mut-entry.result.now c.requires) in
-    All-written (IsPlaced len) c.args.shared.now.items c.args.place _ c.requires all (record { forward = here.forward; inside = here.inside })
+    let here : IsPlaced len c.index_mut-entry.result.now = subst (IsPlaced len) (sym c.index_mut-entry.ensures.value)
+    (all c.args.place c.index_mut-entry.result.now c.requires) in
+    All-written (IsPlaced len) c.args.shared.now.items c.args.place _ c.requires all
+    (record { forward = here.forward; inside = here.inside })

@@ -18,11 +18,13 @@ loop-higher-preserved c =
       len = search rules;
       inside = omega (arith, h.inside);
       room = room.1;
-      so_far = spelled_next c.args.n c.loop-higher.start c.loop-higher.higher c.loop-higher.bytes c.loop-higher-test.true h.room (omega (arith, h.len, h.inside)) h.so_far;
+      so_far = spelled_next c.args.n c.loop-higher.start c.loop-higher.higher c.loop-higher.bytes
+          c.loop-higher-test.true h.room (omega (arith, h.len, h.inside)) h.so_far;
     }
 
 pub returns-clause-bytes : goal.returns-clause-bytes
-returns-clause-bytes c = spelled_all c.args.n c.loop-higher.start c.loop-higher.higher c.loop-higher.bytes (omega (arith, c.loop-higher-test.false)) c.loop-higher.invariant.so_far
+returns-clause-bytes c = spelled_all c.args.n c.loop-higher.start c.loop-higher.higher c.loop-higher.bytes
+    (omega (arith, c.loop-higher-test.false)) c.loop-higher.invariant.so_far
 
 pub returns-clause-spelled : goal.returns-clause-spelled
 returns-clause-spelled c = offset_is c.args.n (omega (arith, c.ranges.n.fits))

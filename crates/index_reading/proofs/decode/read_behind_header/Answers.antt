@@ -5,8 +5,11 @@ use Rattle.index_reading.proofs.decode.read_behind_header.Goals as goal
 pub returns-in_err-read-clause-behind : goal.returns-in_err-read-clause-behind
 returns-in_err-read-clause-behind c =
     let p = err_from_is_err_and c.from_residual.result c.from_residual.ensures.1 in
-    rw (p.1, p.2) (says_lack c.args.read_as.object_hash c.args.read_as.timestamp c.args.read_as.options c.args.read_as.version c.args.count c.args.bytes.now c.in_err-read.field-0.0 c.in_err-read.ensures.fault)
+    rw (p.1, p.2) (says_lack c.args.read_as.object_hash c.args.read_as.timestamp c.args.read_as.options
+    c.args.read_as.version c.args.count c.args.bytes.now c.in_err-read.field-0.0 c.in_err-read.ensures.fault)
 
 pub returns-clause-behind : goal.returns-clause-behind
 returns-clause-behind c =
-    behind_from c.args.read_as.object_hash c.args.read_as.timestamp c.args.read_as.options c.args.read_as.version c.args.count c.args.bytes.now c.in_ok-read.read.list.records c.in_ok-read.read.rest.now c.read_ending.result c.in_ok-read.ensures.read c.in_ok-read.ensures.count c.read_ending.ensures.ending
+    behind_from c.args.read_as.object_hash c.args.read_as.timestamp c.args.read_as.options c.args.read_as.version
+    c.args.count c.args.bytes.now c.in_ok-read.read.list.records c.in_ok-read.read.rest.now c.read_ending.result
+    c.in_ok-read.ensures.read c.in_ok-read.ensures.count c.read_ending.ensures.ending

@@ -15,7 +15,8 @@ returns-clause-added c =
 pub returns-clause-pushed : goal.returns-clause-pushed
 returns-clause-pushed c = λ placed.
     let old = c.args.self.now in
-    ap (λ rs. record (contents old) { records = rs }) (appended_records (storage_of old) (entries_of old) _ _ _ placed c.in_ok-append.ensures.appended)
+    ap (λ rs. record (contents old) { records = rs })
+    (appended_records (storage_of old) (entries_of old) _ _ _ placed c.in_ok-append.ensures.appended)
 
 -- The types of the arguments say how many bits a number has and how many bytes an id: `given` is what they say, one
 -- argument after the other, and so is each part of it for the fields of a struct.
@@ -29,7 +30,13 @@ returns-clause-storable c = λ placed h kind path.
       | inl v ↦ let bytes = rw v.1 at given.1.0 in rw v.1 bytes.1.1.1.1.0.1.0.1
       | inr v ↦ let bytes = rw v.1 at given.1.0 in rw v.1 bytes.1.1.1.1.0.1.0.1
     ] in
-    let sized : IsSized (record { path = c.args.path.now; stat = c.args.stat; id = c.args.id; flags = c.args.flags.0; mode = c.args.mode.0 }) = record {
+    let sized : IsSized (record {
+      path = c.args.path.now;
+      stat = c.args.stat;
+      id = c.args.id;
+      flags = c.args.flags.0;
+      mode = c.args.mode.0;
+    }) = record {
       ctime_secs = ctime.0.1;
       ctime_nsecs = ctime.1.0.1;
       mtime_secs = mtime.0.1;

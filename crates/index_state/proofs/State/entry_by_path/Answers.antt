@@ -4,7 +4,10 @@ use Rattle.index_state.proofs.Given.{given_holds, given_place}
 use Rattle.index_state.proofs.State.entry_by_path.Goals as goal
 
 pub returns-clause-key : goal.returns-clause-key
-returns-clause-key c = given_holds (storage_of c.args.self.now) (entries_of c.args.self.now) c.in_ok-place.place c.index.result.now c.index.ensures (HasStageOf c.args.path.now) (rw c.slice.ensures at c.in_ok-place.ensures.found)
+returns-clause-key c = given_holds (storage_of c.args.self.now) (entries_of c.args.self.now) c.in_ok-place.place
+    c.index.result.now c.index.ensures (HasStageOf c.args.path.now) (rw c.slice.ensures at c.in_ok-place.ensures.found)
 
 pub returns-clause-answer : goal.returns-clause-answer
-returns-clause-answer c = λ o. given_place (storage_of c.args.self.now) (entries_of c.args.self.now) c.in_ok-place.place c.index.result.now c.index.ensures _ (rw c.slice.ensures at c.in_ok-place.ensures.found).0 ((rw c.slice.ensures at c.in_ok-place.ensures.answer) o)
+returns-clause-answer c = λ o. given_place (storage_of c.args.self.now)
+    (entries_of c.args.self.now) c.in_ok-place.place c.index.result.now c.index.ensures _
+    (rw c.slice.ensures at c.in_ok-place.ensures.found).0 ((rw c.slice.ensures at c.in_ok-place.ensures.answer) o)

@@ -14,12 +14,15 @@ returns c =
     let i = c.in_ok-idx.idx in
     let found = c.in_ok-idx.ensures.found in
     let inside : i < length es = omega (arith, found.in_range, length-map es (record_in storage)) in
-    let unchanged : IsUnchanged c.args.self.now c.args.self.now = record { same_entries = refl; same_storage = refl; same_contents = refl } in (
+    let unchanged : IsUnchanged c.args.self.now c.args.self.now =
+    record { same_entries = refl; same_storage = refl; same_contents = refl } in (
       (refl, λ w. (i, found, refl), unchanged),
       record {
         writes_back = tt;
         found = (i, inside, sym c.entry_mut.ensures.value);
-        key = entry_key c.args.path.now (stage_code c.args.stage) storage es i c.entry_mut.result.now found c.entry_mut.ensures.value;
-        answer = λ o. entry_place c.args.path.now (stage_code c.args.stage) storage es i c.entry_mut.result.now found c.entry_mut.ensures.value _ (c.in_ok-idx.ensures.answer o);
+        key = entry_key c.args.path.now
+            (stage_code c.args.stage) storage es i c.entry_mut.result.now found c.entry_mut.ensures.value;
+        answer = λ o. entry_place c.args.path.now (stage_code c.args.stage) storage es i c.entry_mut.result.now found
+            c.entry_mut.ensures.value _ (c.in_ok-idx.ensures.answer o);
       },
     )

@@ -13,12 +13,21 @@ use Rattle.index_state.proofs.State.from_tree.Goals as goal
 pub returns-clause-others : goal.returns-clause-others
 returns-clause-others g c =
     let new = c.new-state.result in
-    let s : State = record new { parts = record new.parts { entries = c.into_parts-entries.result.0; path_backing = c.into_parts-entries.result.1 } } in
-    ap (λ (v : Contents). with_records v (records s)) c.new-state.ensures.empty ∙ ap (λ (k : Kind). with_records (empty_contents k c.args.now) (records s)) c.kind.ensures
+    let s : State = record new {
+      parts =
+          record new.parts { entries = c.into_parts-entries.result.0; path_backing = c.into_parts-entries.result.1 };
+    } in
+    ap (λ (v : Contents). with_records v (records s)) c.new-state.ensures.empty
+    ∙ ap (λ (k : Kind). with_records (empty_contents k c.args.now) (records s)) c.kind.ensures
 
 pub returns-clause-storable : goal.returns-clause-storable
 returns-clause-storable g c =
     let new = c.new-state.result in
-    let s : State = record new { parts = record new.parts { entries = c.into_parts-entries.result.0; path_backing = c.into_parts-entries.result.1 } } in
-    subst IsStorable (sym (returns-clause-others g c)) (fitting_storable (id_kind c.args.tree.now) c.args.now (records s)
-    (leaves_fit (g.F.Find.found c.args.objects.now) (g.C.ComponentCheck.refusal c.args.check.now) c.args.tree.now c.args.max_objects (records s) (rw (← c.into_parts-entries.ensures.records) at c.in_ok-leaves.ensures.leaves)))
+    let s : State = record new {
+      parts =
+          record new.parts { entries = c.into_parts-entries.result.0; path_backing = c.into_parts-entries.result.1 };
+    } in
+    subst IsStorable (sym (returns-clause-others g c))
+    (fitting_storable (id_kind c.args.tree.now) c.args.now (records s)
+    (leaves_fit (g.F.Find.found c.args.objects.now) (g.C.ComponentCheck.refusal c.args.check.now) c.args.tree.now
+    c.args.max_objects (records s) (rw (← c.into_parts-entries.ensures.records) at c.in_ok-leaves.ensures.leaves)))

@@ -14,7 +14,10 @@ pub returns-clause-filtered_by_place : goal.returns-clause-filtered_by_place
 returns-clause-filtered_by_place g c = left_by_place g.F.FnMut _ _ _ _ _ (returns-clause-removed g c).1
 
 pub returns-clause-placed : goal.returns-clause-placed
-returns-clause-placed g c = λ leaves. left_placed g.F.FnMut _ _ _ _ _ (returns-clause-removed g c).1 leaves c.requires.placed
+returns-clause-placed g c =
+    λ leaves. left_placed g.F.FnMut _ _ _ _ _ (returns-clause-removed g c).1 leaves c.requires.placed
 
 pub returns-clause-storable : goal.returns-clause-storable
-returns-clause-storable g c = λ leaves h. flags_storable (contents c.args.self.now) (records_in (storage_of c.args.self.now) c.remove_entries.new.entries.items) h (λ P whatever. left_but_flags g.F.FnMut _ _ _ _ _ (returns-clause-removed g c).1 P whatever leaves)
+returns-clause-storable g c = λ leaves h. flags_storable (contents c.args.self.now)
+    (records_in (storage_of c.args.self.now) c.remove_entries.new.entries.items) h
+    (λ P whatever. left_but_flags g.F.FnMut _ _ _ _ _ (returns-clause-removed g c).1 P whatever leaves)

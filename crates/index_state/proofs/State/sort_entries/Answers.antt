@@ -5,7 +5,8 @@ use Rattle.index_state.proofs.Storables.{permuted_storable}
 use Rattle.index_state.proofs.State.sort_entries.Goals as goal
 
 pub returns-clause-permutation : goal.returns-clause-permutation
-returns-clause-permutation c = IsPermutation-map (record_in (storage_of c.args.self.now)) (entries_of c.args.self.now) c.sort.new.entries.items c.sort.ensures.permutation
+returns-clause-permutation c = IsPermutation-map (record_in (storage_of c.args.self.now))
+    (entries_of c.args.self.now) c.sort.new.entries.items c.sort.ensures.permutation
 
 pub returns-clause-ordered : goal.returns-clause-ordered
 returns-clause-ordered c = rw c.deref.ensures.value at c.sort.ensures.ordered
@@ -17,4 +18,5 @@ pub returns-clause-unmoved : goal.returns-clause-unmoved
 returns-clause-unmoved c = rw c.deref.ensures.value at c.sort.ensures.unmoved
 
 pub returns-clause-storable : goal.returns-clause-storable
-returns-clause-storable c = permuted_storable (contents c.args.self.now) (records_in (storage_of c.args.self.now) c.sort.new.entries.items) (returns-clause-permutation c)
+returns-clause-storable c = permuted_storable (contents c.args.self.now)
+    (records_in (storage_of c.args.self.now) c.sort.new.entries.items) (returns-clause-permutation c)

@@ -5,10 +5,12 @@ use Rattle.index_state.proofs.Storables.{permuted_storable}
 use Rattle.index_state.proofs.State.sort_entries_by.Goals as goal
 
 pub returns-clause-permutation : goal.returns-clause-permutation
-returns-clause-permutation g c = IsPermutation-map (record_in (storage_of c.args.self.now)) (entries_of c.args.self.now) c.sort_by.new.entries.items c.sort_by.ensures.permutation
+returns-clause-permutation g c = IsPermutation-map (record_in (storage_of c.args.self.now))
+    (entries_of c.args.self.now) c.sort_by.new.entries.items c.sort_by.ensures.permutation
 
 pub returns-clause-ordered : goal.returns-clause-ordered
 returns-clause-ordered g c = rw c.deref.ensures.value at c.sort_by.ensures.ordered
 
 pub returns-clause-storable : goal.returns-clause-storable
-returns-clause-storable g c = permuted_storable (contents c.args.self.now) (records_in (storage_of c.args.self.now) c.sort_by.new.entries.items) (returns-clause-permutation g c)
+returns-clause-storable g c = permuted_storable (contents c.args.self.now)
+    (records_in (storage_of c.args.self.now) c.sort_by.new.entries.items) (returns-clause-permutation g c)

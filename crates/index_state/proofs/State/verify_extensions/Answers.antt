@@ -18,12 +18,18 @@ returns-clause-fault g c = λ unused.
     let there : (contents c.args.self.now).extensions.tree ≡ Some t = search rules in
     let sound : IsSoundTree t = (c.in_ok-verify.ensures.sound unused).0 refl in
     let count : c.len.result ≡ length (entries_of c.args.self.now) = search rules in
-    rw there (later_fault c.verify_counts.result (length (entries_of c.args.self.now)) t sound (rw count at c.verify_counts.ensures.fault))
+    rw there (later_fault c.verify_counts.result (length (entries_of c.args.self.now)) t sound
+    (rw count at c.verify_counts.ensures.fault))
 
 pub returns-clause-objects : goal.returns-clause-objects
 returns-clause-objects g c = λ used.
     let t = node_of c.in-Some.tree.now in
     let there : (contents c.args.self.now).extensions.tree ≡ Some t = search rules in
     let count : c.len.result ≡ length (entries_of c.args.self.now) = search rules in
-    let verified = c.in_ok-verify.ensures.objects used in
-    (verified.0, verified.1, rw there (judged_later (length (entries_of c.args.self.now)) verified.0 t (Ok c.in_ok-verify.field-0) c.verify_counts.result refl verified.2 (rw count at c.verify_counts.ensures.within).0 (rw count at c.verify_counts.ensures.fault)))
+    let verified = c.in_ok-verify.ensures.objects used in (
+      verified.0,
+      verified.1,
+      rw there (judged_later (length (entries_of c.args.self.now)) verified.0 t
+          (Ok c.in_ok-verify.field-0) c.verify_counts.result refl verified.2
+          (rw count at c.verify_counts.ensures.within).0 (rw count at c.verify_counts.ensures.fault)),
+    )

@@ -9,14 +9,18 @@ pub returns-in-Err-clause-fault : goal.returns-in-Err-clause-fault
 returns-in-Err-clause-fault c =
     let none : c.args.shared.parts.extensions.link ≡ None = search rules in
     let h = rw (c.entries.ensures, c.path_backing.ensures) at c.in-Err.ensures.fault in
-    rw c.from.ensures (says_dissolve c.in-Err.e (link_of c.args.link.now) (pair_of c.in-Some.bitmaps) (contents c.args.shared) (contents c.args.split.now) (ap (option_map link_of) none) (ap (option_map pair_of) c.in-Some.is) h)
+    rw c.from.ensures
+    (says_dissolve c.in-Err.e (link_of c.args.link.now) (pair_of c.in-Some.bitmaps) (contents c.args.shared)
+    (contents c.args.split.now) (ap (option_map link_of) none) (ap (option_map pair_of) c.in-Some.is) h)
 
 pub returns-clause-ids : goal.returns-clause-ids
 returns-clause-ids c = λ kind mine theirs.
     let m = rw (c.entries.ensures, c.path_backing.ensures) at c.in_default-merge.ensures.merged in
-    merged_ids kind _ _ (storage_of c.args.shared) (storage_of c.args.split.now) c.merge.new.storage.items (entries_of c.args.shared) (entries_of c.args.split.now) c.merge.new.entries.items m mine theirs
+    merged_ids kind _ _ (storage_of c.args.shared) (storage_of c.args.split.now) c.merge.new.storage.items
+    (entries_of c.args.shared) (entries_of c.args.split.now) c.merge.new.entries.items m mine theirs
 
 pub returns-clause-storable : goal.returns-clause-storable
 returns-clause-storable c = λ mine theirs same.
     let m = rw (c.entries.ensures, c.path_backing.ensures) at c.in_default-merge.ensures.merged in
-    merged_storable (pair_of c.in-Some.bitmaps) (contents c.args.shared) (contents c.args.split.now) _ (record { is = m; others = refl }) mine theirs same
+    merged_storable (pair_of c.in-Some.bitmaps) (contents c.args.shared) (contents c.args.split.now) _
+    (record { is = m; others = refl }) mine theirs same

@@ -20,18 +20,24 @@ returns-in_err-check_entry-clause-fault g c =
     let i = c.loop-place.place in
     let few : length rs < 2 ^ 31 = omega (arith, c.if-len.false, c.len.ensures) in
     rw (p.1, p.2) (says_weaker c.in_err-check_entry.field-0.0 (λ n. ⊥) _ (AreRefused check c.args.kind rs)
-    (λ f h. first_fault check c.args.kind rs i (omega arith) (map staged_of c.loop-place.files.items) f few c.loop-place.invariant.each c.loop-place.invariant.kept (h no_record (staged_in (take i rs)))) c.in_err-check_entry.ensures.fault)
+    (λ f h. first_fault check c.args.kind rs i (omega arith) (map staged_of c.loop-place.files.items) f few
+    c.loop-place.invariant.each c.loop-place.invariant.kept (h no_record (staged_in (take i rs))))
+    c.in_err-check_entry.ensures.fault)
 
 pub returns-in_err-check_apart-clause-fault : goal.returns-in_err-check_apart-clause-fault
 returns-in_err-check_apart-clause-fault g c =
-    let p = err_from_is_err_and c.from_residual-in_err-check_apart.result c.from_residual-in_err-check_apart.ensures.1 in
+    let p =
+    err_from_is_err_and c.from_residual-in_err-check_apart.result c.from_residual-in_err-check_apart.ensures.1 in
     let check = g.C.ComponentCheck.refusal c.args.check.now in
     let rs = c.args.entries.now in
     let i = c.loop-place.place in
     let few : length rs < 2 ^ 31 = omega (arith, c.if-len.false, c.len.ensures) in
     rw (p.1, p.2) (says_weaker c.in_err-check_apart.field-0.0 (λ n. ⊥) _ (AreRefused check c.args.kind rs)
-    (λ f h. first_fault check c.args.kind rs i (omega arith) (map staged_of c.loop-place.files.items) f few c.loop-place.invariant.each c.loop-place.invariant.kept
-    (both_fault check c.args.kind rs i (omega arith) c.loop-place.files.items c.leaf_at.result c.in-Some.leaf f c.in-Some.is c.leaf_at.ensures c.in_ok-check_entry.ensures.fit c.loop-place.invariant.kept h)) c.in_err-check_apart.ensures.fault)
+    (λ f h. first_fault check c.args.kind rs i (omega arith)
+    (map staged_of c.loop-place.files.items) f few c.loop-place.invariant.each c.loop-place.invariant.kept
+    (both_fault check c.args.kind rs i (omega arith) c.loop-place.files.items c.leaf_at.result c.in-Some.leaf f
+    c.in-Some.is c.leaf_at.ensures c.in_ok-check_entry.ensures.fit c.loop-place.invariant.kept h))
+    c.in_err-check_apart.ensures.fault)
 
 pub loop-place-preserved : goal.loop-place-preserved
 loop-place-preserved g c =
@@ -46,10 +52,15 @@ loop-place-preserved g c =
       kept = elim c.match-leaf_at.branch [
         | in-Some+in_ok-check_apart w ↦
             let k = w.in_ok-check_apart.ensures.beginnings in
-            subst (λ (l : List Leaf). MayBegin (staged_in (take (i + 1) rs)) (map staged_of l)) (sym (ap (λ v. v.items) w.files-is))
-            (kept_leaf check kind rs i lt c.requires c.loop-place.invariant.each fit c.loop-place.files.items c.leaf_at.result w.in-Some.leaf w.in-Some.is c.leaf_at.ensures c.loop-place.invariant.kept k.0 w.check_apart.new.files.items k.1 k.2)
+            subst (λ (l : List Leaf). MayBegin (staged_in (take (i + 1) rs)) (map staged_of l))
+            (sym (ap (λ v. v.items) w.files-is))
+            (kept_leaf check kind rs i lt c.requires c.loop-place.invariant.each fit c.loop-place.files.items
+            c.leaf_at.result w.in-Some.leaf w.in-Some.is c.leaf_at.ensures c.loop-place.invariant.kept k.0
+            w.check_apart.new.files.items k.1 k.2)
         | in_default w ↦
-            subst (λ (l : List Leaf). MayBegin (staged_in (take (i + 1) rs)) (map staged_of l)) (sym (ap (λ v. v.items) w.files-is))
-            (kept_none_more check kind rs i lt c.loop-place.files.items c.leaf_at.result w.in_default.is c.leaf_at.ensures c.loop-place.invariant.kept)
+            subst (λ (l : List Leaf). MayBegin (staged_in (take (i + 1) rs)) (map staged_of l))
+            (sym (ap (λ v. v.items) w.files-is))
+            (kept_none_more check kind rs i lt c.loop-place.files.items c.leaf_at.result w.in_default.is
+            c.leaf_at.ensures c.loop-place.invariant.kept)
       ];
     }

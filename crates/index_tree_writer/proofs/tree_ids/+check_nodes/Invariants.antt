@@ -11,5 +11,7 @@ use Rattle.index_tree_writer.proofs.tree_ids.+check_nodes.Given as goal
 abbrev pub invariant-loop-child : goal.invariant-loop-child
 invariant-loop-child l = record {
   parent : l.parent.items ≡ l.initial.parent.items;
-  right : (kind : Kind) (staged : List Staged) (names : List (List ℕ)) → GivesAt kind staged names (option_map (λ t. node_of t.now) l.given) → All (IsRight kind staged) (spots_below names (nodes_from (map node_of (take l.child-index l.child-items))));
+  right : (kind : Kind) (staged : List Staged) (names : List (List ℕ))
+      → GivesAt kind staged names (option_map (λ t. node_of t.now) l.given)
+      → All (IsRight kind staged) (spots_below names (nodes_from (map node_of (take l.child-index l.child-items))));
 }

@@ -5,13 +5,19 @@ use Rattle.index_tree_writer.proofs.tree_ids.child_of.Goals as goal
 pub returns-in_default : goal.returns-in_default
 returns-in_default c = λ giving.
     let ts = c.as_slice-children.result.now in
-    let sorted = sorted_kids c.args.given c.in_ok-given.given c.in_ok-given.was ts c.as_slice-children.ensures.value c.args.name.now giving in
-    none_found c.args.given c.in_ok-given.given c.in_ok-given.was ts c.as_slice-children.ensures.value c.args.name.now c.binary_search_by.result c.in_default.field-0 c.in_default.is
-    (searched _ _ c.args.name.now ts c.binary_search_by.result sorted c.binary_search_by.ensures.bound c.binary_search_by.ensures.position (λ a o f' k. search rules))
+    let sorted = sorted_kids c.args.given c.in_ok-given.given c.in_ok-given.was ts c.as_slice-children.ensures.value
+    c.args.name.now giving in
+    none_found c.args.given c.in_ok-given.given c.in_ok-given.was ts c.as_slice-children.ensures.value c.args.name.now
+    c.binary_search_by.result c.in_default.field-0 c.in_default.is
+    (searched _ _ c.args.name.now ts c.binary_search_by.result sorted c.binary_search_by.ensures.bound
+    c.binary_search_by.ensures.position (λ a o f' k. search rules))
 
 pub returns : goal.returns
 returns c = λ giving.
     let ts = c.as_slice-children.result.now in
-    let sorted = sorted_kids c.args.given c.in_ok-given.given c.in_ok-given.was ts c.as_slice-children.ensures.value c.args.name.now giving in
-    one_found c.args.given c.in_ok-given.given c.in_ok-given.was ts c.as_slice-children.ensures.value c.args.name.now c.binary_search_by.result c.in-Ok.at c.index-children-at.result c.in-Ok.is c.index-children-at.is
-    (searched _ _ c.args.name.now ts c.binary_search_by.result sorted c.binary_search_by.ensures.bound c.binary_search_by.ensures.position (λ a o f' k. search rules))
+    let sorted = sorted_kids c.args.given c.in_ok-given.given c.in_ok-given.was ts c.as_slice-children.ensures.value
+    c.args.name.now giving in
+    one_found c.args.given c.in_ok-given.given c.in_ok-given.was ts c.as_slice-children.ensures.value c.args.name.now
+    c.binary_search_by.result c.in-Ok.at c.index-children-at.result c.in-Ok.is c.index-children-at.is
+    (searched _ _ c.args.name.now ts c.binary_search_by.result sorted c.binary_search_by.ensures.bound
+    c.binary_search_by.ensures.position (λ a o f' k. search rules))

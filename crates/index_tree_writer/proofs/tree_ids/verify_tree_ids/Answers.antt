@@ -9,12 +9,14 @@ returns-clause-right c =
     let w = c.in-Ok.ensures.written in
     let staged = staged_in c.args.entries.now in
     let given = node_of c.in-Ok.given in
-    root_right c.check_nodes.result c.args.kind staged (Some given) (node_of c.args.tree.now) c.check_nodes.ensures.ok (root_given c.args.kind staged w.0 given w.1 w.2)
+    root_right c.check_nodes.result c.args.kind staged (Some given) (node_of c.args.tree.now) c.check_nodes.ensures.ok
+    (root_given c.args.kind staged w.0 given w.1 w.2)
 
 pub returns-clause-fault : goal.returns-clause-fault
 returns-clause-fault c =
     let w = c.in-Ok.ensures.written in
     let staged = staged_in c.args.entries.now in
     let given = node_of c.in-Ok.given in
-    root_fault c.check_nodes.result c.args.kind c.args.entries.now (Some given) (node_of c.args.tree.now) c.new-parent.result.items c.check_nodes.ensures.fault c.new-parent.ensures.items c.in-Ok.ensures.fit
+    root_fault c.check_nodes.result c.args.kind c.args.entries.now (Some given) (node_of c.args.tree.now)
+    c.new-parent.result.items c.check_nodes.ensures.fault c.new-parent.ensures.items c.in-Ok.ensures.fit
     (root_given c.args.kind staged w.0 given w.1 w.2)

@@ -11,7 +11,9 @@ abbrev pub invariant-loop-at : goal.invariant-loop-at
 invariant-loop-at g l = record {
   low : l.run.start ≤ l.at;
   high : l.at ≤ l.run.end;
-  begun : IsBegunDirectory l.kind (staged_below l.run.prefix_len (slice_range l.entries l.run.start l.at)) (staged_below l.run.prefix_len (slice_range l.entries l.at l.run.end)) l.made (g.S.Sink.stored l.initial.sink) (g.S.Sink.stored l.sink);
+  begun : IsBegunDirectory l.kind (staged_below l.run.prefix_len (slice_range l.entries l.run.start l.at))
+      (staged_below l.run.prefix_len (slice_range l.entries l.at l.run.end)) l.made (g.S.Sink.stored l.initial.sink)
+      (g.S.Sink.stored l.sink);
 }
 
 abbrev pub decreases-loop-at : goal.decreases-loop-at

@@ -5,7 +5,9 @@ use Rattle.index_tree_writer.proofs.Sorting.{sorted_map}
 use Rattle.index_tree_writer.proofs.write.sort_siblings.Goals as goal
 
 pub returns-clause-same : goal.returns-clause-same
-returns-clause-same c = IsPermutation-map node_of c.args.siblings.now.items c.sort_unstable_by.new.self.items c.sort_unstable_by.ensures.permutation
+returns-clause-same c = IsPermutation-map node_of c.args.siblings.now.items c.sort_unstable_by.new.self.items
+    c.sort_unstable_by.ensures.permutation
 
 pub returns-clause-sorted : goal.returns-clause-sorted
-returns-clause-sorted c = sorted_map _ _ c.sort_unstable_by.new.self.items c.sort_unstable_by.ensures.sorted (λ a r f' q. search rules)
+returns-clause-sorted c =
+    sorted_map _ _ c.sort_unstable_by.new.self.items c.sort_unstable_by.ensures.sorted (λ a r f' q. search rules)

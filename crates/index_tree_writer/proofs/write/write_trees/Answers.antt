@@ -9,7 +9,8 @@ use Rattle.index_tree_writer.proofs.write.write_trees.Goals as goal
 pub directory_of-requires-clause-ready : goal.directory_of-requires-clause-ready
 directory_of-requires-clause-ready g c =
     let rs = c.args.entries.now in
-    subst (λ (n : ℕ). IsReady c.args.kind 2048 (staged_below 0 (slice_range rs 0 n))) (sym c.len.ensures) (ready_whole (g.C.ComponentCheck.refusal c.args.check.now) c.args.kind rs c.requires c.in_ok-check_entries.ensures.fit)
+    subst (λ (n : ℕ). IsReady c.args.kind 2048 (staged_below 0 (slice_range rs 0 n))) (sym c.len.ensures) (ready_whole
+    (g.C.ComponentCheck.refusal c.args.check.now) c.args.kind rs c.requires c.in_ok-check_entries.ensures.fit)
 
 pub returns-clause-written : goal.returns-clause-written
 returns-clause-written g c =

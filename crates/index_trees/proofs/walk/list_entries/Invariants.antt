@@ -11,5 +11,6 @@ invariant-loop-entry g l = record {
   packed : IsPacked l.listed;
   prefix : take l.fn.prefix_len l.listed.path.items ≡ take l.fn.prefix_len l.initial.listed.path.items;
   long : l.fn.prefix_len ≤ length l.listed.path.items;
-  listing : IsListing (g.C.ComponentCheck.refusal l.check) l.fn.kind l.initial.listed l.listed (take l.fn.prefix_len l.initial.listed.path.items) l.bytes (unread_entries l.entries);
+  listing : IsListing (g.C.ComponentCheck.refusal l.check) l.fn.kind l.initial.listed l.listed
+      (take l.fn.prefix_len l.initial.listed.path.items) l.bytes (unread_entries l.entries);
 }

@@ -6,6 +6,8 @@ use Rattle.index_untracked.proofs.bitmaps.check_each.Given as goal
 
 abbrev pub invariant-loop-place : goal.invariant-loop-place
 invariant-loop-place l = record {
-  same : map directory_value l.directories.items ≡ each (λ i. by_true checked (list_any (λ p. eqb p i) (take l.place-index l.places))) (map directory_value l.fn.directories.items);
+  same : map directory_value l.directories.items
+      ≡ each (λ i. by_true checked (list_any (λ p. eqb p i) (take l.place-index l.places)))
+      (map directory_value l.fn.directories.items);
   len : length l.directories.items ≡ length l.fn.directories.items;
 }

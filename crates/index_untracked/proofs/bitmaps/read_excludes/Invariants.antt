@@ -9,4 +9,5 @@ abbrev pub invariant-loop-place : goal.invariant-loop-place
 invariant-loop-place l =
     (length l.directories.items ≡ length l.fn.directories.items)
     × ((ids : List (List ℕ)) × ArePieces (id_len l.kind) l.place-index l.bytes ids l.rest
-    × (map directory_value l.directories.items ≡ each (λ i. by_some (with_exclude l.kind) (last_at (take l.place-index l.places) ids i)) (map directory_value l.fn.directories.items)))
+    × (map directory_value l.directories.items ≡ each (λ i. by_some (with_exclude l.kind)
+    (last_at (take l.place-index l.places) ids i)) (map directory_value l.fn.directories.items)))

@@ -13,7 +13,8 @@ pieces-init g c = record {
   kind = search rules;
   end = search rules;
   holds = search rules;
-  read = subst (Consumes (g.R.Read.remaining c.args.reader.now) (g.R.Read.remaining c.args.reader.now)) (sym c.requires) (Consumes-nil _);
+  read = subst (Consumes (g.R.Read.remaining c.args.reader.now) (g.R.Read.remaining c.args.reader.now)) (sym c.requires)
+      (Consumes-nil _);
 }
 
 pub pieces-preserved : goal.pieces-preserved
@@ -32,12 +33,15 @@ pieces-preserved g c =
       end = is_end;
       holds = subst P (front_grown old new hashed end c.in_ok-count.ensures.appends within ordered)
           (subst Q c.deref.ensures.value (c.update.ensures.more (take hashed old) c.pieces.invariant.holds));
-      read = read_more _ _ _ old new c.in_ok-count.ensures.appends c.pieces.invariant.read c.in_ok-count.ensures.consumes;
+      read =
+          read_more _ _ _ old new c.in_ok-count.ensures.appends c.pieces.invariant.read c.in_ok-count.ensures.consumes;
     }
 
 pub returns-then-count-eq0-clause-whole : goal.returns-then-count-eq0-clause-whole
 returns-then-count-eq0-clause-whole g c =
     let old = c.pieces.bytes.items in
     let new = c.append_piece.new.bytes.items in
-    let all = read_more _ _ _ old new c.in_ok-count.ensures.appends c.pieces.invariant.read c.in_ok-count.ensures.consumes in
-    Consumes-whole (g.R.Read.remaining c.args.reader.now) (g.R.Read.remaining c.append_piece.new.reader) new (λ left. new ≡ left) all (c.in_ok-count.ensures.end c.if-count-eq0.true) refl
+    let all =
+    read_more _ _ _ old new c.in_ok-count.ensures.appends c.pieces.invariant.read c.in_ok-count.ensures.consumes in
+    Consumes-whole (g.R.Read.remaining c.args.reader.now) (g.R.Read.remaining c.append_piece.new.reader) new
+    (λ left. new ≡ left) all (c.in_ok-count.ensures.end c.if-count-eq0.true) refl

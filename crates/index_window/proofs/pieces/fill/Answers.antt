@@ -1,15 +1,20 @@
-use Rattle.std.proofs.Common.{rules, arith}
+use Rattle.std.proofs.Common.{rules}
 use Rattle.std.proofs.KnownBytes.{Consumes-more}
 use Rattle.index_window.proofs.Readers.{starts_trans}
 use Rattle.index_window.proofs.pieces.fill.Goals as goal
 
 pub returns-then-count-eq0-clause-consumes : goal.returns-then-count-eq0-clause-consumes
 returns-then-count-eq0-clause-consumes g c =
-    Consumes-more _ _ _ c.args.bytes.now.items c.pieces.bytes.items c.append_piece.new.bytes.items c.pieces.invariant.appends c.in_ok-count.ensures.appends c.pieces.invariant.consumed c.in_ok-count.ensures.consumes
+    Consumes-more _ _ _ c.args.bytes.now.items c.pieces.bytes.items c.append_piece.new.bytes.items
+    c.pieces.invariant.appends c.in_ok-count.ensures.appends c.pieces.invariant.consumed
+    c.in_ok-count.ensures.consumes
 
 pub pieces-preserved : goal.pieces-preserved
 pieces-preserved g c = record {
   len = search rules;
-  appends = starts_trans c.args.bytes.now.items c.pieces.bytes.items c.append_piece.new.bytes.items c.pieces.invariant.appends c.in_ok-count.ensures.appends;
-  consumed = Consumes-more _ _ _ c.args.bytes.now.items c.pieces.bytes.items c.append_piece.new.bytes.items c.pieces.invariant.appends c.in_ok-count.ensures.appends c.pieces.invariant.consumed c.in_ok-count.ensures.consumes;
+  appends = starts_trans c.args.bytes.now.items c.pieces.bytes.items c.append_piece.new.bytes.items
+      c.pieces.invariant.appends c.in_ok-count.ensures.appends;
+  consumed = Consumes-more _ _ _ c.args.bytes.now.items c.pieces.bytes.items c.append_piece.new.bytes.items
+      c.pieces.invariant.appends c.in_ok-count.ensures.appends c.pieces.invariant.consumed
+      c.in_ok-count.ensures.consumes;
 }

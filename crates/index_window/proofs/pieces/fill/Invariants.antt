@@ -1,4 +1,4 @@
-use Rattle.std.proofs.Common.{◌≡◌, ◌≤◌, ◌-◌, ◌^◌, length}
+use Rattle.std.proofs.Common.{◌≤◌, ◌-◌, ◌^◌, length}
 use Rattle.std.specs.Io.{StartsWith, appended_bytes}
 use Rattle.std.specs.Io.KnownBytes.{Consumes}
 use Rattle.index_window.proofs.pieces.fill.Given as goal
@@ -8,7 +8,8 @@ invariant-pieces g l =
     record {
       len : length l.fn.bytes.items ≤ length l.bytes.items;
       appends : StartsWith l.bytes.items l.fn.bytes.items;
-      consumed : Consumes (g.R.Read.remaining l.fn.reader) (g.R.Read.remaining l.reader) (appended_bytes l.fn.bytes.items l.bytes.items);
+      consumed : Consumes (g.R.Read.remaining l.fn.reader) (g.R.Read.remaining l.reader)
+          (appended_bytes l.fn.bytes.items l.bytes.items);
     }
 
 abbrev pub decreases-pieces : goal.decreases-pieces

@@ -1,6 +1,5 @@
-use Rattle.std.proofs.Common.{◌≡◌, ◌+◌, ◌≤◌, ◌++◌, List, ℕ, length, drop, refl, subst, sym, ◌∙◌, arith, length-drop}
+use Rattle.std.proofs.Common.{◌≡◌, ◌+◌, ◌++◌, List, ℕ, length, drop, arith, length-drop}
 use Rattle.std.proofs.KnownBytes.{starts_with_rest}
-use Rattle.index_window.specs.Windowed.{IsReadOn}
 use Rattle.index_window.proofs.Steps.{on_none, on_trans, on_fill}
 use Rattle.index_window.proofs.windows.read_entries.Goals as goal
 
@@ -14,22 +13,38 @@ windows-init g c = record {
 
 pub returns-then-len-plan-clause-read : goal.returns-then-len-plan-clause-read
 returns-then-len-plan-clause-read g c =
-    let so-far = c.windows.invariant.read in
-    (so-far.0 + 0, omega (arith, so-far.1), on_trans c.args.plan _ _ _ so-far.0 0 so-far.2 (c.in_ok-start.ensures.read _))
+    let so-far = c.windows.invariant.read in (
+      so-far.0 + 0,
+      omega (arith, so-far.1),
+      on_trans c.args.plan _ _ _ so-far.0 0 so-far.2 (c.in_ok-start.ensures.read _),
+    )
 
 pub windows-preserved : goal.windows-preserved
 windows-preserved g c =
     let so-far = c.windows.invariant.read in
-    let took = on_trans c.args.plan _ _ _ so-far.0 0 so-far.2 (c.in_ok-start.ensures.read (g.R.Read.remaining c.windows.reader)) in
+    let took = on_trans c.args.plan _ _ _ so-far.0 0 so-far.2
+    (c.in_ok-start.ensures.read (g.R.Read.remaining c.windows.reader)) in
     let old = c.take_entries.new.window.items in
     let new = c.fill.new.bytes.items in
     let more : List ℕ = drop (length old) new in
     let grown : new ≡ old ++ more = starts_with_rest new old c.in_ok-came.ensures.appends in
-    let size : length more ≡ c.in_ok-came.came = omega (arith, length-drop (length old) new, c.in_ok-came.ensures.len, c.take_entries.new.window.ok.0, c.fill.new.bytes.ok.0) in
-    let came = on_fill c.args.plan (g.R.Read.remaining c.windows.reader) (g.R.Read.remaining c.fill.new.reader) c.take_entries.new.hasher old new more c.in_ok-start.start c.take_entries.new.first.list.records took.inside grown c.in_ok-came.ensures.consumes in
+    let size : length more ≡ c.in_ok-came.came = omega (
+      arith,
+      length-drop (length old) new,
+      c.in_ok-came.ensures.len,
+      c.take_entries.new.window.ok.0,
+      c.fill.new.bytes.ok.0,
+    ) in
+    let came = on_fill c.args.plan (g.R.Read.remaining c.windows.reader)
+    (g.R.Read.remaining c.fill.new.reader) c.take_entries.new.hasher old new more c.in_ok-start.start
+    c.take_entries.new.first.list.records took.inside grown c.in_ok-came.ensures.consumes in
     record {
       ids = c.in_ok-start.ensures.ids;
       sparse = c.in_ok-start.ensures.sparse;
       count = c.in_ok-start.ensures.count;
-      read = (so-far.0 + 0 + length more, omega (arith, so-far.1, size, c.if-came-left.false), on_trans c.args.plan _ _ _ (so-far.0 + 0) (length more) took came);
+      read = (
+        so-far.0 + 0 + length more,
+        omega (arith, so-far.1, size, c.if-came-left.false),
+        on_trans c.args.plan _ _ _ (so-far.0 + 0) (length more) took came,
+      );
     }

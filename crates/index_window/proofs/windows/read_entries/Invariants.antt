@@ -11,8 +11,20 @@ invariant-windows g l = record {
   sparse : l.first.sparse ≡ has_directory l.first.list.records;
   count : length l.first.list.records ≤ l.plan.count;
   read : (count : ℕ) × (count + l.left ≡ l.fn.left) × IsReadOn l.plan
-      (record { left = g.R.Read.remaining l.fn.reader; hasher = l.fn.hasher; window = l.fn.window.items; decoded = 12; records = l.fn.first.list.records })
-      (record { left = g.R.Read.remaining l.reader; hasher = l.hasher; window = l.window.items; decoded = l.start; records = l.first.list.records })
+      (record {
+        left = g.R.Read.remaining l.fn.reader;
+        hasher = l.fn.hasher;
+        window = l.fn.window.items;
+        decoded = 12;
+        records = l.fn.first.list.records;
+      })
+      (record {
+        left = g.R.Read.remaining l.reader;
+        hasher = l.hasher;
+        window = l.window.items;
+        decoded = l.start;
+        records = l.first.list.records;
+      })
       count;
 }
 

@@ -1,12 +1,12 @@
-use Rattle.std.proofs.Common.{rules, ◌≡◌, ◌≤◌, ◌<◌, ◌+◌, ◌-◌, ◌++◌, ℕ, List, [], true, Bool, ltb, None, length, take, drop, refl, sym, ap, subst, ◌∙◌, arith, length-drop, length-append}
-use Rattle.std.specs.Prelude.{vec_len, Ok, IfSome}
-use Rattle.std.specs.Io.{StartsWith, appended_bytes}
+use Rattle.std.proofs.Common.{rules, ◌≡◌, ◌≤◌, ◌<◌, ◌+◌, ◌++◌, ℕ, List, [], length, drop, refl, ap, subst, ◌∙◌, arith}
+use Rattle.std.proofs.Common.{length-drop, length-append}
+use Rattle.std.specs.Prelude.{Ok}
 use Rattle.std.specs.Io.KnownBytes.{Consumes}
 use Rattle.std.proofs.KnownBytes.{starts_with_rest}
 use Rattle.std.proofs.lemmas.List.Elements.{All-append}
 use Rattle.index_entries.specs.Header.{header_of, count_of}
 use Rattle.index_entries.specs.Record.{AreBytes}
-use Rattle.index_format.specs.Answer.{IsAnswer, IsEnding}
+use Rattle.index_format.specs.Answer.{IsEnding}
 use Rattle.index_format.specs.Contents.{parts_contents}
 use Rattle.index_format.proofs.ReadValues.{says_storable}
 use Rattle.index_extensions.specs.EndMarker.{IsMarker}
@@ -21,7 +21,14 @@ returns-clause-read g c =
     let reading = c.args.reading in
     let kind = reading.object_hash in
     let declared = c.in-Some.declared in
-    let plan : Plan = record { version = declared.version; kind = kind; count = declared.count; is_hashed = c.args.is_hashed; len = c.args.len; offset = c.args.offset } in
+    let plan : Plan = record {
+      version = declared.version;
+      kind = kind;
+      count = declared.count;
+      is_hashed = c.args.is_hashed;
+      len = c.args.len;
+      offset = c.args.offset;
+    } in
     let first = c.fill.new.bytes.items in
     let w1 = c.read_entries.new.window.items in
     let tail = c.read_to_end.new.buf.items in
@@ -29,13 +36,43 @@ returns-clause-read g c =
     let start = c.in-Some-2.start in
     let r = rw c.in-Some-2.is at c.in_ok-start.ensures.read in
     let whole = rw c.in-Some-2.is at c.in_ok-start.ensures.whole in
-    let a : Moment = record { left = g.R.Read.remaining c.fill.new.reader; hasher = c.new-hasher.result; window = first; decoded = 12; records = c.in_ok-first.first.list.records } in
-    let b : Moment = record { left = g.R.Read.remaining c.read_entries.new.reader; hasher = c.read_entries.new.hasher; window = w1; decoded = start; records = c.read_entries.new.first.list.records } in
-    let grown : tail ≡ w1 ++ more = starts_with_rest tail w1 (rw c.in_ok-reserve.ensures.items at c.in_ok-more.ensures.appends) in
-    let rest : Consumes b.left (g.R.Read.remaining c.read_to_end.new.self) more = rw c.in_ok-reserve.ensures.items at c.in_ok-more.ensures.none_lost in
-    let front : Consumes (g.R.Read.remaining c.args.reader.now) a.left first = rw c.in_ok-window.ensures.items at c.in_ok-came.ensures.consumes in
-    let got : length first ≡ c.in_ok-came.came = omega (arith, c.in_ok-came.ensures.len, c.fill.new.bytes.ok.0, c.in_ok-window.window.ok.0, ap length c.in_ok-window.ensures.items) in
-    let came : length more ≡ c.in_ok-more.more = omega (arith, length-drop (length w1) tail, c.in_ok-more.ensures.ok, c.read_to_end.new.buf.ok.0, c.read_entries.new.window.ok.0, c.reserve.new.self.ok.0, ap length c.in_ok-reserve.ensures.items) in
+    let a : Moment = record {
+      left = g.R.Read.remaining c.fill.new.reader;
+      hasher = c.new-hasher.result;
+      window = first;
+      decoded = 12;
+      records = c.in_ok-first.first.list.records;
+    } in
+    let b : Moment = record {
+      left = g.R.Read.remaining c.read_entries.new.reader;
+      hasher = c.read_entries.new.hasher;
+      window = w1;
+      decoded = start;
+      records = c.read_entries.new.first.list.records;
+    } in
+    let grown : tail ≡ w1 ++ more =
+    starts_with_rest tail w1 (rw c.in_ok-reserve.ensures.items at c.in_ok-more.ensures.appends) in
+    let rest : Consumes b.left (g.R.Read.remaining c.read_to_end.new.self) more =
+    rw c.in_ok-reserve.ensures.items at c.in_ok-more.ensures.none_lost in
+    let front : Consumes (g.R.Read.remaining c.args.reader.now) a.left first =
+    rw c.in_ok-window.ensures.items at c.in_ok-came.ensures.consumes in
+    let got : length first ≡ c.in_ok-came.came = omega (
+      arith,
+      c.in_ok-came.ensures.len,
+      c.fill.new.bytes.ok.0,
+      c.in_ok-window.window.ok.0,
+      ap length c.in_ok-window.ensures.items,
+    ) in
+    let came : length more ≡ c.in_ok-more.more =
+    omega (
+      arith,
+      length-drop (length w1) tail,
+      c.in_ok-more.ensures.ok,
+      c.read_to_end.new.buf.ok.0,
+      c.read_entries.new.window.ok.0,
+      c.reserve.new.self.ok.0,
+      ap length c.in_ok-reserve.ensures.items,
+    ) in
     let left : c.in_ok-more.more ≡ c.in-Some-2.left = search rules in
     let within : c.in_ok-came.came ≤ c.args.len = search rules in
     let size : length first + r.0 + length more ≡ c.args.len = omega (arith, r.1, got, came, left, within) in
@@ -43,18 +80,35 @@ returns-clause-read g c =
     let counted : declared.count ≡ count_of first = rw c.deref.ensures.value at c.in-Some.ensures.count in
     let none : a.records ≡ [] = c.in_ok-first.ensures.0 in
     let step : IsReadOn plan a b r.0 = r.2 in
-    let total : length step.taken + length tail ≡ c.args.len = omega (arith, size, ap length step.bytes, ap length grown, step.len, length-append first step.more, length-append step.taken w1, length-append w1 more) in
+    let total : length step.taken + length tail ≡ c.args.len = omega (
+      arith,
+      size,
+      ap length step.bytes,
+      ap length grown,
+      step.len,
+      length-append first step.more,
+      length-append step.taken w1,
+      length-append w1 more,
+    ) in
     some_with c.ending_of.result _ _ _ _ _ (λ x ending intact marker bytes. (
       step.taken ++ tail,
-      whole_of_windows plan reading.timestamp reading.options c.args.offset a b r.0 tail more c.args.len x (g.R.Read.remaining c.args.reader.now) (g.R.Read.remaining c.read_to_end.new.self) step grown front rest c.in_ok-more.ensures.end,
+      whole_of_windows plan reading.timestamp reading.options c.args.offset a b r.0 tail more c.args.len x
+          (g.R.Read.remaining c.args.reader.now)
+          (g.R.Read.remaining c.read_to_end.new.self) step grown front rest c.in_ok-more.ensures.end,
       All-append (λ b. b < 256) step.taken tail step.are_bytes (subst AreBytes c.deref-2.ensures.value bytes),
-      subst (λ (l : List ℕ). IsIntact reading.skip_hash kind (step.taken ++ l)) c.deref-2.ensures.value (intact (step.kind_stays ∙ c.new-hasher.ensures.kind) step.taken (λ is. step.hashed is [] c.new-hasher.ensures.empty)),
-      answer_of_windows plan reading.timestamp reading.options c.args.offset a b r.0 tail more c.args.len x header counted c.in-Some.ensures.fits c.in-Some.ensures.small refl none whole step grown size
-          (subst (λ (l : List ℕ). length step.taken + length l ≡ c.args.len → IsMarker kind (step.taken ++ l) c.args.offset) c.deref-2.ensures.value (marker step.taken) total)
-          (subst (λ (l : List ℕ). IsEnding kind reading.timestamp reading.options declared.version b.records (drop start l) (Ok (parts_contents x.0, x.1))) c.deref-2.ensures.value ending),
+      subst (λ (l : List ℕ). IsIntact reading.skip_hash kind (step.taken ++ l)) c.deref-2.ensures.value
+          (intact (step.kind_stays ∙ c.new-hasher.ensures.kind) step.taken
+          (λ is. step.hashed is [] c.new-hasher.ensures.empty)),
+      answer_of_windows plan reading.timestamp reading.options c.args.offset a b r.0 tail more c.args.len x header
+          counted c.in-Some.ensures.fits c.in-Some.ensures.small refl none whole step grown size
+          (subst (λ (l : List ℕ). length step.taken + length l ≡ c.args.len
+          → IsMarker kind (step.taken ++ l) c.args.offset) c.deref-2.ensures.value (marker step.taken) total)
+          (subst (λ (l : List ℕ). IsEnding kind reading.timestamp reading.options declared.version b.records
+          (drop start l) (Ok (parts_contents x.0, x.1))) c.deref-2.ensures.value ending),
     )) c.ending_of.ensures.ending c.ending_of.ensures.intact c.ending_of.ensures.marker c.ending_of.ensures.are_bytes
 
 pub returns-clause-storable : goal.returns-clause-storable
 returns-clause-storable g c =
     let reading = c.args.reading in
-    some_then c.ending_of.result _ _ (λ x h. says_storable reading.object_hash reading.timestamp reading.options h.0 (Ok x) h.2 h.4) (returns-clause-read g c)
+    some_then c.ending_of.result _ _ (λ x h. says_storable reading.object_hash reading.timestamp reading.options h.0
+    (Ok x) h.2 h.4) (returns-clause-read g c)

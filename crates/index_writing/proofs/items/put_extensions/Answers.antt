@@ -9,7 +9,8 @@ use Rattle.index_writing.proofs.items.put_extensions.Goals as goal
 pub returns-in_err-put_items : goal.returns-in_err-put_items
 returns-in_err-put_items g c =
     let v = parts_contents c.args.parts.now in
-    puts_stopped c.from_residual.result (flat_map item_bytes (marker_of v c.args.options)) c.from_residual.ensures.0 refl c.in_err-put_items.ensures
+    puts_stopped c.from_residual.result
+    (flat_map item_bytes (marker_of v c.args.options)) c.from_residual.ensures.0 refl c.in_err-put_items.ensures
 
 pub returns : goal.returns
 returns g c = puts_after c.put_end.result c.in_ok-put_items.ensures c.put_end.ensures

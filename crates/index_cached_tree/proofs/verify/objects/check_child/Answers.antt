@@ -8,4 +8,5 @@ use Rattle.index_cached_tree.proofs.verify.objects.check_child.Goals as goal
 pub returns-in_err-name-clause-err : goal.returns-in_err-name-clause-err
 returns-in_err-name-clause-err c =
     let p = err_from_is_err_and c.from_residual.result c.from_residual.ensures.1 in
-    rw (p.1, p.2) (no_memory_for_child c.args.parent_id (row_of_trees c.args.children.now) (tree_entry_of c.args.entry) (sym c.has_child.ensures ∙ c.if-has_child.false))
+    rw (p.1, p.2) (no_memory_for_child c.args.parent_id (row_of_trees c.args.children.now) (tree_entry_of c.args.entry)
+    (sym c.has_child.ensures ∙ c.if-has_child.false))

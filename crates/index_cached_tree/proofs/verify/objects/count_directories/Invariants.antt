@@ -10,5 +10,6 @@ abbrev pub invariant-loop-entry : goal.invariant-loop-entry
 invariant-loop-entry l = record {
   kind : kind_of_entries l.entries ≡ id_kind l.parent_id;
   fewer : l.number + length (unread_entries l.entries) ≤ length l.bytes;
-  counts : CountsOn (id_kind l.parent_id) l.bytes l.parent_id (row_of_trees l.children) l.number (unread_entries l.entries);
+  counts : CountsOn (id_kind l.parent_id) l.bytes l.parent_id (row_of_trees l.children) l.number
+      (unread_entries l.entries);
 }

@@ -6,4 +6,6 @@ use Rattle.index_entries.proofs.LastPath.{last_room}
 use Rattle.index_entries.proofs.list.EntryList.last_len.Goals as goal
 
 pub returns : goal.returns
-returns c = (last_room c.self.inside.storage.items c.self.inside.entries.items c.in_ok-last.last.now (rw c.deref.ensures.value at c.in_ok-last.ensures.value) c.self.invariant).1 ∙ ap (λ (h : Held). option_map length (last_path None h.records)) c.self.view_is
+returns c = (last_room c.self.inside.storage.items c.self.inside.entries.items c.in_ok-last.last.now
+    (rw c.deref.ensures.value at c.in_ok-last.ensures.value) c.self.invariant).1
+    ∙ ap (λ (h : Held). option_map length (last_path None h.records)) c.self.view_is

@@ -9,7 +9,8 @@ pub returns-then-ignore_case-clause-answer : goal.returns-then-ignore_case-claus
 returns-then-ignore_case-clause-answer c =
     let rs = c.self.inside.entries in
     let P : List Named → Type 0 = λ names. IsTableOf false true (is_at_folded true) rs (map named_value names) in
-    let answer = c.find.ensures.answer (is_at_folded true) rs (subst P (sym c.deref.ensures.value) c.self.invariant.folded_paths_is.0) in
+    let answer = c.find.ensures.answer (is_at_folded true) rs
+    (subst P (sym c.deref.ensures.value) c.self.invariant.folded_paths_is.0) in
     let Q : Bool → List Record → Type 0 = λ b xs. c.find.result.0 ≡ folded_place b c.args.path.now xs in
     subst (λ (b : Bool). Q b c.args.self.now) (sym c.if-ignore_case.true) (subst (Q true) c.self.view_is answer)
 
@@ -17,6 +18,8 @@ pub returns-else-ignore_case-clause-answer : goal.returns-else-ignore_case-claus
 returns-else-ignore_case-clause-answer c =
     let rs = c.self.inside.entries in
     let P : List Named → Type 0 = λ names. IsTableOf false false (is_at_folded false) rs (map named_value names) in
-    let answer = c.find-else-ignore_case.ensures.answer (is_at_folded false) rs (subst P (sym c.deref-else-ignore_case.ensures.value) c.self.invariant.paths_is.0) in
-    let Q : Bool → List Record → Type 0 = λ b xs. c.find-else-ignore_case.result.0 ≡ folded_place b c.args.path.now xs in
+    let answer = c.find-else-ignore_case.ensures.answer (is_at_folded false) rs
+    (subst P (sym c.deref-else-ignore_case.ensures.value) c.self.invariant.paths_is.0) in
+    let Q : Bool → List Record → Type 0 =
+    λ b xs. c.find-else-ignore_case.result.0 ≡ folded_place b c.args.path.now xs in
     subst (λ (b : Bool). Q b c.args.self.now) (sym c.if-ignore_case.false) (subst (Q false) c.self.view_is answer)

@@ -10,8 +10,15 @@ use Rattle.index_lookups.proofs.paths.FilterMapPathsIterator.next.Goals as goal
 pub returns-clause-steps : goal.returns-clause-steps
 returns-clause-steps g c =
     let inv = c.loop-entry.invariant in
-    let over : c.loop-entry.self.entries.now ≡ [] = nil_from_length _ c.in_default.ensures.cases in
-    (record { skipped = inv.3.0; then = c.loop-entry.self.filter_map; skips = inv.3.2; gives = (inv.3.1 ∙ ap (λ xs. inv.3.0 ++ xs) over ∙ append-nil inv.3.0, over, refl) }, inv.2)
+    let over : c.loop-entry.self.entries.now ≡ [] = nil_from_length _ c.in_default.ensures.cases in (
+      record {
+        skipped = inv.3.0;
+        then = c.loop-entry.self.filter_map;
+        skips = inv.3.2;
+        gives = (inv.3.1 ∙ ap (λ xs. inv.3.0 ++ xs) over ∙ append-nil inv.3.0, over, refl);
+      },
+      inv.2,
+    )
 
 pub loop-entry-preserved : goal.loop-entry-preserved
 loop-entry-preserved g c =
@@ -20,14 +27,23 @@ loop-entry-preserved g c =
     let e = c.in-Some.entry.now in
     let rest = c.in-Some.rest.now in
     let split : c.loop-entry.self.entries.now ≡ e ∷ rest = c.in-Some.ensures.cases.0 in
-    let stored : All (IsPlaced (length storage)) (e ∷ rest) = let P : List Entry → Type 0 = λ xs. All (IsPlaced (length storage)) xs in subst P split inv.1 in
-    let path : c.path_in-path.result.now ≡ (record_in c.args.self.now.backing.now e).path = c.path_in-path.ensures ∙ ap (λ s. (record_in s e).path) inv.2 in
+    let stored : All (IsPlaced (length storage)) (e ∷ rest) = let P : List Entry → Type 0 =
+    λ xs. All (IsPlaced (length storage)) xs in
+    subst P split inv.1 in
+    let path : c.path_in-path.result.now ≡ (record_in c.args.self.now.backing.now e).path =
+    c.path_in-path.ensures ∙ ap (λ s. (record_in s e).path) inv.2 in
     let none = rw c.in_default-filter_map.is at c.filter_map.ensures in
-    let same : c.args.self.now.entries.now ≡ (inv.3.0 ++ e ∷ []) ++ rest = inv.3.1 ∙ ap (λ xs. inv.3.0 ++ xs) split ∙ sym (append_assoc inv.3.0 (e ∷ []) rest) in (
+    let same : c.args.self.now.entries.now ≡ (inv.3.0 ++ e ∷ []) ++ rest =
+    inv.3.1 ∙ ap (λ xs. inv.3.0 ++ xs) split ∙ sym (append_assoc inv.3.0 (e ∷ []) rest) in (
       search of_calls,
       All-tail (IsPlaced (length storage)) e rest stored,
       inv.2,
-      (inv.3.0 ++ e ∷ [], same, FoldsTo-push _ c.args.self.now.filter_map inv.3.0 c.loop-entry.self.filter_map e c.filter_map.new.self inv.3.2 (c.path_in-path.result, c.in-Some.entry, path, refl, none)),
+      (
+        inv.3.0 ++ e ∷ [],
+        same,
+        FoldsTo-push _ c.args.self.now.filter_map inv.3.0 c.loop-entry.self.filter_map e
+            c.filter_map.new.self inv.3.2 (c.path_in-path.result, c.in-Some.entry, path, refl, none),
+      ),
     )
 
 pub returns-in-Some-filter_map-clause-goes : goal.returns-in-Some-filter_map-clause-goes
@@ -37,7 +53,10 @@ returns-in-Some-filter_map-clause-goes g c =
     let e = c.in-Some.entry.now in
     let rest = c.in-Some.rest.now in
     let split : c.loop-entry.self.entries.now ≡ e ∷ rest = c.in-Some.ensures.cases.0 in
-    let stored : All (IsPlaced (length storage)) (e ∷ rest) = let P : List Entry → Type 0 = λ xs. All (IsPlaced (length storage)) xs in subst P split inv.1 in
-    let fewer : length rest < length c.args.self.now.entries.now = omega (arith, ap length inv.3.1, length-append inv.3.0 c.loop-entry.self.entries.now, ap length split) in
+    let stored : All (IsPlaced (length storage)) (e ∷ rest) = let P : List Entry → Type 0 =
+    λ xs. All (IsPlaced (length storage)) xs in
+    subst P split inv.1 in
+    let fewer : length rest < length c.args.self.now.entries.now =
+    omega (arith, ap length inv.3.1, length-append inv.3.0 c.loop-entry.self.entries.now, ap length split) in
     let tail = All-tail (IsPlaced (length storage)) e rest stored in
     record { on = λ _. ((tail, search of_calls), tt, fewer); keeps = (tail, search of_calls); rests = λ _. tt }

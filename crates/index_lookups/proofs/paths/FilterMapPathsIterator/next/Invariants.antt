@@ -12,7 +12,8 @@ invariant-loop-entry g l =
     × (l.self.backing.now ≡ l.initial.self.backing.now)
     × ((skipped : List Entry)
     × (l.initial.self.entries.now ≡ skipped ++ l.self.entries.now)
-    × FoldsTo (λ h e k. LooksAt (λ f p b o j. goal.F-step g f p b o j) l.initial.self.backing.now h e None k) l.initial.self.filter_map skipped l.self.filter_map)
+    × FoldsTo (λ h e k. LooksAt (λ f p b o j. goal.F-step g f p b o j) l.initial.self.backing.now h e None k)
+    l.initial.self.filter_map skipped l.self.filter_map)
 
 abbrev pub decreases-loop-entry : goal.decreases-loop-entry
 decreases-loop-entry g l = length l.self.entries.now

@@ -3,4 +3,5 @@ use Rattle.index_lookups.proofs.Places.{mapped_at}
 use Rattle.index_lookups.proofs.search.AskedOrdered.compare.Goals as goal
 
 pub returns : goal.returns
-returns c = mapped_at (asked_cmp c.args.self.now.path.now c.args.self.now.stage) _ c.args.place c.compare.result c.requires c.compare.ensures
+returns c = mapped_at (asked_cmp c.args.self.now.path.now c.args.self.now.stage) _ c.args.place c.compare.result
+    c.requires c.compare.ensures

@@ -7,4 +7,5 @@ use Rattle.index_lookups.proofs.search.PrefixOrdered.compare.Goals as goal
 pub returns : goal.returns
 returns c =
     let prefix = c.args.self.now.prefix.now ++ c.args.self.now.tail.now in
-    mapped_at (λ (r : Record). prefix_cmp prefix r.path) _ c.args.place c.compare_prefix.result c.requires (λ d. ap (prefix_cmp prefix) (c.path.ensures d) ∙ sym c.compare_prefix.ensures)
+    mapped_at (λ (r : Record). prefix_cmp prefix r.path) _ c.args.place c.compare_prefix.result c.requires
+    (λ d. ap (prefix_cmp prefix) (c.path.ensures d) ∙ sym c.compare_prefix.ensures)

@@ -12,4 +12,6 @@ returns c =
     let v = c.self.inside.spans in
     let f : SpanValue → List ℕ = λ s. s.name in
     let Q : List Record → Type 0 = λ rs. (names : List (List ℕ)) × IsDirs rs names × (c.len.result ≡ length names) in
-    subst Q c.self.view_is (dirs_named (λ n. c.len.result ≡ n) c.self.inside.entries (names_of v.items) c.self.invariant.dirs (c.len.ensures ∙ v.ok.0 ∙ sym (length-map (map span_value v.items) f ∙ length-map v.items span_value)))
+    subst Q c.self.view_is
+    (dirs_named (λ n. c.len.result ≡ n) c.self.inside.entries (names_of v.items) c.self.invariant.dirs
+    (c.len.ensures ∙ v.ok.0 ∙ sym (length-map (map span_value v.items) f ∙ length-map v.items span_value)))

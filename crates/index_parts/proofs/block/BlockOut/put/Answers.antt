@@ -14,6 +14,7 @@ returns-clause-bytes c =
     let within : len ≤ length bytes = omega (arith, c.self.told, c.self.invariant) in
     let held : take len bytes ≡ c.args.self.now.bytes = ap (λ (g : Gathered). g.bytes) c.self.view_is in
     record {
-      grew = take-put_mid len _ bytes given (len + length piece) sum within ∙ ap (λ (l : List ℕ). l ++ given) held ∙ ap (λ (l : List ℕ). c.args.self.now.bytes ++ l) same;
+      grew = take-put_mid len _ bytes given (len + length piece) sum within ∙ ap (λ (l : List ℕ). l ++ given) held
+          ∙ ap (λ (l : List ℕ). c.args.self.now.bytes ++ l) same;
       into_hash = λ n k m h. tt;
     }

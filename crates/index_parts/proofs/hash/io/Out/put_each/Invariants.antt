@@ -7,5 +7,6 @@ abbrev pub invariant-loop-piece : goal.invariant-loop-piece
 invariant-loop-piece g l = record {
   loan : g.Self.Out.loan l.self ≡ g.Self.Out.loan l.fn.self;
   unfailed : g.Self.Out.failed l.self ≡ false;
-  so_far : Took g.Self.Out.taken g.Self.Out.hashed l.fn.self l.self (flat_map (λ p. p.now) (take l.piece-index l.pieces));
+  so_far : Took g.Self.Out.taken g.Self.Out.hashed l.fn.self l.self
+      (flat_map (λ p. p.now) (take l.piece-index l.pieces));
 }
