@@ -21,7 +21,7 @@ use Rattle.index_cached_tree.specs.declared.Tree.{Tree}
 use Rattle.index_cached_tree.proofs.Sounds.{row_of_trees}
 
 -- how a node's name stands to this one
-abbrev stand : List ℕ → Tree → Ordering
+abbrev pub stand : List ℕ → Tree → Ordering
 stand name t = slice_cmp nat_cmp (name_of (node_of t)) name
 
 -- ---- answers rise where names do
@@ -32,7 +32,7 @@ index_rises Less p e g = omega arith
 index_rises Equal p e g = rw (e refl) (omega arith)
 index_rises Greater p e g = rw (g refl) (omega arith)
 
-rises_to : (name a b : List ℕ) → slice_cmp nat_cmp a b ≡ Less
+pub rises_to : (name a b : List ℕ) → slice_cmp nat_cmp a b ≡ Less
     → ordering_index (slice_cmp nat_cmp a name) ≤ ordering_index (slice_cmp nat_cmp b name)
 rises_to name a b less =
     let above : slice_cmp nat_cmp b a ≡ Greater = nat_list_cmp_total.antisymm b a ∙ ap ordering_reverse less in

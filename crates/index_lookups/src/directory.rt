@@ -1,7 +1,6 @@
 //! Directories, told by the entries that stand there or below.
 
-ghost use Rattle.std.specs.Prelude.{◌≡◌, ◌<◌, All, Contains, length, position, IfSome, is_some, option_and_then};
-ghost use Rattle.std.specs.Prelude.{slice_get, true};
+ghost use Rattle.std.specs.Prelude.{◌≡◌, ◌<◌, length, position, IfSome, is_some, true};
 ghost use Rattle.std.specs.Bool.{OnTrue};
 ghost use Rattle.std.specs.List.{HoldsAt, list_any};
 ghost use Rattle.index_entries.specs.Order.{IsOrderedByPath};

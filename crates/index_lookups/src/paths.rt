@@ -1,8 +1,7 @@
 //! What a closure gives of entries and their paths.
 
-ghost use Rattle.std.specs.Prelude.{◌≡◌, All, length};
+ghost use Rattle.std.specs.Prelude.{◌≡◌, length};
 ghost use Rattle.std.specs.Iterator.{at_most};
-ghost use Rattle.index_entries.specs.Record.{IsPlaced};
 ghost use Rattle.index_lookups.specs.FilterMap.{ArePlaced, StepsTo, closure_of, entries_left, storage_left};
 
 use index_entries::Entry;

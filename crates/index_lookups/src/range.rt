@@ -1,14 +1,13 @@
 //! Which entries have a path or begin with a prefix.
 
-ghost use Rattle.std.specs.Prelude.{◌≡◌, ℕ, ◌+◌, ◌<◌, ◌≤◌, All, Contains, Option, length, take, map, position};
-ghost use Rattle.std.specs.Prelude.{slice_get, option_and_then, IfSome, false, true};
+ghost use Rattle.std.specs.Prelude.{◌≡◌, ◌+◌, ◌<◌, ◌≤◌, Option, length, take, map, position, IfSome, false, true};
 ghost use Rattle.std.specs.List.{HoldsAt};
 ghost use Rattle.std.specs.Ordering.{is_eq};
 ghost use Rattle.index_metadata.specs.Flags.{stage_code, stage_number};
 ghost use Rattle.index_lookups.specs.Digits.{digits};
 ghost use Rattle.index_lookups.specs.Lookup.{IsKeyAt, insertion_of_path, place_of};
 ghost use Rattle.index_entries.specs.Order.{IsOrderedByPath, IsStrictlyOrdered};
-ghost use Rattle.index_lookups.specs.Range.{HasStageOf, IsPart, IsPrefixRange, IsRange, LiesWithin, is_at, part_at};
+ghost use Rattle.index_lookups.specs.Range.{HasStageOf, IsPart, IsPrefixRange, IsRange, LiesWithin, is_at};
 ghost use Rattle.index_lookups.specs.Range.{place_of_path};
 ghost use Rattle.index_lookups.specs.SearchSteps.{IsPartedAt, IsRising, asked_cmp};
 ghost use Rattle.index_lookups.specs.RangeSteps.{IsEnoughUpto, is_wanted, is_wanted_at};

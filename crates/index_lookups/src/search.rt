@@ -1,9 +1,8 @@
 //! The one binary search of what stands in order, which counts its comparisons, and the searches by path.
 
 ghost use Rattle.std.specs.Prelude.{◌≡◌, ◌<◌, ◌≤◌, ◌+◌, ◌-◌, ◌++◌, List, length, map, take, drop, IfOk, IfErr, false};
-ghost use Rattle.std.specs.Prelude.{true};
+ghost use Rattle.std.specs.Prelude.{true, ok_or};
 ghost use Rattle.std.specs.List.{AllWithin, HoldsAt};
-ghost use Rattle.std.specs.Option.{ok_or};
 ghost use Rattle.std.specs.declared.cmp.Ordering.{Ordering};
 ghost use Rattle.index_metadata.specs.Flags.{stage_code};
 ghost use Rattle.index_lookups.specs.Digits.{digits};

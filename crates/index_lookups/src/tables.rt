@@ -1,7 +1,6 @@
 //! Entries in the order of their paths, searched by way of their directories.
 
-ghost use Rattle.std.specs.Prelude.{◌≡◌, ◌↔◌, ◌<◌, ◌≤◌, ℕ, ⊤, List, All, length, IfOk, IfErr, IsTrue};
-ghost use Rattle.std.specs.Option.{ok_or};
+ghost use Rattle.std.specs.Prelude.{◌≡◌, ◌↔◌, ◌<◌, ◌≤◌, ℕ, ⊤, List, All, length, IfOk, IfErr, IsTrue, ok_or};
 ghost use Rattle.index_metadata.specs.Flags.{stage_code};
 ghost use Rattle.index_lookups.specs.Lookup.{IsKeyAt, IsPathAt, IsPathGap, insertion_of, place_of};
 ghost use Rattle.index_entries.specs.Order.{IsOrderedByPath, IsStrictlyOrdered};

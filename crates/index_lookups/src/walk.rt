@@ -1,12 +1,9 @@
 //! The directories that paths stand for or below, gathered in one walk over the paths in their order.
 
-ghost use Rattle.std.specs.Prelude.{◌≡◌, ◌++◌, ◌+◌, ◌-◌, ◌^◌, ◌<◌, ◌≤◌, All, AllPairs, OnOk, IfOk, drop, length, map};
-ghost use Rattle.std.specs.Prelude.{min, reverse, suc, take};
-ghost use Rattle.std.specs.List.{HoldsAt};
+ghost use Rattle.std.specs.Prelude.{◌≡◌, ◌++◌, ◌+◌, ◌-◌, ◌^◌, ◌<◌, ◌≤◌, OnOk, IfOk, length, map, min, suc, HoldsAt};
 ghost use Rattle.index_entries.specs.Shared.{shared_len};
 ghost use Rattle.index_lookups.specs.Folded.{folded};
-ghost use Rattle.std.specs.Prelude.{slice_index_or};
-ghost use Rattle.index_lookups.specs.NameSteps.{IsDirectoryTable, NamedValue, named_value, visits};
+ghost use Rattle.index_lookups.specs.NameSteps.{IsDirectoryTable, named_value, visits};
 ghost use Rattle.index_lookups.specs.WalkSteps.{AreExtents, AreVisits, IsClosing, IsStep, extended, is_parent, opened};
 ghost use Rattle.index_lookups.specs.WalkSteps.{span_value};
 

@@ -19,32 +19,14 @@ use denote.Param.Members.{Mut}
 use Rattle.index_cached_tree.specs.Tree.{Node, none, name_of, node_of, nodes_from, name_cmp}
 use Rattle.index_cached_tree.specs.declared.Tree.{Tree}
 use Rattle.index_cached_tree.specs.declared.Tree.TheViews.{out-Tree}
+use Rattle.index_cached_tree.proofs.Children.{stand, rises_to}
 use Rattle.index_cached_tree.proofs.Spelled.{node_of-out}
 use Rattle.index_tree_writer.specs.TreeIds.{staged_at}
 use Rattle.index_tree_writer.specs.TreeIdsSteps.{GivesNode, IsChildOf, IsGiving, children_of, its_tree, nothing, whole}
 use Rattle.index_tree_writer.proofs.Gives.{NotNamed}
 use Rattle.index_tree_writer.proofs.Spots.{same_nodes}
 
--- how a node's name stands to this one
-abbrev stand : List ℕ → Tree → Ordering
-stand name t = slice_cmp nat_cmp (name_of (node_of t)) name
-
 -- ---- answers rise where names do
-
-index_rises : (o p : Ordering) → (o ≡ Equal → p ≡ Greater) → (o ≡ Greater → p ≡ Greater)
-    → ordering_index o ≤ ordering_index p
-index_rises Less p e g = omega arith
-index_rises Equal p e g = rw (e refl) (omega arith)
-index_rises Greater p e g = rw (g refl) (omega arith)
-
-rises_to : (name a b : List ℕ) → slice_cmp nat_cmp a b ≡ Less
-    → ordering_index (slice_cmp nat_cmp a name) ≤ ordering_index (slice_cmp nat_cmp b name)
-rises_to name a b less =
-    let above : slice_cmp nat_cmp b a ≡ Greater = nat_list_cmp_total.antisymm b a ∙ ap ordering_reverse less in
-    index_rises (slice_cmp nat_cmp a name) (slice_cmp nat_cmp b name)
-    (λ e. nat_list_cmp_total.antisymm b name ∙ ap ordering_reverse (sym (nat_list_cmp_total.congr a name b e) ∙ less))
-    (λ g. nat_list_cmp_total.antisymm b name ∙ ap ordering_reverse
-    (nat_list_cmp_total.trans name a b (nat_list_cmp_total.antisymm name a ∙ ap ordering_reverse g) less))
 
 rises_or_ties : (name a b : List ℕ) → is_lt (slice_cmp nat_cmp b a) ≡ false
     → ordering_index (slice_cmp nat_cmp a name) ≤ ordering_index (slice_cmp nat_cmp b name)

@@ -43,8 +43,7 @@ pub data IsTreePath (check : Check) : ℕ → EntryKind → List ℕ → Type 0 
   of_directory : (levels : ℕ) (name : List ℕ) → IsName name → refusal_as check name kinds.Tree ≡ None
       → IsTreePath check (suc levels) kinds.Tree (name ++ 47 ∷ [])
   beneath : (levels : ℕ) (k : EntryKind) (name rest : List ℕ) → IsName name → refusal_as check name kinds.Tree ≡ None
-      → IsTreePath check levels k rest
-      → IsTreePath check (suc levels) k (name ++ 47 ∷ rest)
+      → IsTreePath check levels k rest → IsTreePath check (suc levels) k (name ++ 47 ∷ rest)
 
 -- what is wrong with a name: it is empty, has a NUL, or is refused
 abbrev pub IsBadName : Check → List ℕ → EntryKind → NameFault → Type 0
