@@ -9,7 +9,8 @@ module _ {T E : Type 0} (Found Empty : T → Type 0) (Absent : Type 0) where
   only_found (Ok f) (inr h) = let no = h.0 in absurd cc
   only_found (Err e) h = h
 
-  pub found_or_empty : (r : Result T E) → IfOk r (λ f. Found f ⊎ (IsTrue true × Absent × Empty f)) → IfOk r (λ f. Found f ⊎ Empty f)
+  pub found_or_empty : (r : Result T E) → IfOk r (λ f. Found f ⊎ (IsTrue true × Absent × Empty f))
+      → IfOk r (λ f. Found f ⊎ Empty f)
   found_or_empty (Ok f) (inl h) = inl h
   found_or_empty (Ok f) (inr h) = inr h.2
   found_or_empty (Err e) h = h

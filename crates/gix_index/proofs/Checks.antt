@@ -17,7 +17,8 @@ to_by : (t : Bool) (E : Type 0) (P N : Type 0) → MatchBool t E (Unit {0}) → 
 to_by true E P N e p = inl (e, p)
 to_by false E P N e p = p
 
-from_by : (t : Bool) (E : Type 0) (P M : Type 0) → MatchBool t E (Unit {0}) → MatchBool t ((E × P) ⊎ ((E → ⊥) × M)) P → P
+from_by : (t : Bool) (E : Type 0) (P M : Type 0) → MatchBool t E (Unit {0}) → MatchBool t ((E × P) ⊎ ((E → ⊥) × M)) P
+    → P
 from_by true E P M e (inl h) = h.1
 from_by true E P M e (inr h) = absurd (h.0 e)
 from_by false E P M e h = h
@@ -26,17 +27,25 @@ broken_by : (t : Bool) (E P M : Type 0) → t ≡ true → (E → ⊥) → M →
 broken_by true E P M is n m = inr (n, m)
 broken_by false E P M is n m = absurd cc
 
-pub to_file : (skip : Bool) (kind : Kind) (time : FileTime) (options : Options) (bytes : List ℕ) (a : Answer) → IsIntact skip kind bytes → IsAnswer kind time options bytes a → IsFileAnswer skip kind time options bytes a
+pub to_file : (skip : Bool) (kind : Kind) (time : FileTime) (options : Options) (bytes : List ℕ) (a : Answer)
+    → IsIntact skip kind bytes → IsAnswer kind time options bytes a → IsFileAnswer skip kind time options bytes a
 to_file skip kind time options bytes a intact h = to_by (needs_check skip kind bytes) _ _ _ intact h
 
-pub from_file : (skip : Bool) (kind : Kind) (time : FileTime) (options : Options) (bytes : List ℕ) (a : Answer) → IsIntact skip kind bytes → IsFileAnswer skip kind time options bytes a → IsAnswer kind time options bytes a
-from_file skip kind time options bytes a intact h = from_by (needs_check skip kind bytes) (digest_id kind bytes ≡ trailer_id kind bytes) _ (a ≡ Err (Verify (digest_id kind bytes) (trailer_id kind bytes))) intact h
+pub from_file : (skip : Bool) (kind : Kind) (time : FileTime) (options : Options) (bytes : List ℕ) (a : Answer)
+    → IsIntact skip kind bytes → IsFileAnswer skip kind time options bytes a → IsAnswer kind time options bytes a
+from_file skip kind time options bytes a intact h =
+    from_by (needs_check skip kind bytes) (digest_id kind bytes ≡ trailer_id kind bytes) _
+    (a ≡ Err (Verify (digest_id kind bytes) (trailer_id kind bytes))) intact h
 
-pub broken_file : (skip : Bool) (kind : Kind) (time : FileTime) (options : Options) (bytes : List ℕ) → IsBroken skip kind bytes → IsFileAnswer skip kind time options bytes (Err (Verify (digest_id kind bytes) (trailer_id kind bytes)))
-broken_file skip kind time options bytes h = broken_by (needs_check skip kind bytes) (digest_id kind bytes ≡ trailer_id kind bytes) _ _ h.0 h.1 refl
+pub broken_file : (skip : Bool) (kind : Kind) (time : FileTime) (options : Options) (bytes : List ℕ)
+    → IsBroken skip kind bytes
+    → IsFileAnswer skip kind time options bytes (Err (Verify (digest_id kind bytes) (trailer_id kind bytes)))
+broken_file skip kind time options bytes h =
+    broken_by (needs_check skip kind bytes) (digest_id kind bytes ≡ trailer_id kind bytes) _ _ h.0 h.1 refl
 
 -- what an error says, where two relations hold of the same answers
-fault_moved : (e : Decoding) (P Q : Answer → Type 0) → ((a : Answer) → P a → Q a) → ((a : Answer) → Q a → P a) → SaysFault e P → SaysFault e Q
+fault_moved : (e : Decoding) (P Q : Answer → Type 0) → ((a : Answer) → P a → Q a) → ((a : Answer) → Q a → P a)
+    → SaysFault e P → SaysFault e Q
 fault_moved (decoding.Header e) P Q to back h = to _ h
 fault_moved decoding.Hasher P Q to back h = h
 fault_moved decoding.OutOfMemory P Q to back h = to _ h
@@ -59,11 +68,17 @@ says_error (decoding.UnexpectedTrailerLength n m) P h = h
 says_error (decoding.Verify p q) P h = h
 says_error decoding.Memory P h = h
 
-pub error_says : (skip : Bool) (kind : Kind) (time : FileTime) (options : Options) (bytes : List ℕ) (e : Decoding) → IsIntact skip kind bytes → SaysFault e (IsAnswer kind time options bytes) → SaysFile (Err (error_of e)) (IsFileAnswer skip kind time options bytes)
+pub error_says : (skip : Bool) (kind : Kind) (time : FileTime) (options : Options) (bytes : List ℕ) (e : Decoding)
+    → IsIntact skip kind bytes → SaysFault e (IsAnswer kind time options bytes)
+    → SaysFile (Err (error_of e)) (IsFileAnswer skip kind time options bytes)
 error_says skip kind time options bytes e intact h =
-    says_error e (IsFileAnswer skip kind time options bytes) (fault_moved e (IsAnswer kind time options bytes) (IsFileAnswer skip kind time options bytes)
+    says_error e (IsFileAnswer skip kind time options bytes)
+    (fault_moved e (IsAnswer kind time options bytes) (IsFileAnswer skip kind time options bytes)
     (λ a. to_file skip kind time options bytes a intact) (λ a. from_file skip kind time options bytes a intact) h)
 
-pub broken_says : (skip : Bool) (kind : Kind) (time : FileTime) (options : Options) (bytes : List ℕ) (e : Decoding) → e ≡ digest_fault kind bytes → IsBroken skip kind bytes → SaysFile (Err (error_of e)) (IsFileAnswer skip kind time options bytes)
+pub broken_says : (skip : Bool) (kind : Kind) (time : FileTime) (options : Options) (bytes : List ℕ) (e : Decoding)
+    → e ≡ digest_fault kind bytes → IsBroken skip kind bytes
+    → SaysFile (Err (error_of e)) (IsFileAnswer skip kind time options bytes)
 broken_says skip kind time options bytes e is h =
-    subst (λ (d : Decoding). SaysFile (Err (error_of d)) (IsFileAnswer skip kind time options bytes)) (sym is) (broken_file skip kind time options bytes h)
+    subst (λ (d : Decoding). SaysFile (Err (error_of d)) (IsFileAnswer skip kind time options bytes)) (sym is)
+    (broken_file skip kind time options bytes h)

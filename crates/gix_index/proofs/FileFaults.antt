@@ -22,12 +22,14 @@ use Rattle.gix_index.specs.declared.file.init.Error.TheVariants as errors
 
 module _ (skip : Bool) (kind : Kind) (time : FileTime) (options : Options) where
   -- what is read of these bytes is read of some bytes
-  pub read_some : (bytes : List ℕ) (r : Result File Error) → SaysFile r (IsFileAnswer skip kind time options bytes) → IfOk r (λ f. (b : List ℕ) × IsFileAnswer skip kind time options b (Ok (contents (state_of f), checksum_of f)))
+  pub read_some : (bytes : List ℕ) (r : Result File Error) → SaysFile r (IsFileAnswer skip kind time options bytes)
+      → IfOk r (λ f. (b : List ℕ) × IsFileAnswer skip kind time options b (Ok (contents (state_of f), checksum_of f)))
   read_some bytes (Ok f) h = (bytes, h)
   read_some bytes (Err e) h = tt
 
   -- what an error says of these bytes is a fault of some bytes
-  pub of_bytes : (bytes : List ℕ) (e : Error) → SaysFile (Err e) (IsFileAnswer skip kind time options bytes) → SaysOfFile skip kind time options e
+  pub of_bytes : (bytes : List ℕ) (e : Error) → SaysFile (Err e) (IsFileAnswer skip kind time options bytes)
+      → SaysOfFile skip kind time options e
   of_bytes bytes (errors.Io fault) h = absurd h
   of_bytes bytes (errors.Decode e) h = (bytes, h)
   of_bytes bytes (errors.LinkExtension e) h = absurd h
@@ -39,14 +41,17 @@ module _ (skip : Bool) (kind : Kind) (time : FileTime) (options : Options) where
   of_own (errors.LinkExtension e) h = absurd h
   of_own errors.Memory h = tt
 
-  pub of_shared : (split : Contents) (checksum : Option ObjectId) (link : LinkValue) (e : Error) → IsSplit skip kind time options split checksum link
+  pub of_shared : (split : Contents) (checksum : Option ObjectId) (link : LinkValue) (e : Error)
+      → IsSplit skip kind time options split checksum link
       → SaysOfFile skip kind time (expecting options link.shared) e → SaysOfFiles skip kind time options e
   of_shared split checksum link (errors.Io fault) is h = h
-  of_shared split checksum link (errors.Decode e) is h = inr (record { split = split; checksum = checksum; link = link; is_split = is; refuses = h })
+  of_shared split checksum link (errors.Decode e) is h =
+      inr (record { split = split; checksum = checksum; link = link; is_split = is; refuses = h })
   of_shared split checksum link (errors.LinkExtension e) is h = absurd h
   of_shared split checksum link errors.Memory is h = tt
 
-  pub of_link : (split : Contents) (checksum : Option ObjectId) (link : LinkValue) (bytes : List ℕ) (shared : Contents) (shared_checksum : Option ObjectId) (e : LinkError)
+  pub of_link : (split : Contents) (checksum : Option ObjectId) (link : LinkValue) (bytes : List ℕ) (shared : Contents)
+      (shared_checksum : Option ObjectId) (e : LinkError)
       → IsSplit skip kind time options split checksum link
       → IsFileAnswer skip kind time (expecting options link.shared) bytes (Ok (shared, shared_checksum))
       → SaysDissolve e link shared (without_link split) → SaysOfFiles skip kind time options (link_error_of e)

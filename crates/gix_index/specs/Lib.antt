@@ -1,9 +1,12 @@
--- The definitions and types that a caller's clauses cite, each under one name. A type has a name of its own here where
--- a definition's file has its name already.
+-- The definitions and types that a caller's clauses cite, each under one name; more stand in Hashing, Searching, Trees.
+-- A type has a name of its own here where a definition's file has its name already.
 pub mod Checked
 pub mod File
 pub mod FileFaults
+pub mod Hashing
 pub mod Linked
+pub mod Searching
+pub mod Trees
 pub mod VerifiedFile
 pub mod WrittenFile
 pub use Rattle.bstr.specs.Owned
@@ -12,7 +15,6 @@ pub use Rattle.index_bitmaps.specs.Ascending
 pub use Rattle.index_bitmaps.specs.Bitmap
 pub use Rattle.index_bitmaps.specs.Bits
 pub use Rattle.index_bitmaps.specs.UnpackingSteps
-pub use Rattle.index_parts.specs.Digest
 pub use Rattle.index_parts.specs.Id
 pub use Rattle.index_parts.specs.Limit
 pub use Rattle.index_parts.specs.Numbers
@@ -23,10 +25,9 @@ pub use Rattle.index_parts.specs.Taking
 pub use Rattle.index_metadata.specs.Flags
 pub use Rattle.index_objects.specs.Mode
 pub use Rattle.index_metadata.specs.ModeChange
-pub use Rattle.index_objects.specs.Object
 pub use Rattle.index_metadata.specs.Stat
 pub use Rattle.index_metadata.specs.StatMatch
-pub use Rattle.index_objects.specs.TreeObject
+pub use Rattle.index_objects.specs.Object
 pub use Rattle.index_entries.specs.Entries
 pub use Rattle.index_entries.specs.Entry
 pub use Rattle.index_entry_reading.specs.EntryFaults
@@ -43,19 +44,12 @@ pub use Rattle.index_entries.specs.Slice
 pub use Rattle.index_entries.specs.Sorted
 pub use Rattle.index_entries.specs.TreeOrder
 pub use Rattle.index_lookups.specs.Closest
-pub use Rattle.index_lookups.specs.Digits
-pub use Rattle.index_lookups.specs.FilterMap
-pub use Rattle.index_lookups.specs.Folded
 pub use Rattle.index_lookups.specs.Lookup
 pub use Rattle.index_lookups.specs.Range
-pub use Rattle.index_lookups.specs.Tables
-pub use Rattle.index_trees.specs.Leaves
 pub use Rattle.index_tree_writer.specs.Cached
 pub use Rattle.index_tree_writer.specs.Directory as TreeDirectory
-pub use Rattle.index_tree_writer.specs.Objects
 pub use Rattle.index_laws.specs.Laws
 pub use Rattle.index_laws.specs.Reading
-pub use Rattle.index_laws.specs.TreesAnswer
 pub use Rattle.index_tree_writer.specs.Refusals
 pub use Rattle.index_tree_writer.specs.Staged
 pub use Rattle.index_tree_writer.specs.TreeIds
@@ -99,11 +93,6 @@ pub use Rattle.index_state.specs.SoundState
 pub use Rattle.index_state.specs.State
 pub use Rattle.index_parts.specs.declared.hash.Kind
 pub use Rattle.index_parts.specs.declared.hash.ObjectId
-pub use Rattle.index_parts.specs.declared.hash.Hasher
-pub use Rattle.index_parts.specs.declared.hash.io.Plain
-pub use Rattle.index_parts.specs.declared.hash.io.Retrying
-pub use Rattle.index_parts.specs.declared.hash.io.Write as DigestWriter
-pub use Rattle.index_parts.specs.declared.hash.verify.Error as DigestError
 pub use Rattle.index_parts.specs.contracts.hash.ObjectIdOrd
 pub use Rattle.index_bitmaps.specs.declared.ewah.Vec as BitmapType
 pub use Rattle.index_bitmaps.specs.declared.ewah.iter.Malformed as BitmapMalformed
@@ -124,13 +113,6 @@ pub use Rattle.index_metadata.specs.declared.entry.at_rest.FlagsExtended as Exte
 pub use Rattle.index_metadata.specs.declared.fs.FileKind
 pub use Rattle.index_metadata.specs.declared.fs.Metadata
 pub use Rattle.index_objects.specs.declared.object.Kind as ObjectKind
-pub use Rattle.index_objects.specs.declared.object.find.Error as FindError
-pub use Rattle.index_objects.specs.declared.object.tree.EntryKind
-pub use Rattle.index_objects.specs.declared.object.tree.EntryMode
-pub use Rattle.index_objects.specs.declared.object.tree.EntryRef
-pub use Rattle.index_objects.specs.declared.object.tree.Entries as TreeEntries
-pub use Rattle.index_objects.specs.declared.object.tree.Malformed as MalformedTree
-pub use Rattle.index_objects.specs.declared.object.NoObjects
 pub use Rattle.index_entries.specs.declared.Entry as EntryType
 pub use Rattle.index_entries.specs.declared.Pathless
 pub use Rattle.index_entries.specs.declared.list.EntryList
@@ -139,14 +121,8 @@ pub use Rattle.index_entries.specs.declared.Version
 pub use Rattle.index_entry_reading.specs.declared.entry.Lent as LentEntry
 pub use Rattle.index_format.specs.declared.error.Header as HeaderError
 pub use Rattle.index_entries.specs.declared.write.VersionChoice
-pub use Rattle.index_lookups.specs.declared.folded.AccelerateLookup
-pub use Rattle.index_lookups.specs.declared.paths.FilterMapPaths
-pub use Rattle.index_lookups.specs.declared.tables.DirectoryTable
-pub use Rattle.index_trees.specs.declared.error.Error as FromTreeError
-pub use Rattle.index_trees.specs.declared.error.Traversal
 pub use Rattle.index_tree_writer.specs.declared.error.Error as WriteTreesError
 pub use Rattle.index_tree_writer.specs.declared.error.NameFault
-pub use Rattle.index_tree_writer.specs.declared.sink.Discard
 pub use Rattle.index_tree_writer.specs.declared.tree_ids.Error as TreeIdsError
 pub use Rattle.index_extensions.specs.declared.iter.Iter as ExtensionIter
 pub use Rattle.index_small_extensions.specs.declared.fs_monitor.FsMonitor as FsMonitorType

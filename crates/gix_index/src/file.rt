@@ -7,7 +7,7 @@ pub mod verify;
 pub mod write;
 
 ghost use Rattle.std.specs.Prelude.{◌≡◌, None};
-ghost use Rattle.std.specs.Borrow.{Lends, sem};
+ghost use Rattle.std.specs.Borrow.{sem};
 ghost use Rattle.std.specs.Path.{path_bytes, path_buf_bytes};
 ghost use Rattle.gix_index.specs.File.{state_of, path_of, checksum_of, IsSameFile, LendsState};
 

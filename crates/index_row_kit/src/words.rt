@@ -4,8 +4,7 @@ mod bytes;
 mod entries;
 mod text;
 
-ghost use Rattle.std.specs.Prelude.{◌≡◌, ℕ, false, List, [], ◌∷◌, map};
-ghost use Rattle.std.specs.Prelude.{IfNone, IfOk, IfSome, OnErr, OnOk};
+ghost use Rattle.std.specs.Prelude.{◌≡◌, ℕ, false, List, [], ◌∷◌, map, IfNone, IfOk, IfSome, OnErr, OnOk};
 ghost use Rattle.gix_index.specs.State.{PathsInStorage};
 
 use crate::fault::Fault;

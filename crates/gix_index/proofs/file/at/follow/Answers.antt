@@ -16,20 +16,33 @@ pub returns-in_default-clause-read : goal.returns-in_default-clause-read
 returns-in_default-clause-read g c =
     let t = c.take_link.ensures in
     let none = sym t.given ∙ ap (option_map link_of) c.in_default.is in
-    own (record { bytes = c.requires.read.0; split = contents (state_of c.args.file); read = c.requires.read.1; unfollowed = subst IsUnfollowed (sym none) tt; is = t.removed })
+    own (record {
+      bytes = c.requires.read.0;
+      split = contents (state_of c.args.file);
+      read = c.requires.read.1;
+      unfollowed = subst IsUnfollowed (sym none) tt;
+      is = t.removed;
+    })
 
 pub returns-then-is_null-clause-read : goal.returns-then-is_null-clause-read
 returns-then-is_null-clause-read g c =
     let t = c.take_link.ensures in
     let some = sym t.given ∙ ap (option_map link_of) c.in-Some.is in
-    own (record { bytes = c.requires.read.0; split = contents (state_of c.args.file); read = c.requires.read.1; unfollowed = subst IsUnfollowed (sym some) (sym c.is_null.ensures ∙ c.if-is_null.true); is = t.removed })
+    own (record {
+      bytes = c.requires.read.0;
+      split = contents (state_of c.args.file);
+      read = c.requires.read.1;
+      unfollowed = subst IsUnfollowed (sym some) (sym c.is_null.ensures ∙ c.if-is_null.true);
+      is = t.removed;
+    })
 
 pub returns-in_err-shared-clause-fault : goal.returns-in_err-shared-clause-fault
 returns-in_err-shared-clause-fault g c =
     let t = c.take_link.ensures in
     let r = c.args.reading in
     let p = err_from_is_err_and c.from_residual.result c.from_residual.ensures.1 in
-    rw (p.1, p.2) (of_shared r.skip_hash r.object_hash r.timestamp r.options (contents (state_of c.args.file)) (checksum_of c.args.file) (link_of c.in-Some.link) c.in_err-shared.field-0.0
+    rw (p.1, p.2) (of_shared r.skip_hash r.object_hash r.timestamp r.options (contents (state_of c.args.file))
+    (checksum_of c.args.file) (link_of c.in-Some.link) c.in_err-shared.field-0.0
     (record {
       bytes = c.requires.read.0;
       read = c.requires.read.1;
@@ -44,8 +57,10 @@ returns-in_err-dissolve_into-clause-fault g c =
     let r = c.args.reading in
     let s = c.in_ok-shared.ensures.read in
     let e = c.in_err-dissolve_into.field-0.0 in
-    let p = err_from_is_err_and c.from_residual-in_err-dissolve_into.result c.from_residual-in_err-dissolve_into.ensures.1 in
-    rw (p.1, p.2) (of_link r.skip_hash r.object_hash r.timestamp r.options (contents (state_of c.args.file)) (checksum_of c.args.file) (link_of c.in-Some.link) s.0 (contents c.in_ok-shared.shared) s.1 e
+    let p = err_from_is_err_and c.from_residual-in_err-dissolve_into.result
+    c.from_residual-in_err-dissolve_into.ensures.1 in
+    rw (p.1, p.2) (of_link r.skip_hash r.object_hash r.timestamp r.options (contents (state_of c.args.file))
+    (checksum_of c.args.file) (link_of c.in-Some.link) s.0 (contents c.in_ok-shared.shared) s.1 e
     (record {
       bytes = c.requires.read.0;
       read = c.requires.read.1;
@@ -53,7 +68,8 @@ returns-in_err-dissolve_into-clause-fault g c =
       followed = sym c.is_null.ensures ∙ c.if-is_null.false;
     })
     s.2
-    (subst (λ (v : Contents). SaysDissolve e (link_of c.in-Some.link) (contents c.in_ok-shared.shared) v) t.removed c.in_err-dissolve_into.ensures.fault))
+    (subst (λ (v : Contents). SaysDissolve e (link_of c.in-Some.link) (contents c.in_ok-shared.shared) v) t.removed
+    c.in_err-dissolve_into.ensures.fault))
 
 pub returns-clause-read : goal.returns-clause-read
 returns-clause-read g c =
@@ -73,12 +89,14 @@ returns-clause-read g c =
       shared = contents c.in_ok-shared.shared;
       shared_checksum = s.1;
       read_shared = s.2;
-      dissolved = subst (λ (v : Contents). IsDissolved (link_of c.in-Some.link) (contents c.in_ok-shared.shared) v (contents c.dissolve_into.new.split)) t.removed d;
+      dissolved = subst (λ (v : Contents). IsDissolved (link_of c.in-Some.link) (contents c.in_ok-shared.shared) v
+          (contents c.dissolve_into.new.split)) t.removed d;
     })
 
 pub returns-clause-ids : goal.returns-clause-ids
 returns-clause-ids g c =
-    c.dissolve_into.ensures.ids c.args.reading.object_hash (rw c.take_link.ensures.entries c.requires.ids) c.in_ok-shared.ensures.ids
+    c.dissolve_into.ensures.ids c.args.reading.object_hash
+    (rw c.take_link.ensures.entries c.requires.ids) c.in_ok-shared.ensures.ids
 
 pub returns-clause-storable : goal.returns-clause-storable
 returns-clause-storable g c =
@@ -87,4 +105,5 @@ returns-clause-storable g c =
     let mine = read_kind _ _ _ _ c.requires.read.0 (contents (state_of c.args.file)) _ c.requires.read.1 in
     let theirs = read_kind _ _ _ _ s.0 (contents c.in_ok-shared.shared) s.1 s.2 in
     let same = theirs ∙ sym mine ∙ sym (ap (λ (v : Contents). v.kind) t.removed) in
-    c.dissolve_into.ensures.storable (subst IsStorable (sym t.removed) (unlinked_storable (contents (state_of c.args.file)) c.requires.storable)) c.in_ok-shared.ensures.storable same
+    c.dissolve_into.ensures.storable (subst IsStorable (sym t.removed)
+    (unlinked_storable (contents (state_of c.args.file)) c.requires.storable)) c.in_ok-shared.ensures.storable same

@@ -7,7 +7,8 @@ returns-in-Err-clause-fault g c = c.read_fault.ensures _ _ _ _
 pub returns-in-Ok-clause-read : goal.returns-in-Ok-clause-read
 returns-in-Ok-clause-read g c =
     let r = c.args.reading in
-    read_some r.skip_hash r.object_hash r.timestamp r.options c.in-Ok.bytes.items c.decoded.result (rw c.deref.ensures.value at c.decoded.ensures.answer)
+    read_some r.skip_hash r.object_hash r.timestamp r.options c.in-Ok.bytes.items c.decoded.result
+    (rw c.deref.ensures.value at c.decoded.ensures.answer)
 
 pub returns-in-Err-bytes_of-clause-fault : goal.returns-in-Err-bytes_of-clause-fault
 returns-in-Err-bytes_of-clause-fault g c = c.read_fault-in-Err-bytes_of.ensures _ _ _ _

@@ -10,10 +10,12 @@ use Rattle.gix_index.proofs.file.image.put_hashed.Goals as goal
 pub returns-clause-answer : goal.returns-clause-answer
 returns-clause-answer g c =
     let v = contents c.args.state.now in
-    let h = c.in_ok-version.ensures.hashed 0 c.object_hash.result [] (c.new-hashing.ensures.kind, c.new-hashing.ensures.empty) in
+    let h = c.in_ok-version.ensures.hashed 0 c.object_hash.result []
+    (c.new-hashing.ensures.kind, c.new-hashing.ensures.empty) in
     record {
       version = search rules;
-      id = hashed_id v c.args.options _ c.requires.digest (c.finalize.ensures _ h.1 ∙ ap (λ (k : Kind). make_id k (digest k (body v c.args.options))) (h.0 ∙ c.object_hash.ensures));
+      id = hashed_id v c.args.options _ c.requires.digest (c.finalize.ensures _ h.1
+          ∙ ap (λ (k : Kind). make_id k (digest k (body v c.args.options))) (h.0 ∙ c.object_hash.ensures));
       bytes = search rules;
       too_many = search rules;
       nul_in_path = search rules;

@@ -5,4 +5,6 @@ use Rattle.gix_index.proofs.file.init.decoded.Goals as goal
 pub returns-in_err-state-clause-answer : goal.returns-in_err-state-clause-answer
 returns-in_err-state-clause-answer c =
     let p = err_from_is_err_and c.from_residual-in_err-state.result c.from_residual-in_err-state.ensures.1 in
-    rw (p.1, p.2) (error_says c.args.reading.skip_hash c.args.reading.object_hash c.args.reading.timestamp c.args.reading.options c.args.bytes.now c.in_err-state.field-0.0 c.in_ok-check.ensures.ok c.in_err-state.ensures.answer)
+    rw (p.1, p.2)
+    (error_says c.args.reading.skip_hash c.args.reading.object_hash c.args.reading.timestamp c.args.reading.options
+    c.args.bytes.now c.in_err-state.field-0.0 c.in_ok-check.ensures.ok c.in_err-state.ensures.answer)
