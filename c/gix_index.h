@@ -55,9 +55,15 @@ extern "C" {
 #define GIX_INDEX_STAGE_MASK 0x3000u
 #define GIX_INDEX_EXTENDED 0x4000u     /* the file has a second word of flags of the entry */
 #define GIX_INDEX_ASSUME_VALID 0x8000u
-#define GIX_INDEX_REMOVE 0x20000u /* in memory alone: gix_index_write leaves the row out */
+#define GIX_INDEX_REMOVE 0x20000u /* in memory alone: calls that write leave the row out */
 #define GIX_INDEX_INTENT_TO_ADD 0x20000000u
 #define GIX_INDEX_SKIP_WORKTREE 0x40000000u
+
+/* ---- What becomes of the cached tree of an index that is written over */
+
+#define GIX_INDEX_NO_TREE 0u       /* there is none */
+#define GIX_INDEX_TREE_KEPT 1u     /* it tells what the rows give, and is kept */
+#define GIX_INDEX_TREE_LEFT_OUT 2u /* it doesn't, and is left out */
 
 /* ---- Faults: what is told with GIX_INDEX_REFUSED */
 
@@ -70,17 +76,17 @@ extern "C" {
 #define GIX_INDEX_FAULT_TRAILER 7u   /* the bytes behind all entries and extensions aren't as many as the trailer has */
 #define GIX_INDEX_FAULT_DIGEST 8u    /* the digest isn't the trailer: damaged, of the other kind, or no index */
 /* (9 is a fault of files, which no call of these opens) */
-#define GIX_INDEX_FAULT_ORDER 10u       /* gix_index_check, gix_index_write: the entry at the place isn't above the one
+#define GIX_INDEX_FAULT_ORDER 10u       /* gix_index_check, calls that write: the entry at the place isn't above the one
                                          * before it */
 #define GIX_INDEX_FAULT_CACHED_TREE 11u /* gix_index_check alone: the cached tree doesn't hold together, or counts more
                                          * entries than there are */
-#define GIX_INDEX_FAULT_ROW 12u         /* gix_index_write alone: the row at the place can't stand in a file */
-#define GIX_INDEX_FAULT_COUNT 13u       /* gix_index_write alone: there are more rows than 4294967295 */
-#define GIX_INDEX_FAULT_LENGTH 14u      /* gix_index_write alone: the file would have more bytes than 4294967295 */
+#define GIX_INDEX_FAULT_ROW 12u         /* calls that write alone: the row at the place can't stand in a file */
+#define GIX_INDEX_FAULT_COUNT 13u       /* calls that write alone: there are more rows than 4294967295 */
+#define GIX_INDEX_FAULT_LENGTH 14u      /* calls that write alone: the file would have more bytes than 4294967295 */
 
 /* ---- Tables */
 
-/* An entry. Its path is the bytes of the table's paths from path_start on, path_len of them; two may share some. */
+/* An entry. Its path is the bytes of the table's paths from path_start on, path_len of them; rows may share some. */
 typedef struct {
     uint32_t ctime_secs; /* when the file's own data changed last, in seconds since the begin of 1970 */
     uint32_t ctime_nsecs;
@@ -109,7 +115,9 @@ typedef struct {
     size_t fault_place; /* REFUSED: the place that the fault names, or 0 */
     uint32_t fault;     /* REFUSED: one of the faults above */
     uint32_t version;   /* DONE, NO_ROOM: 2, 3 or 4 */
-    uint32_t has_link;  /* DONE, NO_ROOM: 1 where the index links to a shared one, which isn't followed; else 0 */
+    uint32_t has_link;  /* DONE, NO_ROOM: 1 where the index links to a shared one that wasn't followed; else 0 */
+    uint32_t of_shared; /* REFUSED by gix_index_read_split: 1 where the fault is of the shared index's bytes; else 0 */
+    uint8_t shared_id[32]; /* DONE, NO_ROOM: with has_link the shared index's id, as a row has one, or zeros for none */
 } gix_index_summary;
 
 /* Rows of a table by their places, counted from 0: those from start up to end, without this one. */
@@ -118,19 +126,21 @@ typedef struct {
     size_t end;
 } gix_index_places;
 
-/* How gix_index_write is to write. */
+/* How calls that write are to write. */
 typedef struct {
     uint32_t kind;    /* of the ids and of the digest, as each row has it */
     uint32_t version; /* 4; or 2 or 3, which both ask for 3 where a row has GIX_INDEX_EXTENDED, and else for 2 */
     bool skip_hash;   /* zeros in place of the digest, as git's index.skipHash asks */
 } gix_index_form;
 
-/* What gix_index_write says beside its status. It is written with each status; what isn't named there is 0. */
+/* What calls that write say beside their status. It is written with each status; what isn't named there is 0. */
 typedef struct {
     size_t bytes;       /* DONE, NO_ROOM: how many bytes the index has */
-    size_t fault_place; /* REFUSED: the row that the fault names, or 0 */
-    uint32_t fault;     /* REFUSED: ORDER, ROW, COUNT or LENGTH */
+    size_t fault_place; /* REFUSED: the place that the fault names, or 0 */
+    uint32_t fault;     /* REFUSED: ORDER, ROW, COUNT, LENGTH; or one of the bytes of the index that is written over */
     uint32_t version;   /* DONE, NO_ROOM: 2, 3 or 4 */
+    uint32_t tree;      /* gix_index_write_over, where the bytes of that index and the rows are let through: NO_TREE,
+                         * TREE_KEPT or TREE_LEFT_OUT */
 } gix_index_written;
 
 /* ---- Calls */
@@ -150,6 +160,20 @@ typedef struct {
 uint32_t gix_index_read(const uint8_t *bytes, size_t bytes_len, uint32_t kind, bool skip_hash, gix_index_row *rows,
                         size_t rows_len, uint8_t *paths, size_t paths_len, uint8_t *text, size_t text_len,
                         gix_index_summary *summary);
+
+/* Reads an index with the shared index that it links to, each from all bytes of its file: sharedindex.ID beside the
+ * index, where ID is the summary's shared_id in lower-case base 16, as gix_index_read tells it with has_link.
+ *
+ * Both are read as gix_index_read reads bytes. Where there is no link, or its id is zeros, shared isn't looked at, and
+ * its length may be 0. Else the trailer of shared has to be the id, or zeros, and the table has the entries of both,
+ * as the link joins them. With DONE and NO_ROOM has_link is 0, as the table lacks nothing; entries and path_bytes are
+ * those of both, and the version is that of bytes.
+ *
+ * REFUSED: the fault is one that gix_index_read tells, with of_shared one of shared; or LINK, and the two don't fit. A
+ * shared index of another id is DIGEST, with of_shared. All else is as there. */
+uint32_t gix_index_read_split(const uint8_t *bytes, size_t bytes_len, const uint8_t *shared, size_t shared_len,
+                              uint32_t kind, bool skip_hash, gix_index_row *rows, size_t rows_len, uint8_t *paths,
+                              size_t paths_len, uint8_t *text, size_t text_len, gix_index_summary *summary);
 
 /* Checks an index, given as all bytes of its file, as `index-tool check` does: the bytes are read as gix_index_read
  * reads them; the entries have to increase strictly by path, byte by byte, and then by stage, as the calls below
@@ -203,18 +227,33 @@ size_t gix_index_closest(const gix_index_row *rows, size_t rows_len, const uint8
  * It takes rows that strictly increase by path, byte by byte, and then by stage. Each has the kind of the form, and the
  * stage of its flags; its path lies among paths, and has bytes, and no NUL; its mode isn't GIX_INDEX_DIRECTORY, as the
  * mark of a sparse index is an extension. Rows may come from anywhere: paths may lie in any order, with others between
- * them. Of an id of SHA-1 the first 20 bytes count. A link is an extension too: of a table whose summary has has_link
- * the shared entries are missing, and shouldn't be written.
+ * them. Of an id of SHA-1 the first 20 bytes count. A table whose summary has has_link lacks the shared entries, and
+ * shouldn't be written; one of gix_index_read_split may be.
  *
  * DONE: the first told->bytes of bytes are the index. NO_ROOM: the same call with as many bytes as are told has room;
  * so a call with the length 0 asks for it. REFUSED: the fault is ROW, and the place is the first row that isn't such;
  * or ORDER, and all are such, and the place is the first that isn't above the one before it; or COUNT, or LENGTH.
- * MEMORY: malloc or realloc gave nothing. WRONG_NUMBER: the form's kind or version is none. With each status but DONE
- * bytes is as it was; with DONE, what lies behind the index is.
+ * MEMORY: malloc or realloc gave nothing, and the rows are such and in order. WRONG_NUMBER: the form's kind or version
+ * is none. With each status but DONE bytes is as it was; with DONE, what lies behind the index is.
  *
- * gix_index_file.h writes a table to a path, by way of a lock. */
+ * gix_index_file.h reads a path with its link followed, and writes a table to one, by way of a lock. */
 uint32_t gix_index_write(const gix_index_row *rows, size_t rows_len, const uint8_t *paths, size_t paths_len,
                          const gix_index_form *form, uint8_t *bytes, size_t bytes_len, gix_index_written *told);
+
+/* Writes a table as all bytes of an index that takes the place of another, given as all bytes of its file: mostly of
+ * the one that the table was read from. They are read as gix_index_read reads them, without skip_hash.
+ *
+ * Where that index is a sparse one, so is this, and rows may have the mode GIX_INDEX_DIRECTORY. Its cached tree is kept
+ * where it tells what the rows give: they have trees, as none is in conflict, and each directory of it has the id and
+ * the number of entries that `git write-tree` gives it. So a tree that a changed row makes wrong is left out;
+ * told->tree says which. No other extension is kept, but an end marker stands behind these two. A link isn't: the table
+ * is to have the shared entries.
+ *
+ * REFUSED: the fault is one that gix_index_read tells of index, and comes before those of the table; or as
+ * gix_index_write tells it. MEMORY: malloc or realloc gave nothing. All else is as there. */
+uint32_t gix_index_write_over(const gix_index_row *rows, size_t rows_len, const uint8_t *paths, size_t paths_len,
+                              const uint8_t *index, size_t index_len, const gix_index_form *form, uint8_t *bytes,
+                              size_t bytes_len, gix_index_written *told);
 
 #ifdef __cplusplus
 }

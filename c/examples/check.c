@@ -5,6 +5,7 @@
  *
  * It prints ok. The status is 1 where FILE can't be read or doesn't pass, with a line on standard error, and 2 for
  * wrong words. */
+#define _POSIX_C_SOURCE 200809L
 #include "table.h"
 
 int main(int argc, char **argv) {
@@ -13,7 +14,7 @@ int main(int argc, char **argv) {
         return 2;
     }
     size_t len;
-    uint8_t *bytes = bytes_of(argv[2], &len), text[8192];
+    uint8_t *bytes = gix_index_bytes_of(argv[2], &len), text[8192];
     if (!bytes) {
         fprintf(stderr, "check: %s: %s\n", argv[2], strerror(errno));
         return 1;

@@ -4,6 +4,7 @@
  *
  * The status is 1 where FILE can't be read or is no such index, with a line on standard error, and 2 for wrong
  * words. */
+#define _POSIX_C_SOURCE 200809L
 #include "table.h"
 
 static void print_row(const gix_index_row *row, const uint8_t *paths) {
@@ -20,9 +21,9 @@ int main(int argc, char **argv) {
         fputs("usage: list sha1|sha256 FILE\n", stderr);
         return 2;
     }
-    table t;
+    gix_index_table t;
     bool is_read = read_table("list", argv[2], kind_of(argv[1]), &t);
     for (size_t i = 0; is_read && i < t.said.entries; i++) print_row(t.rows + i, t.paths);
-    drop_table(&t);
+    gix_index_drop_table(&t);
     return is_read && fflush(stdout) == 0 ? 0 : 1;
 }

@@ -1,11 +1,11 @@
-/* Writes the entries of an index to another file, without extensions, by way of a lock.
+/* Writes an index to another file, by way of a lock, with its cached tree, where that tells what the entries give, and
+ * its mark of a sparse index, but no other extension. A link to a shared index is followed.
  *
  * Usage: rewrite sha1|sha256 FILE OUT [4]
  *
  * The version is 2, or 3 where the flags ask for it, or 4 with a last word. The status is 1 where FILE can't be read or
  * is no such index, or OUT can't be written, with a line on standard error, and 2 for wrong words. */
 #define _POSIX_C_SOURCE 200809L
-#include "gix_index_file.h"
 #include "table.h"
 
 /* Says on standard error why a table wasn't written. */
@@ -24,18 +24,15 @@ int main(int argc, char **argv) {
         fputs("usage: rewrite sha1|sha256 FILE OUT [4]\n", stderr);
         return 2;
     }
-    table t;
+    gix_index_table t;
     gix_index_form form = {.kind = kind_of(argv[1]), .version = is_four ? 4 : 2};
     gix_index_written told;
     uint32_t status = GIX_INDEX_REFUSED;
     if (read_table("rewrite", argv[2], form.kind, &t)) {
-        if (t.said.has_link) {
-            fprintf(stderr, "rewrite: %s: a link to a shared index isn't followed\n", argv[2]);
-        } else {
-            status = gix_index_write_file(argv[3], t.rows, t.said.entries, t.paths, t.said.path_bytes, &form, &told);
-            if (status != GIX_INDEX_DONE) complain(argv[3], status, &told);
-        }
+        status = gix_index_write_file_over(argv[3], t.rows, t.said.entries, t.paths, t.said.path_bytes, t.bytes,
+                                           t.bytes_len, &form, &told);
+        if (status != GIX_INDEX_DONE) complain(argv[3], status, &told);
     }
-    drop_table(&t);
+    gix_index_drop_table(&t);
     return status == GIX_INDEX_DONE ? 0 : 1;
 }

@@ -4,6 +4,7 @@
  *
  * INDEX is an index of SHA-1 with at most 10,000 entries; of a split one its own entries alone are looked at. The
  * status is 1 where it can't be read or is no such index, with a line on standard error, and 2 for wrong words. */
+#define _POSIX_C_SOURCE 200809L
 #include "table.h"
 
 static gix_index_row rows[10000];
@@ -26,7 +27,7 @@ int main(int argc, char **argv) {
         return 2;
     }
     size_t len;
-    uint8_t *bytes = bytes_of(argv[1], &len);
+    uint8_t *bytes = gix_index_bytes_of(argv[1], &len);
     if (!bytes) {
         fprintf(stderr, "sample: %s: %s\n", argv[1], strerror(errno));
         return 1;

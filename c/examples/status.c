@@ -47,14 +47,14 @@ static char *path_of(const char *folder, const gix_index_row *row, const uint8_t
 }
 
 /* Whether a row has the path of the one before it, as in a conflict. */
-static bool is_again(const table *t, size_t i) {
+static bool is_again(const gix_index_table *t, size_t i) {
     if (i == 0) return false;
     const gix_index_row *one = t->rows + i - 1, *two = t->rows + i;
-    const uint8_t *path = t->paths + one->path_start, *other = t->paths + two->path_start;
-    return one->path_len == two->path_len && !memcmp(path, other, one->path_len);
+    const uint8_t *path = t->paths + one->path_start, *next = t->paths + two->path_start;
+    return one->path_len == two->path_len && !memcmp(path, next, one->path_len);
 }
 
-static bool print_status(const char *folder, const table *t, time_t written) {
+static bool print_status(const char *folder, const gix_index_table *t, time_t written) {
     for (size_t i = 0; i < t->said.entries; i++) {
         const gix_index_row *row = t->rows + i;
         char *path = path_of(folder, row, t->paths);
@@ -76,13 +76,13 @@ int main(int argc, char **argv) {
         return 2;
     }
     struct stat index;
-    table t = {0};
+    gix_index_table t = {0};
     char *path = malloc(strlen(argv[2]) + sizeof "/.git/index");
     bool is_done = path && sprintf(path, "%s/.git/index", argv[2]) > 0 && stat(path, &index) == 0;
     if (!is_done) fprintf(stderr, "status: %s has no index\n", argv[2]);
     is_done = is_done && read_table("status", path, kind_of(argv[1]), &t);
     is_done = is_done && print_status(argv[2], &t, index.st_mtim.tv_sec);
-    drop_table(&t);
+    gix_index_drop_table(&t);
     free(path);
     return is_done && fflush(stdout) == 0 ? 0 : 1;
 }

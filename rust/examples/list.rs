@@ -1,4 +1,5 @@
-//! Lists the entries of an index as `git ls-files -s` does, with paths as they are.
+//! Lists the entries of an index as `git ls-files -s` does, with paths as they are. A link to a shared index is
+//! followed.
 //!
 //! Usage: list sha1|sha256 FILE
 //!
@@ -37,8 +38,7 @@ fn main() -> ExitCode {
             return ExitCode::from(2);
         }
     };
-    let index = std::fs::read(file).map_err(|error| error.to_string());
-    let index = index.and_then(|bytes| Index::from_bytes(&bytes, kind).map_err(|error| error.to_string()));
+    let index = Index::open(file, kind).map_err(|error| error.to_string());
     match index.and_then(|index| print(&index).map_err(|error| error.to_string())) {
         Ok(()) => ExitCode::SUCCESS,
         Err(error) => {

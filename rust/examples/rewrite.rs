@@ -1,4 +1,5 @@
-//! Writes the entries of an index to another file, without extensions, by way of a lock.
+//! Writes an index to another file, by way of a lock, with its cached tree, where that tells what the entries give, and
+//! its mark of a sparse index, but no other extension. A link to a shared index is followed.
 //!
 //! Usage: rewrite sha1|sha256 FILE OUT [4]
 //!
@@ -7,13 +8,14 @@
 
 use gix_index_proved::write::{Options, VersionChoice};
 use gix_index_proved::{Error, Index, Kind};
-use std::env;
+use std::{env, fs};
 use std::process::ExitCode;
 
 /// Reads the one and writes the other, in this version.
 fn rewrite(kind: Kind, file: &str, to: &str, version: VersionChoice) -> Result<(), Error> {
     let index = Index::open(file, kind)?;
-    index.write(to, Options { version, ..Options::default() })
+    let bytes = fs::read(file).map_err(|error| Error::Io { path: file.into(), error })?;
+    index.write_over(to, &bytes, Options { version, ..Options::default() }).map(|_| ())
 }
 
 fn main() -> ExitCode {

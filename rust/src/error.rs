@@ -24,13 +24,13 @@ pub enum Fault {
     /// The digest isn't the trailer.
     Digest,
     /// The entry at this place, counted from 0, isn't above the one before it, by path, then stage.
-    /// [`verify`](crate::verify) and [`Index::write_to`](crate::Index::write_to) alone tell so.
+    /// [`verify`](crate::verify) and calls that write alone tell so.
     Order(usize),
     /// The cached tree doesn't hold together, or counts more entries than there are. [`verify`](crate::verify) alone
     /// tells so.
     CachedTree,
     /// The entry at this place, counted from 0, can't be written: its path is empty or has a NUL, or it is a directory
-    /// of a sparse index.
+    /// of a sparse index where no such index is written over.
     Row(usize),
     /// There are more entries than the 4294967295 that a file can count.
     Count,
@@ -46,6 +46,13 @@ pub enum Fault {
 pub enum Error {
     /// The bytes are no index of this kind, or damaged, or don't pass a check; or the entries can't be written.
     Refused {
+        /// What is wrong.
+        fault: Fault,
+        /// The same in words.
+        text: String,
+    },
+    /// The bytes of the shared index are no index of this kind, or damaged, or another's.
+    RefusedShared {
         /// What is wrong.
         fault: Fault,
         /// The same in words.
@@ -101,7 +108,7 @@ impl Error {
             Fault::Order(place) => format!("entry {place} isn't above the one before it, by path and stage"),
             Fault::Count => "the index has more entries than the 4294967295 that a file can count".into(),
             Fault::Length => "the index would take more bytes than the 4294967295 that a file can have".into(),
-            _ => "the index can't be written".into(),
+            fault => format!("the index that is written over is refused: {fault:?}"),
         };
         Error::Refused { fault, text }
     }
@@ -110,7 +117,7 @@ impl Error {
     pub(crate) fn of(summary: &Summary, text: &[u8]) -> Error {
         let fault = Fault::of(summary.fault, summary.fault_place);
         let text = String::from_utf8_lossy(&text[..summary.text_bytes]).into_owned();
-        Error::Refused { fault, text }
+        if summary.of_shared == 0 { Error::Refused { fault, text } } else { Error::RefusedShared { fault, text } }
     }
 }
 
@@ -118,6 +125,7 @@ impl fmt::Display for Error {
     fn fmt(&self, f: &mut fmt::Formatter<'_>) -> fmt::Result {
         match self {
             Error::Refused { text, .. } => f.write_str(text),
+            Error::RefusedShared { text, .. } => write!(f, "its shared index: {text}"),
             Error::Memory => f.write_str("out of memory for an index"),
             Error::Split => f.write_str("the index is split, and its link to a shared index isn't followed"),
             Error::Id { expected, actual } => {

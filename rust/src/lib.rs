@@ -8,13 +8,13 @@
 mod edit;
 mod error;
 mod raw;
+mod read;
 pub mod write;
 
 pub use edit::EntryMut;
 pub use error::{Error, Fault};
 use raw::{Places, Row, Summary};
 use std::ops::Range;
-use std::path::Path;
 
 /// Which hash function a repository names its objects by.
 #[derive(Clone, Copy, Debug, PartialEq, Eq, Hash)]
@@ -155,6 +155,7 @@ pub struct Index {
     kind: Kind,
     version: u32,
     has_link: bool,
+    shared_id: [u8; 32],
 }
 
 /// So many copies of a value, or want of memory.
@@ -187,69 +188,6 @@ pub fn verify(bytes: &[u8], kind: Kind) -> Result<(), Error> {
 }
 
 impl Index {
-    /// Reads an index from all bytes of its file. The digest of all bytes but the trailer is compared with the trailer,
-    /// unless that is null. A link to a shared index isn't followed: [`has_link`](Index::has_link) tells of it.
-    pub fn from_bytes(bytes: &[u8], kind: Kind) -> Result<Index, Error> {
-        // The sizes come first, without the digest, unless there is a fault: a wrong digest is told before all others.
-        let (mut rows, mut paths) = (Vec::new(), Vec::new());
-        let mut said = Index::read(bytes, kind, true, &mut rows, &mut paths)
-            .or_else(|_| Index::read(bytes, kind, false, &mut rows, &mut paths))?;
-        loop {
-            rows = room(Row::default(), said.1.entries)?;
-            paths = room(0, said.1.path_bytes)?;
-            said = Index::read(bytes, kind, false, &mut rows, &mut paths)?;
-            if let (true, summary) = said {
-                return Ok(Index { rows, paths, kind, version: summary.version, has_link: summary.has_link != 0 });
-            }
-        }
-    }
-
-    /// Reads the file at a path as [`from_bytes`](Index::from_bytes) reads bytes. A split index is refused, as it
-    /// lacks the entries that its shared index has.
-    pub fn open(path: impl AsRef<Path>, kind: Kind) -> Result<Index, Error> {
-        let path = path.as_ref();
-        let bytes = std::fs::read(path).map_err(|error| Error::Io { path: path.into(), error })?;
-        let index = Index::from_bytes(&bytes, kind)?;
-        if index.has_link {
-            return Err(Error::Split);
-        }
-        Ok(index)
-    }
-
-    /// Whether the table was filled, which lacks room else, and what was said.
-    fn read(
-        bytes: &[u8],
-        kind: Kind,
-        skip_hash: bool,
-        rows: &mut [Row],
-        paths: &mut [u8],
-    ) -> Result<(bool, Summary), Error> {
-        let mut text = [0; 300];
-        let mut summary = Summary::default();
-        // SAFETY: each pointer goes with the length of its slice; those that are written through are distinct.
-        let status = unsafe {
-            raw::gix_index_read(
-                bytes.as_ptr(),
-                bytes.len(),
-                kind.number(),
-                skip_hash,
-                rows.as_mut_ptr(),
-                rows.len(),
-                paths.as_mut_ptr(),
-                paths.len(),
-                text.as_mut_ptr(),
-                text.len(),
-                &mut summary,
-            )
-        };
-        match status {
-            raw::DONE => Ok((true, summary)),
-            raw::NO_ROOM => Ok((false, summary)),
-            raw::MEMORY => Err(Error::Memory),
-            _ => Err(Error::of(&summary, &text)),
-        }
-    }
-
     /// The kind of the ids.
     pub fn object_hash(&self) -> Kind {
         self.kind
@@ -263,6 +201,13 @@ impl Index {
     /// Whether the bytes link to a shared index, which wasn't followed.
     pub fn has_link(&self) -> bool {
         self.has_link
+    }
+
+    /// The id of the shared index that the bytes link to, which wasn't followed. None where there is no link, or its id
+    /// is null, as there is none to follow then.
+    pub fn shared_id(&self) -> Option<&[u8]> {
+        let id = &self.shared_id[..self.kind.len_in_bytes()];
+        (self.has_link && id.iter().any(|byte| *byte != 0)).then_some(id)
     }
 
     fn lend<'a>(&'a self, row: &'a Row) -> Entry<'a> {

@@ -5,6 +5,9 @@ pub const MEMORY: u32 = 2;
 pub const NO_ROOM: u32 = 3;
 pub const NONE: u32 = 5;
 
+pub const TREE_KEPT: u32 = 1;
+pub const TREE_LEFT_OUT: u32 = 2;
+
 pub const SHA1: u32 = 1;
 pub const SHA256: u32 = 2;
 
@@ -39,6 +42,8 @@ pub struct Summary {
     pub fault: u32,
     pub version: u32,
     pub has_link: u32,
+    pub of_shared: u32,
+    pub shared_id: [u8; 32],
 }
 
 #[repr(C)]
@@ -63,12 +68,29 @@ pub struct Written {
     pub fault_place: usize,
     pub fault: u32,
     pub version: u32,
+    pub tree: u32,
 }
 
 unsafe extern "C" {
     pub fn gix_index_read(
         bytes: *const u8,
         bytes_len: usize,
+        kind: u32,
+        skip_hash: bool,
+        rows: *mut Row,
+        rows_len: usize,
+        paths: *mut u8,
+        paths_len: usize,
+        text: *mut u8,
+        text_len: usize,
+        summary: *mut Summary,
+    ) -> u32;
+
+    pub fn gix_index_read_split(
+        bytes: *const u8,
+        bytes_len: usize,
+        shared: *const u8,
+        shared_len: usize,
         kind: u32,
         skip_hash: bool,
         rows: *mut Row,
@@ -124,6 +146,19 @@ unsafe extern "C" {
         rows_len: usize,
         paths: *const u8,
         paths_len: usize,
+        form: *const Form,
+        bytes: *mut u8,
+        bytes_len: usize,
+        told: *mut Written,
+    ) -> u32;
+
+    pub fn gix_index_write_over(
+        rows: *const Row,
+        rows_len: usize,
+        paths: *const u8,
+        paths_len: usize,
+        index: *const u8,
+        index_len: usize,
         form: *const Form,
         bytes: *mut u8,
         bytes_len: usize,

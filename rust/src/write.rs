@@ -21,13 +21,34 @@ pub enum VersionChoice {
     V4,
 }
 
-/// How to write. There are no extensions.
+/// How to write.
 #[derive(Clone, Copy, Debug, Default, PartialEq, Eq, Hash)]
 pub struct Options {
     /// Which version is written.
     pub version: VersionChoice,
     /// Whether the trailer is zeros in place of the digest (git's `index.skipHash`).
     pub skip_hash: bool,
+}
+
+/// What became of the cached tree of an index that was written over (gitformat-index, "Cache tree").
+#[derive(Clone, Copy, Debug, PartialEq, Eq, Hash)]
+pub enum CachedTree {
+    /// There was none.
+    None,
+    /// It is kept, as it tells what the entries give.
+    Kept,
+    /// It is left out, as it doesn't.
+    LeftOut,
+}
+
+impl CachedTree {
+    fn of(number: u32) -> CachedTree {
+        match number {
+            raw::TREE_KEPT => CachedTree::Kept,
+            raw::TREE_LEFT_OUT => CachedTree::LeftOut,
+            _ => CachedTree::None,
+        }
+    }
 }
 
 /// The path with `.lock` behind it.
@@ -50,30 +71,64 @@ fn replace(path: &Path, lock: &Path, bytes: &[u8]) -> Result<(), Error> {
 }
 
 impl Index {
-    /// All bytes of an index with these entries and no extension, as [`write_to`](Index::write_to) gives them, or how
-    /// many they are, where the room is smaller.
-    fn put(&self, options: Options, bytes: &mut [u8]) -> Result<Result<usize, usize>, Error> {
+    /// Puts the index into the room, over another where its bytes are given, and tells of it; Err where there is less
+    /// room than is told.
+    fn put(&self, over: Option<&[u8]>, options: Options, bytes: &mut [u8]) -> Result<Result<Written, usize>, Error> {
         let version = if options.version == VersionChoice::V4 { 4 } else { 2 };
         let form = Form { kind: self.kind.number(), version, skip_hash: options.skip_hash };
         let mut told = Written::default();
+        let (rows, paths) = (&self.rows, &self.paths);
         // SAFETY: each pointer goes with the length of its slice, and what is written is apart from the rest.
         let status = unsafe {
-            raw::gix_index_write(
-                self.rows.as_ptr(),
-                self.rows.len(),
-                self.paths.as_ptr(),
-                self.paths.len(),
-                &form,
-                bytes.as_mut_ptr(),
-                bytes.len(),
-                &mut told,
-            )
+            match over {
+                None => raw::gix_index_write(
+                    rows.as_ptr(),
+                    rows.len(),
+                    paths.as_ptr(),
+                    paths.len(),
+                    &form,
+                    bytes.as_mut_ptr(),
+                    bytes.len(),
+                    &mut told,
+                ),
+                Some(index) => raw::gix_index_write_over(
+                    rows.as_ptr(),
+                    rows.len(),
+                    paths.as_ptr(),
+                    paths.len(),
+                    index.as_ptr(),
+                    index.len(),
+                    &form,
+                    bytes.as_mut_ptr(),
+                    bytes.len(),
+                    &mut told,
+                ),
+            }
         };
         match status {
-            raw::DONE => Ok(Ok(told.bytes)),
+            raw::DONE => Ok(Ok(told)),
             raw::NO_ROOM => Ok(Err(told.bytes)),
             raw::MEMORY => Err(Error::Memory),
             _ => Err(Error::of_written(&told)),
+        }
+    }
+
+    /// All bytes of the index, and what became of the other's cached tree.
+    fn image(&self, over: Option<&[u8]>, options: Options) -> Result<(Vec<u8>, CachedTree), Error> {
+        if self.has_link {
+            return Err(Error::Split);
+        }
+        let paths: usize = self.rows.iter().map(|row| row.path_len).sum();
+        let most = BESIDE_ENTRIES + PER_ENTRY * self.rows.len() + paths;
+        let mut bytes = room(0, most + over.map_or(0, <[u8]>::len))?;
+        loop {
+            match self.put(over, options, &mut bytes)? {
+                Ok(told) => {
+                    bytes.truncate(told.bytes);
+                    return Ok((bytes, CachedTree::of(told.tree)));
+                }
+                Err(len) => bytes = room(0, len)?,
+            }
         }
     }
 
@@ -85,20 +140,16 @@ impl Index {
     /// [`Fault::Order`](crate::Fault::Order). An index with a link is [`Error::Split`], as it lacks the entries that
     /// its shared index has.
     pub fn write_to(&self, options: Options) -> Result<Vec<u8>, Error> {
-        if self.has_link {
-            return Err(Error::Split);
-        }
-        let paths: usize = self.rows.iter().map(|row| row.path_len).sum();
-        let mut bytes = room(0, BESIDE_ENTRIES + PER_ENTRY * self.rows.len() + paths)?;
-        loop {
-            match self.put(options, &mut bytes)? {
-                Ok(len) => {
-                    bytes.truncate(len);
-                    return Ok(bytes);
-                }
-                Err(len) => bytes = room(0, len)?,
-            }
-        }
+        Ok(self.image(None, options)?.0)
+    }
+
+    /// The same, in place of an index, given as all bytes of its file: mostly of the one that this was read from.
+    ///
+    /// The mark of a sparse index is kept, and then entries may be directories of one. So is its cached tree, where it
+    /// tells what the entries give, as `git write-tree` makes trees of them; else it is left out, and which is told.
+    /// [`Error::Refused`] tells a fault of those bytes first, as [`from_bytes`](Index::from_bytes) does, without words.
+    pub fn write_to_over(&self, index: &[u8], options: Options) -> Result<(Vec<u8>, CachedTree), Error> {
+        self.image(Some(index), options)
     }
 
     /// Writes the index to a path, by way of the lock file `<path>.lock`, which keeps other writers out.
@@ -110,5 +161,12 @@ impl Index {
     pub fn write(&self, path: impl AsRef<Path>, options: Options) -> Result<(), Error> {
         let bytes = self.write_to(options)?;
         replace(path.as_ref(), &lock_path(path.as_ref()), &bytes)
+    }
+
+    /// The same of what [`write_to_over`](Index::write_to_over) gives over these bytes of an index.
+    pub fn write_over(&self, path: impl AsRef<Path>, index: &[u8], options: Options) -> Result<CachedTree, Error> {
+        let (bytes, tree) = self.write_to_over(index, options)?;
+        replace(path.as_ref(), &lock_path(path.as_ref()), &bytes)?;
+        Ok(tree)
     }
 }

@@ -1,5 +1,6 @@
 -- What stands at a directory or below it, among rows that were searched.
-use Rattle.std.proofs.Common.{◌≡◌, ℕ, ◌<◌, ◌≤◌, ◌⊎◌, inl, inr, Bool, true, false, List, [], ◌∷◌, ◌++◌, length, get_or, map, Some, None, Err, Ok, refl, sym, ap, ◌∙◌, subst, arith}
+use Rattle.std.proofs.Common.{◌≡◌, ℕ, ◌<◌, ◌≤◌, ◌⊎◌, inl, inr, Bool, true, false, List, [], ◌∷◌, ◌++◌, length, get_or}
+use Rattle.std.proofs.Common.{map, Some, None, Err, Ok, refl, sym, ap, ◌∙◌, subst, arith}
 use Rattle.std.proofs.Math.ListN.{get_or-map as shift}
 use Rattle.std.specs.List.{AllWithin, HoldsAt, list_any, position}
 use Rattle.std.specs.Ordering.{is_eq, is_lt}
@@ -30,17 +31,20 @@ module _ (directory : List ℕ) (rs : List Record) (low : ℕ) where
   many : length (prefix_answers front rs) ≡ length rs
   many = length-map rs (λ (r : Record). prefix_cmp front r.path)
 
-  pub below_here : low < length rs → HoldsAt (λ r. prefix_cmp front r.path ≡ Equal) rs low → (low < length rs) × HoldsAt (λ r. is_below directory r ≡ true) rs low
+  pub below_here : low < length rs → HoldsAt (λ r. prefix_cmp front r.path ≡ Equal) rs low → (low < length rs)
+      × HoldsAt (λ r. is_below directory r ≡ true) rs low
   below_here within here = below_found directory rs (Ok low) (record { in_range = within; here = here })
 
   module _ (ordered : IsOrderedByPath rs) (parted : IsPartedAt false (prefix_answers front rs) low) where
-    pub first_is : low < length rs → HoldsAt (λ r. prefix_cmp front r.path ≡ Equal) rs low → Some low ≡ position (is_below directory) rs
+    pub first_is : low < length rs → HoldsAt (λ r. prefix_cmp front r.path ≡ Equal) rs low
+        → Some low ≡ position (is_below directory) rs
     first_is within here = below_first directory rs (Ok low) (record { in_range = within; here = here }) parted tt
 
     none_is : IsGapAt (λ r. prefix_cmp front r.path) rs low → None ≡ position (is_below directory) rs
     none_is gap = below_first directory rs (Err low) tt tt gap
 
-    pub none_here : (o : Ordering) → low < length rs → HoldsAt (λ r. prefix_cmp front r.path ≡ o) rs low → is_eq o ≡ false → None ≡ position (is_below directory) rs
+    pub none_here : (o : Ordering) → low < length rs → HoldsAt (λ r. prefix_cmp front r.path ≡ o) rs low
+        → is_eq o ≡ false → None ≡ position (is_below directory) rs
     none_here o within read other =
         let inside : low < length (prefix_answers front rs) = omega (arith, within, many) in
         none_is (gap_of (λ (r : Record). prefix_cmp front r.path) rs low
@@ -55,11 +59,13 @@ module _ (directory : List ℕ) (rs : List Record) (low : ℕ) where
 
 -- ---- where paths begin that aren't below the directory's
 
-same_answers : (f g : Record → Ordering) (b : Bool) (rs : List Record) (from to : ℕ) → to ≤ length rs → ((r : Record) → is_lt (g r) ≡ is_lt (f r))
+same_answers : (f g : Record → Ordering) (b : Bool) (rs : List Record) (from to : ℕ) → to ≤ length rs
+    → ((r : Record) → is_lt (g r) ≡ is_lt (f r))
     → AllWithin (λ o. is_lt o ≡ b) (map f rs) from to → AllWithin (λ o. is_lt o ≡ b) (map g rs) from to
 same_answers f g b [] from to fits same h k d l u = absurd (omega arith)
 same_answers f g b (x ∷ rs) from to fits same h k d l u =
-    ap is_lt (at_map g (x ∷ rs) k x d (omega arith)) ∙ same (get_or (x ∷ rs) k x) ∙ ap is_lt (sym (at_map f (x ∷ rs) k x d (omega arith))) ∙ h k d l u
+    ap is_lt (at_map g (x ∷ rs) k x d (omega arith)) ∙ same (get_or (x ∷ rs) k x) ∙ ap is_lt
+    (sym (at_map f (x ∷ rs) k x d (omega arith))) ∙ h k d l u
 
 module _ (directory : List ℕ) (rs : List Record) (low : ℕ) where
   abbrev by_front : Record → Ordering
@@ -74,12 +80,17 @@ module _ (directory : List ℕ) (rs : List Record) (low : ℕ) where
       let paths : length (map by_path rs) ≡ length rs = length-map rs by_path in
       record {
         in_range = omega (arith, h.in_range, fronts, paths);
-        before = same_answers by_front by_path true rs 0 low (omega (arith, h.in_range, fronts)) (λ r. below_by_prefix r.path directory) h.before;
-        behind = λ k d l u. same_answers by_front by_path false rs low (length rs) (omega arith) (λ r. below_by_prefix r.path directory) (λ i e a c. h.behind i e a (omega (arith, c, fronts))) k d l (omega (arith, u, paths));
+        before = same_answers by_front by_path true rs 0 low (omega (arith, h.in_range, fronts))
+            (λ r. below_by_prefix r.path directory) h.before;
+        behind = λ k d l u. same_answers by_front by_path false rs low (length rs) (omega arith)
+            (λ r. below_by_prefix r.path directory) (λ i e a c. h.behind i e a (omega (arith, c, fronts))) k d l
+            (omega (arith, u, paths));
       }
 
-  pub parted_at : IsPartedAt false (prefix_answers (directory ++ []) rs) low → IsPartedAt false (map (λ r. path_cmp r.path directory) rs) low
-  parted_at h = parted_paths (subst (λ (p : List ℕ). IsPartedAt false (prefix_answers p rs) low) (append-nil directory) h)
+  pub parted_at : IsPartedAt false (prefix_answers (directory ++ []) rs) low
+      → IsPartedAt false (map (λ r. path_cmp r.path directory) rs) low
+  parted_at h = parted_paths
+      (subst (λ (p : List ℕ). IsPartedAt false (prefix_answers p rs) low) (append-nil directory) h)
 
   above_from : (o : Ordering) → is_lt o ≡ false → is_eq o ≡ false → o ≡ Greater
   above_from Less e f = cc
@@ -90,28 +101,36 @@ module _ (directory : List ℕ) (rs : List Record) (low : ℕ) where
     -- those in front of the first that isn't below are elsewhere
     front_other : (k : ℕ) (d : Record) → k < low → is_at directory (get_or rs k d) ≡ false
     front_other k d before =
-        let less : path_cmp (get_or rs k d).path directory ≡ Less = sym (shift by_path rs k d) ∙ less_from _ (parted.before k (by_path d) (omega arith) before) in
+        let less : path_cmp (get_or rs k d).path directory ≡ Less =
+        sym (shift by_path rs k d) ∙ less_from _ (parted.before k (by_path d) (omega arith) before) in
         sym (at_is directory (get_or rs k d)) ∙ ap is_eq less
 
     -- and so are those from one on that is elsewhere
-    module _ (o : IsOrderedByPath rs) (place : ℕ) (from : low ≤ place) (within : place < length rs) (other : HoldsAt (λ r. is_at directory r ≡ false) rs place) where
+    module _ (o : IsOrderedByPath rs) (place : ℕ) (from : low ≤ place) (within : place < length rs)
+        (other : HoldsAt (λ r. is_at directory r ≡ false) rs place) where
       above : (d : Record) → path_cmp (get_or rs place d).path directory ≡ Greater
-      above d = above_from _ (ap is_lt (sym (shift by_path rs place d)) ∙ parted.behind place (by_path d) from (omega (arith, within, length-map rs by_path))) (at_is directory (get_or rs place d) ∙ other d)
+      above d = above_from _
+          (ap is_lt (sym (shift by_path rs place d)) ∙ parted.behind place (by_path d) from
+          (omega (arith, within, length-map rs by_path))) (at_is directory (get_or rs place d) ∙ other d)
 
       behind_other : (k : ℕ) (d : Record) → place ≤ k → k < length rs → is_at directory (get_or rs k d) ≡ false
       behind_other k d low high = by (cases_lt place k)
         where
           by : (place < k) ⊎ (k ≤ place) → is_at directory (get_or rs k d) ≡ false
-          by (inl after) = sym (at_is directory (get_or rs k d)) ∙ ap is_eq ((split_by_path directory rs o).above place k d after high (above d))
-          by (inr upto) = let same : k ≡ place = omega arith in ap (λ (i : ℕ). is_at directory (get_or rs i d)) same ∙ other d
+          by (inl after) = sym (at_is directory (get_or rs k d)) ∙ ap is_eq
+              ((split_by_path directory rs o).above place k d after high (above d))
+          by (inr upto) = let same : k ≡ place =
+              omega arith in ap (λ (i : ℕ). is_at directory (get_or rs i d)) same ∙ other d
 
     -- none stands at the directory, if none does where those begin that aren't below it
-    pub none_at : IsOrderedByPath rs → (low < length rs → HoldsAt (λ r. is_at directory r ≡ false) rs low) → list_any (is_at directory) rs ≡ false
+    pub none_at : IsOrderedByPath rs → (low < length rs → HoldsAt (λ r. is_at directory r ≡ false) rs low)
+        → list_any (is_at directory) rs ≡ false
     none_at o other = any_none (is_at directory) rs (λ k d within. by k d within (cases_lt k low))
       where
         by : (k : ℕ) (d : Record) → k < length rs → (k < low) ⊎ (low ≤ k) → is_at directory (get_or rs k d) ≡ false
         by k d within (inl before) = front_other k d before
-        by k d within (inr from) = let inside : low < length rs = omega arith in behind_other o low (omega arith) inside (other inside) k d from within
+        by k d within (inr from) = let inside : low < length rs =
+            omega arith in behind_other o low (omega arith) inside (other inside) k d from within
 
     -- ---- the first that is the directory itself, where those from low up to a place aren't
 
@@ -126,15 +145,21 @@ module _ (directory : List ℕ) (rs : List Record) (low : ℕ) where
           by (inl front) = not_itself (get_or rs k d) (front_other k d front)
           by (inr from) = passed k d from before
 
-      pub itself_at : place < length rs → HoldsAt (λ r. is_itself directory r ≡ true) rs place → Some place ≡ position (is_itself directory) rs
-      itself_at within here = sym (position_is (is_itself directory) rs place within (λ k d from before. so_far k d before) here)
+      pub itself_at : place < length rs → HoldsAt (λ r. is_itself directory r ≡ true) rs place
+          → Some place ≡ position (is_itself directory) rs
+      itself_at within here =
+          sym (position_is (is_itself directory) rs place within (λ k d from before. so_far k d before) here)
 
       pub none_itself : length rs ≤ place → None ≡ position (is_itself directory) rs
       none_itself past = sym (position_none (is_itself directory) rs (λ k d within. so_far k d (omega arith)))
 
-      pub none_past : IsOrderedByPath rs → low ≤ place → place < length rs → HoldsAt (λ r. is_at directory r ≡ false) rs place → None ≡ position (is_itself directory) rs
-      none_past o from within other = sym (position_none (is_itself directory) rs (λ k d inside. by k d inside (cases_lt k place)))
+      pub none_past : IsOrderedByPath rs → low ≤ place → place < length rs
+          → HoldsAt (λ r. is_at directory r ≡ false) rs place → None ≡ position (is_itself directory) rs
+      none_past o from within other =
+          sym (position_none (is_itself directory) rs (λ k d inside. by k d inside (cases_lt k place)))
         where
-          by : (k : ℕ) (d : Record) → k < length rs → (k < place) ⊎ (place ≤ k) → is_itself directory (get_or rs k d) ≡ false
+          by : (k : ℕ) (d : Record) → k < length rs → (k < place) ⊎ (place ≤ k)
+              → is_itself directory (get_or rs k d) ≡ false
           by k d inside (inl before) = so_far k d before
-          by k d inside (inr behind) = not_itself (get_or rs k d) (behind_other o place from within other k d behind inside)
+          by k d inside (inr behind) =
+              not_itself (get_or rs k d) (behind_other o place from within other k d behind inside)

@@ -1,6 +1,3 @@
 mod Directories
 mod Finds
 mod Prefixes
-mod Refusals
-mod Tables
-mod Writes

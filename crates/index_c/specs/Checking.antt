@@ -1,4 +1,5 @@
--- What a call that checks an index says of the bytes (gitformat-index, "Index entries are sorted in ascending order", "Cache tree").
+-- What a call that checks an index says of the bytes (gitformat-index, "Index entries are sorted in ascending order",
+-- "Cache tree").
 use Rattle.std.specs.Prelude.{◌≡◌, ℕ, ◌⊎◌, Bool, List, length, Option, Some, Ok}
 use Rattle.gix_index.specs.Contents.{Contents}
 use Rattle.gix_index.specs.Kind.{Kind}
@@ -6,11 +7,11 @@ use Rattle.gix_index.specs.ObjectId.{ObjectId}
 use Rattle.gix_index.specs.Order.{IsStrictlyOrdered}
 use Rattle.gix_index.specs.Sorted.{IsFirstFall}
 use Rattle.gix_index.specs.SoundState.{AreSoundExtensions}
-use Rattle.index_c.specs.Reading.{BytesReadAs, TellsOfValue}
-use Rattle.index_c.specs.declared.read.Summary.{Summary}
+use Rattle.index_table.specs.Reading.{BytesReadAs, TellsOfValue}
+use Rattle.index_table.specs.declared.read.Summary.{Summary}
 
--- The entries strictly increase by path, then stage. The cached tree, where there is one, holds together, and no node of it counts
--- more entries than there are.
+-- The entries strictly increase by path, then stage. The cached tree, where there is one, holds together, and no node
+-- of it counts more entries than there are.
 pub record IsSoundValue (v : Contents) : Type 0 where
   pub ordered : IsStrictlyOrdered v.records
   pub tree : AreSoundExtensions (length v.records) v.extensions.tree
@@ -44,7 +45,8 @@ pub record IsSoundIndex (skip : Bool) (kind : Kind) (bytes : List ℕ) (s : Summ
   pub told : IsTold value s
   pub sound : IsSoundValue value
 
--- The bytes are read as a value that isn't sound. The summary tells of it, and has the number and the place of its first fault.
+-- The bytes are read as a value that isn't sound. The summary tells of it, and has the number and the place of its
+-- first fault.
 pub record IsUnsoundIndex (skip : Bool) (kind : Kind) (bytes : List ℕ) (s : Summary) : Type 0 where
   pub value : Contents
   pub checksum : Option ObjectId

@@ -1,5 +1,5 @@
--- What a search among the rows of a table gives (the library's own; the order is that of gitformat-index, "Index entries are sorted
--- in ascending order").
+-- What a search among the rows of a table gives (the library's own; the order is that of gitformat-index, "Index
+-- entries are sorted in ascending order").
 use Rattle.std.specs.Prelude.{◌≡◌, ◌≢◌, ℕ, nat_eq, nat_lt, List, length, Option, Some, None, if◌then◌else◌}
 use Rattle.std.specs.List.{AllWithin}
 use Rattle.std.specs.declared.cmp.Ordering.TheVariants.{Less}

@@ -4,15 +4,15 @@ ghost use Rattle.std.specs.Prelude.{◌≡◌, ◌↔◌, ◌≤◌, ◌⊎◌, 
 ghost use Rattle.gix_index.specs.Intact.{IsIntact};
 ghost use Rattle.gix_index.specs.State.{PathsInStorage, contents};
 ghost use Rattle.index_c.specs.Checking.{HasCheckFault, IsSoundValue, IsSoundIndex, IsTold, IsUnsoundIndex};
-ghost use Rattle.index_c.specs.Reading.{HasText, IsRefusedIndex};
-ghost use Rattle.index_c.specs.Table.{kind_numbered};
+ghost use Rattle.index_table.specs.Reading.{HasText, IsRefusedIndex};
+ghost use Rattle.index_table.specs.Table.{kind_numbered};
 
-use crate::fault::{CACHED_TREE, ORDER, order_place, put_fault, tree_place};
-use crate::read::{Outcome, Summary, index_of, kind_of, nothing, refused, summary_of};
-use crate::status::{DONE, MEMORY, REFUSED, WRONG_NUMBER};
 use gix_index::State;
 use gix_index::hash::Kind;
 use gix_index::object::NoObjects;
+use index_table::fault::{CACHED_TREE, ORDER, order_place, put_fault, tree_place};
+use index_table::read::{Outcome, Summary, index_of, kind_of, nothing, refused, summary_of};
+use index_table::status::{DONE, MEMORY, REFUSED, WRONG_NUMBER};
 use std::alloc::Global;
 
 /// What is told of a state, but for the bytes of its paths.
@@ -25,7 +25,7 @@ fn told_of(state: &State) -> Summary
     summary
 }
 
-/// TellsOfValue of a state that isn't sound, or, where no place is given, of want of memory to name its fault.
+/// Tells of a state that isn't sound, or, where no place is given, of want of memory to name its fault.
 fn unsound(state: &State, number: u32, place: Option<usize>, text_bytes: usize) -> Outcome
     ensures memory { place ≡ None → result.status ≡ 2 }
     ensures refused { IfSome place (λ _. result.status ≡ 1) }
@@ -87,13 +87,9 @@ fn checked(alloc: Global, bytes: &[u8], kind: Kind, skip_hash: bool, text: &mut 
     ensures memory { result.status ≡ 2 → IsIntact skip_hash kind bytes.now }
     ensures text { HasText result.summary.text_bytes text.old text.new }
 {
-    match index_of(alloc, bytes, kind, skip_hash) {
-        Ok(file) => {
-            let outcome = judge(alloc, &file, text);
-            drop(file);
-            outcome
-        }
-        Err(e) => refused(alloc, e, text),
+    match index_of(alloc, bytes, kind, skip_hash, None) {
+        Ok(state) => judge(alloc, &state, text),
+        Err(e) => refused(alloc, e, 0, text),
     }
 }
 

@@ -7,11 +7,10 @@ ghost use Rattle.gix_index.specs.Order.{IsOrderedByPath, path_cmp};
 ghost use Rattle.gix_index.specs.Range.{is_at};
 ghost use Rattle.index_lookups.specs.SearchSteps.{IsPartedAt};
 ghost use Rattle.index_c.specs.Finding.{place_among};
-ghost use Rattle.index_c.specs.Table.{records_of};
+ghost use Rattle.index_table.specs.Table.{records_of};
 
-use crate::find::path_of;
 use crate::prefix::{compare_prefix, part};
-use crate::row::Row;
+use index_table::row::{Row, path_of};
 
 /// Whether the row at a place has the path.
 fn has_path(rows: &[Row], paths: &[u8], place: usize, path: &[u8]) -> bool

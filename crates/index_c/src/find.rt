@@ -2,31 +2,13 @@
 
 ghost use Rattle.std.specs.List.{HoldsAt};
 ghost use Rattle.std.specs.Prelude.{◌≡◌, ◌≤◌, ◌<◌, length};
-ghost use Rattle.gix_index.specs.Flags.{stage_number};
 ghost use Rattle.gix_index.specs.Lookup.{IsKeyAt, place_of};
 ghost use Rattle.gix_index.specs.Order.{IsStrictlyOrdered, key_cmp};
 ghost use Rattle.index_c.specs.Finding.{IsParted, place_among};
-ghost use Rattle.index_c.specs.Table.{records_of, row_path};
+ghost use Rattle.index_table.specs.Table.{records_of};
 
-use crate::row::Row;
+use index_table::row::{Row, path_of, stage_of};
 use std::cmp::Ordering;
-
-/// The row's path: as many of these bytes as it says, from where it says; fewer where they end before.
-pub(crate) fn path_of<'a>(row: &Row, paths: &'a [u8]) -> &'a [u8]
-    ensures { result.now ≡ row_path paths.now row.now }
-{
-    let start = row.path_start.min(paths.len());
-    let (_, behind) = paths.split_at(start);
-    let (path, _) = behind.split_at(row.path_len.min(behind.len()));
-    path
-}
-
-/// The stage among flags.
-pub(crate) fn stage_of(flags: u32) -> u32
-    ensures { result ≡ stage_number flags }
-{
-    (flags & 0x3000) >> 12
-}
 
 /// How the row at a place stands to a path and a stage.
 fn compare(rows: &[Row], paths: &[u8], place: usize, path: &[u8], stage: u32) -> Ordering
@@ -61,9 +43,9 @@ fn first_from(rows: &[Row], paths: &[u8], path: &[u8], stage: u32) -> usize
 
 /// The place of the row with the path and the stage, counted from 0, or the number of rows where there is none.
 ///
-/// It is promised over rows that strictly increase by path, then stage, as those of a sound file do. Over others a place
-/// that is given still has the path and the stage. Stages are those of the flags. About as many rows are looked at as
-/// the number of rows has binary digits.
+/// It is promised over rows that strictly increase by path, then stage, as those of a sound file do. Over others a
+/// place that is given still has the path and the stage. Stages are those of the flags. About as many rows are looked
+/// at as the number of rows has binary digits.
 #[unsafe(no_mangle)]
 pub extern "C" fn gix_index_find(rows: &[Row], paths: &[u8], path: &[u8], stage: u32) -> usize
     ensures in_range { result ≤ length rows.now }

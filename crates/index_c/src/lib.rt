@@ -5,11 +5,7 @@
 
 pub mod check;
 pub mod closest;
-mod fault;
 pub mod find;
 pub mod prefix;
 pub mod read;
-pub mod row;
-mod spell;
-pub mod status;
 pub mod write;

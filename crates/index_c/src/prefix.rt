@@ -6,11 +6,10 @@ ghost use Rattle.gix_index.specs.Order.{IsOrderedByPath};
 ghost use Rattle.gix_index.specs.Range.{IsPrefixRange, LiesWithin};
 ghost use Rattle.index_lookups.specs.SearchSteps.{IsPartedAt, is_before, prefix_answers, prefix_cmp};
 ghost use Rattle.index_c.specs.Finding.{range_of, range_told};
-ghost use Rattle.index_c.specs.Table.{records_of};
+ghost use Rattle.index_table.specs.Table.{records_of};
 
-use crate::find::path_of;
-use crate::row::Row;
-use crate::status::{DONE, NONE};
+use index_table::row::{Row, path_of};
+use index_table::status::{DONE, NONE};
 use std::cmp::Ordering;
 use std::ops::Range;
 

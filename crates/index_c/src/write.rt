@@ -1,241 +1,22 @@
 //! Writing a caller's table as an index.
 
-ghost use Rattle.std.specs.Prelude.{◌≡◌, ◌≢◌, ◌≤◌, ◌<◌, ◌↔◌, ◌⊎◌, ◌++◌, All, drop, length};
-ghost use Rattle.gix_index.specs.EntryImage.{version_code};
-ghost use Rattle.gix_index.specs.Order.{IsStrictlyOrdered};
-ghost use Rattle.gix_index.specs.State.{PathsInStorage, contents, records};
-ghost use Rattle.gix_index.specs.Storable.{CanEncode};
-ghost use Rattle.index_c.specs.Writing.{CanStand, HasImage, HasWrongNumber, IsAsked, IsFallen, IsUnwritten, PassesLimit, PassesRoom, Spells, choice_numbered, plain_options, write_number, write_status};
+ghost use Rattle.std.specs.Prelude.{◌≡◌, ◌≢◌, ◌≤◌, ◌↔◌, false};
+ghost use Rattle.gix_index.specs.Intact.{IsIntact};
+ghost use Rattle.index_table.specs.Overwriting.{IsAskedOver, IsUnwrittenOver, WritesOver};
+ghost use Rattle.index_table.specs.Writing.{HasImage, HasWrongNumber, IsAsked, IsFitTable, IsUnwritten, PassesRoom, Spells};
 
-use crate::fault::{COUNT, LENGTH, ORDER, ROW, order_place};
-use crate::read::{kind_of, number_of_version};
-use crate::row::Row;
-use crate::spell::{first_unfit, spelled};
-use crate::status::{DONE, MEMORY, NO_ROOM, REFUSED, WRONG_NUMBER};
-use gix_index::hash::Kind;
-use gix_index::hash::io::Plain;
-use gix_index::write::{self, Extensions, Options, VersionChoice};
-use gix_index::{File, State, Version};
+use index_table::over::write_over;
+use index_table::row::Row;
+use index_table::write::{Form, Written, write_table};
 use std::alloc::Global;
-use std::path::PathBuf;
-
-/// How a table is to be written.
-#[repr(C)]
-#[derive(Clone, Copy)]
-pub struct Form {
-    /// The kind of the ids, and of the digest.
-    pub kind: u32,
-    /// 4, or 2 or 3, which both ask for the smaller of these that has the flags.
-    pub version: u32,
-    /// Whether the trailer is zeros in place of the digest.
-    pub skip_hash: bool,
-}
-
-/// What a call that writes says beside its status.
-#[repr(C)]
-#[derive(Clone, Copy)]
-pub struct Written {
-    /// How many bytes the index has.
-    pub bytes: usize,
-    /// The place that the fault names, or 0.
-    pub fault_place: usize,
-    /// The fault's number, or 0.
-    pub fault: u32,
-    /// The version: 2, 3 or 4.
-    pub version: u32,
-}
-
-/// A status, and what is said beside it.
-#[derive(Clone, Copy)]
-struct Answer {
-    status: u32,
-    told: Written,
-}
-
-/// The version that a number asks for.
-fn choice_of(number: u32) -> Option<VersionChoice>
-    ensures { result ≡ choice_numbered number }
-{
-    match number {
-        2 | 3 => Some(VersionChoice::Smallest),
-        4 => Some(VersionChoice::V4),
-        _ => None,
-    }
-}
-
-/// Nothing is written, for this reason.
-fn unwritten(status: u32, fault: u32, fault_place: usize) -> Answer
-    ensures status { result.status ≡ status }
-    ensures fault { result.told.fault ≡ fault }
-    ensures place { result.told.fault_place ≡ fault_place }
-{
-    Answer {
-        status,
-        told: Written {
-            bytes: 0,
-            fault_place,
-            fault,
-            version: 0,
-        },
-    }
-}
-
-/// Tells of an error of writing.
-fn failed(e: &write::Error) -> Answer
-    ensures status { result.status ≡ write_status e.now }
-    ensures fault { result.told.fault ≡ write_number e.now }
-    ensures place { result.told.fault_place ≡ 0 }
-{
-    match e {
-        write::Error::TooManyEntries => unwritten(REFUSED, COUNT, 0),
-        write::Error::NulInPath => unwritten(REFUSED, ROW, 0),
-        write::Error::TooLarge => unwritten(REFUSED, LENGTH, 0),
-        write::Error::Io(_) => unwritten(MEMORY, 0, 0),
-    }
-}
-
-/// Puts an image into the room, if there is enough.
-fn put_image(image: &[u8], version: Version, room: &mut [u8]) -> Answer
-    ensures status { (result.status ≡ 0) ⊎ (result.status ≡ 3) }
-    ensures bytes { result.told.bytes ≡ length image.now }
-    ensures version { result.told.version ≡ version_code version }
-    ensures fits { result.status ≡ 0 → length image.now ≤ length room.old }
-    ensures left { result.status ≡ 0 → room.new ≡ image.now ++ drop (length image.now) room.old }
-    ensures small { result.status ≡ 3 → length room.old < length image.now }
-    ensures room { result.status ≢ 0 → room.new ≡ room.old }
-{
-    let told = Written {
-        bytes: image.len(),
-        fault_place: 0,
-        fault: 0,
-        version: number_of_version(version),
-    };
-    if room.len() < image.len() {
-        return Answer {
-            status: NO_ROOM,
-            told,
-        };
-    }
-    room[..image.len()].copy_from_slice(image);
-    Answer { status: DONE, told }
-}
-
-/// Writes a state into the room.
-fn put_state(alloc: Global, state: State, options: Options, room: &mut [u8]) -> Answer
-    requires placed { PathsInStorage state }
-    requires paths { CanEncode options.version (contents state) }
-    ensures status { result.status ≤ 3 }
-    ensures done { result.status ≡ 0
-        → HasImage (contents state) options result.told room.old room.new }
-    ensures refused { result.status ≡ 1 → PassesLimit (contents state) options result.told }
-    ensures no_room { result.status ≡ 3 → PassesRoom (contents state) options result.told room.old }
-    ensures room { result.status ≢ 0 → room.new ≡ room.old }
-{
-    let file = File::from_state(state, PathBuf::new(alloc));
-    let mut out = Plain::new(Vec::new(alloc));
-    let result = file.write_to(&mut out, options);
-    drop(file);
-    match result {
-        Ok((version, _)) => put_image(&out.inner, version, room),
-        Err(e) => failed(&e),
-    }
-}
-
-/// The same, where the entries are in order.
-fn put_ordered(alloc: Global, state: State, options: Options, room: &mut [u8]) -> Answer
-    requires placed { PathsInStorage state }
-    requires paths { CanEncode options.version (contents state) }
-    ensures status { result.status ≤ 3 }
-    ensures done { result.status ≡ 0
-        → IsStrictlyOrdered (records state)
-        × HasImage (contents state) options result.told room.old room.new }
-    ensures refused { result.status ≡ 1 → IsFallen (records state) result.told
-        ⊎ (IsStrictlyOrdered (records state) × PassesLimit (contents state) options result.told) }
-    ensures no_room { result.status ≡ 3
-        → IsStrictlyOrdered (records state)
-        × PassesRoom (contents state) options result.told room.old }
-    ensures room { result.status ≢ 0 → room.new ≡ room.old }
-{
-    if let Err(e) = state.verify_entries() {
-        return match order_place(&e) {
-            Some(place) => unwritten(REFUSED, ORDER, place),
-            None => unwritten(MEMORY, 0, 0),
-        };
-    }
-    put_state(alloc, state, options, room)
-}
-
-/// Writes a table into the room.
-fn put_table(
-    alloc: Global,
-    rows: &[Row],
-    paths: &[u8],
-    kind: Kind,
-    options: Options,
-    room: &mut [u8],
-) -> Answer
-    ensures status { result.status ≤ 3 }
-    ensures done { result.status ≡ 0 → Spells kind paths.now rows.now
-        (λ v. HasImage v options result.told room.old room.new) }
-    ensures refused { result.status ≡ 1
-        → IsUnwritten kind options paths.now rows.now result.told }
-    ensures memory { result.status ≡ 2 → All (CanStand kind paths.now) rows.now }
-    ensures no_room { result.status ≡ 3 → Spells kind paths.now rows.now
-        (λ v. PassesRoom v options result.told room.old) }
-    ensures room { result.status ≢ 0 → room.new ≡ room.old }
-{
-    if let Some(place) = first_unfit(rows, paths, kind) {
-        return unwritten(REFUSED, ROW, place);
-    }
-    match spelled(alloc, rows, paths, kind) {
-        Ok(state) => put_ordered(alloc, state, options, room),
-        Err(_) => unwritten(MEMORY, 0, 0),
-    }
-}
-
-/// How a form asks to write.
-fn options_of(form: &Form, version: VersionChoice) -> Options
-    ensures { result ≡ plain_options form.now version }
-{
-    Options {
-        extensions: Extensions::None,
-        version,
-        skip_hash: form.skip_hash,
-    }
-}
-
-/// Writes a table into the room, as a form asks.
-fn answer_to(alloc: Global, rows: &[Row], paths: &[u8], form: &Form, room: &mut [u8]) -> Answer
-    ensures status { result.status ≤ 4 }
-    ensures done { result.status ≡ 0
-        → IsAsked form.now (λ kind options. Spells kind paths.now rows.now
-        (λ v. HasImage v options result.told room.old room.new)) }
-    ensures refused { result.status ≡ 1 → IsAsked form.now
-        (λ kind options. IsUnwritten kind options paths.now rows.now result.told) }
-    ensures memory { result.status ≡ 2 → IsAsked form.now
-        (λ kind options. All (CanStand kind paths.now) rows.now) }
-    ensures no_room { result.status ≡ 3
-        → IsAsked form.now (λ kind options. Spells kind paths.now rows.now
-        (λ v. PassesRoom v options result.told room.old)) }
-    ensures wrong_number { (result.status ≡ 4) ↔ HasWrongNumber form.now }
-    ensures room { result.status ≢ 0 → room.new ≡ room.old }
-{
-    let Some(kind) = kind_of(form.kind) else {
-        return unwritten(WRONG_NUMBER, 0, 0);
-    };
-    let Some(version) = choice_of(form.version) else {
-        return unwritten(WRONG_NUMBER, 0, 0);
-    };
-    put_table(alloc, rows, paths, kind, options_of(form, version), room)
-}
 
 /// Writes a table, as `gix_index_read` fills one, as all bytes of an index without extensions.
 ///
 /// `DONE`: the first bytes of the room are the index. `NO_ROOM`: it has more than the room, and how many is told.
 /// `REFUSED`: the row at the place can't stand in such a file (`ROW`), or isn't above the one before it by path, then
 /// stage (`ORDER`); or there are more rows or bytes than a file can count. `MEMORY`: a growth was refused; each row can
-/// stand in such a file. `WRONG_NUMBER`: the kind or the version is none. With each status but `DONE` the room is as it
-/// was. What is told is always written; what lies behind the index is never touched.
+/// stand in such a file, and they are in order. `WRONG_NUMBER`: the kind or the version is none. With each status but
+/// `DONE` the room is as it was. What is told is always written; what lies behind the index is never touched.
 #[unsafe(no_mangle)]
 pub extern "C" fn gix_index_write(
     alloc: Global,
@@ -251,13 +32,53 @@ pub extern "C" fn gix_index_write(
     ensures refused { result ≡ 1 → IsAsked form.now
         (λ kind options. IsUnwritten kind options paths.now rows.now told.new) }
     ensures memory { result ≡ 2 → IsAsked form.now
-        (λ kind options. All (CanStand kind paths.now) rows.now) }
+        (λ kind options. IsFitTable kind false paths.now rows.now) }
     ensures no_room { result ≡ 3 → IsAsked form.now (λ kind options. Spells kind paths.now rows.now
+        (λ v. PassesRoom v options told.new bytes.old)) }
+    ensures wrong_number { (result ≡ 4) ↔ HasWrongNumber form.now }
+    ensures tree { told.new.tree ≡ 0 }
+    ensures bytes { result ≢ 0 → bytes.new ≡ bytes.old }
+{
+    let answer = write_table(alloc, rows, paths, form, bytes);
+    *told = answer.told;
+    answer.status
+}
+
+/// Writes a table as all bytes of an index that takes the place of another, given as all bytes of its file. They are
+/// read as `gix_index_read` reads them, with their digest, and are no longer needed then.
+///
+/// Of that index the mark of a sparse one is kept, and then rows may stand for directories. Its cached tree is kept
+/// exactly where it tells what the rows give: none of them is at fault, as one in conflict, and each node of it that
+/// has a count has the id and the count that `git write-tree` gives its directory. What became of it is told. Other
+/// extensions aren't kept, but an end marker stands behind those that are.
+///
+/// `DONE`, `NO_ROOM`, `REFUSED`, `WRONG_NUMBER`: as `gix_index_write` answers them; `REFUSED` before, where the bytes
+/// of the index are refused, with the fault that `gix_index_read` tells. `MEMORY`: a growth was refused.
+#[unsafe(no_mangle)]
+pub extern "C" fn gix_index_write_over(
+    alloc: Global,
+    rows: &[Row],
+    paths: &[u8],
+    index: &[u8],
+    form: &Form,
+    bytes: &mut [u8],
+    told: &mut Written,
+) -> u32
+    ensures status { result ≤ 4 }
+    ensures done { result ≡ 0 → IsAskedOver form.now
+        (λ kind options. WritesOver kind index.now paths.now rows.now told.new
+        (λ v. HasImage v options told.new bytes.old bytes.new)) }
+    ensures refused { result ≡ 1 → IsAskedOver form.now
+        (λ kind options. IsUnwrittenOver kind options index.now paths.now rows.now told.new) }
+    ensures memory { result ≡ 2
+        → IsAskedOver form.now (λ kind options. IsIntact false kind index.now) }
+    ensures no_room { result ≡ 3 → IsAskedOver form.now
+        (λ kind options. WritesOver kind index.now paths.now rows.now told.new
         (λ v. PassesRoom v options told.new bytes.old)) }
     ensures wrong_number { (result ≡ 4) ↔ HasWrongNumber form.now }
     ensures bytes { result ≢ 0 → bytes.new ≡ bytes.old }
 {
-    let answer = answer_to(alloc, rows, paths, form, bytes);
+    let answer = write_over(alloc, rows, paths, index, form, bytes);
     *told = answer.told;
     answer.status
 }

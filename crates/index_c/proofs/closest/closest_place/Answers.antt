@@ -4,10 +4,11 @@ use Rattle.std.proofs.lemmas.List.{length-map}
 use Rattle.gix_index.specs.Range.{is_at}
 use Rattle.gix_index.specs.Record.{Record}
 use Rattle.index_lookups.proofs.Closest.{any_here, closest_at, closest_below}
-use Rattle.index_c.specs.Table.{records_of, spelled}
+use Rattle.index_table.specs.Table.{records_of, spelled}
 use Rattle.index_c.proofs.Directories.{none_at, parted_at}
 use Rattle.index_c.proofs.closest.closest_place.Goals as goal
-use Rattle.index_c.proofs.closest.closest_place.Goals.{else-low-rows-via-then-low-rows+else-has_path, else-low-rows-via-else-low-rows}
+use Rattle.index_c.proofs.closest.closest_place.Goals.{else-low-rows-via-then-low-rows+else-has_path}
+use Rattle.index_c.proofs.closest.closest_place.Goals.{else-low-rows-via-else-low-rows}
 
 pub returns-then-has_path-clause-answer : goal.returns-then-has_path-clause-answer
 returns-then-has_path-clause-answer c = λ o.
@@ -15,7 +16,8 @@ returns-then-has_path-clause-answer c = λ o.
     let many : length rs ≡ length c.args.rows.now = length-map c.args.rows.now (spelled c.args.paths.now) in
     let directory = c.args.directory.now in
     closest_at directory rs c.first_itself.result
-    (any_here (is_at directory) rs c.part-low.result (omega (arith, many, c.if-low-rows.true), λ d. c.has_path.ensures d ∙ c.if-has_path.true))
+    (any_here (is_at directory) rs c.part-low.result
+    (omega (arith, many, c.if-low-rows.true), λ d. c.has_path.ensures d ∙ c.if-has_path.true))
     (c.first_itself.ensures.answer o (parted_at directory rs c.part-low.result (c.part-low.ensures.parted o)))
 
 pub returns-clause-answer : goal.returns-clause-answer
@@ -23,11 +25,13 @@ returns-clause-answer c = λ o.
     let rs = records_of c.args.paths.now c.args.rows.now in
     let many : length rs ≡ length c.args.rows.now = length-map c.args.rows.now (spelled c.args.paths.now) in
     let directory = c.args.directory.now in
-    let other : c.part-low.result < length rs → HoldsAt (λ (r : Record). is_at directory r ≡ false) rs c.part-low.result =
+    let other : c.part-low.result < length rs
+    → HoldsAt (λ (r : Record). is_at directory r ≡ false) rs c.part-low.result =
     elim c.else-low-rows.branch [
       | else-low-rows-via-then-low-rows+else-has_path w ↦ λ within d. w.has_path.ensures d ∙ w.if-has_path.false
       | else-low-rows-via-else-low-rows w ↦ λ within. absurd (omega (arith, w.if-low-rows.false, within, many))
     ] in
     closest_below directory rs c.first_below.result
-    (none_at directory rs c.part-low.result (parted_at directory rs c.part-low.result (c.part-low.ensures.parted o)) o other)
+    (none_at directory rs c.part-low.result (parted_at directory rs c.part-low.result (c.part-low.ensures.parted o)) o
+    other)
     (c.first_below.ensures.answer o)

@@ -1,7 +1,7 @@
 use Rattle.std.proofs.Common.{◌-◌, ◌≤◌, length}
 use Rattle.gix_index.specs.Order.{IsStrictlyOrdered}
 use Rattle.index_c.specs.Finding.{IsParted}
-use Rattle.index_c.specs.Table.{records_of}
+use Rattle.index_table.specs.Table.{records_of}
 use Rattle.index_c.proofs.find.first_from.Given as goal
 
 abbrev pub invariant-loop-low : goal.invariant-loop-low

@@ -20,7 +20,8 @@ loop-low-preserved-then-passes c =
     record {
       in_order = omega arith;
       in_range = omega arith;
-      before = λ o. middle_before (c.args.prefix.now ++ c.args.tail.now) c.args.after c.args.paths.now c.args.rows.now middle c.compare_prefix.result (omega arith) c.compare_prefix.ensures told o;
+      before = λ o. middle_before (c.args.prefix.now ++ c.args.tail.now) c.args.after c.args.paths.now c.args.rows.now
+          middle c.compare_prefix.result (omega arith) c.compare_prefix.ensures told o;
       behind = c.loop-low.invariant.behind;
     }
 
@@ -32,7 +33,8 @@ loop-low-preserved c =
       in_order = omega arith;
       in_range = omega arith;
       before = c.loop-low.invariant.before;
-      behind = λ o. middle_behind (c.args.prefix.now ++ c.args.tail.now) c.args.after c.args.paths.now c.args.rows.now middle c.compare_prefix.result (omega arith) c.compare_prefix.ensures told o;
+      behind = λ o. middle_behind (c.args.prefix.now ++ c.args.tail.now) c.args.after c.args.paths.now c.args.rows.now
+          middle c.compare_prefix.result (omega arith) c.compare_prefix.ensures told o;
     }
 
 pub returns-clause-parted : goal.returns-clause-parted

@@ -1,6 +1,0 @@
-use Rattle.std.specs.List.{AllWithin}
-use Rattle.index_c.specs.Writing.{CanStand}
-use Rattle.index_c.proofs.spell.first_unfit.Given as goal
-
-abbrev pub invariant-loop-place : goal.invariant-loop-place
-invariant-loop-place l = AllWithin (CanStand l.kind l.paths) l.rows 0 l.place

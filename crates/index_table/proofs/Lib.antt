@@ -1,0 +1,7 @@
+mod Joins
+pub mod Refusals
+mod Replacements
+mod Rows
+mod Tables
+mod Trees
+mod Writes

@@ -1,0 +1,24 @@
+use Rattle.std.proofs.Common.{None, ap, refl, sym, ◌∙◌}
+use Rattle.std.specs.Option.{option_map}
+use Rattle.gix_index.specs.State.{contents}
+use Rattle.gix_index.specs.Tree.{node_of}
+use Rattle.index_table.proofs.Trees.{keeps_by, keeps_right, keeps_wrong}
+use Rattle.index_table.proofs.over.keep_tree.Goals as goal
+
+pub returns-in_default-clause-keeps : goal.returns-in_default-clause-keeps
+returns-in_default-clause-keeps c =
+    let v = contents c.args.state.now in
+    keeps_by None v v 0 (sym c.tree.ensures ∙ ap (option_map (λ t. node_of t.now)) c.in_default.is) (refl, refl)
+
+pub returns-in-Ok-clause-keeps : goal.returns-in-Ok-clause-keeps
+returns-in-Ok-clause-keeps c =
+    let v = contents c.args.state.now in
+    let there = sym c.tree.ensures ∙ ap (option_map (λ t. node_of t.now)) c.in-Some.is in
+    keeps_right v.extensions.tree v (λ e. cc) c.in-Ok.ensures.right c.in-Ok.ensures.fit c.in-Ok.ensures.few
+
+pub returns-clause-keeps : goal.returns-clause-keeps
+returns-clause-keeps c =
+    let v = contents c.args.state.now in
+    keeps_wrong v.extensions.tree v (contents c.remove_tree.new.self) c.in-Err.e
+    (sym c.is_want_of_memory.ensures ∙ c.if-is_want_of_memory.false)
+    c.in-Err.ensures.fault c.remove_tree.ensures.removed

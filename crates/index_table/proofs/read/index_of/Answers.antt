@@ -1,0 +1,25 @@
+use Rattle.std.proofs.Common.{Ok, refl, subst, sym}
+use Rattle.gix_index.specs.File.{checksum_of}
+use Rattle.gix_index.specs.State.{contents}
+use Rattle.gix_index.specs.StateType.{State}
+use Rattle.index_table.specs.Reading.{BytesEndAs}
+use Rattle.index_table.proofs.Refusals.{options_are, read_by, refusal_by}
+use Rattle.index_table.proofs.read.index_of.Goals as goal
+
+pub returns-in-Ok-clause-read : goal.returns-in-Ok-clause-read
+returns-in-Ok-clause-read c =
+    let d = c.default.ensures in
+    let P : State → Type 0 =
+    λ s. BytesEndAs c.args.expected c.args.skip_hash c.args.kind c.args.bytes.now
+    (Ok (contents s, checksum_of c.in-Ok.file)) in (
+      checksum_of c.in-Ok.file,
+      subst P (sym c.into_parts.ensures.state)
+          (read_by c.args.expected c.args.skip_hash c.args.kind c.args.bytes.now _ _ _ refl refl
+          (options_are c.args.expected _ d.0 d.1.0 refl d.1.1.1) c.in-Ok.ensures.answer),
+    )
+
+pub returns-in-Err-clause-fault : goal.returns-in-Err-clause-fault
+returns-in-Err-clause-fault c =
+    let d = c.default.ensures in
+    refusal_by c.args.expected c.args.skip_hash c.args.kind c.args.bytes.now _ _ _ refl refl
+    (options_are c.args.expected _ d.0 d.1.0 refl d.1.1.1) c.in-Err.ensures.answer

@@ -1,0 +1,6 @@
+pub mod Faults
+pub mod Joining
+pub mod Overwriting
+pub mod Reading
+pub mod Table
+pub mod Writing

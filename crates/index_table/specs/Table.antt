@@ -1,0 +1,104 @@
+-- A table in a caller's memory: rows, and the bytes in which their paths lie (the library's own; the parts of an entry
+-- are those of gitformat-index, "Index entry").
+use Rattle.std.specs.Prelude.{◌≡◌, ℕ, ◌+◌, ◌-◌, ◌≤◌, nat_eq, true, List, ◌++◌, All, length, map, take, drop, replicate}
+use Rattle.std.specs.Prelude.{Option, Some, None, if◌then◌else◌}
+use Rattle.gix_index.specs.Id.{id_kind}
+use Rattle.gix_index.specs.Flags.{stage_number}
+use Rattle.gix_index.specs.Kind.{Kind}
+use Rattle.gix_index.specs.Kind.TheVariants as kinds
+use Rattle.gix_index.specs.ObjectId.{ObjectId}
+use Rattle.gix_index.specs.ObjectId.TheVariants as ids
+use Rattle.gix_index.specs.EntryType.{Entry}
+use Rattle.gix_index.specs.Record.{Record}
+use Rattle.gix_index.specs.StatType.{Stat}
+use Rattle.index_table.specs.declared.row.Row.{Row}
+
+-- ---- numbers that stand for kinds
+
+abbrev pub kind_number : Kind → ℕ
+kind_number kinds.Sha1 = 1
+kind_number kinds.Sha256 = 2
+
+abbrev pub kind_numbered : ℕ → Option Kind
+kind_numbered n = if nat_eq n 1 then Some kinds.Sha1 else (if nat_eq n 2 then Some kinds.Sha256 else None)
+
+-- ---- what a table spells
+
+-- The id of a row: 32 bytes where its kind is 2, and else the first 20.
+abbrev pub row_id : Row → ObjectId
+row_id row = if nat_eq row.kind 2 then ids.Sha256 row.id else ids.Sha1 (take 20 row.id)
+
+abbrev pub row_stat : Row → Stat
+row_stat row = record {
+  mtime = record { secs = row.mtime_secs; nsecs = row.mtime_nsecs };
+  ctime = record { secs = row.ctime_secs; nsecs = row.ctime_nsecs };
+  dev = row.dev;
+  ino = row.ino;
+  uid = row.uid;
+  gid = row.gid;
+  size = row.size;
+}
+
+-- as many of the bytes for paths as it says, from where it says; fewer where these end before
+abbrev pub row_path : List ℕ → Row → List ℕ
+row_path paths row = take row.path_len (drop row.path_start paths)
+
+-- the record that a row spells, where these are the bytes for paths; its stage is in the flags
+abbrev pub spelled : List ℕ → Row → Record
+spelled paths row =
+    record { path = row_path paths row; stat = row_stat row; id = row_id row; flags = row.flags; mode = row.mode }
+
+abbrev pub records_of : List ℕ → List Row → List Record
+records_of paths rows = map (spelled paths) rows
+
+-- ---- what is filled in
+
+-- The row says all of its record: the stage beside the flags, the kind beside the id, zeros behind an id of 20 bytes;
+-- and its path lies among so many bytes.
+pub record IsWholeRow (len : ℕ) (row : Row) : Type 0 where
+  pub stage : row.stage ≡ stage_number row.flags
+  pub kind : row.kind ≡ kind_number (id_kind (row_id row))
+  pub zeros : nat_eq row.kind 1 ≡ true → drop 20 row.id ≡ replicate 12 0
+  pub inside : row.path_start + row.path_len ≤ len
+
+-- A caller's table, before and after, has these records in its first rows, with their paths in the first bytes for
+-- paths; what lies behind both is as it was.
+pub record HoldsRecords (rs : List Record) (len : ℕ) (rows filled : List Row) (paths spelling : List ℕ) : Type 0 where
+  pub rows_fit : length rs ≤ length rows
+  pub paths_fit : len ≤ length paths
+  pub spells : records_of (take len spelling) (take (length rs) filled) ≡ rs
+  pub whole : All (IsWholeRow len) (take (length rs) filled)
+  pub rows_behind : drop (length rs) filled ≡ drop (length rs) rows
+  pub paths_behind : drop len spelling ≡ drop len paths
+
+-- ---- an entry's row
+
+-- its path ends no earlier than it starts
+abbrev pub IsForward : Entry → Type 0
+IsForward e = e.path.start ≤ e.path.end
+
+-- the id's bytes, with zeros behind those of SHA-1
+abbrev pub padded_id : ObjectId → List ℕ
+padded_id (ids.Sha1 bytes) = bytes ++ replicate 12 0
+padded_id (ids.Sha256 bytes) = bytes
+
+-- the row of an entry, where the storage of paths is the bytes for paths
+abbrev pub row_of : Entry → Row
+row_of e = record {
+  ctime_secs = e.stat.ctime.secs;
+  ctime_nsecs = e.stat.ctime.nsecs;
+  mtime_secs = e.stat.mtime.secs;
+  mtime_nsecs = e.stat.mtime.nsecs;
+  dev = e.stat.dev;
+  ino = e.stat.ino;
+  uid = e.stat.uid;
+  gid = e.stat.gid;
+  size = e.stat.size;
+  mode = e.mode.0;
+  flags = e.flags.0;
+  stage = stage_number e.flags.0;
+  kind = kind_number (id_kind e.id);
+  id = padded_id e.id;
+  path_start = e.path.start;
+  path_len = e.path.end - e.path.start;
+}

@@ -1,0 +1,14 @@
+//! Tables of a caller's memory: the entries of an index as rows, and the bytes in which their paths lie.
+//!
+//! An index is read into a table, with the shared index that it links to or without, and a table is written as one,
+//! with what is kept of the index that it takes the place of or without. Nothing is kept between calls.
+#![tactic(auto)]
+
+pub mod fault;
+pub mod over;
+pub mod read;
+pub mod row;
+mod spell;
+pub mod split;
+pub mod status;
+pub mod write;

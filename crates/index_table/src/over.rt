@@ -1,0 +1,187 @@
+//! Writing a caller's table in place of an index, of which the cached tree and the mark of a sparse index are kept.
+
+ghost use Rattle.std.specs.Prelude.{◌≡◌, ◌≢◌, ◌≤◌, ◌↔◌, [], false, IfSome, OnOk};
+ghost use Rattle.gix_index.specs.Edits.{with_records};
+ghost use Rattle.gix_index.specs.Intact.{IsIntact};
+ghost use Rattle.gix_index.specs.Order.{IsStrictlyOrdered};
+ghost use Rattle.gix_index.specs.State.{PathsInStorage, contents, records};
+ghost use Rattle.index_table.specs.Faults.{IsNumbered, read_status};
+ghost use Rattle.index_table.specs.Overwriting.{IsAskedOver, IsUnwrittenOver, KeepsTree, TakesPlaceOf, WritesOver, full_options};
+ghost use Rattle.index_table.specs.Table.{records_of};
+ghost use Rattle.index_table.specs.Writing.{HasImage, HasWrongNumber, IsFitTable, PassesLimit, PassesRoom};
+
+use crate::fault::{fault_of, is_want_of_memory};
+use crate::read::{index_of, kind_of};
+use crate::row::Row;
+use crate::spell::push_rows;
+use crate::status::{MEMORY, NO_TREE, REFUSED, TREE_KEPT, TREE_LEFT_OUT, WRONG_NUMBER};
+use crate::write::{Answer, Form, choice_of, fault_in, put_state, unwritten};
+use gix_index::hash::Kind;
+use gix_index::write::{Extensions, Options, VersionChoice};
+use gix_index::{State, file};
+use std::alloc::{AllocError, Global};
+
+/// Takes all entries out, from the last one on. All else stays.
+fn remove_all(state: &mut State)
+    requires { PathsInStorage state.old }
+    ensures value { contents state.new ≡ with_records (contents state.old) [] }
+    ensures placed { PathsInStorage state.new }
+{
+    while let Some(last) = state.entries().len().checked_sub(1) {
+        state.remove_entry_at_index(last);
+    }
+}
+
+/// Puts the rows' entries in the place of those that are there. All else stays.
+fn replace_all(state: &mut State, rows: &[Row], paths: &[u8]) -> Result<(), AllocError>
+    requires { PathsInStorage state.old }
+    ensures value { OnOk result
+        (contents state.new ≡ with_records (contents state.old) (records_of paths.now rows.now)) }
+    ensures placed { OnOk result (PathsInStorage state.new) }
+{
+    remove_all(state);
+    push_rows(state, rows, paths)
+}
+
+/// Takes the cached tree out, unless it tells what the entries give, and says what became of it; None for want of
+/// memory.
+fn keep_tree(alloc: Global, state: &mut State) -> Option<u32>
+    requires placed { PathsInStorage state.old }
+    requires ordered { IsStrictlyOrdered (records state.old) }
+    ensures keeps { IfSome result
+        (λ number. KeepsTree (contents state.old) number (contents state.new)) }
+    ensures placed { PathsInStorage state.new }
+{
+    let Some(_tree) = state.tree() else {
+        return Some(NO_TREE);
+    };
+    let e = match state.verify_tree_ids(alloc) {
+        Ok(()) => return Some(TREE_KEPT),
+        Err(e) => e,
+    };
+    if is_want_of_memory(&e) {
+        return None;
+    }
+    drop(state.remove_tree());
+    Some(TREE_LEFT_OUT)
+}
+
+/// Tells of an error of reading the index that is written over.
+fn refused_before(e: &file::init::Error) -> Answer
+    ensures status { result.status ≡ read_status e.now }
+    ensures fault { IsNumbered e.now result.told.fault result.told.fault_place }
+{
+    let fault = fault_of(e);
+    let is_memory = matches!(e, file::init::Error::Memory);
+    let status = if is_memory { MEMORY } else { REFUSED };
+    unwritten(status, fault.number, fault.place)
+}
+
+/// Writes a table that is fit in place of what was read.
+fn put_fit(
+    alloc: Global,
+    mut state: State,
+    rows: &[Row],
+    paths: &[u8],
+    kind: Kind,
+    options: Options,
+    room: &mut [u8],
+) -> Answer
+    requires placed { PathsInStorage state }
+    requires table { IsFitTable kind (contents state).extensions.sparse paths.now rows.now }
+    ensures status { result.status ≤ 3 }
+    ensures done { result.status ≡ 0 → TakesPlaceOf kind paths.now rows.now result.told.tree
+        (λ v. HasImage v options result.told room.old room.new)
+        (contents state) }
+    ensures refused { result.status ≡ 1 → TakesPlaceOf kind paths.now rows.now result.told.tree
+        (λ v. PassesLimit v options result.told)
+        (contents state) }
+    ensures no_room { result.status ≡ 3 → TakesPlaceOf kind paths.now rows.now result.told.tree
+        (λ v. PassesRoom v options result.told room.old)
+        (contents state) }
+    ensures room { result.status ≢ 0 → room.new ≡ room.old }
+{
+    if let Err(_) = replace_all(&mut state, rows, paths) {
+        return unwritten(MEMORY, 0, 0);
+    }
+    let Some(tree) = keep_tree(alloc, &mut state) else {
+        return unwritten(MEMORY, 0, 0);
+    };
+    put_state(alloc, state, options, tree, room)
+}
+
+/// Writes a table in place of the index of these bytes.
+fn put_over(
+    alloc: Global,
+    rows: &[Row],
+    paths: &[u8],
+    index: &[u8],
+    kind: Kind,
+    options: Options,
+    room: &mut [u8],
+) -> Answer
+    ensures status { result.status ≤ 3 }
+    ensures done { result.status ≡ 0 → WritesOver kind index.now paths.now rows.now result.told
+        (λ v. HasImage v options result.told room.old room.new) }
+    ensures refused { result.status ≡ 1
+        → IsUnwrittenOver kind options index.now paths.now rows.now result.told }
+    ensures memory { result.status ≡ 2 → IsIntact false kind index.now }
+    ensures no_room { result.status ≡ 3
+        → WritesOver kind index.now paths.now rows.now result.told
+        (λ v. PassesRoom v options result.told room.old) }
+    ensures room { result.status ≢ 0 → room.new ≡ room.old }
+{
+    let state = match index_of(alloc, index, kind, false, None) {
+        Ok(state) => state,
+        Err(e) => return refused_before(&e),
+    };
+    if let Some(answer) = fault_in(rows, paths, kind, state.is_sparse()) {
+        return answer;
+    }
+    put_fit(alloc, state, rows, paths, kind, options, room)
+}
+
+/// How a form asks to write over an index.
+fn options_over(form: &Form, version: VersionChoice) -> Options
+    ensures { result ≡ full_options form.now version }
+{
+    Options {
+        extensions: Extensions::All,
+        version,
+        skip_hash: form.skip_hash,
+    }
+}
+
+/// Writes a table in place of the index of these bytes, as a form asks: with its cached tree, if that tells what the
+/// rows give, and with its mark of a sparse index, under which rows may stand for directories.
+pub fn write_over(
+    alloc: Global,
+    rows: &[Row],
+    paths: &[u8],
+    index: &[u8],
+    form: &Form,
+    room: &mut [u8],
+) -> Answer
+    ensures status { result.status ≤ 4 }
+    ensures done { result.status ≡ 0 → IsAskedOver form.now
+        (λ kind options. WritesOver kind index.now paths.now rows.now result.told
+        (λ v. HasImage v options result.told room.old room.new)) }
+    ensures refused { result.status ≡ 1 → IsAskedOver form.now
+        (λ kind options. IsUnwrittenOver kind options index.now paths.now rows.now result.told) }
+    ensures memory { result.status ≡ 2
+        → IsAskedOver form.now (λ kind options. IsIntact false kind index.now) }
+    ensures no_room { result.status ≡ 3 → IsAskedOver form.now
+        (λ kind options. WritesOver kind index.now paths.now rows.now result.told
+        (λ v. PassesRoom v options result.told room.old)) }
+    ensures wrong_number { (result.status ≡ 4) ↔ HasWrongNumber form.now }
+    ensures room { result.status ≢ 0 → room.new ≡ room.old }
+{
+    let Some(kind) = kind_of(form.kind) else {
+        return unwritten(WRONG_NUMBER, 0, 0);
+    };
+    let Some(version) = choice_of(form.version) else {
+        return unwritten(WRONG_NUMBER, 0, 0);
+    };
+    let options = options_over(form, version);
+    put_over(alloc, rows, paths, index, kind, options, room)
+}

@@ -1,0 +1,159 @@
+//! A table in the caller's memory: a row for each entry, and the bytes in which their paths lie.
+
+ghost use Rattle.std.specs.Prelude.{◌≡◌, ◌≤◌, All, map, length};
+ghost use Rattle.gix_index.specs.Flags.{stage_number};
+ghost use Rattle.gix_index.specs.Record.{IsPlaced, IsSized, records_in};
+ghost use Rattle.gix_index.specs.State.{PathsInStorage, entries_of, records, storage_of};
+ghost use Rattle.index_table.specs.Table.{HoldsRecords, IsForward, kind_number, padded_id, row_of, row_path};
+
+use crate::status::{SHA1, SHA256};
+use gix_index::bitflags::Flags as _;
+use gix_index::hash::{Kind, ObjectId};
+use gix_index::{Entry, State};
+
+/// An entry (gitformat-index, "Index entry").
+#[repr(C)]
+#[derive(Clone, Copy)]
+pub struct Row {
+    /// When the file's own data changed last, in seconds since the begin of 1970.
+    pub ctime_secs: u32,
+    /// Nanoseconds on top.
+    pub ctime_nsecs: u32,
+    /// When the contents changed last, in seconds since the begin of 1970.
+    pub mtime_secs: u32,
+    /// Nanoseconds on top.
+    pub mtime_nsecs: u32,
+    /// The device.
+    pub dev: u32,
+    /// The inode.
+    pub ino: u32,
+    /// The owner.
+    pub uid: u32,
+    /// The owner's group.
+    pub gid: u32,
+    /// The size in bytes, modulo 2 to the 32nd.
+    pub size: u32,
+    /// The kind of file, and whether its owner may run it.
+    pub mode: u32,
+    /// What else is noted of the entry, the stage among it, as `gix_index::entry::Flags` has it.
+    pub flags: u32,
+    /// The stage: 0, or 1 to 3 in a conflict; bits 12 and 13 of the flags again.
+    pub stage: u32,
+    /// The kind of its id: 1 for SHA-1, 2 for SHA-256.
+    pub kind: u32,
+    /// The id's bytes, with zeros behind 20 of SHA-1.
+    pub id: [u8; 32],
+    /// Where its path begins among the bytes for paths.
+    pub path_start: usize,
+    /// How many bytes its path has.
+    pub path_len: usize,
+}
+
+/// The row's path: as many of these bytes as it says, from where it says; fewer where they end before.
+pub fn path_of<'a>(row: &Row, paths: &'a [u8]) -> &'a [u8]
+    ensures { result.now ≡ row_path paths.now row.now }
+{
+    let start = row.path_start.min(paths.len());
+    let (_, behind) = paths.split_at(start);
+    let (path, _) = behind.split_at(row.path_len.min(behind.len()));
+    path
+}
+
+/// The stage among flags.
+pub fn stage_of(flags: u32) -> u32
+    ensures { result ≡ stage_number flags }
+{
+    (flags & 0x3000) >> 12
+}
+
+/// The number of a kind.
+pub(crate) fn number_of_kind(kind: Kind) -> u32
+    ensures { result ≡ kind_number kind }
+{
+    match kind {
+        Kind::Sha1 => SHA1,
+        Kind::Sha256 => SHA256,
+    }
+}
+
+/// Twenty bytes with zeros behind.
+fn padded_twenty(bytes: &[u8; 20]) -> [u8; 32]
+    ensures { result ≡ padded_id (ObjectId.Sha1 bytes.now) }
+{
+    let mut padded = [0; 32];
+    padded[..20].copy_from_slice(bytes);
+    padded
+}
+
+/// The id's bytes, with zeros behind those of SHA-1.
+pub(crate) fn padded(id: &ObjectId) -> [u8; 32]
+    ensures { result ≡ padded_id id.now }
+{
+    match id {
+        ObjectId::Sha1(bytes) => padded_twenty(bytes),
+        ObjectId::Sha256(bytes) => *bytes,
+    }
+}
+
+/// An entry's row, where the storage that its path lies in stands among the bytes for paths.
+fn row_of(entry: &Entry) -> Row
+    requires { IsForward entry.now }
+    ensures { result ≡ row_of entry.now }
+{
+    let stat = entry.stat;
+    let path = entry.path_range();
+    Row {
+        ctime_secs: stat.ctime.secs,
+        ctime_nsecs: stat.ctime.nsecs,
+        mtime_secs: stat.mtime.secs,
+        mtime_nsecs: stat.mtime.nsecs,
+        dev: stat.dev,
+        ino: stat.ino,
+        uid: stat.uid,
+        gid: stat.gid,
+        size: stat.size,
+        mode: entry.mode.bits(),
+        flags: entry.flags.bits(),
+        stage: entry.stage_raw(),
+        kind: number_of_kind(entry.id.kind()),
+        id: padded(&entry.id),
+        path_start: path.start,
+        path_len: path.end - path.start,
+    }
+}
+
+/// Fills in the row of each entry.
+fn fill_rows(entries: &[Entry], rows: &mut [Row])
+    requires forward { All IsForward entries.now }
+    requires room { length rows.old ≡ length entries.now }
+    ensures { rows.new ≡ map row_of entries.now }
+{
+    for i in 0..entries.len() {
+        rows[i] = row_of(&entries[i]);
+    }
+}
+
+/// Fills in the rows of entries and the storage of their paths, from the front.
+fn fill_table(entries: &[Entry], storage: &[u8], rows: &mut [Row], paths: &mut [u8])
+    requires placed { All (IsPlaced (length storage.now)) entries.now }
+    requires sized { All IsSized (records_in storage.now entries.now) }
+    requires rows_fit { length entries.now ≤ length rows.old }
+    requires paths_fit { length storage.now ≤ length paths.old }
+    ensures { HoldsRecords (records_in storage.now entries.now) (length storage.now)
+        rows.old rows.new paths.old paths.new }
+{
+    fill_rows(entries, &mut rows[..entries.len()]);
+    paths[..storage.len()].copy_from_slice(storage);
+}
+
+/// The same of a state's entries.
+pub(crate) fn fill(state: &State, rows: &mut [Row], paths: &mut [u8])
+    requires placed { PathsInStorage state.now }
+    requires sized { All IsSized (records state.now) }
+    requires rows_fit { length (entries_of state.now) ≤ length rows.old }
+    requires paths_fit { length (storage_of state.now) ≤ length paths.old }
+    ensures { HoldsRecords (records state.now) (length (storage_of state.now))
+        rows.old rows.new paths.old paths.new }
+{
+    fill_table(state.entries(), state.path_backing(), rows, paths);
+}

@@ -1,0 +1,117 @@
+//! Reading an index from bytes, and from its path.
+
+use crate::raw::{self, Row, Summary};
+use crate::{Error, Index, Kind, room};
+use std::path::{Path, PathBuf};
+
+/// The bytes of an index, and of the shared index that it links to, where they are given.
+#[derive(Clone, Copy)]
+struct Files<'a> {
+    bytes: &'a [u8],
+    shared: Option<&'a [u8]>,
+    kind: Kind,
+}
+
+impl Files<'_> {
+    /// Whether the table was filled, which lacks room else, and what was said.
+    fn read(self, skip_hash: bool, rows: &mut [Row], paths: &mut [u8]) -> Result<(bool, Summary), Error> {
+        let mut text = [0; 300];
+        let mut summary = Summary::default();
+        let kind = self.kind.number();
+        // SAFETY: each pointer goes with the length of its slice; those that are written through are distinct.
+        let status = unsafe {
+            match self.shared {
+                None => raw::gix_index_read(
+                    self.bytes.as_ptr(),
+                    self.bytes.len(),
+                    kind,
+                    skip_hash,
+                    rows.as_mut_ptr(),
+                    rows.len(),
+                    paths.as_mut_ptr(),
+                    paths.len(),
+                    text.as_mut_ptr(),
+                    text.len(),
+                    &mut summary,
+                ),
+                Some(shared) => raw::gix_index_read_split(
+                    self.bytes.as_ptr(),
+                    self.bytes.len(),
+                    shared.as_ptr(),
+                    shared.len(),
+                    kind,
+                    skip_hash,
+                    rows.as_mut_ptr(),
+                    rows.len(),
+                    paths.as_mut_ptr(),
+                    paths.len(),
+                    text.as_mut_ptr(),
+                    text.len(),
+                    &mut summary,
+                ),
+            }
+        };
+        match status {
+            raw::DONE => Ok((true, summary)),
+            raw::NO_ROOM => Ok((false, summary)),
+            raw::MEMORY => Err(Error::Memory),
+            _ => Err(Error::of(&summary, &text)),
+        }
+    }
+
+    /// The index of these bytes. The sizes come first, without digests, unless there is a fault: a wrong digest is told
+    /// before all others.
+    fn index(self) -> Result<Index, Error> {
+        let (mut rows, mut paths) = (Vec::new(), Vec::new());
+        let mut said =
+            self.read(true, &mut rows, &mut paths).or_else(|_| self.read(false, &mut rows, &mut paths))?;
+        loop {
+            rows = room(Row::default(), said.1.entries)?;
+            paths = room(0, said.1.path_bytes)?;
+            said = self.read(false, &mut rows, &mut paths)?;
+            if let (true, Summary { version, has_link, shared_id, .. }) = said {
+                let has_link = has_link != 0;
+                return Ok(Index { rows, paths, kind: self.kind, version, has_link, shared_id });
+            }
+        }
+    }
+}
+
+fn bytes_of(path: PathBuf) -> Result<Vec<u8>, Error> {
+    std::fs::read(&path).map_err(|error| Error::Io { path, error })
+}
+
+impl Index {
+    /// Reads an index from all bytes of its file. The digest of all bytes but the trailer is compared with the trailer,
+    /// unless that is null. A link to a shared index isn't followed: [`has_link`](Index::has_link) tells of it.
+    pub fn from_bytes(bytes: &[u8], kind: Kind) -> Result<Index, Error> {
+        Files { bytes, shared: None, kind }.index()
+    }
+
+    /// Reads an index from all bytes of its file, and those of the shared index that it links to: the file
+    /// `sharedindex.` with [`shared_id`](Index::shared_id) in lower-case base 16 behind it, beside the index.
+    ///
+    /// Where there is no link, or its id is null, the shared bytes aren't looked at. Else their trailer has to be the
+    /// id, or null, and the entries are those of both. [`Error::RefusedShared`] says what is wrong with the shared
+    /// bytes, and [`Fault::Link`](crate::Fault::Link) that the two don't fit.
+    pub fn from_split_bytes(bytes: &[u8], shared: &[u8], kind: Kind) -> Result<Index, Error> {
+        Files { bytes, shared: Some(shared), kind }.index()
+    }
+
+    /// Reads the file at a path as [`from_bytes`](Index::from_bytes) reads bytes. Where it links to a shared index, the
+    /// file of that is read too, as [`from_split_bytes`](Index::from_split_bytes) reads it, and the index has no link.
+    pub fn open(path: impl AsRef<Path>, kind: Kind) -> Result<Index, Error> {
+        let path = path.as_ref();
+        let bytes = bytes_of(path.into())?;
+        let index = Index::from_bytes(&bytes, kind)?;
+        if !index.has_link {
+            return Ok(index);
+        }
+        let Some(id) = index.shared_id() else {
+            return Index::from_split_bytes(&bytes, &[], kind);
+        };
+        let name: String = id.iter().map(|byte| format!("{byte:02x}")).collect();
+        let shared = bytes_of(path.with_file_name(format!("sharedindex.{name}")))?;
+        Index::from_split_bytes(&bytes, &shared, kind)
+    }
+}

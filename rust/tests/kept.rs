@@ -1,0 +1,95 @@
+//! Holds what is kept of an index that is written over against what was there, and a split index that is read with its
+//! shared one against the entries of both. `tests/linked` at the top of the repository runs it.
+//!
+//! GIX_INDEX_SHA1 and GIX_INDEX_SHA256 name files of repositories, GIX_INDEX_SPLIT_SHA1 and GIX_INDEX_SPLIT_SHA256
+//! split indices beside their shared ones. Without them nothing is looked at.
+
+use gix_index_proved::write::{CachedTree, Options, VersionChoice};
+use gix_index_proved::{Error, Fault, Index, Kind, Stat};
+use std::path::PathBuf;
+use std::{env, fs};
+
+/// The files of a variable for each kind, where they are named.
+fn files(variable: &str) -> impl Iterator<Item = (Kind, PathBuf, Vec<u8>)> {
+    [(Kind::Sha1, "SHA1"), (Kind::Sha256, "SHA256")].into_iter().filter_map(move |(kind, name)| {
+        let path = PathBuf::from(env::var_os(format!("{variable}_{name}"))?);
+        let bytes = fs::read(&path).expect("the file is there");
+        Some((kind, path, bytes))
+    })
+}
+
+/// All that is read of entries: paths, ids, stat numbers, modes and flags.
+fn entries_of(index: &Index) -> Vec<(Vec<u8>, Vec<u8>, Stat, u32, u32)> {
+    let all = index.entries();
+    all.map(|entry| (entry.path().to_vec(), entry.id().to_vec(), entry.stat(), entry.mode(), entry.flags())).collect()
+}
+
+fn has(bytes: &[u8], signature: &[u8]) -> bool {
+    bytes.windows(signature.len()).any(|window| window == signature)
+}
+
+#[test]
+fn what_tells_of_the_entries_is_kept() {
+    for (kind, _, bytes) in files("GIX_INDEX") {
+        let index = Index::from_bytes(&bytes, kind).expect("it can be read");
+        let is_merged = index.entries().all(|entry| entry.stage() == 0);
+        for version in [VersionChoice::Smallest, VersionChoice::V4] {
+            let options = Options { version, ..Options::default() };
+            let (again, tree) = index.write_to_over(&bytes, options).expect("it can be written");
+            assert_eq!(entries_of(&Index::from_bytes(&again, kind).expect("it can be read")), entries_of(&index));
+            assert_eq!(has(&again, b"TREE"), tree == CachedTree::Kept);
+            assert_eq!(has(&again, b"sdir\0\0\0\0"), has(&bytes, b"sdir\0\0\0\0"));
+            let is_there = has(&bytes, b"TREE");
+            assert!(if is_merged { (tree == CachedTree::Kept) == is_there } else { tree != CachedTree::Kept });
+        }
+    }
+}
+
+#[test]
+fn a_tree_goes_with_an_id() {
+    for (kind, _, bytes) in files("GIX_INDEX") {
+        let mut index = Index::from_bytes(&bytes, kind).expect("it can be read");
+        let tree = index.write_to_over(&bytes, Options::default()).expect("it can be written").1;
+        index.entry_mut(0).expect("it has entries").set_id(&vec![7; kind.len_in_bytes()]).expect("it is as long");
+        let (again, other) = index.write_to_over(&bytes, Options::default()).expect("it can be written");
+        if tree == CachedTree::Kept && other == CachedTree::LeftOut {
+            assert!(!has(&again, b"TREE"));
+            assert_eq!(index.write_to_over(&again, Options::default()).expect("it can be written").1, CachedTree::None);
+        }
+    }
+}
+
+#[test]
+fn a_damaged_index_is_not_written_over() {
+    for (kind, _, mut bytes) in files("GIX_INDEX") {
+        let index = Index::from_bytes(&bytes, kind).expect("it can be read");
+        bytes[20] ^= 1;
+        let error = index.write_to_over(&bytes, Options::default()).unwrap_err();
+        assert!(matches!(error, Error::Refused { fault: Fault::Digest, .. }), "{error}");
+        let error = index.write_to_over(b"", Options::default()).unwrap_err();
+        assert!(matches!(error, Error::Refused { fault: Fault::Header, .. }), "{error}");
+    }
+}
+
+#[test]
+fn a_link_is_followed() {
+    for (kind, path, bytes) in files("GIX_INDEX_SPLIT") {
+        let own = Index::from_bytes(&bytes, kind).expect("it can be read");
+        let id = own.shared_id().expect("it links to a shared index");
+        let name: String = id.iter().map(|byte| format!("{byte:02x}")).collect();
+        assert!(matches!(own.write_to(Options::default()), Err(Error::Split)));
+        let shared = fs::read(path.with_file_name(format!("sharedindex.{name}"))).expect("it is there");
+        let index = Index::open(&path, kind).expect("both can be read");
+        let both = Index::from_split_bytes(&bytes, &shared, kind).expect("both can be read");
+        assert_eq!(entries_of(&index), entries_of(&both));
+        assert!(!index.has_link() && index.shared_id().is_none());
+        assert!(index.entries().all(|entry| !entry.path().is_empty()));
+        assert!(own.entries().any(|entry| entry.path().is_empty()));
+        let written = index.write_to_over(&bytes, Options::default()).expect("it can be written").0;
+        assert_eq!(entries_of(&Index::from_bytes(&written, kind).expect("it can be read")), entries_of(&index));
+        let error = Index::from_split_bytes(&bytes, &written, kind).err().expect("it is another's");
+        assert!(matches!(error, Error::RefusedShared { fault: Fault::Digest, .. }), "{error}");
+        let error = Index::from_split_bytes(&bytes, b"", kind).err().expect("it is none");
+        assert!(matches!(error, Error::RefusedShared { fault: Fault::Header, .. }), "{error}");
+    }
+}
