@@ -1,16 +1,26 @@
 """The parts of a file, side by side, up to its first fault by place, and what can be saved of its entries."""
 
 from dataclasses import dataclass, field
+from types import SimpleNamespace
+from typing import Optional
 
 import entries
 import extensions
+import files
+import merging
 import state
 from bytes import ID_LENGTH, Unreadable, digest, null_id
 
 
+# What a line of `salvage` ends with.
+MERGED = b"; merged with the shared index"
+MISSING = b"; the entries of the shared index are missing"
+
+
 @dataclass
 class Parts:
-    """What each part is, with its length; whether the last one begins with a fault; and the entries before it."""
+    """What each part is, with its length; whether the last one begins with a fault; and the entries and the last whole
+    link before it."""
 
     data: bytes
     found: list = field(default_factory=list)
@@ -18,6 +28,7 @@ class Parts:
     declared: int = 0
     front: list = field(default_factory=list)
     has_link: bool = False
+    link: Optional[extensions.Link] = None
 
     @property
     def end(self):
@@ -29,10 +40,23 @@ class Parts:
         """Where the last part begins."""
         return self.end - self.found[-1][0]
 
-    def saved(self):
-        """The entries before a fault that have a path, of each path and stage the first, in order."""
+    def completed(self, kind, folder):
+        """The entries before a fault, with those of the shared index that stands in the folder, and whether these were
+        merged with them or are missing."""
+        if self.link is None:
+            return self.front, MISSING if self.has_link else b""
+        if self.link.shared == null_id(kind):
+            return self.front, b""
+        try:
+            shared = files.shared_at(kind, self.link.shared, folder)
+            return merging.merged(self.link, SimpleNamespace(entries=self.front), shared), MERGED
+        except (files.Unread, state.Fault, merging.MergeFault):
+            return self.front, MISSING
+
+    def saved(self, found):
+        """Of these entries those that have a path, of each path and stage the first, in order."""
         firsts = {}
-        for entry in self.front:
+        for entry in found:
             if entry.path:
                 firsts.setdefault(entry.key, entry)
         return [firsts[key] for key in sorted(firsts)]
@@ -86,6 +110,8 @@ def put_extensions(parts, data, kind):
             state.check_mandatory(signature, content, kind)
         except state.Fault:
             return False
+        if signature == extensions.LINK:
+            parts.link = extensions.read_link(content, kind)
         parts.put(8, b"extension %s head" % escaped(signature))
         parts.put(len(content), b"extension %s content" % escaped(signature))
     tail = len(data) - sum(8 + len(content) for _, content in walk.items)

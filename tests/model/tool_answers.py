@@ -38,6 +38,8 @@ class Refused(Exception):
 def answer(command, kind, name, files):
     """The answer to a command on the file of this name, beside others that are given by their names."""
     try:
+        if command == "salvage":
+            return salvaged(kind, name, files)
         if command in OF_BYTES:
             return OF_BYTES[command](files[name], kind, name)
         return OF_INDICES[command](index_at(kind, name, files), name)
@@ -149,19 +151,20 @@ def shown_as_json(data, kind, name):
     return Answer(out=json.dumps(told, ensure_ascii=False, separators=(",", ":")).encode() + b"\n")
 
 
-def salvaged(data, kind, name):
-    """What is saved of the entries before the first fault, with a line that tells of them."""
-    found = parts.parts_of(data, kind)
+def salvaged(kind, name, files):
+    """What is saved of the entries before the first fault, and of a shared index, with a line that tells of them."""
+    found = parts.parts_of(files[name], kind)
     if len(found.found) == 1:
         raise Refused(f"{name}: ")
     wanted = state.State(kind)
-    for entry in found.saved():
+    for entry in found.saved(found.completed(kind, files)[0]):
         wanted.push(entry)
     counts = f"{found.declared} declared, {len(found.front)} read, {len(wanted.entries)} kept"
     return Answer(fault=f"index-tool: {name}: {counts}".encode(), written=writing.image(wanted)[2])
 
 
-# The commands that look at an index with its shared one, and those that look at the bytes of a file.
+# The commands that look at an index with its shared one, those that look at the bytes of a file, and one that looks at
+# both.
 OF_INDICES = {
     "list": listed,
     "check": checked,
@@ -171,5 +174,5 @@ OF_INDICES = {
     "rewrite4": rewritten(True),
     "rewrite-trees": retreed,
 }
-OF_BYTES = {"map": mapped, "map-svg": drawn, "show": shown_whole, "show-json": shown_as_json, "salvage": salvaged}
-COMMANDS = OF_INDICES | OF_BYTES
+OF_BYTES = {"map": mapped, "map-svg": drawn, "show": shown_whole, "show-json": shown_as_json}
+COMMANDS = [*OF_INDICES, *OF_BYTES, "salvage"]

@@ -1,7 +1,10 @@
+mod Completing
 mod Covered
 mod Divided
 mod Fronts
+mod KeptLinks
 mod Laid
+mod LastLinks
 mod Links
 pub mod Printed
 mod ReadFronts
@@ -13,3 +16,4 @@ mod Spelled
 mod SpelledFronts
 mod Unreadable
 mod Walked
+mod WholeLinks

@@ -1,6 +1,6 @@
 -- A file whose parts have no fault is read as an index.
 use Rattle.std.proofs.Common.{◌≡◌, ℕ, Bool, true, false, List, [], ◌∷◌, ◌++◌, length, drop, Option, Some, None, Result, Ok, refl, sym, subst, ◌∙◌}
-use Rattle.std.specs.Prelude.{MatchBool, MatchResult}
+use Rattle.std.specs.Prelude.{MatchBool, MatchResult, codes}
 use Rattle.std.proofs.lemmas.List.{length-map}
 use Rattle.gix_index.proofs.Checks.{to_file}
 use Rattle.gix_index.proofs.Outcomes.{outcome_reading}
@@ -11,12 +11,14 @@ use Rattle.gix_index.specs.Contents.{Contents}
 use Rattle.gix_index.specs.DecodeOptions.{Options}
 use Rattle.gix_index.specs.Entries.{AreEntries}
 use Rattle.gix_index.specs.Entry.{IsEntry}
+use Rattle.gix_index.specs.ExtensionValue.{IsValue, last_content}
 use Rattle.gix_index.specs.FileTime.{FileTime}
 use Rattle.gix_index.specs.Header.{HeaderFault, count_of, header_len, header_of}
 use Rattle.gix_index.specs.Id.{id_len}
 use Rattle.gix_index.specs.Kind.{Kind}
 use Rattle.gix_index.specs.Laws.{TakesAll}
 use Rattle.gix_index.specs.Limits.{is_too_large}
+use Rattle.gix_index.specs.Link.{IsLink}
 use Rattle.gix_index.specs.ObjectId.{ObjectId}
 use Rattle.gix_index.specs.Outcome.{AreSound}
 use Rattle.gix_index.specs.Record.{Record}
@@ -44,11 +46,13 @@ by_false false P Q e q = q
 pub by_ok : (r : Result Version HeaderFault) (P : Version → Type 0) (Q : HeaderFault → Type 0) (v : Version) → r ≡ Ok v → P v → MatchResult r P Q
 by_ok r P Q v e p = subst (λ (x : Result Version HeaderFault). MatchResult x P Q) (sym e) p
 
--- bytes have an answer with these entries
-pub record IsAnswered (kind : Kind) (time : FileTime) (options : Options) (bytes : List ℕ) (rs : List Record) : Type 0 where
+-- bytes have an answer with these entries and extensions
+pub record IsAnswered (kind : Kind) (time : FileTime) (options : Options) (bytes : List ℕ) (rs : List Record)
+    (items : List Item) : Type 0 where
   pub value : Contents
   pub checksum : Option ObjectId
   pub records : value.records ≡ rs
+  pub link : IsValue (IsLink kind) (last_content (codes "link") items) value.extensions.link
   pub read : IsAnswer kind time options bytes (Ok (value, checksum))
 
 module _ (kind : Kind) (time : FileTime) (options : Options) (takes : TakesAll options) (bytes : List ℕ) where
@@ -56,7 +60,7 @@ module _ (kind : Kind) (time : FileTime) (options : Options) (takes : TakesAll o
   pub whole_answer : (version : Version) (ss : List Spelling) (after : List ℕ) (items : List Item) (tail trailer extensions : List ℕ)
       → header_of kind bytes ≡ Ok version → AreSpelled version kind None (drop header_len bytes) ss after → length ss ≡ count_of bytes → IsCrowded kind version bytes false
       → after ≡ extensions ++ trailer → length trailer ≡ id_len kind → AreItems extensions items tail → AreSound kind items → NoItem tail → left_of tail ≡ 0
-      → IsAnswered kind time options bytes (entries_spelled ss)
+      → IsAnswered kind time options bytes (entries_spelled ss) items
   whole_answer version ss after items tail trailer extensions is are all fits parted len items_are sound ended none =
       let rs = entries_spelled ss in
       let o = outcome_reading kind options.alloc_limit_bytes items in
@@ -71,7 +75,7 @@ module _ (kind : Kind) (time : FileTime) (options : Options) (takes : TakesAll o
       let few : is_too_large options.alloc_limit_bytes (count_of bytes) (length bytes) fits.0 kind version ≡ false = rw takes.limit refl in
       let counted : IsCounted fits.0 kind time options bytes answer version = by_false _ _ _ fits.2 (by_false _ _ _ few body) in
       let read : IsAnswer kind time options bytes answer = by_ok (header_of kind bytes) _ _ version is (fits.0, fits.1, counted) in
-      record { value = value; checksum = checksum; records = refl; read = read }
+      record { value = value; checksum = checksum; records = refl; link = o.1.link; read = read }
 
   whole_read : (version : Version) (ss : List Spelling) (after : List ℕ) (items : List Item) (tail trailer extensions : List ℕ)
       → header_of kind bytes ≡ Ok version → AreSpelled version kind None (drop header_len bytes) ss after → length ss ≡ count_of bytes → IsCrowded kind version bytes false

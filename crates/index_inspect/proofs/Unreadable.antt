@@ -65,15 +65,16 @@ module _ (kind : Kind) (time : FileTime) (options : Options) (takes : TakesAll o
   unread : Refuses → IsNoIndex kind time options bytes
   unread h = λ x read. h x (ok_by (needs_check false kind bytes) _ _ x _ read)
 
-  headless_refused : (f : HeaderFault) → header_of kind bytes ≡ Err f → Refuses
+  pub headless_refused : (f : HeaderFault) → header_of kind bytes ≡ Err f → Refuses
   headless_refused f e = refused (Header f) (by_err (header_of kind bytes) _ _ f e refl)
 
-  same_records : (x : Contents × Option ObjectId) (rs : List Record) → IsAnswer kind time options bytes (Ok x) → IsAnswered kind time options bytes rs → x.0.records ≡ rs
-  same_records x rs ok h =
+  same_records : (x : Contents × Option ObjectId) (rs : List Record) (items : List Item) → IsAnswer kind time options bytes (Ok x)
+      → IsAnswered kind time options bytes rs items → x.0.records ≡ rs
+  same_records x rs items ok h =
       let same : ◌≡◌ {A = Answer} (Ok x) (Ok (h.value, h.checksum)) = answer_one kind time options bytes (Ok x) (Ok (h.value, h.checksum)) ok h.read in
       ap records_in same ∙ h.records
 
-  crowded_refused : (version : Version) → header_of kind bytes ≡ Ok version → IsCrowded kind version bytes true → Refuses
+  pub crowded_refused : (version : Version) → header_of kind bytes ≡ Ok version → IsCrowded kind version bytes true → Refuses
   crowded_refused version is h = refused (Header (Corrupt (codes "Declared entry count exceeds possible entries for file size"))) (by_ok (header_of kind bytes) _ _ version is (h.0, h.1, by_true _ _ _ h.2 refl))
 
   body_refused : (version : Version) (f : Fault) → header_of kind bytes ≡ Ok version → IsCrowded kind version bytes false → IsBehindHeader kind time options version (count_of bytes) (drop header_len bytes) (Err f) → Refuses
@@ -86,14 +87,14 @@ module _ (kind : Kind) (time : FileTime) (options : Options) (takes : TakesAll o
   lack_refused version f place true is m e body = crowded_refused version is (place, m, e)
   lack_refused version f place false is m e body = body_refused version f is (place, m, e) body
 
-  lacks_refused : (version : Version) (ss : List Spelling) (after : List ℕ) → header_of kind bytes ≡ Ok version → AreSpelled version kind None (drop header_len bytes) ss after
+  pub lacks_refused : (version : Version) (ss : List Spelling) (after : List ℕ) → header_of kind bytes ≡ Ok version → AreSpelled version kind None (drop header_len bytes) ss after
       → length ss < count_of bytes → NoEntryBehind version kind ss after → Refuses
   lacks_refused version ss after is are lt none =
       let marker = marker_reading kind bytes in
       let lack : LacksEntry version kind (drop header_len bytes) (length ss) = record { records = entries_spelled ss; rest = after; read = entries_of version kind None (drop header_len bytes) ss after are; count = length-map ss _; none = none } in
       lack_refused version (NoEntry (length ss)) marker.0 (nat_lt (most_entries (length bytes) marker.0 kind version) (count_of bytes)) is marker.1 refl (answers.lacks (length ss) lt lack refl)
 
-  ending_refused : (version : Version) (ss : List Spelling) (after : List ℕ) (f : Fault) → header_of kind bytes ≡ Ok version → AreSpelled version kind None (drop header_len bytes) ss after → length ss ≡ count_of bytes
+  pub ending_refused : (version : Version) (ss : List Spelling) (after : List ℕ) (f : Fault) → header_of kind bytes ≡ Ok version → AreSpelled version kind None (drop header_len bytes) ss after → length ss ≡ count_of bytes
       → IsCrowded kind version bytes false → IsEnding kind time options version (entries_spelled ss) after (Err f) → Refuses
   ending_refused version ss after f is are all fits ending =
       body_refused version f is fits (has (entries_spelled ss) after (entries_of version kind None (drop header_len bytes) ss after are) (length-map ss _ ∙ all) ending)
@@ -101,14 +102,14 @@ module _ (kind : Kind) (time : FileTime) (options : Options) (takes : TakesAll o
   module _ (version : Version) (ss : List Spelling) (after : List ℕ) (items : List Item) (tail trailer extensions : List ℕ) (is : header_of kind bytes ≡ Ok version)
       (are : AreSpelled version kind None (drop header_len bytes) ss after) (all : length ss ≡ count_of bytes) (fits : IsCrowded kind version bytes false) (parted : after ≡ extensions ++ trailer)
       (len : length trailer ≡ id_len kind) (items_are : AreItems extensions items tail) (sound : AreSound kind items) where
-    faulty_refused : (i : Item) (rest : List ℕ) (x : ExtensionFault) → IsItem tail i rest → IsFault kind i x → Refuses
+    pub faulty_refused : (i : Item) (rest : List ℕ) (x : ExtensionFault) → IsItem tail i rest → IsFault kind i x → Refuses
     faulty_refused i rest x is_item is_fault =
         let w = walk_of rest in
         let walk = more_items extensions tail items (i ∷ w.0) w.1 items_are (rest, is_item, w.2.items_are) in
         let first : IsFirstFault kind (items ++ i ∷ w.0) x = record { before = items; item = i; behind = w.0; parts = refl; sound = sound; is_fault = is_fault } in
         ending_refused version ss after (Extension x) is are all fits (answers.walked extensions trailer (items ++ i ∷ w.0) w.1 parted len (record { items_are = walk; ended = w.2.ended }) (answers.faulty x first refl))
 
-    left_refused : NoItem tail → left_of tail ≢ 0 → Refuses
+    pub left_refused : NoItem tail → left_of tail ≢ 0 → Refuses
     left_refused ended more =
         ending_refused version ss after (TrailerLength _ _) is are all fits (answers.walked extensions trailer items tail parted len (record { items_are = items_are; ended = ended }) (answers.left sound more refl))
 
@@ -122,8 +123,8 @@ module _ (kind : Kind) (time : FileTime) (options : Options) (takes : TakesAll o
     end_same : (last : List Piece) (f : Option Fault) (x : Contents × Option ObjectId) → IsAnswer kind time options bytes (Ok x) → IsFileEnd kind bytes tail trailer last f → x.0.records ≡ entries_spelled ss
     end_same last f x ok (faulty i rest g is_item is_fault e h) = absurd (faulty_refused i rest g is_item is_fault x ok)
     end_same last f x ok (left ended more e h) = absurd (left_refused ended more x ok)
-    end_same last f x ok (broken ended none b e h) = same_records x (entries_spelled ss) ok (whole_answer kind time options takes bytes version ss after items tail trailer extensions is are all fits parted len items_are sound ended none)
-    end_same last f x ok (whole ended none intact e h) = same_records x (entries_spelled ss) ok (whole_answer kind time options takes bytes version ss after items tail trailer extensions is are all fits parted len items_are sound ended none)
+    end_same last f x ok (broken ended none b e h) = same_records x (entries_spelled ss) items ok (whole_answer kind time options takes bytes version ss after items tail trailer extensions is are all fits parted len items_are sound ended none)
+    end_same last f x ok (whole ended none intact e h) = same_records x (entries_spelled ss) items ok (whole_answer kind time options takes bytes version ss after items tail trailer extensions is are all fits parted len items_are sound ended none)
 
   behind_unread : (version : Version) (ss : List Spelling) (after : List ℕ) (ps : List Piece) (f : Option Fault) (g : Fault) → header_of kind bytes ≡ Ok version → AreSpelled version kind None (drop header_len bytes) ss after
       → f ≡ Some g → IsBehindEntries kind version bytes ss after ps f → IsNoIndex kind time options bytes

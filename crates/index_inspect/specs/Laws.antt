@@ -1,5 +1,5 @@
 -- What the parts of a file say of reading it (the library's own).
-use Rattle.std.specs.Prelude.{◌≡◌, ◌≢◌, ℕ, false, List, [], All, length, Option, Ok}
+use Rattle.std.specs.Prelude.{◌≡◌, ◌≢◌, ◌⊎◌, ℕ, false, List, [], All, Option, None, Ok}
 use Rattle.gix_index.specs.Answer.{IsAnswer}
 use Rattle.gix_index.specs.Checked.{IsFileAnswer}
 use Rattle.gix_index.specs.Contents.{Contents}
@@ -10,12 +10,14 @@ use Rattle.gix_index.specs.Laws.{TakesAll}
 use Rattle.gix_index.specs.ObjectId.{ObjectId}
 use Rattle.gix_index.specs.Order.{IsStrictlyOrdered}
 use Rattle.gix_index.specs.Record.{Record}
-use Rattle.gix_index.specs.State.{records}
-use Rattle.index_inspect.specs.Salvage.{IsSavedOf, Saves}
+use Rattle.index_inspect.specs.Remains.{Remain}
+use Rattle.index_inspect.specs.Salvage.{Saves}
+use Rattle.index_inspect.specs.declared.remains.Remains.{Remains}
 use Rattle.index_inspect.specs.declared.salvage.Salvaged.{Salvaged}
 
 -- bytes are read as an index with these entries, and with their digest, unless that is left out
-pub record IsReadAs (kind : Kind) (time : FileTime) (options : Options) (bytes : List ℕ) (rs : List Record) : Type 0 where
+pub record IsReadAs (kind : Kind) (time : FileTime) (options : Options) (bytes : List ℕ) (rs : List Record)
+    : Type 0 where
   pub value : Contents
   pub checksum : Option ObjectId
   pub records : value.records ≡ rs
@@ -23,10 +25,12 @@ pub record IsReadAs (kind : Kind) (time : FileTime) (options : Options) (bytes :
 
 -- they are no index
 abbrev pub IsNoIndex : Kind → FileTime → Options → List ℕ → Type 0
-IsNoIndex kind time options bytes = (x : Contents × Option ObjectId) → IsFileAnswer false kind time options bytes (Ok x) → ⊥
+IsNoIndex kind time options bytes =
+    (x : Contents × Option ObjectId) → IsFileAnswer false kind time options bytes (Ok x) → ⊥
 
--- bytes are read as a value, by a reader without a limit that expects no trailer; and what is saved of them is this
-pub record IsReadAndSaved (v : Contents) (s : Salvaged) : Type 0 where
+-- Bytes are read as a value, by a reader without a limit that expects no trailer; and this remains of them, and is
+-- saved with a shared index or none.
+pub record IsReadAndSaved (v : Contents) (r : Remains) (shared : Option Contents) (s : Salvaged) : Type 0 where
   pub kind : Kind
   pub time : FileTime
   pub options : Options
@@ -34,7 +38,12 @@ pub record IsReadAndSaved (v : Contents) (s : Salvaged) : Type 0 where
   pub bytes : List ℕ
   pub checksum : Option ObjectId
   pub read : IsAnswer kind time options bytes (Ok (v, checksum))
-  pub saves : Saves kind bytes s
+  pub remain : Remain kind bytes r
+  pub saves : Saves r shared s
+
+-- no shared index has entries of its own: the index links to none, or none is given
+abbrev pub IsAlone : Contents → Option Contents → Type 0
+IsAlone v shared = (v.extensions.link ≡ None) ⊎ (shared ≡ None)
 
 -- entries as git writes them where there is no link: in order by path and stage, each once, and with a path
 pub record AreWhole (rs : List Record) : Type 0 where

@@ -6,6 +6,7 @@ pub mod ItemSteps
 pub mod Laws
 pub mod Lines
 pub mod Piece
+pub mod Remains
 pub mod Salvage
 pub mod SalvageSteps
 pub mod Spelling

@@ -1,26 +1,22 @@
--- What is saved of a file that may be damaged: the front of its entries, put in order (gitformat-index, "Index entries are
--- sorted in ascending order").
-use Rattle.std.specs.Prelude.{◌≡◌, ◌≢◌, ◌↔◌, ℕ, ◌-◌, nat_eq, ◌||◌, Bool, true, false, List, [], ◌∷◌, Contains, length, codes, filter, slice_get, Option, Some, None, IfSome, IsOk, Err}
-use Rattle.std.specs.Cmp.Lexicographic.{pointwise}
-use Rattle.std.specs.List.{list_any}
+-- What is saved of a file that may be damaged: the front of its entries, with those of its shared index where the two
+-- can be merged, put in order (gitformat-index, "Split index", "Index entries are sorted in ascending order").
+use Rattle.std.specs.Prelude.{◌≡◌, ◌≢◌, ◌↔◌, Bool, true, false, List, [], ◌∷◌, Contains, length, filter, Option, Some, None}
 use Rattle.std.specs.Option.{option_map}
 use Rattle.std.specs.Ordering.{is_eq}
-use Rattle.gix_index.specs.DecodeError.{Error}
-use Rattle.gix_index.specs.DecodeError.TheVariants as errors
-use Rattle.gix_index.specs.ExtensionError.TheVariants as extensions
-use Rattle.gix_index.specs.Header.{count_of, header_of}
-use Rattle.gix_index.specs.HeaderErrors.{header_fault}
-use Rattle.gix_index.specs.Kind.{Kind}
+use Rattle.gix_index.specs.Contents.{Contents}
+use Rattle.gix_index.specs.Dissolve.{IsDissolved, IsDissolveFault}
+use Rattle.gix_index.specs.Edits.{with_records}
+use Rattle.gix_index.specs.Id.{id_bytes, is_null}
+use Rattle.gix_index.specs.Link.{LinkFault, LinkValue, link_of}
 use Rattle.gix_index.specs.Order.{IsStrictlyOrdered, record_cmp}
 use Rattle.gix_index.specs.Record.{Record}
-use Rattle.gix_index.specs.State.{records}
-use Rattle.index_inspect.specs.Division.{Divides}
-use Rattle.index_inspect.specs.declared.part.Part.{Part}
-use Rattle.index_inspect.specs.declared.part.What.{What}
-use Rattle.index_inspect.specs.declared.part.What.TheVariants as whats
-use Rattle.index_inspect.specs.declared.salvage.Error.{Error as SalvageError}
-use Rattle.index_inspect.specs.declared.salvage.Error.TheVariants as refusals
+use Rattle.gix_index.specs.State.{PathsInStorage, contents, records}
+use Rattle.gix_index.specs.StateType.{State}
+use Rattle.gix_index.specs.Storable.{IsStorable}
+use Rattle.index_inspect.specs.declared.remains.Remains.{Remains}
 use Rattle.index_inspect.specs.declared.salvage.Salvaged.{Salvaged}
+use Rattle.index_inspect.specs.declared.salvage.SharedEntries.{SharedEntries}
+use Rattle.index_inspect.specs.declared.salvage.SharedEntries.TheVariants as fates
 
 -- ---- which entries
 
@@ -39,45 +35,44 @@ pub record IsSavedOf (rs kept : List Record) : Type 0 where
   pub ordered : IsStrictlyOrdered kept
   pub are : (r : Record) → Contains kept r ↔ IsFirst rs r
 
--- ---- where the fault is, and whether a shared index has entries too
+-- ---- with the shared index
 
-abbrev pub begin_or_zero : Option Part → ℕ
-begin_or_zero None = 0
-begin_or_zero (Some p) = p.offset
+-- this link was read, and names a shared index
+abbrev pub IsWanted : Option LinkValue → LinkValue → Type 0
+IsWanted link l = (link ≡ Some l) × (is_null (id_bytes l.shared) ≡ false)
 
--- where the last part begins: with the first fault, where there is one
-abbrev pub last_begin : List Part → ℕ
-last_begin parts = begin_or_zero (slice_get parts (length parts - 1))
-
--- the head of a link to a shared index
-abbrev pub is_link_head : What → Bool
-is_link_head (whats.ExtensionHead signature) = pointwise nat_eq signature (codes "link")
-is_link_head what = false
-
--- the link is what is at fault
-abbrev pub is_link_fault : Option Error → Bool
-is_link_fault (Some (errors.Extension (extensions.Link e))) = true
-is_link_fault e = false
-
--- a link stands among the parts, or at the first fault
-abbrev pub has_link : List Part → Option Error → Bool
-has_link parts e = list_any (λ p. is_link_head p.what) parts || is_link_fault e
+-- Which entries are saved of, and what became of those of the shared index. Where one is wanted and given, and the link
+-- is dissolved, they are its entries and the file's own, merged; where one is missing, or the two don't fit, or none is
+-- wanted, they are the file's own. A link may be found and not read.
+pub data IsCompleted (link : Option LinkValue) (found : Bool) (shared : Option Contents) (own all : List Record)
+    (fate : SharedEntries) : Type 0 where
+  unlinked : link ≡ None → found ≡ false → all ≡ own → fate ≡ fates.Unlinked
+      → IsCompleted link found shared own all fate
+  unshared : (l : LinkValue) → link ≡ Some l → is_null (id_bytes l.shared) ≡ true → all ≡ own
+      → fate ≡ fates.Unlinked → IsCompleted link found shared own all fate
+  unread : link ≡ None → found ≡ true → all ≡ own → fate ≡ fates.Missing → IsCompleted link found shared own all fate
+  absent : (l : LinkValue) → IsWanted link l → shared ≡ None → all ≡ own → fate ≡ fates.Missing
+      → IsCompleted link found shared own all fate
+  unfit : (l : LinkValue) (s v : Contents) (fault : LinkFault) → IsWanted link l → shared ≡ Some s
+      → IsDissolveFault l s (with_records v own) fault → all ≡ own → fate ≡ fates.Missing
+      → IsCompleted link found shared own all fate
+  merged : (l : LinkValue) (s v : Contents) → IsWanted link l → shared ≡ Some s
+      → IsDissolved l s (with_records v own) (with_records v all) → fate ≡ fates.Merged
+      → IsCompleted link found shared own all fate
 
 -- ---- what is given
 
--- the entries that are read of a file with a header, up to its first fault, saved, and what is told of that
-pub record Saves (kind : Kind) (bytes : List ℕ) (s : Salvaged) : Type 0 where
-  pub header : IsOk (header_of kind bytes)
-  pub front : List Record
-  pub parts : List Part
-  pub divides : Divides kind bytes front parts (option_map (λ f. f.error) s.fault)
-  pub saved : IsSavedOf front (records s.state)
-  pub declared : s.declared ≡ count_of bytes
-  pub read : s.read ≡ length front
-  pub offset : IfSome s.fault (λ f. f.offset ≡ last_begin parts)
-  pub link : s.has_link ≡ has_link parts (option_map (λ f. f.error) s.fault)
+-- a shared index is of the kind of the split one, and a file can hold it
+pub record CanBeShared (split shared : State) : Type 0 where
+  pub same_kind : (contents shared).kind ≡ (contents split).kind
+  pub placed : PathsInStorage shared
+  pub storable : IsStorable (contents shared)
 
--- the header has this fault; want of memory says nothing
-abbrev pub SaysLost : Kind → List ℕ → SalvageError → Type 0
-SaysLost kind bytes (refusals.Header e) = header_of kind bytes ≡ Err (header_fault e)
-SaysLost kind bytes refusals.Memory = Unit {0}
+-- what remains of a file, completed with the shared index if one is given, and saved; and what is told of that
+pub record Saves (r : Remains) (shared : Option Contents) (s : Salvaged) : Type 0 where
+  pub all : List Record
+  pub completed : IsCompleted (option_map link_of r.link) r.has_link shared (records r.front) all s.shared
+  pub saved : IsSavedOf all (records s.state)
+  pub declared : s.declared ≡ r.declared
+  pub read : s.read ≡ length (records r.front)
+  pub fault : s.fault ≡ r.fault

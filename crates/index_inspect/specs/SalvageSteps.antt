@@ -1,14 +1,18 @@
 -- What the steps of saving entries have made (the library's own). Public clauses cite none of these.
-use Rattle.std.specs.Prelude.{◌≡◌, ◌≢◌, ◌≤◌, ◌+◌, ℕ, List, [], ◌∷◌, ◌++◌, All, Bool, length, take, slice_index_or, if◌then◌else◌}
+use Rattle.std.specs.Prelude.{◌≡◌, ◌≢◌, ◌≤◌, ◌+◌, ℕ, List, [], ◌∷◌, ◌++◌, All, Bool, Option, length, take, slice_index_or, if◌then◌else◌}
+use Rattle.gix_index.specs.Contents.{Contents}
 use Rattle.gix_index.specs.Edits.{empty_contents, with_records}
 use Rattle.gix_index.specs.FileTime.{FileTime}
 use Rattle.gix_index.specs.Id.{id_kind}
 use Rattle.gix_index.specs.Kind.{Kind}
+use Rattle.gix_index.specs.Link.{LinkValue}
 use Rattle.gix_index.specs.Record.{Record}
-use Rattle.gix_index.specs.State.{PathsInStorage, contents}
+use Rattle.gix_index.specs.State.{PathsInStorage, contents, records}
 use Rattle.gix_index.specs.StateType.{State}
 use Rattle.gix_index.specs.Storable.{IsStorable}
-use Rattle.index_inspect.specs.Salvage.{IsSavedOf}
+use Rattle.index_inspect.specs.Remains.{IsPlainIndex}
+use Rattle.index_inspect.specs.Salvage.{IsCompleted, IsSavedOf}
+use Rattle.index_inspect.specs.declared.salvage.Completed.{Completed}
 
 -- the id is of the kind, and a path that the length field can't count has no NUL
 pub record IsHeld (kind : Kind) (r : Record) : Type 0 where
@@ -21,6 +25,13 @@ pub record IsIndexOf (kind : Kind) (rs : List Record) (s : State) : Type 0 where
   pub is : contents s ≡ with_records (empty_contents kind time) rs
   pub placed : PathsInStorage s
   pub storable : IsStorable (contents s)
+
+-- an index of the entries of a file became one of those that are saved of, with nothing else, and of the same kind
+pub record Completes (link : Option LinkValue) (found : Bool) (shared : Option Contents) (own : State) (c : Completed)
+    : Type 0 where
+  pub is : IsCompleted link found shared (records own) (records c.state) c.shared
+  pub same_kind : (contents c.state).kind ≡ (contents own).kind
+  pub plain : IsPlainIndex c.state
 
 -- whether the record at a place is saved too, where those before it are
 abbrev pub TakesNext : List Record → ℕ → Bool → Type 0

@@ -1,19 +1,25 @@
-//! Laws of the definitions that the contracts of `divide` and `salvage` cite. A law computes nothing.
+//! Laws of the definitions that the contracts of `divide`, `remains_of` and `Remains::save` cite. A law computes
+//! nothing.
 
-ghost use Rattle.std.specs.Prelude.{◌≡◌, ℕ, List, None, Some, length};
+ghost use Rattle.std.specs.Option.{option_map};
+ghost use Rattle.std.specs.Prelude.{◌≡◌, ℕ, List, None, Option, Some, length};
 ghost use Rattle.gix_index.specs.Answer.{Fault};
 ghost use Rattle.gix_index.specs.Contents.{Contents};
 ghost use Rattle.gix_index.specs.DecodeOptions.{Options};
 ghost use Rattle.gix_index.specs.FileTime.{FileTime};
 ghost use Rattle.gix_index.specs.Kind.{Kind};
 ghost use Rattle.gix_index.specs.Laws.{TakesAll};
+ghost use Rattle.gix_index.specs.Link.{link_of};
 ghost use Rattle.gix_index.specs.Record.{Record};
 ghost use Rattle.gix_index.specs.State.{records};
 ghost use Rattle.index_inspect.specs.Division.{IsDivided};
-ghost use Rattle.index_inspect.specs.Laws.{AreWhole, IsReadAndSaved, IsReadAs, IsNoIndex};
+ghost use Rattle.index_inspect.specs.Laws.{AreWhole, IsAlone, IsReadAndSaved, IsReadAs, IsNoIndex};
 ghost use Rattle.index_inspect.specs.Piece.{Piece};
 ghost use Rattle.index_inspect.specs.Salvage.{IsSavedOf};
+ghost use Rattle.index_inspect.specs.declared.remains.Remains.{Remains};
 ghost use Rattle.index_inspect.specs.declared.salvage.Salvaged.{Salvaged};
+
+use gix_index::laws::one_reading;
 
 /// A file whose parts have no fault is read as an index, with the entries of the parts, and its digest is its trailer
 /// where that isn't null: by a reader of the same kind that has no limit and expects no trailer.
@@ -30,15 +36,22 @@ pub fn damaged_is_unread()
         → IsDivided kind bytes rs pieces (Some fault) → IsNoIndex kind time options bytes }
 {}
 
-/// Of bytes that are read as an index all entries are saved that it has, in order by path and stage, of each the first:
-/// whatever their trailer is. Where they are in order already, each once and with a path, as git writes them where
-/// there is no link, what is saved is exactly the entries of the index. What is saved of entries is one list.
+/// Of bytes that are read as an index the link remains that it has, and all its entries are read. Where it has no link,
+/// or no shared index is given, all of them are saved, in order by path and stage, of each the first: whatever their
+/// trailer is. Where they are in order already, each once and with a path, as git writes them where there is no link,
+/// what is saved is exactly the entries of the index. What is saved of entries is one list.
 pub fn whole_is_saved()
-    ensures read { (v : Contents) (s : Salvaged) → IsReadAndSaved v s → s.read ≡ length v.records }
-    ensures saved { (v : Contents) (s : Salvaged) → IsReadAndSaved v s
-        → IsSavedOf v.records (records s.state) }
-    ensures same { (v : Contents) (s : Salvaged) → IsReadAndSaved v s → AreWhole v.records
+    ensures link { (v : Contents) (r : Remains) (shared : Option Contents) (s : Salvaged)
+        → IsReadAndSaved v r shared s → option_map link_of r.link ≡ v.extensions.link }
+    ensures read { (v : Contents) (r : Remains) (shared : Option Contents) (s : Salvaged)
+        → IsReadAndSaved v r shared s → s.read ≡ length v.records }
+    ensures saved { (v : Contents) (r : Remains) (shared : Option Contents) (s : Salvaged)
+        → IsReadAndSaved v r shared s → IsAlone v shared → IsSavedOf v.records (records s.state) }
+    ensures same { (v : Contents) (r : Remains) (shared : Option Contents) (s : Salvaged)
+        → IsReadAndSaved v r shared s → IsAlone v shared → AreWhole v.records
         → records s.state ≡ v.records }
     ensures one { (rs kept others : List Record) → IsSavedOf rs kept → IsSavedOf rs others
         → kept ≡ others }
-{}
+{
+    one_reading();
+}

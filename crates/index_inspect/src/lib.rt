@@ -9,9 +9,11 @@ mod items;
 pub mod laws;
 pub mod map;
 pub mod part;
+pub mod remains;
 pub mod salvage;
 
 pub use division::{Division, divide};
 pub use map::write_map;
 pub use part::{Part, What};
-pub use salvage::Salvaged;
+pub use remains::{Remains, remains_of};
+pub use salvage::{Salvaged, SharedEntries};

@@ -1,57 +1,35 @@
 //! What can be saved of a damaged index file.
 
-ghost use Rattle.std.specs.Prelude.{◌≡◌, ◌<◌, ◌+◌, ◌∷◌, ◌++◌, [], List, All, IfErr, IfOk, IfSome, OnOk, length, slice_index_or, take};
+ghost use Rattle.std.specs.Prelude.{◌≡◌, ◌<◌, ◌+◌, Bool, All, IfOk, IfSome, OnOk, Some, false, length, take};
 ghost use Rattle.std.specs.List.Sorted.{IsStable};
 ghost use Rattle.std.specs.Option.{option_map};
-ghost use Rattle.gix_index.specs.Edits.{empty_contents, with_records};
+ghost use Rattle.gix_index.specs.Id.{id_bytes, is_null};
 ghost use Rattle.gix_index.specs.Kind.{Kind as KindType};
+ghost use Rattle.gix_index.specs.Link.{link_of};
 ghost use Rattle.gix_index.specs.Order.{record_cmp};
-ghost use Rattle.gix_index.specs.Record.{Record};
 ghost use Rattle.gix_index.specs.Sorted.{IsOrdered};
-ghost use Rattle.gix_index.specs.State.{PathsInStorage, contents, records};
-ghost use Rattle.gix_index.specs.Storable.{IsStorable};
-ghost use Rattle.index_inspect.specs.Salvage.{IsSavedOf, Saves, SaysLost, has_link, is_link_fault, is_link_head, last_begin};
-ghost use Rattle.index_inspect.specs.SalvageSteps.{IsHeld, IsIndexOf, TakesNext};
-ghost use Rattle.index_inspect.specs.declared.salvage.Error.TheVariants.{Memory};
+ghost use Rattle.gix_index.specs.State.{contents, records};
+ghost use Rattle.index_inspect.specs.Remains.{IsPlainIndex};
+ghost use Rattle.index_inspect.specs.Salvage.{CanBeShared, IsSavedOf, Saves};
+ghost use Rattle.index_inspect.specs.SalvageSteps.{Completes, IsHeld, IsIndexOf, TakesNext};
 
-use crate::division::{Division, divide};
-use crate::part::{Part, What};
-use gix_index::decode::entry::{EntryList, EntrySlice};
-use gix_index::decode::header;
+use crate::remains::{FirstFault, Remains, push_from};
+use gix_index::State;
+use gix_index::decode::entry::EntrySlice;
 use gix_index::entry::FileTime;
-use gix_index::extension::decode::Error as ExtensionError;
-use gix_index::extension::link;
+use gix_index::extension::{Link, link};
 use gix_index::hash::Kind;
-use gix_index::{State, decode};
 use std::alloc::{AllocError, Global};
-use thiserror::Error;
 
-/// Why nothing is saved of a file.
-#[derive(Debug, Drop, Error)]
-pub enum Error {
-    /// The first twelve bytes can't be read, so that no entry is found.
-    #[error("{0}")]
-    Header(header::Error),
-    /// A growth was refused.
-    #[error("out of memory while the entries of an index are saved")]
-    Memory,
-}
-
-impl From<AllocError> for Error {
-    ghost from_gives = { λ _ e. e ≡ Memory };
-
-    fn from(_e: AllocError) -> Error {
-        Error::Memory
-    }
-}
-
-/// The first fault of a file, by place.
-#[derive(Debug, Drop)]
-pub struct FirstFault {
-    /// How many bytes stand before it.
-    pub offset: usize,
-    /// What it is.
-    pub error: decode::Error,
+/// What became of the entries of a shared index.
+#[derive(Clone, Copy, Debug, PartialEq, Eq)]
+pub enum SharedEntries {
+    /// The file links to no shared index, as far as it can be read.
+    Unlinked,
+    /// They are merged with those of the file.
+    Merged,
+    /// They are missing: the link can't be read, no shared index was given, or the two don't fit.
+    Missing,
 }
 
 /// What is saved of a file, and what was found there.
@@ -65,8 +43,8 @@ pub struct Salvaged {
     pub read: usize,
     /// The first fault, if the file has one.
     pub fault: Option<FirstFault>,
-    /// Whether a link to a shared index was found. Then the entries that stand in the shared index alone are missing.
-    pub has_link: bool,
+    /// Whether the entries of the shared index are there too.
+    pub shared: SharedEntries,
 }
 
 impl Salvaged {
@@ -78,38 +56,81 @@ impl Salvaged {
     }
 }
 
-/// Puts an entry of a list behind those of a state.
-fn push_from(state: &mut State, entries: &EntrySlice<'_>, place: usize) -> Result<(), AllocError>
-    requires { place < length entries.now }
-    ensures { OnOk result ((kind : KindType) (rs : List Record) (d : Record)
-        → IsIndexOf kind rs state.old → IsHeld kind (slice_index_or entries.now place d)
-        → IsIndexOf kind (rs ++ slice_index_or entries.now place d ∷ []) state.new) }
-{
-    let entry = entries.entry(place);
-    let path = entries.path(place);
-    state.dangerously_push_entry(entry.stat, entry.id, entry.flags, entry.mode, path)
+/// An index of the entries of a file, and of those of its shared index where they are merged.
+#[derive(Drop)]
+struct Completed {
+    state: State,
+    shared: SharedEntries,
 }
 
-/// These entries as an index.
-fn copied(alloc: Global, kind: Kind, entries: &EntrySlice<'_>) -> Result<State, AllocError>
-    requires { All (IsHeld kind) entries.now }
-    ensures { IfOk result (IsIndexOf kind entries.now) }
+/// The entries of these indices merged by the link; or those of the first alone, where the two don't fit.
+fn joined(alloc: Global, link: Link, mut own: State, shared: State) -> Result<Completed, AllocError>
+    requires named { is_null (id_bytes link.shared_index_checksum) ≡ false }
+    requires plain { IsPlainIndex own }
+    requires shared { CanBeShared own shared }
+    ensures { IfOk result (λ c. (found : Bool)
+        → Completes (Some (link_of link)) found (Some (contents shared)) own c) }
 {
-    let mut state = State::new(alloc, kind, FileTime::EPOCH);
-    for number in 0..entries.len() {
-        push_from(&mut state, entries, number)?;
+    match link.dissolve_into(alloc, &mut own, shared) {
+        Ok(()) => Ok(Completed {
+            state: own,
+            shared: SharedEntries::Merged,
+        }),
+        Err(link::decode::Error::Memory) => Err(AllocError),
+        Err(link::decode::Error::Corrupt(_)) => Ok(Completed {
+            state: own,
+            shared: SharedEntries::Missing,
+        }),
+        Err(link::decode::Error::BitmapDecode { .. }) => Ok(Completed {
+            state: own,
+            shared: SharedEntries::Missing,
+        }),
     }
-    Ok(state)
 }
 
-/// These entries as an index, in order by path and stage. Those that agree in both keep their order.
-fn sorted(alloc: Global, kind: Kind, entries: EntryList) -> Result<State, AllocError>
-    requires { All (IsHeld kind) entries.records }
-    ensures index { IfOk result (λ s. IsIndexOf kind (records s) s) }
-    ensures ordered { IfOk result (λ s. IsOrdered (records s)) }
-    ensures stable { IfOk result (λ s. IsStable record_cmp entries.records (records s)) }
+/// The entries of a file as an index, with those of its shared index where they can be merged.
+fn with_shared(
+    alloc: Global,
+    link: Option<Link>,
+    has_link: bool,
+    own: State,
+    shared: Option<State>,
+) -> Result<Completed, AllocError>
+    requires plain { IsPlainIndex own }
+    requires shared { IfSome shared (CanBeShared own) }
+    ensures { IfOk result
+        (Completes (option_map link_of link) has_link (option_map contents shared) own) }
 {
-    let mut state = copied(alloc, kind, &entries.as_slice())?;
+    let Some(link) = link else {
+        let shared = if has_link {
+            SharedEntries::Missing
+        } else {
+            SharedEntries::Unlinked
+        };
+        return Ok(Completed { state: own, shared });
+    };
+    if link.shared_index_checksum.is_null() {
+        return Ok(Completed {
+            state: own,
+            shared: SharedEntries::Unlinked,
+        });
+    }
+    let Some(shared) = shared else {
+        return Ok(Completed {
+            state: own,
+            shared: SharedEntries::Missing,
+        });
+    };
+    joined(alloc, link, own, shared)
+}
+
+/// An index in order by path and stage. Entries that agree in both keep their order.
+fn sorted(mut state: State) -> Result<State, AllocError>
+    requires { IsPlainIndex state }
+    ensures index { IfOk result (λ s. IsIndexOf (contents state).kind (records s) s) }
+    ensures ordered { IfOk result (λ s. IsOrdered (records s)) }
+    ensures stable { IfOk result (λ s. IsStable record_cmp (records state) (records s)) }
+{
     state.sort_entries()?;
     Ok(state)
 }
@@ -159,13 +180,14 @@ fn firsts(alloc: Global, kind: Kind, entries: &EntrySlice<'_>) -> Result<State, 
     Ok(state)
 }
 
-/// An index of what is saved of entries.
-fn saved(alloc: Global, kind: Kind, entries: EntryList) -> Result<State, AllocError>
-    requires { All (IsHeld kind) entries.records }
-    ensures saved { IfOk result (λ s. IsSavedOf entries.records (records s)) }
-    ensures index { IfOk result (λ s. IsIndexOf kind (records s) s) }
+/// An index of what is saved of the entries of another.
+fn saved(alloc: Global, state: State) -> Result<State, AllocError>
+    requires { IsPlainIndex state }
+    ensures saved { IfOk result (λ s. IsSavedOf (records state) (records s)) }
+    ensures index { IfOk result (λ s. IsIndexOf (contents state).kind (records s) s) }
 {
-    let all = sorted(alloc, kind, entries)?;
+    let kind = state.object_hash();
+    let all = sorted(state)?;
     firsts(
         alloc,
         kind,
@@ -173,88 +195,41 @@ fn saved(alloc: Global, kind: Kind, entries: EntryList) -> Result<State, AllocEr
     )
 }
 
-/// Where the last part begins, or 0 where there is none.
-fn last_begin(parts: &[Part]) -> usize
-    ensures { result ≡ last_begin parts.now }
-{
-    match parts.last() {
-        Some(part) => part.offset,
-        None => 0,
+impl Remains {
+    /// Saves what remains of a file, with the entries of its shared index if that is given: the index whose trailer is
+    /// the id that [`Remains::shared_index`] names.
+    ///
+    /// Where the link wants one, it is given, and it fits the entries of the file, they are merged, as
+    /// [`Link::dissolve_into`] says. Else only the file's own entries are saved, of which those that replace others
+    /// have no path. They are put in order by path and stage, as a file has them. Of those that agree in both the
+    /// first is kept, and those that have no path are left out. Extensions are left out too: git makes them anew. The
+    /// state can be written, and read again: its smallest version has all paths.
+    ///
+    /// An error is want of memory. Time goes with n log n for n entries.
+    pub fn save(self, alloc: Global, shared: Option<State>) -> Result<Salvaged, AllocError>
+        requires plain { IsPlainIndex self.front }
+        requires shared { IfSome shared (CanBeShared self.front) }
+        ensures saved { IfOk result (Saves self (option_map contents shared)) }
+        ensures kind { IfOk result
+            (λ s. (contents s.state).kind ≡ (contents self.front).kind) }
+        ensures plain { IfOk result (λ s. IsPlainIndex s.state) }
+    {
+        let Remains {
+            front,
+            declared,
+            fault,
+            has_link,
+            link,
+        } = self;
+        let read = front.entries().len();
+        let Completed { state, shared } = with_shared(alloc, link, has_link, front, shared)?;
+        let state = saved(alloc, state)?;
+        Ok(Salvaged {
+            state,
+            declared,
+            read,
+            fault,
+            shared,
+        })
     }
-}
-
-/// The first fault, which the last part begins with.
-fn first_fault(parts: &[Part], error: Option<decode::Error>) -> Option<FirstFault>
-    ensures error { option_map (λ f. f.error) result ≡ error }
-    ensures offset { IfSome result (λ f. f.offset ≡ last_begin parts.now) }
-{
-    let error = error?;
-    let offset = last_begin(parts);
-    Some(FirstFault { offset, error })
-}
-
-/// Whether a part is the head of a link.
-fn is_link_head(part: &Part) -> bool
-    ensures { result ≡ is_link_head part.now.what }
-{
-    match part.what {
-        What::ExtensionHead { signature } => signature == link::SIGNATURE,
-        _ => false,
-    }
-}
-
-/// Whether a link is what is at fault.
-fn is_link_fault(error: &Option<decode::Error>) -> bool
-    ensures { result ≡ is_link_fault error.now }
-{
-    matches!(
-        error,
-        Some(decode::Error::Extension(ExtensionError::Link(_)))
-    )
-}
-
-/// Whether a link stands among the parts, or at the first fault.
-fn has_link(parts: &[Part], error: &Option<decode::Error>) -> bool
-    ensures { result ≡ has_link parts.now error.now }
-{
-    parts.iter().any(|part| is_link_head(part)) || is_link_fault(error)
-}
-
-/// Saves what can be read of a file that has ids of this kind: the entries from the first on, up to the first that
-/// can't be read, and no more than the header declares. All else may be damaged too, or missing.
-///
-/// They are put in order by path and stage, as a file has them. Of those that agree in both the first is kept, and
-/// those that have no path are left out. Extensions are left out too: git makes them anew. A link to a shared index
-/// isn't followed, so that entries which stand there alone are missing. The state can be written, and read again:
-/// its smallest version has all paths.
-///
-/// [`Error::Header`]: the header can't be read, and nothing is saved. Time goes with n log n for n entries.
-pub fn salvage(alloc: Global, kind: Kind, bytes: &[u8]) -> Result<Salvaged, Error>
-    ensures saved { IfOk result (Saves kind bytes.now) }
-    ensures alone { IfOk result (λ s. contents s.state
-        ≡ with_records (empty_contents kind (contents s.state).time) (records s.state)) }
-    ensures placed { IfOk result (λ s. PathsInStorage s.state) }
-    ensures storable { IfOk result (λ s. IsStorable (contents s.state)) }
-    ensures lost { IfErr result (SaysLost kind bytes.now) }
-{
-    let declared = match header::decode(bytes, kind) {
-        Ok((_, declared, _)) => declared,
-        Err(e) => return Err(Error::Header(e)),
-    };
-    let Division {
-        parts,
-        entries,
-        fault,
-    } = divide(alloc, kind, bytes)?;
-    let read = entries.len();
-    let state = saved(alloc, kind, entries)?;
-    let has_link = has_link(&parts, &fault);
-    let fault = first_fault(&parts, fault);
-    Ok(Salvaged {
-        state,
-        declared,
-        read,
-        fault,
-        has_link,
-    })
 }

@@ -1,27 +1,53 @@
--- What the program saves of a damaged file (the program's own). No clause can name the file's bytes: it is what is saved of some.
-use Rattle.std.specs.Prelude.{◌≡◌, ℕ, List, length}
-use Rattle.gix_index.specs.Edits.{empty_contents, with_records}
+-- What the program saves of a damaged file, and of the shared index beside it (the program's own). No clause can name a
+-- file's bytes: it is what is saved of some.
+use Rattle.std.specs.Prelude.{◌≡◌, ℕ, false, List, length, Option, Some, None, IsSomeAnd, Ok}
+use Rattle.std.specs.Option.{option_map}
+use Rattle.gix_index.specs.Checked.{IsFileAnswer}
+use Rattle.gix_index.specs.Contents.{Contents}
 use Rattle.gix_index.specs.File.{state_of, path_of}
+use Rattle.gix_index.specs.FileTime.{FileTime}
 use Rattle.gix_index.specs.Kind.{Kind}
+use Rattle.gix_index.specs.Link.{link_of}
+use Rattle.gix_index.specs.Linked.{expecting}
+use Rattle.gix_index.specs.ObjectId.{ObjectId}
 use Rattle.gix_index.specs.State.{contents, records}
-use Rattle.gix_index.specs.Storable.{IsStorable}
 use Rattle.gix_index.specs.VersionChoice.TheVariants.{Smallest}
 use Rattle.gix_index.specs.WrittenFile.{IsWritten}
 use Rattle.gix_index.specs.declared.file.File.{File}
+use Rattle.index_inspect.specs.Remains.{IsPlainIndex, Remain, wanted_id}
 use Rattle.index_inspect.specs.Salvage.{Saves}
+use Rattle.index_inspect.specs.declared.remains.Remains.{Remains}
 use Rattle.index_inspect.specs.declared.salvage.Salvaged.{Salvaged}
 use Rattle.index_tool.specs.declared.command.salvage.Report.{Report}
 use Rattle.index_tool.specs.declared.command.salvage.Rescue.{Rescue}
 use Rattle.index_tool.specs.declared.failure.Failure.{Failure}
 use Rattle.index_tool.specs.declared.failure.Failure.TheVariants as failures
-use Rattle.index_tool.specs.Listing.{FailsToRead}
+use Rattle.index_tool.specs.Listing.{FailsToRead, IsBeginOf1970, unlimited_options}
 use Rattle.index_tool.specs.Rewriting.{rewrite_options}
 
--- what is saved of these bytes, with nothing but its entries, so that a file can hold it
+-- Some bytes are read as the value, with a trailer that has to be this id unless it is null: their digest is compared,
+-- and the time is the begin of 1970.
+pub record IsSharedIn (kind : Kind) (id : ObjectId) (value : Contents) : Type 0 where
+  pub bytes : List ℕ
+  pub checksum : Option ObjectId
+  pub time : FileTime
+  pub begin : IsBeginOf1970 time
+  pub is : IsFileAnswer false kind time (expecting unlimited_options id) bytes (Ok (value, checksum))
+
+-- the shared index that is wanted, or none
+abbrev pub IsBeside : Kind → Option ObjectId → Option Contents → Type 0
+IsBeside kind wanted None = Unit {0}
+IsBeside kind wanted (Some value) = IsSomeAnd wanted (λ id. IsSharedIn kind id value)
+
+-- what is saved of these bytes, completed with the shared index that their link wants if there is one, and with nothing
+-- but its entries, so that a file can hold it
 pub record IsOfBytes (kind : Kind) (bytes : List ℕ) (saved : Salvaged) : Type 0 where
-  pub is : Saves kind bytes saved
-  pub alone : contents saved.state ≡ with_records (empty_contents kind (contents saved.state).time) (records saved.state)
-  pub storable : IsStorable (contents saved.state)
+  pub remains : Remains
+  pub remain : Remain kind bytes remains
+  pub shared : Option Contents
+  pub beside : IsBeside kind (wanted_id (option_map link_of remains.link)) shared
+  pub is : Saves remains shared saved
+  pub plain : IsPlainIndex saved.state
 
 -- the numbers of what is saved
 pub record Reports (report : Report) (saved : Salvaged) : Type 0 where
@@ -29,7 +55,7 @@ pub record Reports (report : Report) (saved : Salvaged) : Type 0 where
   pub read : report.read ≡ saved.read
   pub kept : report.kept ≡ length (records saved.state)
   pub fault : report.fault ≡ saved.fault
-  pub has_link : report.has_link ≡ saved.has_link
+  pub shared : report.shared ≡ saved.shared
 
 -- what is saved of some bytes, once it was written to this path, and what is told of it
 pub record IsSalvaged (kind : Kind) (to : List ℕ) (rescue : Rescue) : Type 0 where

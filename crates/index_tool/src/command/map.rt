@@ -1,7 +1,7 @@
 //! The command `map`.
 
 ghost use Rattle.std.specs.Prelude.{◌≡◌, IfErr, OnOk};
-ghost use Rattle.index_inspect.specs.Salvage.{last_begin};
+ghost use Rattle.index_inspect.specs.Remains.{last_begin};
 ghost use Rattle.index_tool.specs.Listing.{FailsToRead};
 ghost use Rattle.index_tool.specs.Mapping.{FailsToMap, Maps};
 
@@ -18,7 +18,7 @@ use std::rt::Files;
 use std::{fs, io};
 
 /// All bytes of a file, read into room for as many as its metadata says.
-fn read_whole<R: Files>(rt: &R, alloc: Global, path: Path<'_>) -> io::Result<Vec<u8>> {
+pub fn read_whole<R: Files>(rt: &R, alloc: Global, path: Path<'_>) -> io::Result<Vec<u8>> {
     let mut file = fs::open(rt, path)?;
     let len = file.metadata()?.len() as usize;
     let mut bytes = Vec::with_capacity(alloc, len.saturating_add(1))?;

@@ -1,18 +1,21 @@
 //! The command `salvage`.
 
+ghost use Rattle.std.specs.Option.{option_map};
 ghost use Rattle.std.specs.Prelude.{◌≡◌, IfErr, IfOk, OnOk};
-ghost use Rattle.gix_index.specs.State.{PathsInStorage};
+ghost use Rattle.gix_index.specs.State.{contents};
+ghost use Rattle.index_inspect.specs.Remains.{IsPlainIndex, Remain};
 ghost use Rattle.index_tool.specs.Listing.{FailsToRead};
 ghost use Rattle.index_tool.specs.Salvaging.{FailsToSalvage, IsOfBytes, IsSalvaged, Salvages};
 
 use crate::command::map::{bytes_at, out_of_memory};
+use crate::command::shared::shared_beside;
 use crate::failure::{Failure, Name};
 use gix_index::file::write;
 use gix_index::hash::Kind;
 use gix_index::write::Options;
 use gix_index::{File, decode, file};
-use index_inspect::Salvaged;
-use index_inspect::salvage::{Error, FirstFault, salvage};
+use index_inspect::remains::{Error, FirstFault};
+use index_inspect::{Remains, Salvaged, SharedEntries, remains_of};
 use std::alloc::Global;
 use std::fmt;
 use std::fmt::Write as _;
@@ -32,8 +35,8 @@ pub struct Report<'a> {
     pub kept: usize,
     /// The first fault, if it has one.
     pub fault: Option<FirstFault>,
-    /// Whether it links to a shared index, whose entries are missing.
-    pub has_link: bool,
+    /// Whether the entries of the shared index that it links to are there too.
+    pub shared: SharedEntries,
 }
 
 impl fmt::Display for Report<'_> {
@@ -49,10 +52,13 @@ impl fmt::Display for Report<'_> {
         if let Some(fault) = &self.fault {
             write!(f, "; first fault at {}: {}", fault.offset, fault.error)?;
         }
-        if self.has_link {
-            f.write_str("; the entries of the shared index are missing")?;
+        match self.shared {
+            SharedEntries::Unlinked => Ok(()),
+            SharedEntries::Merged => f.write_str("; merged with the shared index"),
+            SharedEntries::Missing => {
+                f.write_str("; the entries of the shared index are missing")
+            }
         }
-        Ok(())
     }
 }
 
@@ -65,19 +71,20 @@ pub struct Rescue<'a> {
     pub report: Report<'a>,
 }
 
-/// What can be saved of these bytes.
-fn saved_of<'a>(
+/// What remains of a file with these bytes.
+fn remains_in<'a>(
     alloc: Global,
     kind: Kind,
     path: &'a str,
     bytes: &[u8],
-) -> Result<Salvaged, Failure<'a>>
-    ensures saved { IfOk result (IsOfBytes kind bytes.now) }
-    ensures placed { IfOk result (λ s. PathsInStorage s.state) }
+) -> Result<Remains, Failure<'a>>
+    ensures remains { IfOk result (Remain kind bytes.now) }
+    ensures kind { IfOk result (λ r. (contents r.front).kind ≡ kind) }
+    ensures plain { IfOk result (λ r. IsPlainIndex r.front) }
     ensures fault { IfErr result (FailsToRead path.now) }
 {
-    match salvage(alloc, kind, bytes) {
-        Ok(saved) => Ok(saved),
+    match remains_of(alloc, kind, bytes) {
+        Ok(remains) => Ok(remains),
         Err(Error::Header(e)) => {
             let fault = file::init::Error::Decode(decode::Error::Header(e));
             Err(Failure::Index { path, fault })
@@ -86,11 +93,36 @@ fn saved_of<'a>(
     }
 }
 
+/// What can be saved of a file with these bytes, and of the shared index beside it.
+fn saved_of<'a, R: Files>(
+    rt: &R,
+    alloc: Global,
+    kind: Kind,
+    path: &'a str,
+    bytes: &[u8],
+) -> Result<Salvaged, Failure<'a>>
+    ensures saved { IfOk result (IsOfBytes kind bytes.now) }
+    ensures fault { IfErr result (FailsToRead path.now) }
+{
+    let remains = match remains_in(alloc, kind, path, bytes) {
+        Ok(remains) => remains,
+        Err(failure) => return Err(failure),
+    };
+    let Ok(shared) = shared_beside(rt, alloc, kind, path, remains.shared_index()) else {
+        return Err(out_of_memory(path));
+    };
+    match remains.save(alloc, shared) {
+        Ok(saved) => Ok(saved),
+        Err(_) => Err(out_of_memory(path)),
+    }
+}
+
 /// Writes what can be saved of a file to another path, or to the same, and gives it as it is there.
 ///
-/// What is saved is told by [`salvage`]; it is written as an index without extensions. A file whose header can't be read
-/// gives nothing. [`Failure::Rewrite`]: it can't be written, and what was at the path is there as before. Any other
-/// failure concerns the file that is read.
+/// What is saved is told by [`remains_of`] and [`Remains::save`]; it is written as an index without extensions. Where a
+/// link to a shared index is read, that is looked for beside the file, and used where it can be read as an index with
+/// the link's id and fits the file. A file whose header can't be read gives nothing. [`Failure::Rewrite`]: it can't be
+/// written, and what was at the path is there as before. Any other failure concerns the file that is read.
 pub fn salvaged<'a, R: Files>(
     rt: &R,
     alloc: Global,
@@ -105,7 +137,7 @@ pub fn salvaged<'a, R: Files>(
         Ok(bytes) => bytes,
         Err(failure) => return Err(failure),
     };
-    let saved = match saved_of(alloc, kind, path, &bytes) {
+    let saved = match saved_of(rt, alloc, kind, path, &bytes) {
         Ok(saved) => saved,
         Err(failure) => return Err(failure),
     };
@@ -120,7 +152,7 @@ pub fn salvaged<'a, R: Files>(
         declared,
         read,
         fault,
-        has_link,
+        shared,
     } = saved;
     let report = Report {
         path,
@@ -128,7 +160,7 @@ pub fn salvaged<'a, R: Files>(
         read,
         kept,
         fault,
-        has_link,
+        shared,
     };
     let mut index = File::from_state(state, target);
     match index.write(rt, alloc, Options::default()) {

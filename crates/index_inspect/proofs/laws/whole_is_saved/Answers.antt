@@ -1,28 +1,61 @@
-use Rattle.std.proofs.Common.{◌≡◌, List, length, ap, sym, subst, ◌∙◌}
+use Rattle.std.proofs.Common.{◌≡◌, inl, inr, List, Option, option_map, length, ap, sym, subst, ◌∙◌}
 use Rattle.gix_index.specs.Contents.{Contents}
+use Rattle.gix_index.specs.Kind.{Kind}
+use Rattle.gix_index.specs.Laws.{HasOneReading}
+use Rattle.gix_index.specs.Link.{IsLink, LinkValue, link_of}
 use Rattle.gix_index.specs.Record.{Record}
 use Rattle.gix_index.specs.State.{records}
-use Rattle.index_inspect.specs.Laws.{IsReadAndSaved}
-use Rattle.index_inspect.specs.Salvage.{IsSavedOf}
+use Rattle.index_inspect.specs.Laws.{IsAlone, IsReadAndSaved}
+use Rattle.index_inspect.specs.Salvage.{IsCompleted, IsSavedOf}
+use Rattle.index_inspect.specs.declared.remains.Remains.{Remains}
 use Rattle.index_inspect.specs.declared.salvage.Salvaged.{Salvaged}
+use Rattle.index_inspect.proofs.Completing.{none_given, none_wanted}
+use Rattle.index_inspect.proofs.KeptLinks.{divided_link}
 use Rattle.index_inspect.proofs.Sameness.{one_saving, saved_itself}
 use Rattle.index_inspect.proofs.Unreadable.{same_entries}
+use Rattle.index_inspect.proofs.WholeLinks.{HasLinkAt, whole_link}
 use Rattle.index_inspect.proofs.laws.whole_is_saved.Goals as goal
 
-front_same : (v : Contents) (s : Salvaged) (h : IsReadAndSaved v s) → v.records ≡ h.saves.front
-front_same v s h = same_entries h.kind h.time h.options h.bytes h.saves.front h.saves.divides.pieces h.saves.divides.fault (v, h.checksum) h.takes_all h.read h.saves.divides.is_divided
+module _ (v : Contents) (r : Remains) (shared : Option Contents) (s : Salvaged) (h : IsReadAndSaved v r shared s) where
+  pub front_same : v.records ≡ records r.front
+  front_same = same_entries h.kind h.time h.options h.bytes (records r.front) h.remain.divides.pieces
+      h.remain.divides.fault (v, h.checksum) h.takes_all h.read h.remain.divides.is_divided
 
-all_saved : (v : Contents) (s : Salvaged) → IsReadAndSaved v s → IsSavedOf v.records (records s.state)
-all_saved v s h = subst (λ (l : List Record). IsSavedOf l (records s.state)) (sym (front_same v s h)) h.saves.saved
+  pub link_same : ((kind : Kind) → HasOneReading (IsLink kind)) → option_map link_of r.link ≡ v.extensions.link
+  link_same one =
+      let d = h.remain.divides in
+      let found = subst (λ (o : Option (List _)). HasLinkAt h.kind o (option_map link_of r.link))
+      (divided_link h.kind h.bytes (records r.front) h.remain.parts _ d) h.remain.link in
+      whole_link h.kind h.time h.options h.bytes (records r.front) d.pieces d.fault (v, h.checksum)
+      (option_map link_of r.link) h.takes_all h.read (one h.kind) d.is_divided found
+
+  own_saved : ((kind : Kind) → HasOneReading (IsLink kind)) → IsAlone v shared → h.saves.all ≡ records r.front
+  own_saved one (inl none) =
+      none_wanted r.has_link shared (records r.front) h.saves.all s.shared
+      (subst (λ (o : Option LinkValue). IsCompleted o r.has_link shared (records r.front) h.saves.all s.shared)
+      (link_same one ∙ none) h.saves.completed)
+  own_saved one (inr none) =
+      none_given (option_map link_of r.link) r.has_link (records r.front) h.saves.all s.shared
+      (subst (λ (o : Option Contents). IsCompleted (option_map link_of r.link) r.has_link o (records r.front)
+      h.saves.all s.shared) none h.saves.completed)
+
+  pub all_saved : ((kind : Kind) → HasOneReading (IsLink kind)) → IsAlone v shared
+      → IsSavedOf v.records (records s.state)
+  all_saved one alone =
+      subst (λ (l : List Record). IsSavedOf l (records s.state)) (own_saved one alone ∙ sym front_same) h.saves.saved
+
+pub returns-clause-link : goal.returns-clause-link
+returns-clause-link c = λ v r shared s h. link_same v r shared s h c.one_reading.ensures.link
 
 pub returns-clause-read : goal.returns-clause-read
-returns-clause-read c = λ v s h. h.saves.read ∙ sym (ap length (front_same v s h))
+returns-clause-read c = λ v r shared s h. h.saves.read ∙ sym (ap length (front_same v r shared s h))
 
 pub returns-clause-saved : goal.returns-clause-saved
-returns-clause-saved c = all_saved
+returns-clause-saved c = λ v r shared s h alone. all_saved v r shared s h c.one_reading.ensures.link alone
 
 pub returns-clause-same : goal.returns-clause-same
-returns-clause-same c = λ v s h whole. one_saving v.records (records s.state) v.records (all_saved v s h) (saved_itself v.records whole.ordered whole.named)
+returns-clause-same c = λ v r shared s h alone whole. one_saving v.records (records s.state) v.records
+    (all_saved v r shared s h c.one_reading.ensures.link alone) (saved_itself v.records whole.ordered whole.named)
 
 pub returns-clause-one : goal.returns-clause-one
 returns-clause-one c = one_saving

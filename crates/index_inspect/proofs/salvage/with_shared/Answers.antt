@@ -1,0 +1,24 @@
+use Rattle.std.proofs.Common.{ap, refl, sym, option_map, ◌∙◌}
+use Rattle.gix_index.specs.Link.{link_of}
+use Rattle.gix_index.specs.State.{contents}
+use Rattle.index_inspect.specs.Salvage.{absent, unshared}
+use Rattle.index_inspect.proofs.Completing.{stays}
+use Rattle.index_inspect.proofs.Saved.{if_ok}
+use Rattle.index_inspect.proofs.salvage.with_shared.Goals as goal
+
+pub returns-then-is_null : goal.returns-then-is_null
+returns-then-is_null c =
+    let is = unshared (link_of c.in-Some.link) (ap (option_map link_of) c.in-Some.is)
+    (sym c.is_null.ensures ∙ c.if-is_null.true) refl refl in
+    stays _ _ _ c.args.own _ c.requires.plain is
+
+pub returns-in_default-shared : goal.returns-in_default-shared
+returns-in_default-shared c =
+    let is = absent (link_of c.in-Some.link) (
+      ap (option_map link_of) c.in-Some.is,
+      sym c.is_null.ensures ∙ c.if-is_null.false,
+    ) (ap (option_map contents) c.in_default-shared.is) refl refl in
+    stays _ _ _ c.args.own _ c.requires.plain is
+
+pub returns : goal.returns
+returns c = rw (c.in-Some.is, c.in-Some-shared.is) (if_ok c.joined.result (λ x h. h c.args.has_link) c.joined.ensures)

@@ -1,0 +1,248 @@
+//! What remains of an index file that may be damaged: the entries that can be read, and the link to a shared index.
+
+ghost use Rattle.std.specs.Prelude.{◌≡◌, ◌≤◌, ◌<◌, ◌+◌, ◌∷◌, ◌++◌, [], List, All, IfErr, IfOk, IfSome, OnOk, length, slice_index_or};
+ghost use Rattle.std.specs.Option.{option_map};
+ghost use Rattle.gix_index.specs.ExtensionValue.{IsValue};
+ghost use Rattle.gix_index.specs.Kind.{Kind as KindType};
+ghost use Rattle.gix_index.specs.Link.{IsLink, link_of};
+ghost use Rattle.gix_index.specs.Record.{Record};
+ghost use Rattle.gix_index.specs.State.{contents, records};
+ghost use Rattle.index_inspect.specs.Piece.{LieBetween};
+ghost use Rattle.index_inspect.specs.Remains.{IsPlainIndex, Remain, SaysLost, has_link, is_link_content, is_link_fault, is_link_head, last_begin, last_link, link_content, wanted_id};
+ghost use Rattle.index_inspect.specs.SalvageSteps.{IsHeld, IsIndexOf};
+ghost use Rattle.index_inspect.specs.declared.remains.Error.TheVariants.{Memory};
+
+use crate::division::{Division, divide};
+use crate::part::{Part, What};
+use gix_index::decode::entry::EntrySlice;
+use gix_index::decode::header;
+use gix_index::entry::FileTime;
+use gix_index::extension::decode::Error as ExtensionError;
+use gix_index::extension::{Link, link};
+use gix_index::hash::{Kind, ObjectId};
+use gix_index::{State, decode};
+use std::alloc::{AllocError, Global};
+use thiserror::Error;
+
+/// Why nothing remains of a file.
+#[derive(Debug, Drop, Error)]
+pub enum Error {
+    /// The first twelve bytes can't be read, so that no entry is found.
+    #[error("{0}")]
+    Header(header::Error),
+    /// A growth was refused.
+    #[error("out of memory while the entries of an index are saved")]
+    Memory,
+}
+
+impl From<AllocError> for Error {
+    ghost from_gives = { λ _ e. e ≡ Memory };
+
+    fn from(_e: AllocError) -> Error {
+        Error::Memory
+    }
+}
+
+/// The first fault of a file, by place.
+#[derive(Debug, Drop)]
+pub struct FirstFault {
+    /// How many bytes stand before it.
+    pub offset: usize,
+    /// What it is.
+    pub error: decode::Error,
+}
+
+/// What remains of a file.
+#[derive(Drop)]
+pub struct Remains {
+    /// The entries that can be read, from the first on, in the order of the file: an index without extensions.
+    pub front: State,
+    /// How many entries the file declares.
+    pub declared: u32,
+    /// The first fault, if the file has one.
+    pub fault: Option<FirstFault>,
+    /// Whether a link to a shared index was found, be it at fault.
+    pub has_link: bool,
+    /// The link, where it can be read.
+    pub link: Option<Link>,
+}
+
+impl Remains {
+    /// The id of the shared index that has the other entries of the file: in the file's folder it is named
+    /// `sharedindex.` with the id in lower-case base 16. None where no link can be read, or its id is null.
+    pub fn shared_index(&self) -> Option<ObjectId>
+        ensures { result ≡ wanted_id (option_map link_of self.now.link) }
+    {
+        let link = self.link.as_ref()?;
+        let id = link.shared_index_checksum;
+        if id.is_null() {
+            return None;
+        }
+        Some(id)
+    }
+}
+
+/// Puts an entry of a list behind those of a state.
+pub(crate) fn push_from(
+    state: &mut State,
+    entries: &EntrySlice<'_>,
+    place: usize,
+) -> Result<(), AllocError>
+    requires { place < length entries.now }
+    ensures { OnOk result ((kind : KindType) (rs : List Record) (d : Record)
+        → IsIndexOf kind rs state.old → IsHeld kind (slice_index_or entries.now place d)
+        → IsIndexOf kind (rs ++ slice_index_or entries.now place d ∷ []) state.new) }
+{
+    let entry = entries.entry(place);
+    let path = entries.path(place);
+    state.dangerously_push_entry(entry.stat, entry.id, entry.flags, entry.mode, path)
+}
+
+/// These entries as an index.
+fn copied(alloc: Global, kind: Kind, entries: &EntrySlice<'_>) -> Result<State, AllocError>
+    requires { All (IsHeld kind) entries.now }
+    ensures { IfOk result (IsIndexOf kind entries.now) }
+{
+    let mut state = State::new(alloc, kind, FileTime::EPOCH);
+    for number in 0..entries.len() {
+        push_from(&mut state, entries, number)?;
+    }
+    Ok(state)
+}
+
+/// Where the last part begins, or 0 where there is none.
+pub fn last_begin(parts: &[Part]) -> usize
+    ensures { result ≡ last_begin parts.now }
+{
+    match parts.last() {
+        Some(part) => part.offset,
+        None => 0,
+    }
+}
+
+/// The first fault, which the last part begins with.
+fn first_fault(parts: &[Part], error: Option<decode::Error>) -> Option<FirstFault>
+    ensures error { option_map (λ f. f.error) result ≡ error }
+    ensures offset { IfSome result (λ f. f.offset ≡ last_begin parts.now) }
+{
+    let error = error?;
+    let offset = last_begin(parts);
+    Some(FirstFault { offset, error })
+}
+
+/// Whether a part is the head of a link.
+fn is_link_head(part: &Part) -> bool
+    ensures { result ≡ is_link_head part.now.what }
+{
+    match part.what {
+        What::ExtensionHead { signature } => signature == link::SIGNATURE,
+        _ => false,
+    }
+}
+
+/// Whether a link is what is at fault.
+fn is_link_fault(error: &Option<decode::Error>) -> bool
+    ensures { result ≡ is_link_fault error.now }
+{
+    matches!(
+        error,
+        Some(decode::Error::Extension(ExtensionError::Link(_)))
+    )
+}
+
+/// Whether a link stands among the parts, or at the first fault.
+fn has_link(parts: &[Part], error: &Option<decode::Error>) -> bool
+    ensures { result ≡ has_link parts.now error.now }
+{
+    parts.iter().any(|part| is_link_head(part)) || is_link_fault(error)
+}
+
+/// Whether a part is the content of a link.
+fn is_link_content(part: &Part) -> bool
+    ensures { result ≡ is_link_content part.now.what }
+{
+    match part.what {
+        What::ExtensionContent { signature } => signature == link::SIGNATURE,
+        _ => false,
+    }
+}
+
+/// The last part that is the content of a link, if one is.
+fn last_link(parts: &[Part]) -> Option<Part>
+    ensures { result ≡ last_link parts.now }
+{
+    let mut found = None;
+    for part in parts {
+        if is_link_content(part) {
+            found = Some(*part);
+        }
+    }
+    found
+}
+
+/// The link that a content spells, if it spells one.
+fn link_at(alloc: Global, kind: Kind, content: &[u8]) -> Result<Option<Link>, AllocError>
+    ensures { IfOk result
+        (λ link. IsValue (IsLink kind) (Some content.now) (option_map link_of link)) }
+{
+    match link::decode::decode(alloc, content, kind) {
+        Ok(link) => Ok(Some(link)),
+        Err(link::decode::Error::Corrupt(_)) => Ok(None),
+        Err(link::decode::Error::BitmapDecode { .. }) => Ok(None),
+        Err(link::decode::Error::Memory) => Err(AllocError),
+    }
+}
+
+/// The link that stands whole among the parts of these bytes, if one does.
+fn link_in(
+    alloc: Global,
+    kind: Kind,
+    bytes: &[u8],
+    parts: &[Part],
+) -> Result<Option<Link>, AllocError>
+    requires { LieBetween 0 parts.now (length bytes.now) }
+    ensures { IfOk result (λ link. IsValue (IsLink kind)
+        (link_content bytes.now parts.now) (option_map link_of link)) }
+{
+    let Some(part) = last_link(parts) else {
+        return Ok(None);
+    };
+    let (_, behind) = bytes.split_at(part.offset);
+    let (content, _) = behind.split_at(part.len);
+    link_at(alloc, kind, content)
+}
+
+/// What can be read of a file that has ids of this kind: the entries from the first on, up to the first that can't be
+/// read, and no more than the header declares; and the link to a shared index, where it stands whole before the first
+/// fault (gitformat-index, "Split index"). Then all entries of the file were read. Git writes the link before all other
+/// extensions but an offset table, so that it can be read where the trailer or an extension behind it is damaged, or
+/// the file is cut there; and where bytes of entries are changed that don't move what is behind them.
+///
+/// [`Error::Header`]: the header can't be read, and nothing remains. Time and memory go with the bytes.
+pub fn remains_of(alloc: Global, kind: Kind, bytes: &[u8]) -> Result<Remains, Error>
+    ensures remains { IfOk result (Remain kind bytes.now) }
+    ensures kind { IfOk result (λ r. (contents r.front).kind ≡ kind) }
+    ensures plain { IfOk result (λ r. IsPlainIndex r.front) }
+    ensures lost { IfErr result (SaysLost kind bytes.now) }
+{
+    let declared = match header::decode(bytes, kind) {
+        Ok((_, declared, _)) => declared,
+        Err(e) => return Err(Error::Header(e)),
+    };
+    let Division {
+        parts,
+        entries,
+        fault,
+    } = divide(alloc, kind, bytes)?;
+    let front = copied(alloc, kind, &entries.as_slice())?;
+    let link = link_in(alloc, kind, bytes, &parts)?;
+    let has_link = has_link(&parts, &fault);
+    let fault = first_fault(&parts, fault);
+    Ok(Remains {
+        front,
+        declared,
+        fault,
+        has_link,
+        link,
+    })
+}
