@@ -37,20 +37,46 @@ class Bitmap:
             yield place
 
     def unbounded_positions(self):
+        for run in self.runs():
+            if run == MALFORMED:
+                yield MALFORMED
+                return
+            yield from run
+
+    def runs(self):
+        """The same places as ranges, one for the run of a run word, and one for each bit of a literal word."""
         place, at = 0, 0
         while at < len(self.words):
             word = self.words[at]
             bit, run, literals = word % 2, word // 2 % 2 ** 32 * 64, word // 2 ** 33
-            if bit:
-                yield from range(place, place + run)
+            if bit and run:
+                yield range(place, place + run)
             follow = self.words[at + 1:at + 1 + literals]
             if len(follow) < literals:
                 yield MALFORMED
                 return
             place, at = place + run, at + 1 + literals
             for literal in follow:
-                yield from (place + digit for digit in range(64) if literal >> digit & 1)
+                yield from (range(place + digit, place + digit + 1) for digit in range(64) if literal >> digit & 1)
                 place += 64
+
+    def set_ranges(self):
+        """The declared bits that are 1, as the fewest ranges, and whether the words break off before the last of them.
+
+        A number of bits has 32 bits, so no place among those is past what 64 bits hold.
+        """
+        ranges = []
+        for run in self.runs():
+            if run == MALFORMED:
+                return ranges, True
+            declared = range(run.start, min(run.stop, self.bits))
+            if declared and ranges and ranges[-1].stop == declared.start:
+                ranges[-1] = range(ranges[-1].start, declared.stop)
+            elif declared:
+                ranges.append(declared)
+            if run.stop > self.bits:
+                break
+        return ranges, False
 
 
 def read(data):

@@ -1,7 +1,5 @@
 """All that an index holds as one JSON document, of the model's state, as Python's `json` would read it."""
 
-import bitmaps
-
 
 def text(name, data):
     """A member that is a text, or the digits of its bytes under another name where they aren't UTF-8."""
@@ -49,18 +47,8 @@ def tree(value):
 
 def bitmap(value):
     """The declared bits, the ranges of those of them that are set, and whether the words break off before the last."""
-    ranges, is_malformed = [], False
-    for place in value.positions():
-        if place == bitmaps.MALFORMED:
-            is_malformed = True
-            break
-        if place >= value.bits:
-            break
-        if ranges and sum(ranges[-1]) == place:
-            ranges[-1][1] += 1
-        else:
-            ranges.append([place, 1])
-    return {"num_bits": value.bits, "set": ranges, "is_malformed": is_malformed}
+    ranges, is_malformed = value.set_ranges()
+    return {"num_bits": value.bits, "set": [[it.start, len(it)] for it in ranges], "is_malformed": is_malformed}
 
 
 def link(value):
@@ -113,8 +101,18 @@ def monitor(value):
     return token | {"entry_dirty": bitmap(value.dirty)}
 
 
-def document(state, checksum):
-    """The whole document, its members in their order."""
+def offset_table(blocks):
+    if blocks is None:
+        return None
+    return [{"from_beginning_of_file": offset, "num_entries": count} for offset, count in blocks]
+
+
+def end_marker(mark):
+    return None if mark is None else {"offset_to_extensions": mark[0], "checksum": mark[1].hex()}
+
+
+def document(state, checksum, marks):
+    """The whole document, its members in their order, with what the offset table and the end marker say."""
     return {
         "version": state.version,
         "checksum": id_or_null(checksum),
@@ -126,5 +124,7 @@ def document(state, checksum):
         "untracked": untracked(state.untracked),
         "fs_monitor": monitor(state.monitor),
         "had_offset_table": state.had_offset_table,
+        "offset_table": offset_table(marks[0]),
         "had_end_of_index_marker": state.had_end_marker,
+        "end_of_index_marker": end_marker(marks[1]),
     }

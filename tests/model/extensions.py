@@ -195,6 +195,15 @@ def read_end_marker(data, kind):
     return offset
 
 
+def read_end_mark(data, kind):
+    """What an end marker says, whether it is so or not: an offset and a digest."""
+    offset, rest = number(data, 4)
+    found, rest = take(rest, ID_LENGTH[kind])
+    if rest:
+        raise Unreadable
+    return offset, found
+
+
 def end_marker_bytes(kind, offset, items):
     """The end marker behind these extensions."""
     content = offset.to_bytes(4, "big") + signatures_digest(kind, items)

@@ -90,8 +90,15 @@ def tree(value):
     return ["cached tree:"] + further_in(node(value))
 
 
+def places(ranges):
+    """Ranges of places, each by its first one, and by its last one where there are more."""
+    return " ".join(f"{it.start}" if len(it) == 1 else f"{it.start}-{it.stop - 1}" for it in ranges) or "none"
+
+
 def bitmap(name, value):
-    return [f"{name}:"] + further_in([f"bits: {value.bits}"])
+    ranges, is_malformed = value.set_ranges()
+    fields = [f"bits: {value.bits}", f"set: {places(ranges)}", f"malformed: {yes(is_malformed)}"]
+    return [f"{name}:"] + further_in(fields)
 
 
 def link(value):
@@ -157,8 +164,21 @@ def monitor(value):
     return ["file system monitor:"] + further_in([token] + bitmap("dirty", value.dirty))
 
 
-def shown(state, checksum):
-    """All lines, as bytes."""
+def offset_table(is_there, blocks):
+    if not is_there or blocks is None:
+        return [f"offset table: {'malformed' if is_there else 'none'}"]
+    lines = [f"block: offset {offset}, entries {count}" for offset, count in blocks]
+    return [f"offset table: {len(blocks)}"] + further_in(lines)
+
+
+def end_marker(is_there, mark):
+    if not is_there or mark is None:
+        return [f"end marker: {'malformed' if is_there else 'none'}"]
+    return ["end marker:"] + further_in([f"offset: {mark[0]}", f"digest: {mark[1].hex()}"])
+
+
+def shown(state, checksum, marks):
+    """All lines, as bytes, with what the offset table and the end marker say."""
     lines = [f"version: {state.version}", f"checksum: {id_or_none(checksum)}", f"sparse: {yes(state.is_sparse)}"]
     listed = []
     for place, it in enumerate(state.entries):
@@ -166,5 +186,5 @@ def shown(state, checksum):
     lines += [f"entries: {len(state.entries)}"] + further_in(listed)
     lines += tree(state.tree) + link(state.link) + resolve_undo(state.resolve_undo)
     lines += untracked(state.untracked) + monitor(state.monitor)
-    lines += [f"offset table: {yes(state.had_offset_table)}", f"end marker: {yes(state.had_end_marker)}"]
+    lines += offset_table(state.had_offset_table, marks[0]) + end_marker(state.had_end_marker, marks[1])
     return "".join(line + "\n" for line in lines).encode()

@@ -183,6 +183,28 @@ def read(data, kind, options=Options()):
     return state, trailer
 
 
+def value_or_none(contents, read):
+    """The value of the first of these contents; None where there is none, or where that one is malformed."""
+    try:
+        return read(contents[0]) if contents else None
+    except Unreadable:
+        return None
+
+
+def read_marks(data, kind):
+    """What the first offset table of a file that can be read says, as pairs, and what the last end marker says.
+
+    None where there is none or it is malformed.
+    """
+    version, count = read_header(data, kind)
+    _, rest = entries.read_entries(data[HEADER_LENGTH:], kind, version, count)
+    items = extensions.walk_before_trailer(rest, kind).items
+    tables = [content for name, content in items if name == extensions.OFFSET_TABLE]
+    markers = [content for name, content in reversed(items) if name == extensions.END_MARKER]
+    table = value_or_none(tables, extensions.read_offset_table)
+    return table, value_or_none(markers, lambda content: extensions.read_end_mark(content, kind))
+
+
 def read_file(data, kind, skip_hash=False, options=Options()):
     """The same of a file, whose digest is compared first, unless it is null, too short or not to be looked at."""
     length = ID_LENGTH[kind]

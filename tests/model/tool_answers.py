@@ -137,7 +137,7 @@ def drawn(data, kind, name):
 def shown_whole(data, kind, name):
     """A line for each thing that a file holds by itself."""
     try:
-        return Answer(out=shown.shown(*state.read_file(data, kind)))
+        return Answer(out=shown.shown(*state.read_file(data, kind), state.read_marks(data, kind)))
     except state.Fault:
         raise Refused(f"{name}: ") from None
 
@@ -145,7 +145,7 @@ def shown_whole(data, kind, name):
 def shown_as_json(data, kind, name):
     """The same as JSON."""
     try:
-        told = document.document(*state.read_file(data, kind))
+        told = document.document(*state.read_file(data, kind), state.read_marks(data, kind))
     except state.Fault:
         raise Refused(f"{name}: ") from None
     return Answer(out=json.dumps(told, ensure_ascii=False, separators=(",", ":")).encode() + b"\n")

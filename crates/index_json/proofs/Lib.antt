@@ -1,5 +1,4 @@
 mod Listed
-mod RangeLoops
 mod Strings
 mod Texts
 mod TreeTexts

@@ -1,7 +1,5 @@
 -- Values of an array, appended one after another.
-use Rattle.std.proofs.Common.{◌≡◌, ℕ, ◌+◌, ◌<◌, ◌≤◌, List, ◌++◌, ap, append_assoc, codes, length, map, take, get_or, ◌∙◌, Result, Ok, Err}
-use Rattle.std.specs.Prelude.{OnOk, if◌then◌else◌}
-use Rattle.std.specs.Result.{is_ok}
+use Rattle.std.proofs.Common.{◌≡◌, ℕ, ◌+◌, ◌<◌, ◌≤◌, List, ◌++◌, ap, append_assoc, codes, length, map, take, get_or, ◌∙◌}
 use Rattle.std.specs.List.{enumerate_from, flat_map}
 use Rattle.index_json.specs.Values.{listed, separator}
 use Rattle.index_show.proofs.Appended.{four_more, two_more}
@@ -33,7 +31,3 @@ pub array_more : (text named opened all closed prefix own : List ℕ)
 array_more text named opened all closed prefix own a b c d =
     four_more text named opened all closed prefix (codes "[") own (codes "]") a b c d
     ∙ ap (λ (l : List ℕ). text ++ l) (regrouped prefix (codes "[") own (codes "]"))
-
-pub on_ok_items : {A E : Type 0} (r : Result A E) (new all old : List ℕ) → new ≡ (if is_ok r then all else old) → OnOk r (new ≡ all)
-on_ok_items (Ok x) new all old e = e
-on_ok_items (Err x) new all old e = tt

@@ -1,5 +1,5 @@
 -- The pieces of the whole text.
-use Rattle.std.proofs.Common.{◌≡◌, ℕ, List, ◌++◌, append_assoc, sym, ap, ◌∙◌}
+use Rattle.std.proofs.Common.{◌≡◌, ℕ, List, ◌++◌, append_assoc}
 
 pub regrouped : (head begin own end tail close : List ℕ)
     → ((head ++ begin) ++ own) ++ ((end ++ tail) ++ close) ≡ ((head ++ ((begin ++ own) ++ end)) ++ tail) ++ close

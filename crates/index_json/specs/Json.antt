@@ -1,13 +1,15 @@
 -- All that an index file holds, as one JSON text on one line (the library's own; the text is that of RFC 8259).
-use Rattle.std.specs.Prelude.{Bool, List, ℕ, ◌++◌, codes, decimal, Option}
+use Rattle.std.specs.Prelude.{List, ℕ, ◌++◌, codes, Option}
 use Rattle.gix_index.specs.Contents.{Contents}
 use Rattle.gix_index.specs.Outcome.{Outcome}
 use Rattle.gix_index.specs.ObjectId.{ObjectId}
 use Rattle.gix_index.specs.Record.{Record}
 use Rattle.gix_index.specs.Version.{Version}
 use Rattle.gix_index.specs.Version.TheVariants.{V2, V3, V4}
+use Rattle.index_show.specs.declared.marks.Marks.{Marks}
 use Rattle.index_json.specs.BitmapValues.{link_or_null, monitor_or_null}
 use Rattle.index_json.specs.EntryValues.{entry_value}
+use Rattle.index_json.specs.MarkValues.{mark_members}
 use Rattle.index_json.specs.TreeValues.{tree_or_null}
 use Rattle.index_json.specs.UndoValues.{undo_or_null}
 use Rattle.index_json.specs.UntrackedValues.{untracked_or_null}
@@ -28,11 +30,6 @@ head_members c checksum =
 abbrev pub entries_member : List Record → List ℕ
 entries_member rs = codes ",\"entries\":[" ++ listed entry_value rs ++ codes "]"
 
--- whether there was an offset table, and an end marker
-unfoldable pub mark_members : Bool → Bool → List ℕ
-mark_members table marker =
-    member (codes ",") (codes "had_offset_table") (json_bool table) ++ member (codes ",") (codes "had_end_of_index_marker") (json_bool marker)
-
 -- the extensions that hold values, each null where it isn't there
 unfoldable pub extension_members : Outcome → List ℕ
 extension_members o =
@@ -42,9 +39,9 @@ extension_members o =
     ++ member (codes ",") (codes "fs_monitor") (monitor_or_null o.fs_monitor)
 
 -- what stands behind the entries
-unfoldable pub tail_members : Outcome → List ℕ
-tail_members o = extension_members o ++ mark_members o.had_offset_table o.had_end_marker
+unfoldable pub tail_members : Outcome → Marks → List ℕ
+tail_members o marks = extension_members o ++ mark_members o.had_offset_table o.had_end_marker marks
 
 -- one object, and a newline
-unfoldable pub json_text : Contents → Option ObjectId → List ℕ
-json_text c checksum = head_members c checksum ++ entries_member c.records ++ tail_members c.extensions ++ codes "}\n"
+unfoldable pub json_text : Contents → Option ObjectId → Marks → List ℕ
+json_text c checksum marks = head_members c checksum ++ entries_member c.records ++ tail_members c.extensions marks ++ codes "}\n"

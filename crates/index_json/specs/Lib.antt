@@ -1,8 +1,7 @@
 pub mod BitmapValues
 pub mod EntryValues
 pub mod Json
-pub mod RangeSteps
-pub mod Ranges
+pub mod MarkValues
 pub mod TreeValues
 pub mod UndoValues
 pub mod UntrackedValues

@@ -1,24 +1,56 @@
 //! The values of a bitmap, and of what has one: a link and a file system monitor.
 
-ghost use Rattle.std.specs.Prelude.{◌≡◌, ◌++◌, OnOk, codes};
+ghost use Rattle.std.specs.Prelude.{◌≡◌, ◌-◌, ◌++◌, OnOk, codes, decimal};
 ghost use Rattle.std.specs.Option.{option_map};
 ghost use Rattle.gix_index.specs.Bitmap.{bitmap};
 ghost use Rattle.gix_index.specs.FsMonitor.{monitor_of, token_value};
 ghost use Rattle.gix_index.specs.Link.{link_of, pair_of};
 ghost use Rattle.gix_index.specs.State.{contents};
-ghost use Rattle.index_json.specs.BitmapValues.{bitmap_value, bits_value, link_or_null, monitor_or_null, pair_or_null, token_member, watch_value};
-ghost use Rattle.index_json.specs.Ranges.{range_value};
-ghost use Rattle.index_json.specs.Values.{array, member};
+ghost use Rattle.index_json.specs.BitmapValues.{bitmap_value, bits_value, link_or_null, monitor_or_null, pair_or_null, range_value, token_member, watch_value};
+ghost use Rattle.index_json.specs.Values.{array, listed, member};
 
-use crate::ranges::{SetBits, append_ranges, set_bits};
 use crate::values::{
-    append_bool_member, append_id_member, append_name, append_number_member, append_text_member,
+    append_bool_member, append_id_member, append_name, append_number, append_number_member,
+    append_separator, append_text_member,
 };
 use gix_index::extension::fs_monitor::Token;
 use gix_index::extension::link::Bitmaps;
 use gix_index::extension::{FsMonitor, Link};
 use gix_index::{State, ewah};
+use index_show::ranges::{Range, SetBits, set_bits};
 use std::alloc::{AllocError, Global};
+
+/// Appends a range.
+#[tactic(auto, unfolding(crate::specs::BitmapValues::range_value))]
+fn append_range(text: &mut Vec<u8>, range: Range) -> Result<(), AllocError>
+    ensures { OnOk result (text.new.items ≡ text.old.items ++ range_value range) }
+{
+    text.extend_from_slice(b"[")?;
+    append_number(text, range.first)?;
+    text.extend_from_slice(b",")?;
+    append_number(text, range.end.saturating_sub(range.first))?;
+    text.extend_from_slice(b"]")
+}
+
+/// Appends ranges with commas between them.
+fn append_each(text: &mut Vec<u8>, ranges: &[Range]) -> Result<(), AllocError>
+    ensures { OnOk result (text.new.items ≡ text.old.items ++ listed range_value ranges.now) }
+{
+    for (place, range) in ranges.iter().enumerate() {
+        append_separator(text, place)?;
+        append_range(text, *range)?;
+    }
+    Ok(())
+}
+
+/// Appends an array of ranges.
+fn append_ranges(text: &mut Vec<u8>, ranges: &[Range]) -> Result<(), AllocError>
+    ensures { OnOk result (text.new.items ≡ text.old.items ++ array range_value ranges.now) }
+{
+    text.extend_from_slice(b"[")?;
+    append_each(text, ranges)?;
+    text.extend_from_slice(b"]")
+}
 
 /// Appends the member of the bits that are set.
 #[tactic(auto, unfolding(crate::specs::Values::member))]

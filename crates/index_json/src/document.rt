@@ -5,11 +5,12 @@ ghost use Rattle.std.specs.Io.KnownBytes.{Appends};
 ghost use Rattle.gix_index.specs.File.{checksum_of, state_of};
 ghost use Rattle.gix_index.specs.State.{PathsInStorage, contents};
 ghost use Rattle.gix_index.specs.Taking.{AppendsPrefix};
-ghost use Rattle.index_json.specs.Json.{extension_members, head_members, json_text, mark_members, tail_members, version_value};
+ghost use Rattle.index_json.specs.Json.{extension_members, head_members, json_text, tail_members, version_value};
 ghost use Rattle.index_json.specs.Values.{id_or_null, member};
 
 use crate::bitmaps::{append_link, append_monitor};
 use crate::entries::write_entries;
+use crate::marks::append_marks;
 use crate::trees::append_tree;
 use crate::undo::append_undo;
 use crate::untracked::append_untracked;
@@ -17,6 +18,7 @@ use crate::values::{append_bool_member, append_id_or_null, append_name, append_n
 use gix_index::hash::ObjectId;
 use gix_index::hash::io::put_all;
 use gix_index::{File, State, Version};
+use index_show::Marks;
 use std::alloc::{AllocError, Global};
 use std::io;
 
@@ -55,15 +57,6 @@ fn append_head(
     append_bool_member(text, b",", b"is_sparse", state.is_sparse())
 }
 
-/// Appends whether there was an offset table, and an end marker.
-#[tactic(auto, unfolding(crate::specs::Json::mark_members))]
-fn append_marks(text: &mut Vec<u8>, table: bool, marker: bool) -> Result<(), AllocError>
-    ensures { OnOk result (text.new.items ≡ text.old.items ++ mark_members table marker) }
-{
-    append_bool_member(text, b",", b"had_offset_table", table)?;
-    append_bool_member(text, b",", b"had_end_of_index_marker", marker)
-}
-
 /// Appends the extensions that hold values.
 #[tactic(auto, unfolding(crate::specs::Json::extension_members))]
 fn append_extensions(text: &mut Vec<u8>, alloc: Global, state: &State) -> Result<(), AllocError>
@@ -79,25 +72,36 @@ fn append_extensions(text: &mut Vec<u8>, alloc: Global, state: &State) -> Result
 
 /// Appends what stands behind the entries.
 #[tactic(auto, unfolding(crate::specs::Json::tail_members))]
-fn append_tail(text: &mut Vec<u8>, alloc: Global, state: &State) -> Result<(), AllocError>
-    ensures { OnOk result
-        (text.new.items ≡ text.old.items ++ tail_members (contents state.now).extensions) }
+fn append_tail(
+    text: &mut Vec<u8>,
+    alloc: Global,
+    state: &State,
+    marks: &Marks,
+) -> Result<(), AllocError>
+    ensures { OnOk result (text.new.items
+        ≡ text.old.items ++ tail_members (contents state.now).extensions marks.now) }
 {
     append_extensions(text, alloc, state)?;
     append_marks(
         text,
         state.had_offset_table(),
         state.had_end_of_index_marker(),
+        marks,
     )
 }
 
 /// Appends the end of the array of entries, what stands behind it, and the end of the object.
-fn append_end(text: &mut Vec<u8>, alloc: Global, state: &State) -> Result<(), AllocError>
+fn append_end(
+    text: &mut Vec<u8>,
+    alloc: Global,
+    state: &State,
+    marks: &Marks,
+) -> Result<(), AllocError>
     ensures { OnOk result (text.new.items ≡ text.old.items
-        ++ (codes "]" ++ tail_members (contents state.now).extensions ++ codes "}\n")) }
+        ++ (codes "]" ++ tail_members (contents state.now).extensions marks.now ++ codes "}\n")) }
 {
     text.extend_from_slice(b"]")?;
-    append_tail(text, alloc, state)?;
+    append_tail(text, alloc, state, marks)?;
     text.extend_from_slice(b"}\n")
 }
 
@@ -119,32 +123,39 @@ fn write_state<W: io::Write>(
     alloc: Global,
     state: &State,
     checksum: Option<ObjectId>,
+    marks: &Marks,
     out: &mut W,
 ) -> io::Result<()>
     requires { PathsInStorage state.now }
     ensures ok { OnOk result (Appends (W.contents out.old) (W.contents out.new)
-        (json_text (contents state.now) checksum)) }
+        (json_text (contents state.now) checksum marks.now)) }
     ensures err { OnErr result (AppendsPrefix (W.contents out.old) (W.contents out.new)
-        (json_text (contents state.now) checksum)) }
+        (json_text (contents state.now) checksum marks.now)) }
 {
     let mut text = Vec::new(alloc);
     append_begin(&mut text, state, checksum)?;
     write_entries(&mut text, alloc, state, out)?;
-    append_end(&mut text, alloc, state)?;
+    append_end(&mut text, alloc, state, marks)?;
     put_all(out, text.as_slice())
 }
 
 /// Writes what the file holds as one JSON object (RFC 8259) on one line, with the names of fields that the library has.
 /// A text that isn't UTF-8 is told by the digits of its bytes in base 16, and `_bytes` stands behind its member's name.
+/// What its offset table and its end marker say is given beside it, as [`marks_of`](index_show::marks_of) reads them.
 ///
 /// The text of entries waits in one buffer, which goes out past 64 KiB; that behind them waits in it all. An error is
 /// the writer's, or want of memory for that buffer; what was written by then is a prefix of the text.
-pub fn write_json<W: io::Write>(alloc: Global, file: &File, out: &mut W) -> io::Result<()>
+pub fn write_json<W: io::Write>(
+    alloc: Global,
+    file: &File,
+    marks: &Marks,
+    out: &mut W,
+) -> io::Result<()>
     requires { PathsInStorage (state_of file.now) }
     ensures ok { OnOk result (Appends (W.contents out.old) (W.contents out.new)
-        (json_text (contents (state_of file.now)) (checksum_of file.now))) }
+        (json_text (contents (state_of file.now)) (checksum_of file.now) marks.now)) }
     ensures err { OnErr result (AppendsPrefix (W.contents out.old) (W.contents out.new)
-        (json_text (contents (state_of file.now)) (checksum_of file.now))) }
+        (json_text (contents (state_of file.now)) (checksum_of file.now) marks.now)) }
 {
-    write_state(alloc, file, file.checksum(), out)
+    write_state(alloc, file, file.checksum(), marks, out)
 }

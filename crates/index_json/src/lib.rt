@@ -4,7 +4,7 @@
 mod bitmaps;
 pub mod document;
 mod entries;
-mod ranges;
+mod marks;
 mod trees;
 mod undo;
 mod untracked;

@@ -1,17 +1,36 @@
 -- The lines of a bitmap, and of what has one: a link and a file system monitor (the library's own; the parts are those of
 -- gitformat-index, "Split index" and "File System Monitor cache").
-use Rattle.std.specs.Prelude.{ℕ, List, [], ◌++◌, codes, Option, Some, None}
+use Rattle.std.specs.Prelude.{ℕ, ◌-◌, ◌==◌, Bool, List, [], ◌++◌, codes, decimal, length, Option, Some, None, if◌then◌else◌}
+use Rattle.std.specs.List.{flat_map}
 use Rattle.gix_index.specs.Bitmap.{Bitmap}
 use Rattle.gix_index.specs.FsMonitor.{Monitor, TokenValue, nanoseconds, opaque}
 use Rattle.gix_index.specs.Link.{BitmapPair, LinkValue}
-use Rattle.index_show.specs.Fields.{field, id_field, number_field, text_field}
+use Rattle.index_show.specs.Fields.{answer_field, field, id_field, number_field, text_field}
+use Rattle.index_show.specs.Ranges.{breaks_below, set_places, set_ranges}
+use Rattle.index_show.specs.declared.ranges.Range.{Range}
 
 unfoldable pub heading : List ℕ → List ℕ
 heading name = codes "  " ++ name ++ codes ":\n"
 
--- how many bits a bitmap declares
+-- a space, the first place of a range, and where there are more a hyphen and the last one
+unfoldable pub range_text : Range → List ℕ
+range_text r =
+    codes " " ++ (if r.end - r.first == 1 then decimal r.first else decimal r.first ++ codes "-" ++ decimal (r.end - 1))
+
+-- all ranges, or `none` where there are none
+abbrev pub ranges_text : List Range → List ℕ
+ranges_text ranges = if length ranges == 0 then codes " none" else flat_map range_text ranges
+
+unfoldable pub set_line : List Range → List ℕ
+set_line ranges = codes "    set:" ++ ranges_text ranges ++ codes "\n"
+
+-- how many bits a bitmap declares, which of them are set, and whether its words break off before the last of them
+unfoldable pub bits_lines : ℕ → List Range → Bool → List ℕ
+bits_lines num_bits ranges is_malformed =
+    number_field (codes "    ") (codes "bits") num_bits ++ set_line ranges ++ answer_field (codes "    ") (codes "malformed") is_malformed
+
 abbrev pub bitmap_lines : List ℕ → Bitmap → List ℕ
-bitmap_lines name b = heading name ++ number_field (codes "    ") (codes "bits") b.num_bits
+bitmap_lines name b = heading name ++ bits_lines b.num_bits (set_ranges b) (breaks_below b.num_bits (set_places b))
 
 -- the shared index's entries that are deleted, and those that are replaced, or `none`
 unfoldable pub pair_lines : Option BitmapPair → List ℕ
@@ -31,7 +50,7 @@ token_field (opaque text) = text_field (codes "  ") (codes "token") text
 unfoldable pub monitor_heading : List ℕ
 monitor_heading = codes "file system monitor:\n"
 
--- the token, and for how many entries it told which may have changed, or `none`
+-- the token, and which entries may have changed, or `none`
 unfoldable pub monitor_lines : Option Monitor → List ℕ
 monitor_lines None = field [] (codes "file system monitor") (codes "none")
 monitor_lines (Some monitor) = monitor_heading ++ token_field monitor.token ++ bitmap_lines (codes "dirty") monitor.dirty

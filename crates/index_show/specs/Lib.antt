@@ -2,6 +2,10 @@ pub mod Bitmaps
 pub mod Blocks
 pub mod Entries
 pub mod Fields
+pub mod MarkLines
+pub mod Marks
+pub mod RangeSteps
+pub mod Ranges
 pub mod Show
 pub mod Trees
 pub mod Undo

@@ -1,5 +1,5 @@
 -- All that is told of an index file (the library's own).
-use Rattle.std.specs.Prelude.{Bool, List, ℕ, [], ◌++◌, codes, decimal, Option}
+use Rattle.std.specs.Prelude.{List, ℕ, [], ◌++◌, codes, decimal, Option}
 use Rattle.gix_index.specs.Contents.{Contents}
 use Rattle.gix_index.specs.Outcome.{Outcome}
 use Rattle.gix_index.specs.ObjectId.{ObjectId}
@@ -8,9 +8,11 @@ use Rattle.gix_index.specs.Version.TheVariants.{V2, V3, V4}
 use Rattle.index_show.specs.Bitmaps.{link_lines, monitor_lines}
 use Rattle.index_show.specs.Entries.{entries_lines}
 use Rattle.index_show.specs.Fields.{answer_field, field, id_or_none}
+use Rattle.index_show.specs.MarkLines.{mark_lines}
 use Rattle.index_show.specs.Trees.{cached_tree_lines}
 use Rattle.index_show.specs.Undo.{undo_lines}
 use Rattle.index_show.specs.Untracked.{untracked_lines}
+use Rattle.index_show.specs.declared.marks.Marks.{Marks}
 
 abbrev pub shown_version : Version → ℕ
 shown_version V2 = 2
@@ -23,16 +25,12 @@ head_lines c checksum =
     field [] (codes "version") (decimal (shown_version c.version)) ++ field [] (codes "checksum") (id_or_none checksum)
     ++ answer_field [] (codes "sparse") c.extensions.sparse
 
--- whether there was an offset table, and an end marker
-unfoldable pub mark_lines : Bool → Bool → List ℕ
-mark_lines table marker = answer_field [] (codes "offset table") table ++ answer_field [] (codes "end marker") marker
-
 -- what stands behind the entries
-unfoldable pub behind_lines : Outcome → List ℕ
-behind_lines o =
+unfoldable pub behind_lines : Outcome → Marks → List ℕ
+behind_lines o marks =
     cached_tree_lines o.tree ++ link_lines o.link ++ undo_lines o.resolve_undo ++ untracked_lines o.untracked
-    ++ monitor_lines o.fs_monitor ++ mark_lines o.had_offset_table o.had_end_marker
+    ++ monitor_lines o.fs_monitor ++ mark_lines o.had_offset_table o.had_end_marker marks
 
 -- the parts one after another
-unfoldable pub show_lines : Contents → Option ObjectId → List ℕ
-show_lines c checksum = head_lines c checksum ++ entries_lines c.records ++ behind_lines c.extensions
+unfoldable pub show_lines : Contents → Option ObjectId → Marks → List ℕ
+show_lines c checksum marks = head_lines c checksum ++ entries_lines c.records ++ behind_lines c.extensions marks

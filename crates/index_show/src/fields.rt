@@ -36,6 +36,14 @@ pub fn append_field(
     lines.extend_from_slice(b"\n")
 }
 
+/// Appends a number.
+pub fn append_decimal(lines: &mut Vec<u8>, n: u64) -> Result<(), AllocError>
+    ensures { OnOk result (lines.new.items ≡ lines.old.items ++ decimal n) }
+{
+    let mut buffer = Buffer::new();
+    lines.extend_from_slice(buffer.format(n).as_bytes())
+}
+
 /// Appends a line with a number.
 pub fn append_number(
     lines: &mut Vec<u8>,

@@ -5,11 +5,13 @@ ghost use Rattle.std.specs.Io.KnownBytes.{Appends};
 ghost use Rattle.gix_index.specs.Taking.{AppendsPrefix};
 ghost use Rattle.gix_index.specs.File.{checksum_of, state_of};
 ghost use Rattle.gix_index.specs.State.{PathsInStorage, contents};
-ghost use Rattle.index_show.specs.Show.{behind_lines, head_lines, mark_lines, show_lines, shown_version};
+ghost use Rattle.index_show.specs.Show.{behind_lines, head_lines, show_lines, shown_version};
 
 use crate::bitmaps::{append_link, append_monitor};
 use crate::entries::write_entries;
 use crate::fields::{append_answer, append_id_or_none, append_number};
+use crate::mark_lines::append_marks;
+use crate::marks::Marks;
 use crate::trees::append_tree;
 use crate::undo::append_undo;
 use crate::untracked::append_untracked;
@@ -44,28 +46,26 @@ fn append_head(
     append_answer(lines, b"", b"sparse", state.is_sparse())
 }
 
-/// Appends whether there was an offset table, and an end marker.
-fn append_marks(lines: &mut Vec<u8>, table: bool, marker: bool) -> Result<(), AllocError>
-    ensures { OnOk result (lines.new.items ≡ lines.old.items ++ mark_lines table marker) }
-{
-    append_answer(lines, b"", b"offset table", table)?;
-    append_answer(lines, b"", b"end marker", marker)
-}
-
 /// Appends what stands behind the entries.
-fn append_behind(lines: &mut Vec<u8>, alloc: Global, state: &State) -> Result<(), AllocError>
-    ensures { OnOk result
-        (lines.new.items ≡ lines.old.items ++ behind_lines (contents state.now).extensions) }
+fn append_behind(
+    lines: &mut Vec<u8>,
+    alloc: Global,
+    state: &State,
+    marks: &Marks,
+) -> Result<(), AllocError>
+    ensures { OnOk result (lines.new.items
+        ≡ lines.old.items ++ behind_lines (contents state.now).extensions marks.now) }
 {
     append_tree(lines, alloc, state)?;
-    append_link(lines, state)?;
+    append_link(lines, alloc, state)?;
     append_undo(lines, state)?;
     append_untracked(lines, state)?;
-    append_monitor(lines, state)?;
+    append_monitor(lines, alloc, state)?;
     append_marks(
         lines,
         state.had_offset_table(),
         state.had_end_of_index_marker(),
+        marks,
     )
 }
 
@@ -74,32 +74,39 @@ fn write_state<W: io::Write>(
     alloc: Global,
     state: &State,
     checksum: Option<ObjectId>,
+    marks: &Marks,
     out: &mut W,
 ) -> io::Result<()>
     requires { PathsInStorage state.now }
     ensures ok { OnOk result (Appends (W.contents out.old) (W.contents out.new)
-        (show_lines (contents state.now) checksum)) }
+        (show_lines (contents state.now) checksum marks.now)) }
     ensures err { OnErr result (AppendsPrefix (W.contents out.old) (W.contents out.new)
-        (show_lines (contents state.now) checksum)) }
+        (show_lines (contents state.now) checksum marks.now)) }
 {
     let mut lines = Vec::new(alloc);
     append_head(&mut lines, state, checksum)?;
     write_entries(&mut lines, state, out)?;
-    append_behind(&mut lines, alloc, state)?;
+    append_behind(&mut lines, alloc, state, marks)?;
     put_all(out, lines.as_slice())
 }
 
-/// Writes what the file holds, line by line, for people. Which bits of a bitmap are set isn't told, nor what an offset
-/// table and an end marker say, but that they were there; and nothing of extensions that the library doesn't read.
+/// Writes what the file holds, line by line, for people. What its offset table and its end marker say is given beside
+/// it, as [`marks_of`](crate::marks_of) reads them in its bytes. Nothing is told of extensions that the library doesn't
+/// read.
 ///
 /// The lines of entries wait in one buffer, which goes out past 64 KiB; those behind them wait in it all. An error is
 /// the writer's, or want of memory for that buffer; what was written by then is a prefix of the lines.
-pub fn write_show<W: io::Write>(alloc: Global, file: &File, out: &mut W) -> io::Result<()>
+pub fn write_show<W: io::Write>(
+    alloc: Global,
+    file: &File,
+    marks: &Marks,
+    out: &mut W,
+) -> io::Result<()>
     requires { PathsInStorage (state_of file.now) }
     ensures ok { OnOk result (Appends (W.contents out.old) (W.contents out.new)
-        (show_lines (contents (state_of file.now)) (checksum_of file.now))) }
+        (show_lines (contents (state_of file.now)) (checksum_of file.now) marks.now)) }
     ensures err { OnErr result (AppendsPrefix (W.contents out.old) (W.contents out.new)
-        (show_lines (contents (state_of file.now)) (checksum_of file.now))) }
+        (show_lines (contents (state_of file.now)) (checksum_of file.now) marks.now)) }
 {
-    write_state(alloc, file, file.checksum(), out)
+    write_state(alloc, file, file.checksum(), marks, out)
 }

@@ -4,14 +4,14 @@ ghost use Rattle.std.specs.Prelude.{◌≡◌, IfErr, IfOk, OnOk};
 ghost use Rattle.gix_index.specs.File.{checksum_of, state_of};
 ghost use Rattle.gix_index.specs.State.{PathsInStorage, contents};
 ghost use Rattle.index_tool.specs.Listing.{FailsToRead};
-ghost use Rattle.index_tool.specs.Showing.{FailsToShow, IsInBytes, Shows};
+ghost use Rattle.index_tool.specs.Showing.{FailsToShow, IsInSomeBytes, IsInBytes, Shows};
 
 use crate::command::map::{bytes_at, out_of_memory};
 use crate::failure::Failure;
 use gix_index::entry::FileTime;
 use gix_index::hash::Kind;
 use gix_index::{File, decode};
-use index_show::write_show;
+use index_show::{Marks, marks_of, write_show};
 use std::alloc::Global;
 use std::io;
 use std::path::PathBuf;
@@ -40,6 +40,39 @@ pub fn index_in<'a>(
     }
 }
 
+/// The index in a file, and what the file's offset table and its end marker say.
+#[derive(Drop)]
+pub struct Told {
+    pub index: File,
+    pub marks: Marks,
+}
+
+/// What a file holds, whose link isn't followed. Its bytes are let go.
+pub fn told_at<'a, R: Files>(
+    rt: &R,
+    alloc: Global,
+    kind: Kind,
+    path: &'a str,
+) -> Result<Told, Failure<'a>>
+    ensures told { IfOk result (λ told. IsInSomeBytes kind (contents (state_of told.index))
+        (checksum_of told.index) told.marks) }
+    ensures placed { IfOk result (λ told. PathsInStorage (state_of told.index)) }
+    ensures fault { IfErr result (FailsToRead path.now) }
+{
+    let bytes = match bytes_at(rt, alloc, path) {
+        Ok(bytes) => bytes,
+        Err(failure) => return Err(failure),
+    };
+    let index = match index_in(alloc, kind, path, &bytes) {
+        Ok(index) => index,
+        Err(failure) => return Err(failure),
+    };
+    match marks_of(alloc, kind, &bytes) {
+        Ok(marks) => Ok(Told { index, marks }),
+        Err(_) => Err(out_of_memory(path)),
+    }
+}
+
 /// Writes what a file holds to `out`, for people, as [`write_show`] tells it. Its link isn't followed.
 ///
 /// Nothing goes to `out` before the file was read whole. Ok: `out` took all lines. [`Failure::Output`]: it took a front.
@@ -55,15 +88,11 @@ pub fn show<'a, R: Files, W: io::Write>(
     ensures refused { IfErr result
         (λ failure. FailsToShow kind path.now failure (W.contents out.old) (W.contents out.new)) }
 {
-    let bytes = match bytes_at(rt, alloc, path) {
-        Ok(bytes) => bytes,
+    let Told { index, marks } = match told_at(rt, alloc, kind, path) {
+        Ok(told) => told,
         Err(failure) => return Err(failure),
     };
-    let index = match index_in(alloc, kind, path, &bytes) {
-        Ok(index) => index,
-        Err(failure) => return Err(failure),
-    };
-    match write_show(alloc, &index, out) {
+    match write_show(alloc, &index, &marks, out) {
         Ok(()) => Ok(()),
         Err(e) => Err(Failure::Output(e)),
     }

@@ -3,8 +3,7 @@
 ghost use Rattle.std.specs.Prelude.{◌≡◌, IfErr, OnOk};
 ghost use Rattle.index_tool.specs.Showing.{FailsToShowJson, ShowsJson};
 
-use crate::command::map::bytes_at;
-use crate::command::show::index_in;
+use crate::command::show::{Told, told_at};
 use crate::failure::Failure;
 use gix_index::hash::Kind;
 use index_json::write_json;
@@ -28,15 +27,11 @@ pub fn show_json<'a, R: Files, W: io::Write>(
         (λ failure. FailsToShowJson kind path.now failure (W.contents out.old)
         (W.contents out.new)) }
 {
-    let bytes = match bytes_at(rt, alloc, path) {
-        Ok(bytes) => bytes,
+    let Told { index, marks } = match told_at(rt, alloc, kind, path) {
+        Ok(told) => told,
         Err(failure) => return Err(failure),
     };
-    let index = match index_in(alloc, kind, path, &bytes) {
-        Ok(index) => index,
-        Err(failure) => return Err(failure),
-    };
-    match write_json(alloc, &index, out) {
+    match write_json(alloc, &index, &marks, out) {
         Ok(()) => Ok(()),
         Err(e) => Err(Failure::Output(e)),
     }

@@ -1,8 +1,8 @@
 use Rattle.std.proofs.Common.{ℕ, Bool, List, ◌++◌, ◌∙◌, ap}
 use Rattle.gix_index.specs.Bitmap.{bitmap}
 use Rattle.index_json.specs.BitmapValues.{bits_value}
-use Rattle.index_json.specs.Ranges.{set_ranges}
-use Rattle.index_json.specs.declared.ranges.Range.{Range}
+use Rattle.index_show.specs.Ranges.{set_ranges}
+use Rattle.index_show.specs.declared.ranges.Range.{Range}
 use Rattle.index_show.proofs.Appended.{on_ok_then}
 use Rattle.index_json.proofs.bitmaps.append_bitmap.Goals as goal
 

@@ -3,7 +3,7 @@ use Rattle.std.proofs.lemmas.Result.{err_from_is_err_and}
 use Rattle.std.specs.Io.KnownBytes.{Appends}
 use Rattle.gix_index.specs.Contents.{Contents}
 use Rattle.gix_index.specs.ObjectId.{ObjectId}
-use Rattle.gix_index.specs.State.{contents, records}
+use Rattle.gix_index.specs.State.{contents}
 use Rattle.gix_index.specs.Taking.{AppendsPrefix}
 use Rattle.gix_index.proofs.Taking.{prefix_before}
 use Rattle.index_json.specs.EntryValues.{entry_value}
@@ -11,6 +11,7 @@ use Rattle.index_json.specs.Json.{head_members, json_text, tail_members}
 use Rattle.index_json.specs.Values.{listed}
 use Rattle.index_json.proofs.Texts.{regrouped}
 use Rattle.index_show.specs.Blocks.{Passes}
+use Rattle.index_show.specs.declared.marks.Marks.{Marks}
 use Rattle.index_show.proofs.Appended.{on_err_then, on_ok_then}
 use Rattle.index_show.proofs.Written.{first_lines, out_before, out_front, out_whole}
 use Rattle.index_json.proofs.document.write_state.Goals as goal
@@ -21,13 +22,16 @@ begin c checksum = head_members c checksum ++ codes ",\"entries\":["
 own : Contents → List ℕ
 own c = listed entry_value c.records
 
-end : Contents → List ℕ
-end c = codes "]" ++ tail_members c.extensions ++ codes "}\n"
+end : Contents → Marks → List ℕ
+end c marks = codes "]" ++ tail_members c.extensions marks ++ codes "}\n"
 
 -- the three pieces are the text
-joined : (c : Contents) (checksum : Option ObjectId) → (begin c checksum ++ own c) ++ end c ≡ json_text c checksum
+joined : (c : Contents) (checksum : Option ObjectId) (marks : Marks)
+    → (begin c checksum ++ own c) ++ end c marks ≡ json_text c checksum marks
 unfolding begin own end json_text
-joined c checksum = regrouped (head_members c checksum) (codes ",\"entries\":[") (listed entry_value c.records) (codes "]") (tail_members c.extensions) (codes "}\n")
+joined c checksum marks =
+    regrouped (head_members c checksum) (codes ",\"entries\":[") (listed entry_value c.records) (codes "]")
+    (tail_members c.extensions marks) (codes "}\n")
 
 pub returns-in_err-write_entries-clause-err : goal.returns-in_err-write_entries-clause-err
 unfolding begin own end
@@ -37,7 +41,7 @@ returns-in_err-write_entries-clause-err g c =
     let P : List ℕ → Type 0 = λ l. AppendsPrefix (g.W.Write.contents c.args.out.now) (g.W.Write.contents c.write_entries.new.out) (l ++ own k) in
     let Q : List ℕ → Type 0 = λ l. AppendsPrefix (g.W.Write.contents c.args.out.now) (g.W.Write.contents c.write_entries.new.out) l in
     rw (err_from_is_err_and c.from_residual-in_err-write_entries.result c.from_residual-in_err-write_entries.ensures.1).1
-    (subst Q (joined k c.args.checksum) (prefix_before (subst P first c.in_err-write_entries.ensures.err) (end k)))
+    (subst Q (joined k c.args.checksum c.args.marks.now) (prefix_before (subst P first c.in_err-write_entries.ensures.err) (end k c.args.marks.now)))
 
 pub returns-in_err-append_end-clause-err : goal.returns-in_err-append_end-clause-err
 unfolding begin own end
@@ -47,8 +51,8 @@ returns-in_err-append_end-clause-err g c =
     let P : List ℕ → Type 0 = λ l. Passes (g.W.Write.contents c.args.out.now) (g.W.Write.contents c.write_entries.new.out) c.write_entries.new.text.items (l ++ own k) in
     let Q : List ℕ → Type 0 = λ l. AppendsPrefix (g.W.Write.contents c.args.out.now) (g.W.Write.contents c.write_entries.new.out) l in
     rw (err_from_is_err_and c.from_residual-in_err-append_end.result c.from_residual-in_err-append_end.ensures.1).1
-    (subst Q (joined k c.args.checksum)
-    (out_before (g.W.Write.contents c.args.out.now) (g.W.Write.contents c.write_entries.new.out) (begin k c.args.checksum ++ own k) (end k) c.write_entries.new.text.items
+    (subst Q (joined k c.args.checksum c.args.marks.now)
+    (out_before (g.W.Write.contents c.args.out.now) (g.W.Write.contents c.write_entries.new.out) (begin k c.args.checksum ++ own k) (end k c.args.marks.now) c.write_entries.new.text.items
     (subst P first c.in_ok-write_entries.ensures.ok)))
 
 pub returns-clause-ok : goal.returns-clause-ok
@@ -60,7 +64,7 @@ returns-clause-ok g c =
     let Q : List ℕ → Type 0 = λ l. Appends (g.W.Write.contents c.write_entries.new.out) (g.W.Write.contents c.put_all.new.out) l in
     let R : List ℕ → Type 0 = λ l. Appends (g.W.Write.contents c.args.out.now) (g.W.Write.contents c.put_all.new.out) l in
     on_ok_then c.put_all.result
-    (λ h. subst R (joined k c.args.checksum) (out_whole (g.W.Write.contents c.args.out.now) (g.W.Write.contents c.write_entries.new.out) (g.W.Write.contents c.put_all.new.out) (begin k c.args.checksum ++ own k) (end k) c.write_entries.new.text.items c.append_end.new.text.items
+    (λ h. subst R (joined k c.args.checksum c.args.marks.now) (out_whole (g.W.Write.contents c.args.out.now) (g.W.Write.contents c.write_entries.new.out) (g.W.Write.contents c.put_all.new.out) (begin k c.args.checksum ++ own k) (end k c.args.marks.now) c.write_entries.new.text.items c.append_end.new.text.items
     (subst P first c.in_ok-write_entries.ensures.ok) c.in_ok-append_end.ensures (subst Q c.as_slice.ensures.value h)))
     c.put_all.ensures.ok
 
@@ -73,6 +77,6 @@ returns-clause-err g c =
     let Q : List ℕ → Type 0 = λ l. AppendsPrefix (g.W.Write.contents c.write_entries.new.out) (g.W.Write.contents c.put_all.new.out) l in
     let R : List ℕ → Type 0 = λ l. AppendsPrefix (g.W.Write.contents c.args.out.now) (g.W.Write.contents c.put_all.new.out) l in
     on_err_then c.put_all.result
-    (λ h. subst R (joined k c.args.checksum) (out_front (g.W.Write.contents c.args.out.now) (g.W.Write.contents c.write_entries.new.out) (g.W.Write.contents c.put_all.new.out) (begin k c.args.checksum ++ own k) (end k) c.write_entries.new.text.items c.append_end.new.text.items
+    (λ h. subst R (joined k c.args.checksum c.args.marks.now) (out_front (g.W.Write.contents c.args.out.now) (g.W.Write.contents c.write_entries.new.out) (g.W.Write.contents c.put_all.new.out) (begin k c.args.checksum ++ own k) (end k c.args.marks.now) c.write_entries.new.text.items c.append_end.new.text.items
     (subst P first c.in_ok-write_entries.ensures.ok) c.in_ok-append_end.ensures (subst Q c.as_slice.ensures.value h)))
     c.put_all.ensures.err

@@ -1,10 +1,10 @@
-use Rattle.std.proofs.Common.{◌∙◌, ap, arith, List, ℕ, ◌++◌}
+use Rattle.std.proofs.Common.{◌∙◌, ap, arith, ◌++◌}
 use Rattle.gix_index.specs.Tree.{node_of}
 use Rattle.gix_index.specs.TreeType.{Tree}
 use Rattle.index_json.specs.TreeValues.{tree_value}
-use Rattle.index_json.proofs.Listed.{listed_more, on_ok_items}
+use Rattle.index_json.proofs.Listed.{listed_more}
 use Rattle.index_json.proofs.TreeTexts.{tree_step}
-use Rattle.index_show.proofs.Appended.{on_ok_then}
+use Rattle.index_show.proofs.Appended.{on_ok_items, on_ok_then}
 use Rattle.index_json.proofs.trees.+directories.Goals as goal
 
 pub append_directories-loop-place-preserved : goal.append_directories-loop-place-preserved

@@ -1,4 +1,4 @@
-use Rattle.std.proofs.Common.{◌∙◌, List, ℕ, ◌++◌, ap, arith}
+use Rattle.std.proofs.Common.{◌∙◌, ◌++◌, ap, arith}
 use Rattle.gix_index.specs.ResolveUndo.{path_stages}
 use Rattle.index_json.specs.UndoValues.{path_value}
 use Rattle.index_json.proofs.Listed.{listed_all, listed_more}

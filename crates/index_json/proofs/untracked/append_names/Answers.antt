@@ -1,4 +1,4 @@
-use Rattle.std.proofs.Common.{◌∙◌, List, ℕ, ◌++◌, ap, arith}
+use Rattle.std.proofs.Common.{◌∙◌, ◌++◌, ap, arith}
 use Rattle.gix_index.specs.Owned.{bstring_bytes}
 use Rattle.index_json.specs.UntrackedValues.{name_value}
 use Rattle.index_json.proofs.Listed.{listed_all, listed_more}

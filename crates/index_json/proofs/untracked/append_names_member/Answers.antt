@@ -1,7 +1,6 @@
-use Rattle.std.proofs.Common.{ℕ, List, ◌++◌, codes}
 use Rattle.index_json.specs.Values.{member}
-use Rattle.index_json.proofs.Listed.{array_more, on_ok_items}
-use Rattle.index_show.proofs.Appended.{on_ok_then}
+use Rattle.index_json.proofs.Listed.{array_more}
+use Rattle.index_show.proofs.Appended.{on_ok_items, on_ok_then}
 use Rattle.index_json.proofs.untracked.append_names_member.Goals as goal
 
 pub returns : goal.returns

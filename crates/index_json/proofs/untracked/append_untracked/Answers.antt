@@ -1,4 +1,4 @@
-use Rattle.std.proofs.Common.{ℕ, List, ◌++◌, ◌∙◌, ap}
+use Rattle.std.proofs.Common.{◌++◌, ◌∙◌, ap}
 use Rattle.index_json.specs.UntrackedValues.{untracked_or_null}
 use Rattle.index_json.specs.Values.{member}
 use Rattle.index_show.proofs.Appended.{on_ok_then, two_more}

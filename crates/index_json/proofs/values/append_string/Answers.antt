@@ -1,4 +1,4 @@
-use Rattle.std.proofs.Common.{◌≡◌, ℕ, List, [], ◌∷◌, ◌++◌, ◌∙◌, ap}
+use Rattle.std.proofs.Common.{List, [], ◌∷◌, ◌++◌, ◌∙◌, ap}
 use Rattle.json.specs.Token.{Token, string}
 use Rattle.index_json.proofs.Strings.{string_after}
 use Rattle.index_json.proofs.values.append_string.Goals as goal

@@ -1,5 +1,6 @@
 use Rattle.std.proofs.Common.{◌∙◌, Bool, ◌++◌, ap}
-use Rattle.index_show.specs.Show.{behind_lines, mark_lines}
+use Rattle.index_show.specs.MarkLines.{mark_lines}
+use Rattle.index_show.specs.Show.{behind_lines}
 use Rattle.index_show.proofs.Appended.{on_ok_then, two_more}
 use Rattle.index_show.proofs.show.append_behind.Goals as goal
 
@@ -14,6 +15,6 @@ returns c =
     let watched = two_more old c.append_untracked.new.lines.items lines _ _ cached c.in_ok-append_monitor.ensures in
     on_ok_then c.append_marks.result
     (λ h. two_more old lines c.append_marks.new.lines.items _ _ watched
-    (h ∙ ap (λ (b : Bool). lines ++ mark_lines b c.had_end_of_index_marker.result) c.had_offset_table.ensures
-    ∙ ap (λ (b : Bool). lines ++ mark_lines c.args.state.now.parts.extensions.had_offset_table b) c.had_end_of_index_marker.ensures))
+    (h ∙ ap (λ (b : Bool). lines ++ mark_lines b c.had_end_of_index_marker.result c.args.marks.now) c.had_offset_table.ensures
+    ∙ ap (λ (b : Bool). lines ++ mark_lines c.args.state.now.parts.extensions.had_offset_table b c.args.marks.now) c.had_end_of_index_marker.ensures))
     c.append_marks.ensures

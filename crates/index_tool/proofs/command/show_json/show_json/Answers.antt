@@ -4,18 +4,18 @@ use Rattle.index_tool.proofs.command.show_json.show_json.Goals as goal
 
 pub returns-in-Ok-write_json-clause-shown : goal.returns-in-Ok-write_json-clause-shown
 returns-in-Ok-write_json-clause-shown g c = record {
-  bytes = c.deref.result.now;
-  value = contents (state_of c.in-Ok-index_in.index);
-  checksum = checksum_of c.in-Ok-index_in.index;
-  read = c.in-Ok-index_in.ensures.read;
+  value = contents (state_of c.in-Ok.told.index);
+  checksum = checksum_of c.in-Ok.told.index;
+  marks = c.in-Ok.told.marks;
+  told = c.in-Ok.ensures.told;
   grew = c.in-Ok-write_json.ensures.ok;
 }
 
 pub returns-clause-refused : goal.returns-clause-refused
 returns-clause-refused g c = record {
-  bytes = c.deref.result.now;
-  value = contents (state_of c.in-Ok-index_in.index);
-  checksum = checksum_of c.in-Ok-index_in.index;
-  read = c.in-Ok-index_in.ensures.read;
+  value = contents (state_of c.in-Ok.told.index);
+  checksum = checksum_of c.in-Ok.told.index;
+  marks = c.in-Ok.told.marks;
+  told = c.in-Ok.ensures.told;
   grew = c.in-Err-write_json.ensures.err;
 }

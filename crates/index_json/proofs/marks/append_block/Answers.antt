@@ -1,0 +1,20 @@
+use Rattle.std.proofs.Common.{ℕ, ◌++◌, ◌∙◌, ap, codes}
+use Rattle.index_json.specs.MarkValues.{block_value}
+use Rattle.index_json.specs.Values.{number_member}
+use Rattle.index_show.proofs.Appended.{on_ok_items, on_ok_then, two_more}
+use Rattle.index_json.proofs.marks.append_block.Goals as goal
+
+pub returns : goal.returns
+unfolding block_value
+returns c =
+    let old = c.args.text.now.items in
+    let placed = c.append_number_member.new.text.items in
+    let counted = c.append_number_member-2.new.text.items in
+    on_ok_then c.extend_from_slice.result
+    (λ h. two_more old counted c.extend_from_slice.new.self.items _ _
+    (two_more old placed counted _ _
+    (c.in_ok-append_number_member.ensures
+    ∙ ap (λ (n : ℕ). old ++ number_member (codes "{") (codes "from_beginning_of_file") n) c.from-place.ensures)
+    (c.in_ok-append_number_member-2.ensures
+    ∙ ap (λ (n : ℕ). placed ++ number_member (codes ",") (codes "num_entries") n) c.from.ensures)) h)
+    (on_ok_items c.extend_from_slice.result _ _ _ c.extend_from_slice.ensures.items)
