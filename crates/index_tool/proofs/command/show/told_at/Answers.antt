@@ -7,5 +7,5 @@ returns-in-Ok-marks_of-clause-told g c = record {
   bytes = c.deref.result.now;
   read = c.in-Ok-index_in.ensures.read;
   marked = subst (λ (b : List ℕ). AreMarks c.args.kind b c.in-Ok-marks_of.marks) (c.deref-2.ensures.value
-  ∙ sym c.deref.ensures.value) c.in-Ok-marks_of.ensures;
+      ∙ sym c.deref.ensures.value) c.in-Ok-marks_of.ensures;
 }
