@@ -86,7 +86,7 @@ extern "C" {
 
 /* ---- Tables */
 
-/* An entry. Its path is the bytes of the table's paths from path_start on, path_len of them; rows may share some. */
+/* An entry. Its path is the bytes of the table's paths from path_start on, path_len of them; two may share some. */
 typedef struct {
     uint32_t ctime_secs; /* when the file's own data changed last, in seconds since the begin of 1970 */
     uint32_t ctime_nsecs;
@@ -116,7 +116,7 @@ typedef struct {
     uint32_t fault;     /* REFUSED: one of the faults above */
     uint32_t version;   /* DONE, NO_ROOM: 2, 3 or 4 */
     uint32_t has_link;  /* DONE, NO_ROOM: 1 where the index links to a shared one that wasn't followed; else 0 */
-    uint32_t of_shared; /* REFUSED by gix_index_read_split: 1 where the fault is of the shared index's bytes; else 0 */
+    uint32_t of_shared; /* REFUSED, MEMORY: 1 where that is of the bytes of the shared index; else 0 */
     uint8_t shared_id[32]; /* DONE, NO_ROOM: with has_link the shared index's id, as a row has one, or zeros for none */
 } gix_index_summary;
 

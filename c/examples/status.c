@@ -50,8 +50,8 @@ static char *path_of(const char *folder, const gix_index_row *row, const uint8_t
 static bool is_again(const gix_index_table *t, size_t i) {
     if (i == 0) return false;
     const gix_index_row *one = t->rows + i - 1, *two = t->rows + i;
-    const uint8_t *path = t->paths + one->path_start, *next = t->paths + two->path_start;
-    return one->path_len == two->path_len && !memcmp(path, next, one->path_len);
+    const uint8_t *path = t->paths + one->path_start, *other = t->paths + two->path_start;
+    return one->path_len == two->path_len && !memcmp(path, other, one->path_len);
 }
 
 static bool print_status(const char *folder, const gix_index_table *t, time_t written) {

@@ -38,7 +38,7 @@ pub struct Summary {
     pub version: u32,
     /// 1 where the bytes link to a shared index that wasn't followed; else 0.
     pub has_link: u32,
-    /// 1 where the fault is of the shared index's bytes; else 0.
+    /// 1 where the fault, or the want of memory, is of the shared index's bytes; else 0.
     pub of_shared: u32,
     /// The id at the end of the shared index that the bytes link to, where it wasn't followed, with zeros behind one of
     /// SHA-1; zeros where there is none.
