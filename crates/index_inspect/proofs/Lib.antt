@@ -1,11 +1,13 @@
 mod Completing
 mod Covered
 mod Divided
+mod EntrySkips
 mod Fronts
 mod KeptLinks
 mod Laid
 mod LastLinks
 mod Links
+mod MarkContents
 pub mod Printed
 mod ReadFronts
 mod Readable

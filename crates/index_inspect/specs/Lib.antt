@@ -5,6 +5,7 @@ pub mod FrontSteps
 pub mod ItemSteps
 pub mod Laws
 pub mod Lines
+pub mod Marks
 pub mod Piece
 pub mod Remains
 pub mod Salvage

@@ -8,6 +8,7 @@ mod front;
 mod items;
 pub mod laws;
 pub mod map;
+pub mod marks;
 pub mod part;
 pub mod remains;
 pub mod salvage;

@@ -6,7 +6,7 @@ use Rattle.gix_index.specs.ObjectId.{ObjectId}
 use Rattle.gix_index.specs.Record.{Record}
 use Rattle.gix_index.specs.Version.{Version}
 use Rattle.gix_index.specs.Version.TheVariants.{V2, V3, V4}
-use Rattle.index_show.specs.declared.marks.Marks.{Marks}
+use Rattle.index_inspect.specs.declared.marks.Marks.{Marks}
 use Rattle.index_json.specs.BitmapValues.{link_or_null, monitor_or_null}
 use Rattle.index_json.specs.EntryValues.{entry_value}
 use Rattle.index_json.specs.MarkValues.{mark_members}

@@ -3,8 +3,8 @@
 use Rattle.std.specs.Prelude.{ℕ, Bool, List, ◌++◌, codes, Option, Some, None}
 use Rattle.std.specs.Option.{option_map}
 use Rattle.gix_index.specs.OffsetType.{Offset}
-use Rattle.index_show.specs.declared.marks.EndMark.{EndMark}
-use Rattle.index_show.specs.declared.marks.Marks.{Marks}
+use Rattle.index_inspect.specs.declared.marks.EndMark.{EndMark}
+use Rattle.index_inspect.specs.declared.marks.Marks.{Marks}
 use Rattle.index_json.specs.Values.{array, id_member, json_bool, member, number_member}
 
 -- where a block of entries begins, and how many it has

@@ -9,7 +9,7 @@ use crate::values::{
     append_bool_member, append_id_member, append_name, append_number_member, append_separator,
 };
 use gix_index::extension::index_entry_offset_table::Offset;
-use index_show::marks::{EndMark, Marks};
+use index_inspect::marks::{EndMark, Marks};
 use std::alloc::AllocError;
 
 /// Appends a block of entries.

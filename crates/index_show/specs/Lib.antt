@@ -3,7 +3,6 @@ pub mod Blocks
 pub mod Entries
 pub mod Fields
 pub mod MarkLines
-pub mod Marks
 pub mod RangeSteps
 pub mod Ranges
 pub mod Show

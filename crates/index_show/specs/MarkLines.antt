@@ -6,8 +6,8 @@ use Rattle.std.specs.Option.{option_map}
 use Rattle.gix_index.specs.ObjectId.{ObjectId}
 use Rattle.gix_index.specs.OffsetType.{Offset}
 use Rattle.index_show.specs.Fields.{field, id_field, number_field}
-use Rattle.index_show.specs.declared.marks.EndMark.{EndMark}
-use Rattle.index_show.specs.declared.marks.Marks.{Marks}
+use Rattle.index_inspect.specs.declared.marks.EndMark.{EndMark}
+use Rattle.index_inspect.specs.declared.marks.Marks.{Marks}
 
 -- where a block of entries begins, and how many it has
 unfoldable pub block_line : ℕ → ℕ → List ℕ

@@ -12,7 +12,7 @@ use Rattle.index_show.specs.MarkLines.{mark_lines}
 use Rattle.index_show.specs.Trees.{cached_tree_lines}
 use Rattle.index_show.specs.Undo.{undo_lines}
 use Rattle.index_show.specs.Untracked.{untracked_lines}
-use Rattle.index_show.specs.declared.marks.Marks.{Marks}
+use Rattle.index_inspect.specs.declared.marks.Marks.{Marks}
 
 abbrev pub shown_version : Version → ℕ
 shown_version V2 = 2

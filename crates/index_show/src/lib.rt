@@ -6,12 +6,10 @@ pub mod block;
 mod entries;
 pub mod fields;
 mod mark_lines;
-pub mod marks;
 pub mod ranges;
 pub mod show;
 mod trees;
 mod undo;
 mod untracked;
 
-pub use marks::{Marks, marks_of};
 pub use show::write_show;

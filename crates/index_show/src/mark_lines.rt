@@ -7,9 +7,9 @@ ghost use Rattle.index_show.specs.Fields.{number_field};
 ghost use Rattle.index_show.specs.MarkLines.{block_line, blocks_lines, end_lines, end_mark_lines, entry_block, lines_or_none, mark_lines};
 
 use crate::fields::{append_decimal, append_field, append_id, append_number};
-use crate::marks::{EndMark, Marks};
 use gix_index::extension::index_entry_offset_table::Offset;
 use gix_index::hash::ObjectId;
+use index_inspect::marks::{EndMark, Marks};
 use std::alloc::AllocError;
 
 /// Appends the line of a block that begins at an offset and has so many entries.

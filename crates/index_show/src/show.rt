@@ -11,13 +11,13 @@ use crate::bitmaps::{append_link, append_monitor};
 use crate::entries::write_entries;
 use crate::fields::{append_answer, append_id_or_none, append_number};
 use crate::mark_lines::append_marks;
-use crate::marks::Marks;
 use crate::trees::append_tree;
 use crate::undo::append_undo;
 use crate::untracked::append_untracked;
 use gix_index::hash::ObjectId;
 use gix_index::hash::io::put_all;
 use gix_index::{File, State, Version};
+use index_inspect::marks::Marks;
 use std::alloc::{AllocError, Global};
 use std::io;
 

@@ -11,7 +11,7 @@ use Rattle.index_json.specs.Json.{head_members, json_text, tail_members}
 use Rattle.index_json.specs.Values.{listed}
 use Rattle.index_json.proofs.Texts.{regrouped}
 use Rattle.index_show.specs.Blocks.{Passes}
-use Rattle.index_show.specs.declared.marks.Marks.{Marks}
+use Rattle.index_inspect.specs.declared.marks.Marks.{Marks}
 use Rattle.index_show.proofs.Appended.{on_err_then, on_ok_then}
 use Rattle.index_show.proofs.Written.{first_lines, out_before, out_front, out_whole}
 use Rattle.index_json.proofs.document.write_state.Goals as goal

@@ -1,5 +1,5 @@
 use Rattle.std.proofs.Common.{List, ℕ, subst, sym, ◌∙◌}
-use Rattle.index_show.specs.Marks.{AreMarks}
+use Rattle.index_inspect.specs.Marks.{AreMarks}
 use Rattle.index_tool.proofs.command.show.told_at.Goals as goal
 
 pub returns-in-Ok-marks_of-clause-told : goal.returns-in-Ok-marks_of-clause-told

@@ -7,7 +7,7 @@ use Rattle.gix_index.specs.Kind.{Kind}
 use Rattle.gix_index.specs.Record.{Record}
 use Rattle.gix_index.specs.Version.{Version}
 use Rattle.gix_index.specs.Walk.{Item}
-use Rattle.index_show.specs.Marks.{FollowEntries, HasExtensions, lacks}
+use Rattle.index_inspect.specs.Marks.{FollowEntries, HasExtensions, lacks}
 
 else_assoc : {A : Type 0} (x y z : Option A) → or_else (or_else x y) z ≡ or_else x (or_else y z)
 else_assoc None y z = refl

@@ -2,8 +2,8 @@ use Rattle.std.proofs.Common.{ℕ, List, Option, subst}
 use Rattle.std.specs.Option.{option_map}
 use Rattle.gix_index.specs.ExtensionValue.{IsValue}
 use Rattle.gix_index.specs.OffsetTable.{IsTable}
-use Rattle.index_show.specs.Marks.{IsEndMark}
-use Rattle.index_show.proofs.marks.marks_of.Goals as goal
+use Rattle.index_inspect.specs.Marks.{IsEndMark}
+use Rattle.index_inspect.proofs.marks.marks_of.Goals as goal
 
 pub returns : goal.returns
 returns c =

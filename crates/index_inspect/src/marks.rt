@@ -7,7 +7,7 @@ ghost use Rattle.gix_index.specs.ExtensionValue.{IsRead, IsValue, content_named,
 ghost use Rattle.gix_index.specs.OffsetTable.{IsTable};
 ghost use Rattle.gix_index.specs.Record.{Record};
 ghost use Rattle.gix_index.specs.Walk.{IsWalk, Item, unread};
-ghost use Rattle.index_show.specs.Marks.{AreMarks, HasMarkBytes, HasExtensions, IsEndMark};
+ghost use Rattle.index_inspect.specs.Marks.{AreMarks, HasMarkBytes, HasExtensions, IsEndMark};
 
 use gix_index::Version;
 use gix_index::decode::entry::entry_of;

@@ -1,7 +1,7 @@
 use Rattle.std.proofs.Common.{◌≡◌, ◌+◌, ◌≤◌, List, length, None, option_map, unwrap_or}
 use Rattle.gix_index.specs.Entries.{AreEntries, last_path}
 use Rattle.gix_index.specs.Record.{Record}
-use Rattle.index_show.proofs.marks.skip_entries.Given as goal
+use Rattle.index_inspect.proofs.marks.skip_entries.Given as goal
 
 -- so many entries stand before the rest, and a path has no more bytes than were read
 abbrev pub invariant-loop-number : goal.invariant-loop-number

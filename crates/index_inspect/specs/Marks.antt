@@ -12,9 +12,9 @@ use Rattle.gix_index.specs.OffsetTable.{IsTable}
 use Rattle.gix_index.specs.Record.{Record}
 use Rattle.gix_index.specs.Version.{Version}
 use Rattle.gix_index.specs.Walk.{Item, IsWalk}
-use Rattle.index_show.specs.declared.marks.EndMark.{EndMark}
-use Rattle.index_show.specs.declared.marks.MarkBytes.{MarkBytes}
-use Rattle.index_show.specs.declared.marks.Marks.{Marks}
+use Rattle.index_inspect.specs.declared.marks.EndMark.{EndMark}
+use Rattle.index_inspect.specs.declared.marks.MarkBytes.{MarkBytes}
+use Rattle.index_inspect.specs.declared.marks.Marks.{Marks}
 
 -- the content of an end marker: the offset in four bytes, and the digest
 pub record IsEndMark (kind : Kind) (content : List ℕ) (m : EndMark) : Type 0 where

@@ -2,8 +2,8 @@ use Rattle.std.proofs.Common.{ℕ, List, [], ◌∷◌, ◌++◌}
 use Rattle.std.specs.Prelude.{codes}
 use Rattle.gix_index.specs.Walk.{Item, cursor, unread}
 use Rattle.gix_index.proofs.Walks.{step_item, step_more}
-use Rattle.index_show.proofs.MarkContents.{first_step, last_step}
-use Rattle.index_show.proofs.marks.mark_bytes_in.Goals as goal
+use Rattle.index_inspect.proofs.MarkContents.{first_step, last_step}
+use Rattle.index_inspect.proofs.marks.mark_bytes_in.Goals as goal
 
 pub loop-item-preserved : goal.loop-item-preserved
 loop-item-preserved c =

@@ -1,9 +1,9 @@
 use Rattle.std.proofs.Common.{[], refl}
 use Rattle.gix_index.specs.HeaderErrors.{header_fault}
 use Rattle.gix_index.specs.Walk.{unread}
-use Rattle.index_show.specs.Marks.{headless, short, walked}
-use Rattle.index_show.proofs.MarkContents.{entries_follow, entry_lacking}
-use Rattle.index_show.proofs.marks.mark_bytes_of.Goals as goal
+use Rattle.index_inspect.specs.Marks.{headless, short, walked}
+use Rattle.index_inspect.proofs.MarkContents.{entries_follow, entry_lacking}
+use Rattle.index_inspect.proofs.marks.mark_bytes_of.Goals as goal
 
 pub returns-in-Err : goal.returns-in-Err
 returns-in-Err c = (

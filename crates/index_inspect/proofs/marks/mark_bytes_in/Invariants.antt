@@ -2,7 +2,7 @@ use Rattle.std.proofs.Common.{◌≡◌, List, option_map}
 use Rattle.std.specs.Prelude.{codes}
 use Rattle.gix_index.specs.ExtensionValue.{first_content, last_content}
 use Rattle.gix_index.specs.Walk.{AreItems, Item, unread}
-use Rattle.index_show.proofs.marks.mark_bytes_in.Given as goal
+use Rattle.index_inspect.proofs.marks.mark_bytes_in.Given as goal
 
 -- the contents are those of the extensions before the unread bytes
 abbrev pub invariant-loop-item : goal.invariant-loop-item

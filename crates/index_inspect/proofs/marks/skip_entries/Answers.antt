@@ -2,8 +2,8 @@ use Rattle.std.proofs.Common.{◌++◌, [], ◌∷◌, None, arith, length, leng
 use Rattle.gix_index.specs.Entries.{last_path}
 use Rattle.gix_index.specs.Lent.{lent_record}
 use Rattle.gix_index.specs.Record.{Record}
-use Rattle.index_show.proofs.EntrySkips.{entries_more, path_fits, room_more}
-use Rattle.index_show.proofs.marks.skip_entries.Goals as goal
+use Rattle.index_inspect.proofs.EntrySkips.{entries_more, path_fits, room_more}
+use Rattle.index_inspect.proofs.marks.skip_entries.Goals as goal
 
 pub loop-number-preserved : goal.loop-number-preserved
 loop-number-preserved c =
