@@ -91,8 +91,8 @@ fn write_state<W: io::Write>(
 }
 
 /// Writes what the file holds, line by line, for people. What its offset table and its end marker say is given beside
-/// it, as [`marks_of`](crate::marks_of) reads them in its bytes. Nothing is told of extensions that the library doesn't
-/// read.
+/// it, as [`marks_of`](index_inspect::marks::marks_of) reads them in its bytes. Nothing is told of extensions that the
+/// library doesn't read.
 ///
 /// The lines of entries wait in one buffer, which goes out past 64 KiB; those behind them wait in it all. An error is
 /// the writer's, or want of memory for that buffer; what was written by then is a prefix of the lines.
