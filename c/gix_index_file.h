@@ -118,6 +118,9 @@ static inline uint32_t gix_index_read_file(const char *path, uint32_t kind, uint
                                      &t->said);
     bool is_read = status == GIX_INDEX_DONE || status == GIX_INDEX_NO_ROOM;
     if (!is_read || !gix_index_links(&t->said)) return gix_index_fill(t, &no_path, 0, kind, text, text_len);
+    /* (a wrong digest is told before a shared index is looked for) */
+    status = gix_index_read(t->bytes, t->bytes_len, kind, false, &no_row, 0, &no_path, 0, text, text_len, &t->said);
+    if (status != GIX_INDEX_DONE && status != GIX_INDEX_NO_ROOM) return status;
     char *shared_path = gix_index_shared_path(path, kind, &t->said);
     if (!shared_path) return GIX_INDEX_MEMORY;
     size_t shared_len;
