@@ -50,7 +50,7 @@ pub record HasMarkBytes (items : List Item) (c : MarkBytes) : Type 0 where
   pub table : option_map (λ b. b.now) c.table ≡ first_content (codes "IEOT") items
   pub end : option_map (λ b. b.now) c.end ≡ last_content (codes "EOIE") items
 
--- what they say, None where it is malformed or none is there
+-- the value of each; a content that spells no value has none, as one that the file lacks
 pub record AreMarks (kind : Kind) (bytes : List ℕ) (m : Marks) : Type 0 where
   pub items : List Item
   pub has : HasExtensions kind bytes items
