@@ -24,14 +24,21 @@ answer_by true E N P a f v c x y e g (inr h) =
     absurd cc
 answer_by false E N P a f v c x y e g h = h
 
+-- what a file is read as, its bytes are read as
+pub answer_read : (skip : Bool) (kind : Kind) (time : FileTime) (options : Options) (bytes : List ℕ) (v : Contents)
+    (c : Option ObjectId) → IsFileAnswer skip kind time options bytes (Ok (v, c))
+    → IsAnswer kind time options bytes (Ok (v, c))
+answer_read skip kind time options bytes v c h =
+    answer_by (needs_check skip kind bytes) _ _ (IsAnswer kind time options bytes (Ok (v, c))) (Ok (v, c))
+    (Err (Verify (digest_id kind bytes) (trailer_id kind bytes))) v c (digest_id kind bytes)
+    (trailer_id kind bytes) refl refl h
+
 -- a value that was read is of the kind that it was read for
 pub read_kind : (skip : Bool) (kind : Kind) (time : FileTime) (options : Options) (bytes : List ℕ) (v : Contents)
     (c : Option ObjectId) → IsFileAnswer skip kind time options bytes (Ok (v, c)) → v.kind ≡ kind
 read_kind skip kind time options bytes v c h =
-    let is = answer_by (needs_check skip kind bytes) _ _ (IsAnswer kind time options bytes (Ok (v, c))) (Ok (v, c))
-    (Err (Verify (digest_id kind bytes) (trailer_id kind bytes))) v c (digest_id kind bytes)
-    (trailer_id kind bytes) refl refl h in
-    ap (λ (w : Contents). w.kind) (value_is kind time options bytes v c is).is
+    ap (λ (w : Contents). w.kind)
+    (value_is kind time options bytes v c (answer_read skip kind time options bytes v c h)).is
 
 pub unlinked_storable : (v : Contents) → IsStorable v → IsStorable (without_link v)
 unlinked_storable v h = record { ids = h.ids; paths = h.paths; fits = h.fits; tree = h.tree }

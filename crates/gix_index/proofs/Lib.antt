@@ -1,5 +1,7 @@
 mod Absent
+mod Behind
 pub mod Checks
+mod EntrySkips
 mod FileFaults
 pub mod Files
 pub mod Joined

@@ -1,5 +1,4 @@
--- The definitions and types that a caller's clauses cite, each under one name; more stand in Hashing, Searching, Trees.
--- A type has a name of its own here where a definition's file has its name already.
+-- What a caller's clauses cite, each under one name, a type under its own where a file of definitions has the type's.
 pub mod Checked
 pub mod File
 pub mod FileFaults
@@ -85,6 +84,7 @@ pub use Rattle.index_format.specs.Outcome
 pub use Rattle.index_format.specs.Storable
 pub use Rattle.index_format.specs.Stored
 pub use Rattle.index_format.specs.Writing
+pub use Rattle.index_window.specs.Behind
 pub use Rattle.index_window.specs.Intact
 pub use Rattle.index_window.specs.declared.disk.PathError
 pub use Rattle.index_state.specs.Dissolve

@@ -12,7 +12,11 @@ use Rattle.index_state.specs.Edits.{without_link}
 use Rattle.index_split.specs.Link.{LinkValue}
 use Rattle.index_state.specs.Dissolve.{IsDissolved}
 use Rattle.index_format.specs.Contents.{Contents}
+use Rattle.index_state.specs.State.{contents}
+use Rattle.index_window.specs.Behind.{FollowEntries}
 use Rattle.gix_index.specs.Checked.{IsFileAnswer}
+use Rattle.gix_index.specs.File.{checksum_of, state_of}
+use Rattle.gix_index.specs.declared.file.unfollowed.Unfollowed.{Unfollowed}
 
 -- the path of the shared index with this id: beside the split index at a path, named by the id in base 16
 abbrev pub shared_path : List ℕ → ObjectId → List ℕ
@@ -62,3 +66,13 @@ pub data IsOnDisk (skip : Bool) (kind : Kind) (time : FileTime) (options : Optio
     (checksum : Option ObjectId) : Type 0 where
   own : IsOwn skip kind time options v checksum → IsOnDisk skip kind time options v checksum
   joined : IsJoined skip kind time options v checksum → IsOnDisk skip kind time options v checksum
+
+-- these bytes are read so by themselves, and those behind their entries are told
+pub record IsReadAloneIn (skip : Bool) (kind : Kind) (time : FileTime) (options : Options) (bytes : List ℕ)
+    (u : Unfollowed) : Type 0 where
+  pub read : IsFileAnswer skip kind time options bytes (Ok (contents (state_of u.index), checksum_of u.index))
+  pub ending : FollowEntries kind bytes u.ending.items
+
+-- some bytes are
+abbrev pub IsReadAlone : Bool → Kind → FileTime → Options → Unfollowed → Type 0
+IsReadAlone skip kind time options u = (bytes : List ℕ) × IsReadAloneIn skip kind time options bytes u

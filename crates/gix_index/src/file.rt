@@ -3,6 +3,7 @@
 mod at;
 mod image;
 pub mod init;
+mod unfollowed;
 pub mod verify;
 pub mod write;
 
@@ -19,6 +20,7 @@ use std::alloc::AllocError;
 use std::fmt;
 use std::ops::{Deref, DerefMut};
 use std::path::{Path, PathBuf};
+pub use unfollowed::Unfollowed;
 
 /// An index that was read from a file or is to be written to one. It lends the [`State`] by `Deref`.
 #[derive(Drop)]

@@ -139,15 +139,12 @@ fn fault(out: &mut Lines, fault: &Error) {
         ),
         Error::TreeNodeChildcountMismatch {
             oid,
-            expected_childcount,
-            actual_childcount,
-        } => {
-            let (listed, there) = (expected_childcount, actual_childcount);
-            writeln!(
-                out,
-                "fault: {listed} directories in {oid}, {there} children"
-            );
-        }
+            expected_childcount: listed,
+            actual_childcount: there,
+        } => writeln!(
+            out,
+            "fault: {listed} directories in {oid}, {there} children"
+        ),
         Error::Memory => out.put("fault", "memory"),
     }
 }

@@ -22,6 +22,7 @@ use Rattle.index_format.specs.declared.decode.Options.{Options}
 use Rattle.index_format.specs.Answer.{IsAnswer, IsEnding, IsBehindHeader, has}
 use Rattle.index_format.specs.Contents.{parts_contents}
 use Rattle.index_format.proofs.Answers.{answer_from}
+use Rattle.index_window.specs.Behind.{FollowEntries}
 use Rattle.index_window.specs.Windowed.{Moment, IsReadOn}
 use Rattle.index_window.specs.declared.windows.Plan.{Plan}
 
@@ -57,8 +58,7 @@ pub header_long : (kind : Kind) (bytes : List ℕ) (v : Version) → header_of k
     → 12 + id_len kind ≤ length bytes
 header_long kind bytes v h = ltb-false _ _ (guarded (ltb (length bytes) (12 + id_len kind)) _ _ v h)
 
-module _ (plan : Plan) (time : FileTime) (options : Options) (offset : Option ℕ) (a b : Moment) (n : ℕ)
-    (tail more : List ℕ) (len : ℕ) (x : Parts × Option ObjectId) where
+module _ (plan : Plan) (a b : Moment) (n : ℕ) (tail more : List ℕ) where
   parts_of : (r : IsReadOn plan a b n) → tail ≡ b.window ++ more → r.taken ++ tail ≡ a.window ++ (r.more ++ more)
   parts_of r tail-is = ap (λ (l : List ℕ). r.taken ++ l) tail-is ∙ sym (append_assoc r.taken b.window more)
       ∙ ap (λ (l : List ℕ). l ++ more) (sym r.bytes) ∙ append_assoc a.window r.more more
@@ -73,49 +73,88 @@ module _ (plan : Plan) (time : FileTime) (options : Options) (offset : Option �
       (Consumes-trans all a.left end a.window (r.more ++ more) front
       (Consumes-trans a.left b.left end r.more more r.consumed rest)) at-end parts
 
+  -- the header of all bytes is that of the first window
+  header_of_windows : header_of plan.kind a.window ≡ Ok plan.version → (r : IsReadOn plan a b n)
+      → tail ≡ b.window ++ more → header_of plan.kind (r.taken ++ tail) ≡ Ok plan.version
+  header_of_windows header r tail-is =
+      ap (header_of plan.kind) (parts_of r tail-is)
+      ∙ header_grows plan.kind a.window (r.more ++ more) (header_long plan.kind a.window plan.version header) ∙ header
+
+  -- so is the count
+  count_of_windows : header_of plan.kind a.window ≡ Ok plan.version → plan.count ≡ count_of a.window
+      → (r : IsReadOn plan a b n) → tail ≡ b.window ++ more → count_of (r.taken ++ tail) ≡ plan.count
+  count_of_windows header counted r tail-is =
+      let long = header_long plan.kind a.window plan.version header in
+      ap count_of (parts_of r tail-is) ∙ rw (number_grows a.window (r.more ++ more) 8 (omega arith)) refl ∙ sym counted
+
+  -- the entries stand behind it
+  entries_of_windows : header_of plan.kind a.window ≡ Ok plan.version → a.decoded ≡ 12 → a.records ≡ []
+      → (r : IsReadOn plan a b n) → tail ≡ b.window ++ more
+      → AreEntries plan.version plan.kind None (drop 12 (r.taken ++ tail)) b.records (drop b.decoded tail)
+  entries_of_windows header at none r tail-is =
+      let first : List ℕ = a.window in
+      let long = header_long plan.kind first plan.version header in
+      let body : drop 12 (r.taken ++ tail) ≡ (drop 12 first ++ r.more) ++ more = ap (drop 12) (parts_of r tail-is)
+      ∙ drop-append-le 12 first (r.more ++ more) (omega arith) ∙ sym (append_assoc (drop 12 first) r.more more) in
+      let rest : drop b.decoded tail ≡ drop b.decoded b.window ++ more =
+      ap (drop b.decoded) tail-is ∙ drop-append-le b.decoded b.window more r.inside in
+      let start : AreEntries plan.version plan.kind None (drop 12 first) a.records (drop a.decoded first) =
+      rw (none, at) refl in
+      rw (body, rest) (entries_grow plan.version plan.kind None (drop 12 first ++ r.more) b.records
+      (drop b.decoded b.window) more (r.read (drop 12 first) start))
+
+  -- what follows them
+  pub ending_of_windows : header_of plan.kind a.window ≡ Ok plan.version → plan.count ≡ count_of a.window
+      → a.decoded ≡ 12 → a.records ≡ [] → length b.records ≡ plan.count
+      → (r : IsReadOn plan a b n) → tail ≡ b.window ++ more
+      → FollowEntries plan.kind (r.taken ++ tail) (drop b.decoded tail)
+  ending_of_windows header counted at none all-read r tail-is = record {
+    version = plan.version;
+    header = header_of_windows header r tail-is;
+    records = b.records;
+    entries = entries_of_windows header at none r tail-is;
+    count = all-read ∙ sym (count_of_windows header counted r tail-is);
+  }
+
   -- the answer to all bytes
-  pub answer_of_windows : header_of plan.kind a.window ≡ Ok plan.version → plan.count ≡ count_of a.window
+  pub answer_of_windows : (time : FileTime) (options : Options) (offset : Option ℕ) (len : ℕ)
+      (x : Parts × Option ObjectId)
+      → header_of plan.kind a.window ≡ Ok plan.version → plan.count ≡ count_of a.window
       → ltb (most_entries len offset plan.kind plan.version) plan.count ≡ false
       → is_too_large options.alloc_limit_bytes plan.count len offset plan.kind plan.version ≡ false
       → a.decoded ≡ 12 → a.records ≡ [] → length b.records ≡ plan.count
       → (r : IsReadOn plan a b n) → tail ≡ b.window ++ more → length a.window + n + length more ≡ len
       → IsMarker plan.kind (r.taken ++ tail) offset
-      → IsEnding plan.kind time options plan.version b.records (drop b.decoded tail) (Ok (parts_contents x.0, x.1))
+      → IsEnding plan.kind time options plan.version b.records (drop b.decoded tail)
+      (Ok (parts_contents x.0, x.1))
       → IsAnswer plan.kind time options (r.taken ++ tail) (Ok (parts_contents x.0, x.1))
-  answer_of_windows header counted few small at none all-read r tail-is len-is marker ending =
+  answer_of_windows time options offset len x header counted few small at none all-read r tail-is len-is marker ending =
       let bytes : List ℕ = r.taken ++ tail in
-      let first : List ℕ = a.window in
-      let behind : List ℕ = r.more ++ more in
-      let long = header_long plan.kind first plan.version header in
-      let parts : bytes ≡ first ++ behind = parts_of r tail-is in
       let size : length bytes ≡ len =
-      omega (arith, ap length parts, length-append first behind, length-append r.more more, r.len, len-is) in
-      let count : count_of bytes ≡ count_of first =
-      ap count_of parts ∙ rw (number_grows first behind 8 (omega arith)) refl in
-      let body : drop 12 bytes ≡ (drop 12 first ++ r.more) ++ more = ap (drop 12) parts
-      ∙ drop-append-le 12 first behind (omega arith) ∙ sym (append_assoc (drop 12 first) r.more more) in
-      let rest : drop b.decoded tail ≡ drop b.decoded b.window ++ more =
-      ap (drop b.decoded) tail-is ∙ drop-append-le b.decoded b.window more r.inside in
-      let start : AreEntries plan.version plan.kind None (drop 12 first) a.records (drop a.decoded first) =
-      rw (none, at) refl in
-      let entries : AreEntries plan.version plan.kind None ((drop 12 first ++ r.more) ++ more) b.records
-      (drop b.decoded b.window ++ more) = entries_grow plan.version plan.kind None
-      (drop 12 first ++ r.more) b.records (drop b.decoded b.window) more (r.read (drop 12 first) start) in
-      let entries-all : AreEntries plan.version plan.kind None (drop 12 bytes) b.records (drop b.decoded tail) =
-      rw (body, rest) entries in
-      let total : count_of bytes ≡ plan.count = count ∙ sym counted in
+      omega (
+        arith,
+        ap length (parts_of r tail-is),
+        length-append a.window (r.more ++ more),
+        length-append r.more more,
+        r.len,
+        len-is,
+      ) in
+      let total : count_of bytes ≡ plan.count = count_of_windows header counted r tail-is in
       let is-behind : IsBehindHeader plan.kind time options plan.version (count_of bytes) (drop 12 bytes)
       (Ok (parts_contents x.0, x.1)) =
-      has b.records (drop b.decoded tail) entries-all (all-read ∙ sym total) ending in
+      has b.records (drop b.decoded tail) (entries_of_windows header at none r tail-is) (all-read ∙ sym total) ending in
       answer_from plan.kind time options bytes plan.version offset (Ok x)
-      (ap (header_of plan.kind) parts ∙ header_grows plan.kind first behind long ∙ header) marker
-      (rw (size, total) few) (rw (size, total) small) is-behind
+      (header_of_windows header r tail-is) marker (rw (size, total) few) (rw (size, total) small) is-behind
 
 -- ---- what is said of a value, if there is one
 
 pub some_then : {A : Type 0} (o : Option A) (P Q : A → Type 0) → ((x : A) → P x → Q x) → IfSome o P → IfSome o Q
 some_then None P Q f h = tt
 some_then (Some x) P Q f h = f x h
+
+pub some_both : {A : Type 0} (o : Option A) (P Q : A → Type 0) → IfSome o P → IfSome o Q → IfSome o (λ x. P x × Q x)
+some_both None P Q p q = tt
+some_both (Some x) P Q p q = (p, q)
 
 pub some_with : {A : Type 0} (o : Option A) (P Q R S T : A → Type 0) → ((x : A) → P x → Q x → R x → S x → T x)
     → IfSome o P → IfSome o Q → IfSome o R → IfSome o S → IfSome o T

@@ -5,12 +5,12 @@ ghost use Rattle.index_entries.specs.Record.{IdsAreOf};
 ghost use Rattle.index_format.specs.Answer.{IsAnswer};
 ghost use Rattle.index_format.specs.Contents.{ExtensionIdsAreOf, PartsInStorage, parts_contents, parts_entries};
 ghost use Rattle.index_format.specs.Storable.{IsStorable};
+ghost use Rattle.index_window.specs.Behind.{FollowEntries};
 ghost use Rattle.index_window.specs.Intact.{IsIntact};
 
 use crate::ReadOptions;
-use crate::windows::{KEPT_LEN, lacks_marker, offset_in, windowed};
-use index_format::Parts;
-use index_parts::hash::{Kind, ObjectId};
+use crate::windows::{KEPT_LEN, WindowedIndex, lacks_marker, offset_in, windowed};
+use index_parts::hash::Kind;
 use index_reading::trailer;
 use std::alloc::Global;
 use std::fs::OpenFile;
@@ -35,25 +35,26 @@ fn ends_in_null(kind: Kind, end: &[u8]) -> bool {
     end.len() >= len && trailer::checksum(kind, &end[end.len() - len..]).is_none()
 }
 
-/// Reads a plain file in windows, and gives the parts of the index in it, and the trailer's id, or None where that is
-/// null. It is None of a small file, of what is no plain file, as a pipe, and where the index isn't sound, or changes
-/// meanwhile: then a plain file stands at its start again, and has to be read whole.
+/// Reads a plain file in windows, and gives the index in it. It is None of a small file, of what is no plain file, as a
+/// pipe, and where the index isn't sound, or changes meanwhile: then a plain file stands at its start again, and has to
+/// be read whole.
 pub fn in_windows<F: OpenFile + Read + Seek>(
     alloc: Global,
     file: &mut F,
     reading: ReadOptions,
-) -> io::Result<Option<(Parts, Option<ObjectId>)>>
+) -> io::Result<Option<WindowedIndex>>
     // The file's bytes can't be named: the index is what some bytes are read as.
     ensures read { IfOk result (λ o. IfSome o (λ x. (bytes : List ℕ)
         × IsIntact reading.skip_hash reading.object_hash bytes
         × IsAnswer reading.object_hash reading.timestamp reading.options bytes
-        (Ok (parts_contents x.0, x.1)))) }
-    ensures placed { IfOk result (λ o. IfSome o (λ x. PartsInStorage x.0)) }
+        (Ok (parts_contents x.parts, x.checksum))
+        × FollowEntries reading.object_hash bytes x.ending.items)) }
+    ensures placed { IfOk result (λ o. IfSome o (λ x. PartsInStorage x.parts)) }
     ensures ids { IfOk result
-        (λ o. IfSome o (λ x. IdsAreOf reading.object_hash (parts_entries x.0))) }
-    ensures storable { IfOk result (λ o. IfSome o (λ x. IsStorable (parts_contents x.0))) }
+        (λ o. IfSome o (λ x. IdsAreOf reading.object_hash (parts_entries x.parts))) }
+    ensures storable { IfOk result (λ o. IfSome o (λ x. IsStorable (parts_contents x.parts))) }
     ensures extension_ids { IfOk result (λ o. IfSome o
-        (λ x. ExtensionIdsAreOf reading.object_hash (parts_contents x.0).extensions)) }
+        (λ x. ExtensionIdsAreOf reading.object_hash (parts_contents x.parts).extensions)) }
 {
     let metadata = file.metadata()?;
     let len = metadata.len();

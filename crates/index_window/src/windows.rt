@@ -10,6 +10,7 @@ ghost use Rattle.index_format.specs.Storable.{IsStorable};
 ghost use Rattle.index_parts.specs.Digest.{Holds, hasher_kind};
 ghost use Rattle.index_parts.specs.Id.{id_kind};
 ghost use Rattle.index_parts.specs.declared.hash.Kind.{Kind};
+ghost use Rattle.index_window.specs.Behind.{FollowEntries};
 ghost use Rattle.index_window.specs.Intact.{IsIntact};
 ghost use Rattle.index_window.specs.Windowed.{IsReadOn};
 
@@ -34,6 +35,17 @@ const WINDOW_LEN: usize = 262_144;
 
 /// So many of the bytes that were decoded stay in the window: an end marker and the trailer have room there.
 pub const KEPT_LEN: usize = 52;
+
+/// An index that was read in windows.
+#[derive(Drop)]
+pub struct WindowedIndex {
+    /// Its parts.
+    pub parts: Parts,
+    /// The trailer's id, or None where it is null.
+    pub checksum: Option<ObjectId>,
+    /// The bytes behind the entries: the extensions and the trailer.
+    pub ending: Vec<u8>,
+}
 
 /// What is read, and whether it is hashed.
 #[derive(Clone, Copy)]
@@ -211,37 +223,38 @@ fn is_intact(plan: Plan, mut hasher: Hasher, tail: &[u8], skip_hash: bool) -> bo
     plan.is_hashed && hasher.finalize() == expected
 }
 
-/// The parts of entries that were read, and of what follows them in the window from a place on; and the trailer's id,
-/// or None where it is null. None unless all is sound, and the end marker is that of the plan. The hasher took in all
-/// bytes before the window, if they were to be hashed.
+/// The index of entries that were read, and of what follows them in the window from a place on. None unless all is
+/// sound, and the end marker is that of the plan. The hasher took in all bytes before the window, if they were to be
+/// hashed.
 fn ending_of(
     alloc: Global,
     plan: Plan,
     first: FirstEntries,
     hasher: Hasher,
-    window: &[u8],
+    mut window: Vec<u8>,
     start: usize,
     reading: ReadOptions,
-) -> Option<(Parts, Option<ObjectId>)>
+) -> Option<WindowedIndex>
     requires ids { All (λ r. id_kind r.id ≡ plan.kind) first.list.records }
     requires sparse { first.sparse ≡ has_directory first.list.records }
-    requires start { start ≤ length window.now }
+    requires start { start ≤ vec_len window }
     ensures ending { IfSome result (λ x. IsEnding plan.kind reading.timestamp reading.options
-        plan.version first.list.records (drop start window.now)
-        (Ok (parts_contents x.0, x.1))) }
+        plan.version first.list.records (drop start window.items)
+        (Ok (parts_contents x.parts, x.checksum))) }
     ensures intact { IfSome result (λ _. hasher_kind hasher ≡ plan.kind → (message : List ℕ)
         → (plan.is_hashed ≡ true → Holds hasher message)
-        → IsIntact reading.skip_hash plan.kind (message ++ window.now)) }
+        → IsIntact reading.skip_hash plan.kind (message ++ window.items)) }
     ensures marker { IfSome result (λ _. (before : List ℕ)
-        → length before + length window.now ≡ plan.len
-        → IsMarker plan.kind (before ++ window.now) plan.offset) }
-    ensures are_bytes { IfSome result (λ _. AreBytes window.now) }
-    ensures placed { IfSome result (λ x. PartsInStorage x.0) }
-    ensures ids { IfSome result (λ x. IdsAreOf plan.kind (parts_entries x.0)) }
+        → length before + length window.items ≡ plan.len
+        → IsMarker plan.kind (before ++ window.items) plan.offset) }
+    ensures are_bytes { IfSome result (λ _. AreBytes window.items) }
+    ensures behind { IfSome result (λ x. x.ending.items ≡ drop start window.items) }
+    ensures placed { IfSome result (λ x. PartsInStorage x.parts) }
+    ensures ids { IfSome result (λ x. IdsAreOf plan.kind (parts_entries x.parts)) }
     ensures extension_ids { IfSome result
-        (λ x. ExtensionIdsAreOf plan.kind (parts_contents x.0).extensions) }
+        (λ x. ExtensionIdsAreOf plan.kind (parts_contents x.parts).extensions) }
 {
-    if !is_marked(plan, window) || !is_intact(plan, hasher, window, reading.skip_hash) {
+    if !is_marked(plan, &window) || !is_intact(plan, hasher, &window, reading.skip_hash) {
         return None;
     }
     let read = ReadEntries {
@@ -256,7 +269,14 @@ fn ending_of(
         options: reading.options,
     };
     match read_ending(alloc, read, read_as) {
-        Ok(whole) => Some(whole),
+        Ok((parts, checksum)) => {
+            remove_front(&mut window, start);
+            Some(WindowedIndex {
+                parts,
+                checksum,
+                ending: window,
+            })
+        }
         Err(_) => None,
     }
 }
@@ -272,9 +292,8 @@ fn room_for(alloc: Global, declared: Declared) -> Result<FirstEntries, AllocErro
     })
 }
 
-/// The parts of the index that a reader of so many bytes gives, and the trailer's id, or None where it is null. None
-/// where it isn't a sound index whose end marker names the offset, or which has none where there is no offset. Where
-/// its digest will have to be compared, it has to be hashed.
+/// The index that a reader of so many bytes gives. None where it isn't a sound index whose end marker names the offset,
+/// or which has none where there is no offset. Where its digest will have to be compared, it has to be hashed.
 pub fn windowed<R: Read>(
     alloc: Global,
     reader: &mut R,
@@ -282,18 +301,19 @@ pub fn windowed<R: Read>(
     is_hashed: bool,
     offset: Option<usize>,
     reading: ReadOptions,
-) -> io::Result<Option<(Parts, Option<ObjectId>)>>
+) -> io::Result<Option<WindowedIndex>>
     ensures read { IfOk result (λ o. IfSome o (λ x. (bytes : List ℕ)
         × IfSome (R.remaining reader.old) (λ left. bytes ≡ left) × AreBytes bytes
         × IsIntact reading.skip_hash reading.object_hash bytes
         × IsAnswer reading.object_hash reading.timestamp reading.options bytes
-        (Ok (parts_contents x.0, x.1)))) }
-    ensures placed { IfOk result (λ o. IfSome o (λ x. PartsInStorage x.0)) }
+        (Ok (parts_contents x.parts, x.checksum))
+        × FollowEntries reading.object_hash bytes x.ending.items)) }
+    ensures placed { IfOk result (λ o. IfSome o (λ x. PartsInStorage x.parts)) }
     ensures ids { IfOk result
-        (λ o. IfSome o (λ x. IdsAreOf reading.object_hash (parts_entries x.0))) }
-    ensures storable { IfOk result (λ o. IfSome o (λ x. IsStorable (parts_contents x.0))) }
+        (λ o. IfSome o (λ x. IdsAreOf reading.object_hash (parts_entries x.parts))) }
+    ensures storable { IfOk result (λ o. IfSome o (λ x. IsStorable (parts_contents x.parts))) }
     ensures extension_ids { IfOk result (λ o. IfSome o
-        (λ x. ExtensionIdsAreOf reading.object_hash (parts_contents x.0).extensions)) }
+        (λ x. ExtensionIdsAreOf reading.object_hash (parts_contents x.parts).extensions)) }
 {
     let kind = reading.object_hash;
     let mut window = Vec::with_capacity(alloc, WINDOW_LEN)?;
@@ -331,5 +351,5 @@ pub fn windowed<R: Read>(
     if more as u64 != left {
         return Ok(None);
     }
-    Ok(ending_of(alloc, plan, first, hasher, &window, start, reading))
+    Ok(ending_of(alloc, plan, first, hasher, window, start, reading))
 }

@@ -32,7 +32,7 @@ use std::rt::Files;
 use std::{fs, io};
 
 /// What it says that a file can't be opened or read.
-fn read_fault(path: PathBuf, error: io::Error) -> Error
+pub(super) fn read_fault(path: PathBuf, error: io::Error) -> Error
     ensures { (skip : Bool) (kind : IdKind) (time : Timestamp) (options : Options)
         → SaysOfFile skip kind time options result }
 {
@@ -69,11 +69,11 @@ fn read_file<F: OpenFile + Read + Seek + Drop>(
         reading.timestamp reading.options) }
 {
     match in_windows(alloc, &mut file, reading) {
-        Ok(Some((parts, checksum))) => {
+        Ok(Some(read)) => {
             return Ok(File {
-                state: State::from(parts),
+                state: State::from(read.parts),
                 path,
-                checksum,
+                checksum: read.checksum,
             });
         }
         Ok(None) => {}

@@ -1,19 +1,15 @@
-use Rattle.std.proofs.Common.{rules, ◌≡◌, ◌≤◌, ◌<◌, ◌+◌, ◌++◌, ℕ, List, [], length, drop, refl, ap, subst, ◌∙◌, arith}
+use Rattle.std.proofs.Common.{rules, ◌≡◌, ◌≤◌, ◌<◌, ◌+◌, ◌++◌, ℕ, List, [], length, drop, refl, ap, ◌∙◌, arith}
 use Rattle.std.proofs.Common.{length-drop, length-append}
 use Rattle.std.specs.Prelude.{Ok}
 use Rattle.std.specs.Io.KnownBytes.{Consumes}
 use Rattle.std.proofs.KnownBytes.{starts_with_rest}
 use Rattle.std.proofs.lemmas.List.Elements.{All-append}
 use Rattle.index_entries.specs.Header.{header_of, count_of}
-use Rattle.index_entries.specs.Record.{AreBytes}
-use Rattle.index_format.specs.Answer.{IsEnding}
-use Rattle.index_format.specs.Contents.{parts_contents}
 use Rattle.index_format.proofs.ReadValues.{says_storable}
-use Rattle.index_extensions.specs.EndMarker.{IsMarker}
 use Rattle.index_window.specs.Windowed.{Moment, IsReadOn}
 use Rattle.index_window.specs.declared.windows.Plan.{Plan}
-use Rattle.index_window.specs.Intact.{IsIntact}
-use Rattle.index_window.proofs.Wholes.{answer_of_windows, some_then, some_with, whole_of_windows}
+use Rattle.index_window.proofs.Wholes.{answer_of_windows, ending_of_windows, some_both, some_then, some_with}
+use Rattle.index_window.proofs.Wholes.{whole_of_windows}
 use Rattle.index_window.proofs.windows.windowed.Goals as goal
 
 pub returns-clause-read : goal.returns-clause-read
@@ -92,23 +88,20 @@ returns-clause-read g c =
     ) in
     some_with c.ending_of.result _ _ _ _ _ (λ x ending intact marker bytes. (
       step.taken ++ tail,
-      whole_of_windows plan reading.timestamp reading.options c.args.offset a b r.0 tail more c.args.len x
-          (g.R.Read.remaining c.args.reader.now)
+      whole_of_windows plan a b r.0 tail more (g.R.Read.remaining c.args.reader.now)
           (g.R.Read.remaining c.read_to_end.new.self) step grown front rest c.in_ok-more.ensures.end,
-      All-append (λ b. b < 256) step.taken tail step.are_bytes (subst AreBytes c.deref-2.ensures.value bytes),
-      subst (λ (l : List ℕ). IsIntact reading.skip_hash kind (step.taken ++ l)) c.deref-2.ensures.value
-          (intact (step.kind_stays ∙ c.new-hasher.ensures.kind) step.taken
-          (λ is. step.hashed is [] c.new-hasher.ensures.empty)),
-      answer_of_windows plan reading.timestamp reading.options c.args.offset a b r.0 tail more c.args.len x header
-          counted c.in-Some.ensures.fits c.in-Some.ensures.small refl none whole step grown size
-          (subst (λ (l : List ℕ). length step.taken + length l ≡ c.args.len
-          → IsMarker kind (step.taken ++ l) c.args.offset) c.deref-2.ensures.value (marker step.taken) total)
-          (subst (λ (l : List ℕ). IsEnding kind reading.timestamp reading.options declared.version b.records
-          (drop start l) (Ok (parts_contents x.0, x.1))) c.deref-2.ensures.value ending),
-    )) c.ending_of.ensures.ending c.ending_of.ensures.intact c.ending_of.ensures.marker c.ending_of.ensures.are_bytes
+      All-append (λ b. b < 256) step.taken tail step.are_bytes bytes.0,
+      intact (step.kind_stays ∙ c.new-hasher.ensures.kind) step.taken
+          (λ is. step.hashed is [] c.new-hasher.ensures.empty),
+      answer_of_windows plan a b r.0 tail more reading.timestamp reading.options c.args.offset c.args.len
+          (x.parts, x.checksum) header counted c.in-Some.ensures.fits c.in-Some.ensures.small refl none whole step grown
+          size (marker step.taken total) ending,
+      rw bytes.1 (ending_of_windows plan a b r.0 tail more header counted refl none whole step grown),
+    )) c.ending_of.ensures.ending c.ending_of.ensures.intact c.ending_of.ensures.marker
+    (some_both c.ending_of.result _ _ c.ending_of.ensures.are_bytes c.ending_of.ensures.behind)
 
 pub returns-clause-storable : goal.returns-clause-storable
 returns-clause-storable g c =
     let reading = c.args.reading in
     some_then c.ending_of.result _ _ (λ x h. says_storable reading.object_hash reading.timestamp reading.options h.0
-    (Ok x) h.2 h.4) (returns-clause-read g c)
+    (Ok (x.parts, x.checksum)) h.2 h.4) (returns-clause-read g c)

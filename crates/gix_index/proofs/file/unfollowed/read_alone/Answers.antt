@@ -1,0 +1,19 @@
+use Rattle.gix_index.proofs.Checks.{to_file}
+use Rattle.gix_index.proofs.file.unfollowed.read_alone.Goals as goal
+
+pub returns-in-Ok-Some-clause-read : goal.returns-in-Ok-Some-clause-read
+returns-in-Ok-Some-clause-read g c =
+    let h = rw c.in-Ok-Some.field-0-is at c.in-Ok-Some.ensures.read in
+    let r = c.args.reading in (
+      h.0,
+      record {
+        read = rw c.from.ensures (to_file r.skip_hash r.object_hash r.timestamp r.options h.0 _ h.1 h.2);
+        ending = h.3;
+      },
+    )
+
+pub returns-in-Err-clause-fault : goal.returns-in-Err-clause-fault
+returns-in-Err-clause-fault g c = c.read_fault.ensures _ _ _ _
+
+pub returns-in-Err-bytes_of-clause-fault : goal.returns-in-Err-bytes_of-clause-fault
+returns-in-Err-bytes_of-clause-fault g c = c.read_fault-in-Err-bytes_of.ensures _ _ _ _

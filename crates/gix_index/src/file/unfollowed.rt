@@ -1,0 +1,179 @@
+//! Reading an index from the disk by itself, with the bytes behind its entries.
+
+ghost use Rattle.std.specs.Prelude.{◌≡◌, ◌<◌, ℕ, Bool, List, Option, IfErr, IfNone, IfOk, IfSome, None, Ok, length};
+ghost use Rattle.std.specs.Path.{path_buf_bytes};
+ghost use Rattle.index_entries.specs.Entries.{AreEntries, LacksEntry};
+ghost use Rattle.index_entries.specs.Record.{IdsAreOf, Record};
+ghost use Rattle.index_format.specs.Contents.{Contents};
+ghost use Rattle.index_format.specs.Storable.{IsStorable};
+ghost use Rattle.index_format.specs.declared.decode.Options.{Options};
+ghost use Rattle.index_metadata.specs.declared.entry.stat.FileTime.{FileTime as Timestamp};
+ghost use Rattle.index_parts.specs.declared.hash.ObjectId.{ObjectId};
+ghost use Rattle.index_state.specs.State.{PathsInStorage, contents, entries_of};
+ghost use Rattle.index_window.specs.Behind.{FollowEntries};
+ghost use Rattle.index_window.specs.Intact.{digest_id};
+ghost use Rattle.gix_index.specs.Checked.{IsFileAnswer};
+ghost use Rattle.gix_index.specs.File.{path_of, state_of};
+ghost use Rattle.gix_index.specs.FileFaults.{SaysOfFile};
+ghost use Rattle.gix_index.specs.Linked.{IsReadAlone, IsReadAloneIn};
+
+use super::File;
+use super::at::read_fault;
+use super::init::{Error, decoded};
+use index_entries::Version;
+use index_entry_reading::entry::entry_of;
+use index_format::decode;
+use index_metadata::entry::FileTime;
+use index_parts::hash::{Kind, ObjectId};
+use index_reading::decode::header;
+use index_state::State;
+use index_window::ReadOptions;
+use index_window::disk::bytes_of;
+use index_window::large::in_windows;
+use std::alloc::Global;
+use std::fs;
+use std::fs::OpenFile;
+use std::io::{Read, Seek};
+use std::path::PathBuf;
+use std::rt::Files;
+
+/// An index that was read by itself, and the end of its file.
+#[derive(Drop)]
+pub struct Unfollowed {
+    /// The index. A link to a shared index is in it as it was read.
+    pub index: File,
+    /// The bytes behind its entries: the extensions and the trailer.
+    pub ending: Vec<u8>,
+}
+
+/// The bytes behind so many entries; None where one of them isn't there.
+fn skip_entries(version: Version, kind: Kind, count: u32, bytes: &[u8]) -> Option<&[u8]>
+    ensures found { IfSome result (λ rest. (records : List Record)
+        × AreEntries version kind None bytes.now records rest.now × (length records ≡ count)) }
+    ensures none { IfNone result ((i : ℕ) × (i < count) × LacksEntry version kind bytes.now i) }
+{
+    let mut room = None;
+    let mut rest = bytes;
+    for _number in 0..count {
+        let (lent, after) = entry_of(version, kind, room, rest)?;
+        room = Some(lent.shared + lent.path.len());
+        rest = after;
+    }
+    Some(rest)
+}
+
+/// The bytes behind the entries of a file; None only where it is no index.
+fn behind_entries(kind: Kind, bytes: &[u8]) -> Option<&[u8]>
+    ensures found { IfSome result (λ rest. FollowEntries kind bytes.now rest.now) }
+    ensures none { IfNone result ((skip : Bool) (time : Timestamp) (options : Options)
+        (value : Contents) (checksum : Option ObjectId)
+        → IsFileAnswer skip kind time options bytes.now (Ok (value, checksum)) → ⊥) }
+{
+    let Ok((version, count, entries)) = header::decode(bytes, kind) else {
+        return None;
+    };
+    skip_entries(version, kind, count, entries)
+}
+
+/// The index in all bytes of a file, with those behind its entries. The digest is taken where it is to be compared and
+/// isn't known yet.
+fn decoded_whole(
+    alloc: Global,
+    bytes: &[u8],
+    known: Option<ObjectId>,
+    path: PathBuf,
+    reading: ReadOptions,
+) -> Result<Unfollowed, Error>
+    requires known { IfSome known (λ id. id ≡ digest_id reading.object_hash bytes.now) }
+    ensures read { IfOk result (λ read. IsReadAloneIn reading.skip_hash reading.object_hash
+        reading.timestamp reading.options bytes.now read) }
+    ensures path { IfOk result (λ read. path_of read.index ≡ path_buf_bytes path) }
+    ensures placed { IfOk result (λ read. PathsInStorage (state_of read.index)) }
+    ensures ids { IfOk result
+        (λ read. IdsAreOf reading.object_hash (entries_of (state_of read.index))) }
+    ensures storable { IfOk result (λ read. IsStorable (contents (state_of read.index))) }
+    ensures fault { IfErr result (SaysOfFile reading.skip_hash reading.object_hash
+        reading.timestamp reading.options) }
+{
+    let index = decoded(alloc, bytes, known, path, reading)?;
+    let Some(rest) = behind_entries(reading.object_hash, bytes) else {
+        unreachable!()
+    };
+    let mut ending = Vec::with_capacity(alloc, rest.len())?;
+    ending.extend_from_slice(rest)?;
+    Ok(Unfollowed { index, ending })
+}
+
+/// The same of an opened file: read in windows, or else whole.
+fn read_alone<F: OpenFile + Read + Seek + Drop>(
+    alloc: Global,
+    mut file: F,
+    path: PathBuf,
+    reading: ReadOptions,
+) -> Result<Unfollowed, Error>
+    ensures read { IfOk result (λ read. IsReadAlone reading.skip_hash reading.object_hash
+        reading.timestamp reading.options read) }
+    ensures path { IfOk result (λ read. path_of read.index ≡ path_buf_bytes path) }
+    ensures placed { IfOk result (λ read. PathsInStorage (state_of read.index)) }
+    ensures ids { IfOk result
+        (λ read. IdsAreOf reading.object_hash (entries_of (state_of read.index))) }
+    ensures storable { IfOk result (λ read. IsStorable (contents (state_of read.index))) }
+    ensures fault { IfErr result (SaysOfFile reading.skip_hash reading.object_hash
+        reading.timestamp reading.options) }
+{
+    match in_windows(alloc, &mut file, reading) {
+        Ok(Some(read)) => {
+            return Ok(Unfollowed {
+                index: File {
+                    state: State::from(read.parts),
+                    path,
+                    checksum: read.checksum,
+                },
+                ending: read.ending,
+            });
+        }
+        Ok(None) => {}
+        Err(e) => return Err(read_fault(path, e)),
+    }
+    match bytes_of(alloc, file, reading.object_hash, reading.skip_hash) {
+        Ok((bytes, digest)) => decoded_whole(alloc, &bytes, digest, path, reading),
+        Err(e) => Err(read_fault(path, e)),
+    }
+}
+
+impl File {
+    /// Reads the index in the file at a path as [`File::at`] does, but leaves its link to a shared index alone, as
+    /// [`File::decode`] does; and gives the bytes behind its entries, which the extensions and the trailer are
+    /// (gitformat-index, "Extensions"). Of a large file no more bytes than these are held beside the index.
+    ///
+    /// [`Error::Io`] names the file, which can't be opened or read. [`Error::Decode`] and [`Error::Memory`] are those
+    /// of [`File::decode`].
+    pub fn unfollowed_at<R: Files>(
+        rt: &R,
+        alloc: Global,
+        path: PathBuf,
+        object_hash: Kind,
+        skip_hash: bool,
+        timestamp: FileTime,
+        options: decode::Options,
+    ) -> Result<Unfollowed, Error>
+        // The file's bytes can't be named: the index is what some bytes are read as, and they end so.
+        ensures read { IfOk result (IsReadAlone skip_hash object_hash timestamp options) }
+        ensures path { IfOk result (λ read. path_of read.index ≡ path_buf_bytes path) }
+        ensures placed { IfOk result (λ read. PathsInStorage (state_of read.index)) }
+        ensures ids { IfOk result (λ read. IdsAreOf object_hash (entries_of (state_of read.index))) }
+        ensures storable { IfOk result (λ read. IsStorable (contents (state_of read.index))) }
+        ensures fault { IfErr result (SaysOfFile skip_hash object_hash timestamp options) }
+    {
+        let reading = ReadOptions {
+            object_hash,
+            skip_hash,
+            timestamp,
+            options,
+        };
+        match fs::open(rt, path.as_path()) {
+            Ok(file) => read_alone(alloc, file, path, reading),
+            Err(e) => Err(read_fault(path, e)),
+        }
+    }
+}
