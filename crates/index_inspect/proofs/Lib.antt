@@ -1,7 +1,6 @@
 mod Completing
 mod Covered
 mod Divided
-mod EntrySkips
 mod Fronts
 mod KeptLinks
 mod Laid

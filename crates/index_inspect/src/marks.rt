@@ -1,17 +1,12 @@
 //! What the offset table and the end marker of a file say.
 
-ghost use Rattle.std.specs.Prelude.{◌≡◌, ◌<◌, ℕ, List, IfNone, IfOk, IfSome, None, codes, length};
+ghost use Rattle.std.specs.Prelude.{◌≡◌, List, ℕ, IfOk, None, codes};
 ghost use Rattle.std.specs.Option.{option_map};
-ghost use Rattle.gix_index.specs.Entries.{AreEntries, LacksEntry};
 ghost use Rattle.gix_index.specs.ExtensionValue.{IsRead, IsValue, content_named, or_else};
 ghost use Rattle.gix_index.specs.OffsetTable.{IsTable};
-ghost use Rattle.gix_index.specs.Record.{Record};
 ghost use Rattle.gix_index.specs.Walk.{IsWalk, Item, unread};
 ghost use Rattle.index_inspect.specs.Marks.{AreMarks, HasMarkBytes, HasExtensions, IsEndMark};
 
-use gix_index::Version;
-use gix_index::decode::entry::entry_of;
-use gix_index::decode::header;
 use gix_index::extension::index_entry_offset_table::Offset;
 use gix_index::extension::{Iter, Signature, end_of_index_entry, index_entry_offset_table};
 use gix_index::hash::{Kind, ObjectId};
@@ -44,22 +39,6 @@ pub struct Marks {
 struct MarkBytes<'a> {
     table: Option<&'a [u8]>,
     end: Option<&'a [u8]>,
-}
-
-/// The bytes behind so many entries; None where one of them isn't there.
-fn skip_entries(version: Version, kind: Kind, count: u32, bytes: &[u8]) -> Option<&[u8]>
-    ensures found { IfSome result (λ rest. (records : List Record)
-        × AreEntries version kind None bytes.now records rest.now × (length records ≡ count)) }
-    ensures none { IfNone result ((i : ℕ) × (i < count) × LacksEntry version kind bytes.now i) }
-{
-    let mut room = None;
-    let mut rest = bytes;
-    for _number in 0..count {
-        let (lent, after) = entry_of(version, kind, room, rest)?;
-        room = Some(lent.shared + lent.path.len());
-        rest = after;
-    }
-    Some(rest)
 }
 
 /// A content, or what stands in for it.
@@ -101,24 +80,17 @@ fn mark_bytes_in(mut walk: Iter<'_>) -> MarkBytes<'_>
     MarkBytes { table, end }
 }
 
-/// The contents of the first offset table and of the last end marker of a file.
-fn mark_bytes_of(kind: Kind, bytes: &[u8]) -> MarkBytes<'_>
-    ensures { (items : List Item) × HasExtensions kind bytes.now items × HasMarkBytes items result }
+/// The contents of the first offset table and of the last end marker at the end of a file.
+fn mark_bytes_of(kind: Kind, ending: &[u8]) -> MarkBytes<'_>
+    ensures { (items : List Item) × HasExtensions kind ending.now items
+        × HasMarkBytes items result }
 {
-    let none = MarkBytes {
-        table: None,
-        end: None,
-    };
-    let (version, count, entries) = match header::decode(bytes, kind) {
-        Ok(found) => found,
-        Err(_) => return none,
-    };
-    let Some(after) = skip_entries(version, kind, count, entries) else {
-        return none;
-    };
-    match Iter::new_without_checksum(after, kind) {
+    match Iter::new_without_checksum(ending, kind) {
         Some(walk) => mark_bytes_in(walk),
-        None => none,
+        None => MarkBytes {
+            table: None,
+            end: None,
+        },
     }
 }
 
@@ -157,15 +129,15 @@ fn end_of(kind: Kind, content: Option<&[u8]>) -> Option<EndMark>
     }
 }
 
-/// What the offset table and the end marker of a file say (gitformat-index, "Index Entry Offset Table" and "End of
-/// Index Entry"): of several tables the first, which [`index_entry_offset_table::find`] finds, and of several markers
-/// the last. Neither is compared with the file. Nothing is told of bytes whose entries can't be read.
+/// What the offset table and the end marker of a file say, of which these bytes stand behind the entries
+/// (gitformat-index, "Index Entry Offset Table" and "End of Index Entry"): of several tables the first, which
+/// [`index_entry_offset_table::find`] finds, and of several markers the last. Neither is compared with the file.
 ///
 /// Memory is asked for the table's blocks alone; an error is the want of it.
-pub fn marks_of(alloc: Global, kind: Kind, bytes: &[u8]) -> Result<Marks, AllocError>
-    ensures { IfOk result (λ marks. AreMarks kind bytes.now marks) }
+pub fn marks_of(alloc: Global, kind: Kind, ending: &[u8]) -> Result<Marks, AllocError>
+    ensures { IfOk result (λ marks. AreMarks kind ending.now marks) }
 {
-    let contents = mark_bytes_of(kind, bytes);
+    let contents = mark_bytes_of(kind, ending);
     Ok(Marks {
         table: table_of(alloc, contents.table)?,
         end: end_of(kind, contents.end),
