@@ -1,5 +1,6 @@
 -- The parts of a whole file, or those up to its first fault by place, and the rest (gitformat-index, as a whole).
-use Rattle.std.specs.Prelude.{◌≡◌, ◌≢◌, ℕ, ◌+◌, ◌<◌, nat_lt, Bool, true, false, List, [], ◌++◌, length, take, drop, codes, Option, Some, None, Ok, Err}
+use Rattle.std.specs.Prelude.{◌≡◌, ◌≢◌, ℕ, ◌+◌, ◌<◌, nat_lt, Bool, true, false, List, [], ◌++◌, length, take, drop}
+use Rattle.std.specs.Prelude.{codes, Option, Some, None, Ok, Err}
 use Rattle.std.specs.Option.{option_map}
 use Rattle.gix_index.specs.Answer.{Fault, Header, NoEntry, Extension, TrailerLength, Verify, OutOfMemory}
 use Rattle.gix_index.specs.Intact.{IsBroken, IsIntact, digest_id, trailer_id}
@@ -29,33 +30,63 @@ unread_piece bytes = one_piece whats.Unread bytes
 
 -- no entry of the version stands there behind these
 abbrev pub NoEntryBehind : Version → Kind → List Spelling → List ℕ → Type 0
-NoEntryBehind version kind spellings bytes = (r : Record) (rest : List ℕ) → IsEntry version kind (last_path None (entries_spelled spellings)) bytes r rest → ⊥
+NoEntryBehind version kind spellings bytes = (r : Record) (rest : List ℕ)
+    → IsEntry version kind (last_path None (entries_spelled spellings)) bytes r rest → ⊥
 
 -- whether the header declares more entries than a file of this length holds, with the place that an end marker names
 abbrev pub IsCrowded : Kind → Version → List ℕ → Bool → Type 0
-IsCrowded kind version bytes crowded = (place : Option ℕ) × IsMarker kind bytes place × (nat_lt (most_entries (length bytes) place kind version) (count_of bytes) ≡ crowded)
+IsCrowded kind version bytes crowded = (place : Option ℕ) × IsMarker kind bytes place
+    × (nat_lt (most_entries (length bytes) place kind version) (count_of bytes) ≡ crowded)
 
--- What stands behind whole extensions: one at fault, bytes that are left over and too many, or a trailer, which isn't the digest, or
--- is, or says that there is none. A head that a size past the end follows is left over where nothing stands behind it.
-pub data IsFileEnd (kind : Kind) (bytes tail trailer : List ℕ) (pieces : List Piece) (fault : Option Fault) : Type 0 where
-  faulty : (i : Item) (rest : List ℕ) (f : ExtensionFault) → IsItem tail i rest → IsFault kind i f → pieces ≡ unread_piece (tail ++ trailer) → fault ≡ Some (Extension f) → IsFileEnd kind bytes tail trailer pieces fault
-  left : NoItem tail → left_of tail ≢ 0 → pieces ≡ unread_piece (tail ++ trailer) → fault ≡ Some (TrailerLength (id_len kind) (left_of tail + id_len kind)) → IsFileEnd kind bytes tail trailer pieces fault
-  broken : NoItem tail → left_of tail ≡ 0 → IsBroken false kind bytes → pieces ≡ some_piece whats.LeftOver tail ++ unread_piece trailer → fault ≡ Some (Verify (digest_id kind bytes) (trailer_id kind bytes)) → IsFileEnd kind bytes tail trailer pieces fault
-  whole : NoItem tail → left_of tail ≡ 0 → IsIntact false kind bytes → pieces ≡ some_piece whats.LeftOver tail ++ one_piece whats.Trailer trailer → fault ≡ None → IsFileEnd kind bytes tail trailer pieces fault
+-- What stands behind whole extensions: one at fault, bytes that are left over and too many, or a trailer, which isn't
+-- the digest, or is, or says that there is none.
+-- A head that a size past the end follows is left over where nothing stands behind it.
+pub data IsFileEnd (kind : Kind) (bytes tail trailer : List ℕ) (pieces : List Piece)
+    (fault : Option Fault) : Type 0 where
+  faulty : (i : Item) (rest : List ℕ) (f : ExtensionFault) → IsItem tail i rest → IsFault kind i f
+      → pieces ≡ unread_piece (tail ++ trailer) → fault ≡ Some (Extension f)
+      → IsFileEnd kind bytes tail trailer pieces fault
+  left : NoItem tail → left_of tail ≢ 0 → pieces ≡ unread_piece (tail ++ trailer)
+      → fault ≡ Some (TrailerLength (id_len kind) (left_of tail + id_len kind))
+      → IsFileEnd kind bytes tail trailer pieces fault
+  broken : NoItem tail → left_of tail ≡ 0 → IsBroken false kind bytes
+      → pieces ≡ some_piece whats.LeftOver tail ++ unread_piece trailer
+      → fault ≡ Some (Verify (digest_id kind bytes) (trailer_id kind bytes))
+      → IsFileEnd kind bytes tail trailer pieces fault
+  whole : NoItem tail → left_of tail ≡ 0 → IsIntact false kind bytes
+      → pieces ≡ some_piece whats.LeftOver tail ++ one_piece whats.Trailer trailer → fault ≡ None
+      → IsFileEnd kind bytes tail trailer pieces fault
 
--- What stands behind entries: none where one is declared; or behind all, declared though the file has too few bytes before the
--- place that its end marker names; or fewer bytes than a trailer has; or extensions without a fault, and their end.
-pub data IsBehindEntries (kind : Kind) (version : Version) (bytes : List ℕ) (spellings : List Spelling) (after : List ℕ) (pieces : List Piece) (fault : Option Fault) : Type 0 where
-  lacks : length spellings < count_of bytes → NoEntryBehind version kind spellings after → pieces ≡ unread_piece after → fault ≡ Some (NoEntry (length spellings)) → IsBehindEntries kind version bytes spellings after pieces fault
-  crowded : length spellings ≡ count_of bytes → IsCrowded kind version bytes true → pieces ≡ unread_piece after → fault ≡ Some (Header (Corrupt (codes "Declared entry count exceeds possible entries for file size"))) → IsBehindEntries kind version bytes spellings after pieces fault
-  short : length spellings ≡ count_of bytes → IsCrowded kind version bytes false → length after < id_len kind → pieces ≡ unread_piece after → fault ≡ Some (TrailerLength (id_len kind) (length after)) → IsBehindEntries kind version bytes spellings after pieces fault
-  walked : length spellings ≡ count_of bytes → IsCrowded kind version bytes false → (items : List Item) (tail trailer extensions : List ℕ) (last : List Piece) → after ≡ extensions ++ trailer → length trailer ≡ id_len kind → AreItems extensions items tail → AreSound kind items → pieces ≡ item_pieces items ++ last → IsFileEnd kind bytes tail trailer last fault → IsBehindEntries kind version bytes spellings after pieces fault
+-- What stands behind entries: none where one is declared; or behind all, declared though the file has too few bytes
+-- before the place that its end marker names; or fewer bytes than a trailer has; or extensions without a fault, and
+-- their end.
+pub data IsBehindEntries (kind : Kind) (version : Version) (bytes : List ℕ) (spellings : List Spelling) (after : List ℕ)
+    (pieces : List Piece) (fault : Option Fault) : Type 0 where
+  lacks : length spellings < count_of bytes → NoEntryBehind version kind spellings after → pieces ≡ unread_piece after
+      → fault ≡ Some (NoEntry (length spellings)) → IsBehindEntries kind version bytes spellings after pieces fault
+  crowded : length spellings ≡ count_of bytes → IsCrowded kind version bytes true → pieces ≡ unread_piece after
+      → fault ≡ Some (Header (Corrupt (codes "Declared entry count exceeds possible entries for file size")))
+      → IsBehindEntries kind version bytes spellings after pieces fault
+  short : length spellings ≡ count_of bytes → IsCrowded kind version bytes false → length after < id_len kind
+      → pieces ≡ unread_piece after → fault ≡ Some (TrailerLength (id_len kind) (length after))
+      → IsBehindEntries kind version bytes spellings after pieces fault
+  walked : length spellings ≡ count_of bytes → IsCrowded kind version bytes false
+      → (items : List Item) (tail trailer extensions : List ℕ) (last : List Piece) → after ≡ extensions ++ trailer
+      → length trailer ≡ id_len kind → AreItems extensions items tail → AreSound kind items
+      → pieces ≡ item_pieces items ++ last → IsFileEnd kind bytes tail trailer last fault
+      → IsBehindEntries kind version bytes spellings after pieces fault
 
--- The pieces of a file, the records of its entries as far as they are read, and the first fault by place, or none. A fault of the
--- header is at its front.
-pub data IsDivided (kind : Kind) (bytes : List ℕ) (rs : List Record) (pieces : List Piece) (fault : Option Fault) : Type 0 where
-  headless : (f : HeaderFault) → header_of kind bytes ≡ Err f → rs ≡ [] → pieces ≡ unread_piece bytes → fault ≡ Some (Header f) → IsDivided kind bytes rs pieces fault
-  headed : (version : Version) (spellings : List Spelling) (after : List ℕ) (behind : List Piece) → header_of kind bytes ≡ Ok version → AreSpelled version kind None (drop header_len bytes) spellings after → rs ≡ entries_spelled spellings → pieces ≡ one_piece whats.Header (take header_len bytes) ++ (entry_pieces 0 spellings ++ behind) → IsBehindEntries kind version bytes spellings after behind fault → IsDivided kind bytes rs pieces fault
+-- The pieces of a file, the records of its entries as far as they are read, and the first fault by place, or none.
+-- A fault of the header is at its front.
+pub data IsDivided (kind : Kind) (bytes : List ℕ) (rs : List Record) (pieces : List Piece)
+    (fault : Option Fault) : Type 0 where
+  headless : (f : HeaderFault) → header_of kind bytes ≡ Err f → rs ≡ [] → pieces ≡ unread_piece bytes
+      → fault ≡ Some (Header f) → IsDivided kind bytes rs pieces fault
+  headed : (version : Version) (spellings : List Spelling) (after : List ℕ) (behind : List Piece)
+      → header_of kind bytes ≡ Ok version → AreSpelled version kind None (drop header_len bytes) spellings after
+      → rs ≡ entries_spelled spellings
+      → pieces ≡ one_piece whats.Header (take header_len bytes) ++ (entry_pieces 0 spellings ++ behind)
+      → IsBehindEntries kind version bytes spellings after behind fault → IsDivided kind bytes rs pieces fault
 
 -- the fault that an error stands for, if any: want of memory stands for none
 abbrev pub fault_of : Error → Option Fault
@@ -74,7 +105,8 @@ TellsFault None fault = fault ≡ None
 TellsFault (Some e) fault = (f : Fault) × (fault_of e ≡ Some f) × (fault ≡ Some f)
 
 -- parts, the records of entries, and an error or none are those of the bytes of a file
-pub record Divides (kind : Kind) (bytes : List ℕ) (rs : List Record) (parts : List Part) (error : Option Error) : Type 0 where
+pub record Divides (kind : Kind) (bytes : List ℕ) (rs : List Record) (parts : List Part)
+    (error : Option Error) : Type 0 where
   pub pieces : List Piece
   pub fault : Option Fault
   pub is_divided : IsDivided kind bytes rs pieces fault

@@ -40,7 +40,8 @@ pub record WalksOn (kind : Kind) (bytes after : List ℕ) (place : ℕ) (old : L
   pub grows : Grows place old e (item_pieces items ++ last) fault
 
 -- what stands behind entries came behind parts
-pub record GoesOn (kind : Kind) (version : Version) (bytes : List ℕ) (spellings : List Spelling) (after : List ℕ) (place : ℕ) (old : List Part) (e : Ending) : Type 0 where
+pub record GoesOn (kind : Kind) (version : Version) (bytes : List ℕ) (spellings : List Spelling) (after : List ℕ)
+    (place : ℕ) (old : List Part) (e : Ending) : Type 0 where
   pub pieces : List Piece
   pub fault : Option Fault
   pub is : IsBehindEntries kind version bytes spellings after pieces fault

@@ -7,7 +7,8 @@ use Rattle.hex.specs.Hex.{encode_lower}
 abbrev pub is_plain : ℕ → Bool
 is_plain b = nat_le 32 b && nat_le b 126
 
--- A plain character stands for itself, a backslash is doubled, and any other byte has two digits of base 16 behind `\x`.
+-- A plain character stands for itself, a backslash is doubled, and any other byte has two digits of base
+-- 16 behind `\x`.
 abbrev pub escaped_byte : ℕ → List ℕ
 escaped_byte b = if b == 92 then codes "\\\\" else if is_plain b then b ∷ [] else codes "\\x" ++ encode_lower (b ∷ [])
 

@@ -1,4 +1,5 @@
--- What the reading of entries with their places has found (gitformat-index, "Index entry"). Public clauses cite none of these.
+-- What the reading of entries with their places has found (gitformat-index, "Index entry").
+-- Public clauses cite none of these.
 use Rattle.std.specs.Prelude.{◌≡◌, ℕ, ◌+◌, ◌<◌, ◌⊎◌, min, List, ◌++◌, length, take, drop, None, if◌then◌else◌}
 use Rattle.gix_index.specs.Flags.{is_extended}
 use Rattle.gix_index.specs.Header.{header_len}
@@ -24,7 +25,8 @@ own_len V3 kind flags path total = min (head_len kind flags + path) total
 own_len V4 kind flags path total = total
 
 -- so many entries at most were read behind the header, with the parts up to their end
-pub record IsFront (version : Version) (kind : Kind) (count : ℕ) (bytes : List ℕ) (rs : List Record) (parts : List Part) (rest : List ℕ) : Type 0 where
+pub record IsFront (version : Version) (kind : Kind) (count : ℕ) (bytes : List ℕ) (rs : List Record) (parts : List Part)
+    (rest : List ℕ) : Type 0 where
   pub spellings : List Spelling
   pub are_spelled : AreSpelled version kind None (drop header_len bytes) spellings rest
   pub records : rs ≡ entries_spelled spellings

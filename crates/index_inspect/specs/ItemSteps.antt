@@ -1,4 +1,5 @@
--- What the walk over extensions with their places has found (gitformat-index, "Extensions"). Public clauses cite none of these.
+-- What the walk over extensions with their places has found (gitformat-index, "Extensions").
+-- Public clauses cite none of these.
 use Rattle.std.specs.Prelude.{◌≡◌, ℕ, ◌+◌, List, ◌++◌, length, Some, MatchOption}
 use Rattle.gix_index.specs.DecodeErrors.{extension_fault}
 use Rattle.gix_index.specs.ExtensionError.{Extension}
@@ -20,11 +21,13 @@ TellsLink kind content e = (f : LinkFault) × ((extension_fault e ≡ Some (Link
 
 -- the extension has no fault, however its size is spelled
 abbrev pub IsSoundItem : Kind → List ℕ → List ℕ → Type 0
-IsSoundItem kind signature content = (size : List ℕ) (fault : ExtensionFault) → IsFault kind (record { signature = signature; size = size; content = content }) fault → ⊥
+IsSoundItem kind signature content = (size : List ℕ) (fault : ExtensionFault)
+    → IsFault kind (record { signature = signature; size = size; content = content }) fault → ⊥
 
 -- the extension has the fault that an error stands for
 abbrev pub TellsItem : Kind → List ℕ → List ℕ → Extension → Type 0
-TellsItem kind signature content e = (size : List ℕ) → (fault : ExtensionFault) × ((extension_fault e ≡ Some fault) × IsFault kind (record { signature = signature; size = size; content = content }) fault)
+TellsItem kind signature content e = (size : List ℕ) → (fault : ExtensionFault) × ((extension_fault e ≡ Some fault)
+    × IsFault kind (record { signature = signature; size = size; content = content }) fault)
 
 -- the bytes begin with an extension at fault, for which an error stands
 pub record IsAtFault (kind : Kind) (tail : List ℕ) (e : Extension) : Type 0 where

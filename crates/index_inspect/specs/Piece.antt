@@ -18,7 +18,8 @@ bytes_of pieces = flat_map (λ p. p.bytes) pieces
 -- The parts that pieces are, the first from a place on: each begins where the one before ends.
 abbrev pub laid : ℕ → List Piece → List Part
 laid place [] = []
-laid place (p ∷ pieces) = record { offset = place; len = length p.bytes; what = p.what } ∷ laid (place + length p.bytes) pieces
+laid place (p ∷ pieces) = record { offset = place; len = length p.bytes; what = p.what }
+    ∷ laid (place + length p.bytes) pieces
 
 -- parts lie side by side, from a place to an end
 abbrev pub LieBetween : ℕ → List Part → ℕ → Type 0
@@ -27,7 +28,8 @@ LieBetween place (p ∷ parts) end = (p.offset ≡ place) × LieBetween (place +
 
 -- the pieces of an extension, its head and its content, and those of several
 abbrev pub pieces_of_item : Item → List Piece
-pieces_of_item i = record { what = whats.ExtensionHead i.signature; bytes = i.signature ++ i.size } ∷ record { what = whats.ExtensionContent i.signature; bytes = i.content } ∷ []
+pieces_of_item i = record { what = whats.ExtensionHead i.signature; bytes = i.signature ++ i.size }
+    ∷ record { what = whats.ExtensionContent i.signature; bytes = i.content } ∷ []
 
 abbrev pub item_pieces : List Item → List Piece
 item_pieces items = flat_map pieces_of_item items

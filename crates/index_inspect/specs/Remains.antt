@@ -1,6 +1,7 @@
 -- What remains of a file that may be damaged: the front of its entries, its first fault, and the link to a shared index
 -- where that stands whole (gitformat-index, "Split index").
-use Rattle.std.specs.Prelude.{◌≡◌, ℕ, ◌-◌, nat_eq, ◌||◌, Bool, true, false, List, [], ◌∷◌, length, codes, drop, take, slice_get, Option, Some, None, IfSome, IsOk, Err, if◌then◌else◌}
+use Rattle.std.specs.Prelude.{◌≡◌, ℕ, ◌-◌, nat_eq, ◌||◌, Bool, true, false, List, [], ◌∷◌, length, codes, drop, take}
+use Rattle.std.specs.Prelude.{slice_get, Option, Some, None, IfSome, IsOk, Err, if◌then◌else◌}
 use Rattle.std.specs.Cmp.Lexicographic.{pointwise}
 use Rattle.std.specs.List.{list_any}
 use Rattle.std.specs.Option.{option_map}

@@ -1,6 +1,7 @@
 -- What is saved of a file that may be damaged: the front of its entries, with those of its shared index where the two
 -- can be merged, put in order (gitformat-index, "Split index", "Index entries are sorted in ascending order").
-use Rattle.std.specs.Prelude.{◌≡◌, ◌≢◌, ◌↔◌, Bool, true, false, List, [], ◌∷◌, Contains, length, filter, Option, Some, None}
+use Rattle.std.specs.Prelude.{◌≡◌, ◌≢◌, ◌↔◌, Bool, true, false, List, [], ◌∷◌, Contains, length, filter}
+use Rattle.std.specs.Prelude.{Option, Some, None}
 use Rattle.std.specs.Option.{option_map}
 use Rattle.std.specs.Ordering.{is_eq}
 use Rattle.gix_index.specs.Contents.{Contents}

@@ -1,5 +1,6 @@
 -- What the steps of saving entries have made (the library's own). Public clauses cite none of these.
-use Rattle.std.specs.Prelude.{◌≡◌, ◌≢◌, ◌≤◌, ◌+◌, ℕ, List, [], ◌∷◌, ◌++◌, All, Bool, Option, length, take, slice_index_or, if◌then◌else◌}
+use Rattle.std.specs.Prelude.{◌≡◌, ◌≢◌, ◌≤◌, ◌+◌, ℕ, List, [], ◌∷◌, ◌++◌, All, Bool, Option, length}
+use Rattle.std.specs.Prelude.{take, slice_index_or, if◌then◌else◌}
 use Rattle.gix_index.specs.Contents.{Contents}
 use Rattle.gix_index.specs.Edits.{empty_contents, with_records}
 use Rattle.gix_index.specs.FileTime.{FileTime}

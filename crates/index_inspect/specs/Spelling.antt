@@ -16,14 +16,18 @@ pub record Spelling : Type 0 where
 
 -- An entry of a version at the front of bytes is spelled so. In version 4 it has no padding, and the NUL is its own.
 abbrev pub IsSpelled : Version → Kind → Option (List ℕ) → List ℕ → Spelling → List ℕ → Type 0
-IsSpelled V2 kind previous bytes s rest = (e : IsEntry23 kind bytes s.entry rest) × (s.own ≡ head_bytes e.head ++ s.entry.path) × (s.padding ≡ e.padding)
-IsSpelled V3 kind previous bytes s rest = (e : IsEntry23 kind bytes s.entry rest) × (s.own ≡ head_bytes e.head ++ s.entry.path) × (s.padding ≡ e.padding)
-IsSpelled V4 kind previous bytes s rest = IsEntry4 kind previous bytes s.entry rest × (bytes ≡ s.own ++ rest) × (s.padding ≡ [])
+IsSpelled V2 kind previous bytes s rest = (e : IsEntry23 kind bytes s.entry rest)
+    × (s.own ≡ head_bytes e.head ++ s.entry.path) × (s.padding ≡ e.padding)
+IsSpelled V3 kind previous bytes s rest = (e : IsEntry23 kind bytes s.entry rest)
+    × (s.own ≡ head_bytes e.head ++ s.entry.path) × (s.padding ≡ e.padding)
+IsSpelled V4 kind previous bytes s rest = IsEntry4 kind previous bytes s.entry rest × (bytes ≡ s.own ++ rest)
+    × (s.padding ≡ [])
 
 -- entries that are spelled so, one after another, and the rest; previous is the path before them, if one is
 abbrev pub AreSpelled : Version → Kind → Option (List ℕ) → List ℕ → List Spelling → List ℕ → Type 0
 AreSpelled version kind previous bytes [] rest = bytes ≡ rest
-AreSpelled version kind previous bytes (s ∷ spellings) rest = (after : List ℕ) × IsSpelled version kind previous bytes s after × AreSpelled version kind (Some s.entry.path) after spellings rest
+AreSpelled version kind previous bytes (s ∷ spellings) rest = (after : List ℕ)
+    × IsSpelled version kind previous bytes s after × AreSpelled version kind (Some s.entry.path) after spellings rest
 
 abbrev pub entries_spelled : List Spelling → List Record
 entries_spelled spellings = map (λ s. s.entry) spellings
@@ -31,4 +35,5 @@ entries_spelled spellings = map (λ s. s.entry) spellings
 -- the pieces of entries, which are counted from a number on
 abbrev pub entry_pieces : ℕ → List Spelling → List Piece
 entry_pieces number [] = []
-entry_pieces number (s ∷ spellings) = record { what = whats.Entry number; bytes = s.own } ∷ (some_piece whats.Padding s.padding ++ entry_pieces (number + 1) spellings)
+entry_pieces number (s ∷ spellings) = record { what = whats.Entry number; bytes = s.own }
+    ∷ (some_piece whats.Padding s.padding ++ entry_pieces (number + 1) spellings)
