@@ -10,7 +10,8 @@ use Rattle.index_inspect.specs.Piece.{Piece, bytes_of, laid}
 use Rattle.index_inspect.specs.declared.division.Ending.{Ending}
 use Rattle.index_inspect.specs.declared.part.Part.{Part}
 
-pub if_ok_both : {A E : Type 0} (r : Result A E) (P Q R : A → Type 0) → IfOk r P → IfOk r Q → ((x : A) → P x → Q x → R x) → IfOk r R
+pub if_ok_both : {A E : Type 0} (r : Result A E) (P Q R : A → Type 0) → IfOk r P → IfOk r Q
+    → ((x : A) → P x → Q x → R x) → IfOk r R
 if_ok_both (Ok x) P Q R p q f = f x p q
 if_ok_both (Err e) P Q R p q f = tt
 
@@ -18,10 +19,15 @@ pub if_ok_then : {A E : Type 0} (r : Result A E) (P R : A → Type 0) → IfOk r
 if_ok_then (Ok x) P R p f = f x p
 if_ok_then (Err e) P R p f = tt
 
-pub tells : (error : Option Error) (e : Error) (f : Fault) → error ≡ Some e → fault_of e ≡ Some f → TellsFault error (Some f)
+pub tells : (error : Option Error) (e : Error) (f : Fault) → error ≡ Some e → fault_of e ≡ Some f
+    → TellsFault error (Some f)
 tells error e f is stands = subst (λ (x : Option Error). TellsFault x (Some f)) (sym is) (f, stands, refl)
 
 -- an ending that was refused behind pieces
-pub refused_grows : (n place : ℕ) (ps qs : List Piece) (front old : List Part) (x : Ending) (e : Error) (f : Fault) → old ≡ front ++ laid n ps → place ≡ n + length (bytes_of ps)
-    → x.parts.items ≡ old ++ laid place qs → x.fault ≡ Some e → fault_of e ≡ Some f → Grows n front x (ps ++ qs) (Some f)
-refused_grows n place ps qs front old x e f o p parts is stands = record { are = grown_more n place ps qs front old x.parts.items o p parts; told = tells x.fault e f is stands }
+pub refused_grows : (n place : ℕ) (ps qs : List Piece) (front old : List Part) (x : Ending) (e : Error) (f : Fault)
+    → old ≡ front ++ laid n ps → place ≡ n + length (bytes_of ps) → x.parts.items ≡ old ++ laid place qs
+    → x.fault ≡ Some e → fault_of e ≡ Some f → Grows n front x (ps ++ qs) (Some f)
+refused_grows n place ps qs front old x e f o p parts is stands = record {
+  are = grown_more n place ps qs front old x.parts.items o p parts;
+  told = tells x.fault e f is stands;
+}

@@ -9,15 +9,22 @@ use Rattle.gix_index.specs.Walk.{Item}
 use Rattle.index_inspect.proofs.Divided.{if_ok_then}
 use Rattle.index_inspect.specs.ItemSteps.{IsSoundItem, IsSoundLink, TellsItem, TellsLink}
 
-sound_by : (kind : Kind) (i : Item) (fault : ExtensionFault) → is_understood i.signature i.content ≡ true → IsSoundLink kind i.content → IsFault kind i fault → ⊥
+sound_by : (kind : Kind) (i : Item) (fault : ExtensionFault) → is_understood i.signature i.content ≡ true
+    → IsSoundLink kind i.content → IsFault kind i fault → ⊥
 sound_by kind i fault u s (unknown n f) = absurd cc
 sound_by kind i fault u s (broken_link f named h e) = s f h
 
-link_item : (kind : Kind) (signature content : List ℕ) (o : Option Extension) → is_understood signature content ≡ true → pointwise nat_eq signature (codes "link") ≡ true
-    → MatchOption o (IsSoundLink kind content) (TellsLink kind content) → MatchOption o (IsSoundItem kind signature content) (TellsItem kind signature content)
-link_item kind signature content None u named h = λ size fault f. sound_by kind (record { signature = signature; size = size; content = content }) fault u h f
+link_item : (kind : Kind) (signature content : List ℕ) (o : Option Extension) → is_understood signature content ≡ true
+    → pointwise nat_eq signature (codes "link") ≡ true
+    → MatchOption o (IsSoundLink kind content) (TellsLink kind content)
+    → MatchOption o (IsSoundItem kind signature content) (TellsItem kind signature content)
+link_item kind signature content None u named h =
+    λ size fault f. sound_by kind (record { signature = signature; size = size; content = content }) fault u h f
 link_item kind signature content (Some e) u named h = λ size. (Link h.0, (h.1.0, broken_link h.0 named h.1.1 refl))
 
-pub link_item_of : {E : Type 0} (kind : Kind) (signature content : List ℕ) (r : Result (Option Extension) E) → is_understood signature content ≡ true → pointwise nat_eq signature (codes "link") ≡ true
-    → IfOk r (λ o. MatchOption o (IsSoundLink kind content) (TellsLink kind content)) → IfOk r (λ o. MatchOption o (IsSoundItem kind signature content) (TellsItem kind signature content))
-link_item_of kind signature content r u named h = if_ok_then r _ _ h (λ o p. link_item kind signature content o u named p)
+pub link_item_of : {E : Type 0} (kind : Kind) (signature content : List ℕ) (r : Result (Option Extension) E)
+    → is_understood signature content ≡ true → pointwise nat_eq signature (codes "link") ≡ true
+    → IfOk r (λ o. MatchOption o (IsSoundLink kind content) (TellsLink kind content))
+    → IfOk r (λ o. MatchOption o (IsSoundItem kind signature content) (TellsItem kind signature content))
+link_item_of kind signature content r u named h =
+    if_ok_then r _ _ h (λ o p. link_item kind signature content o u named p)

@@ -1,5 +1,6 @@
 -- Indexes of records: a new one, one record more, a sort.
-use Rattle.std.proofs.Common.{◌≡◌, ℕ, ◌+◌, ◌≤◌, ◌<◌, Bool, true, false, List, [], ◌∷◌, ◌++◌, length, All, get_or, Result, Ok, Err, take, sym, ap, subst, ◌∙◌, arith}
+use Rattle.std.proofs.Common.{◌≡◌, ℕ, ◌+◌, ◌≤◌, ◌<◌, Bool, true, false, List, [], ◌∷◌, ◌++◌, length, All, get_or}
+use Rattle.std.proofs.Common.{Result, Ok, Err, take, sym, ap, subst, ◌∙◌, arith}
 use Rattle.std.specs.Prelude.{◌≢◌, IfOk, OnOk}
 use Rattle.std.proofs.lemmas.List.{take_more}
 use Rattle.gix_index.specs.Contents.{Contents}
@@ -27,16 +28,19 @@ pub if_ok : {A E : Type 0} (r : Result A E) {P Q : A → Type 0} → ((x : A) �
 if_ok (Ok x) f p = f x p
 if_ok (Err e) f p = p
 
-pub on_ok_both : {A E : Type 0} (r : Result A E) {P Q S T : Type 0} → (P → Q → S → T) → OnOk r P → OnOk r Q → OnOk r S → OnOk r T
+pub on_ok_both : {A E : Type 0} (r : Result A E) {P Q S T : Type 0} → (P → Q → S → T) → OnOk r P → OnOk r Q
+    → OnOk r S → OnOk r T
 on_ok_both (Ok x) f p q s = f p q s
 on_ok_both (Err e) f p q s = p
 
 -- ---- indexes
 
-index_new : (kind : Kind) (time : FileTime) (s : State) → contents s ≡ empty_contents kind time → PathsInStorage s → IsStorable (contents s) → IsIndexOf kind [] s
+index_new : (kind : Kind) (time : FileTime) (s : State) → contents s ≡ empty_contents kind time → PathsInStorage s
+    → IsStorable (contents s) → IsIndexOf kind [] s
 index_new kind time s e placed storable = record { time = time; is = e; placed = placed; storable = storable }
 
-pub record_is : (r : Record) (e : Entry) (path : List ℕ) → IsRecordOf e r → r.path ≡ path → r ≡ record { path = path; stat = e.stat; id = e.id; flags = e.flags.0; mode = e.mode.0 }
+pub record_is : (r : Record) (e : Entry) (path : List ℕ) → IsRecordOf e r → r.path ≡ path
+    → r ≡ record { path = path; stat = e.stat; id = e.id; flags = e.flags.0; mode = e.mode.0 }
 record_is r e path h is =
     ap (λ (p : List ℕ). record { path = p; stat = r.stat; id = r.id; flags = r.flags; mode = r.mode }) is
     ∙ ap (λ (x : _). record { path = path; stat = x; id = r.id; flags = r.flags; mode = r.mode }) h.stat
@@ -44,19 +48,25 @@ record_is r e path h is =
     ∙ ap (λ (x : ℕ). record { path = path; stat = e.stat; id = e.id; flags = x; mode = r.mode }) h.flags
     ∙ ap (λ (x : ℕ). record { path = path; stat = e.stat; id = e.id; flags = e.flags.0; mode = x }) h.mode
 
-pub index_push : (kind : Kind) (rs : List Record) (old new : State) (r q : Record) → r ≡ q → IsIndexOf kind rs old → IsHeld kind r
-    → (PathsInStorage old → contents new ≡ with_record (contents old) q) → (PathsInStorage old → PathsInStorage new)
-    → (PathsInStorage old → IsStorable (contents old) → id_kind q.id ≡ (contents old).kind → (4095 ≤ length q.path → All (λ b. b ≢ 0) q.path) → IsStorable (contents new)) → IsIndexOf kind (rs ++ r ∷ []) new
+pub index_push : (kind : Kind) (rs : List Record) (old new : State) (r q : Record) → r ≡ q → IsIndexOf kind rs old
+    → IsHeld kind r → (PathsInStorage old → contents new ≡ with_record (contents old) q)
+    → (PathsInStorage old → PathsInStorage new)
+    → (PathsInStorage old → IsStorable (contents old) → id_kind q.id ≡ (contents old).kind
+    → (4095 ≤ length q.path → All (λ b. b ≢ 0) q.path) → IsStorable (contents new))
+    → IsIndexOf kind (rs ++ r ∷ []) new
 index_push kind rs old new r q e h held pushed placed storable =
     let own : IsHeld kind q = subst (IsHeld kind) e held in
     record {
       time = h.time;
-      is = pushed h.placed ∙ ap (λ (c : Contents). with_record c q) h.is ∙ ap (λ (x : Record). with_records (empty_contents kind h.time) (rs ++ x ∷ [])) (sym e);
+      is = pushed h.placed ∙ ap (λ (c : Contents). with_record c q) h.is
+          ∙ ap (λ (x : Record). with_records (empty_contents kind h.time) (rs ++ x ∷ [])) (sym e);
       placed = placed h.placed;
       storable = storable h.placed h.storable (own.id ∙ sym (ap (λ (c : Contents). c.kind) h.is)) own.path;
     }
 
-pub index_sorted : (kind : Kind) (rs : List Record) (old new : State) → IsIndexOf kind rs old → contents new ≡ with_records (contents old) (records new) → PathsInStorage new → (IsStorable (contents old) → IsStorable (contents new)) → IsIndexOf kind (records new) new
+pub index_sorted : (kind : Kind) (rs : List Record) (old new : State) → IsIndexOf kind rs old
+    → contents new ≡ with_records (contents old) (records new) → PathsInStorage new
+    → (IsStorable (contents old) → IsStorable (contents new)) → IsIndexOf kind (records new) new
 index_sorted kind rs old new h e placed storable = record {
   time = h.time;
   is = e ∙ ap (λ (c : Contents). with_records c (records new)) h.is;
@@ -71,9 +81,13 @@ pub index_own : (kind : Kind) (rs : List Record) (s : State) → IsIndexOf kind 
 index_own kind rs s h = subst (λ (l : List Record). IsIndexOf kind l s) (sym (records_are kind rs s h)) h
 
 pub index_held : (kind : Kind) (rs : List Record) (s : State) → IsIndexOf kind rs s → All (IsHeld kind) (records s)
-index_held kind rs s h k d lt = record { id = h.storable.ids k d lt ∙ ap (λ (c : Contents). c.kind) h.is; path = h.storable.paths k d lt }
+index_held kind rs s h k d lt = record {
+  id = h.storable.ids k d lt ∙ ap (λ (c : Contents). c.kind) h.is;
+  path = h.storable.paths k d lt;
+}
 
-pub alone : (kind : Kind) (rs : List Record) (s : State) → IsIndexOf kind rs s → contents s ≡ with_records (empty_contents kind (contents s).time) (records s)
+pub alone : (kind : Kind) (rs : List Record) (s : State) → IsIndexOf kind rs s
+    → contents s ≡ with_records (empty_contents kind (contents s).time) (records s)
 alone kind rs s h =
     h.is ∙ ap (λ (t : FileTime). with_records (empty_contents kind t) rs) (sym (ap (λ (c : Contents). c.time) h.is))
     ∙ ap (λ (l : List Record). with_records (empty_contents kind (contents s).time) l) (sym (records_are kind rs s h))
@@ -84,27 +98,36 @@ first_at : (rs : List Record) (i : ℕ) → i < length rs → Record
 first_at [] i lt = absurd (omega arith)
 first_at (r ∷ rs) i lt = r
 
-pub first_added : (kind : Kind) (rs : List Record) (i : ℕ) (old new : State) (b : Bool) → i < length rs → b ≡ true → TakesNext rs i b → All (IsHeld kind) rs → IsIndexOf kind (records old) old → IsSavedOf (take i rs) (records old)
-    → ((d : Record) → IsIndexOf kind (records old) old → IsHeld kind (get_or rs i d) → IsIndexOf kind (records old ++ get_or rs i d ∷ []) new) → IsIndexOf kind (records new) new × IsSavedOf (take (i + 1) rs) (records new)
+pub first_added : (kind : Kind) (rs : List Record) (i : ℕ) (old new : State) (b : Bool) → i < length rs → b ≡ true
+    → TakesNext rs i b → All (IsHeld kind) rs → IsIndexOf kind (records old) old → IsSavedOf (take i rs) (records old)
+    → ((d : Record) → IsIndexOf kind (records old) old → IsHeld kind (get_or rs i d)
+    → IsIndexOf kind (records old ++ get_or rs i d ∷ []) new)
+    → IsIndexOf kind (records new) new × IsSavedOf (take (i + 1) rs) (records new)
 first_added kind rs i old new b lt is next held h saved pushed =
     let d = first_at rs i lt in
     let index = pushed d h (held i d lt) in
-    let more : IsSavedOf (take (i + 1) rs) (records old ++ get_or rs i d ∷ []) = subst (λ (t : Bool). TakesNext rs i t) is next (records old) d saved in
+    let more : IsSavedOf (take (i + 1) rs) (records old ++ get_or rs i d ∷ []) =
+    subst (λ (t : Bool). TakesNext rs i t) is next (records old) d saved in
     (index_own kind _ new index, subst (IsSavedOf (take (i + 1) rs)) (sym (records_are kind _ new index)) more)
 
-pub first_left : (kind : Kind) (rs : List Record) (i : ℕ) (old : State) (b : Bool) → i < length rs → b ≡ false → TakesNext rs i b → IsIndexOf kind (records old) old → IsSavedOf (take i rs) (records old)
+pub first_left : (kind : Kind) (rs : List Record) (i : ℕ) (old : State) (b : Bool) → i < length rs → b ≡ false
+    → TakesNext rs i b → IsIndexOf kind (records old) old → IsSavedOf (take i rs) (records old)
     → IsIndexOf kind (records old) old × IsSavedOf (take (i + 1) rs) (records old)
-first_left kind rs i old b lt is next h saved = (h, subst (λ (t : Bool). TakesNext rs i t) is next (records old) (first_at rs i lt) saved)
+first_left kind rs i old b lt is next h saved =
+    (h, subst (λ (t : Bool). TakesNext rs i t) is next (records old) (first_at rs i lt) saved)
 
 -- a new index, of no record
-pub saved_new : (kind : Kind) (time : FileTime) (s : State) → contents s ≡ empty_contents kind time → PathsInStorage s → IsStorable (contents s) → IsIndexOf kind (records s) s × IsSavedOf [] (records s)
+pub saved_new : (kind : Kind) (time : FileTime) (s : State) → contents s ≡ empty_contents kind time → PathsInStorage s
+    → IsStorable (contents s) → IsIndexOf kind (records s) s × IsSavedOf [] (records s)
 saved_new kind time s e placed storable =
     let h = index_new kind time s e placed storable in
     (index_own kind [] s h, subst (IsSavedOf []) (sym (records_are kind [] s h)) saved_none)
 
 -- one more record at the end of those before a place
-pub copied_more : (kind : Kind) (rs : List Record) (i : ℕ) (old new : State) → i < length rs → All (IsHeld kind) rs → IsIndexOf kind (take i rs) old
-    → ((d : Record) → IsIndexOf kind (take i rs) old → IsHeld kind (get_or rs i d) → IsIndexOf kind (take i rs ++ get_or rs i d ∷ []) new) → IsIndexOf kind (take (i + 1) rs) new
+pub copied_more : (kind : Kind) (rs : List Record) (i : ℕ) (old new : State) → i < length rs → All (IsHeld kind) rs
+    → IsIndexOf kind (take i rs) old
+    → ((d : Record) → IsIndexOf kind (take i rs) old → IsHeld kind (get_or rs i d)
+    → IsIndexOf kind (take i rs ++ get_or rs i d ∷ []) new) → IsIndexOf kind (take (i + 1) rs) new
 copied_more kind rs i old new lt held h pushed =
     let d = first_at rs i lt in
     subst (λ (l : List Record). IsIndexOf kind l new) (sym (take_more rs i d lt)) (pushed d h (held i d lt))

@@ -1,5 +1,7 @@
 -- The firsts of a list of records, and what a sort and a walk over it make of them.
-use Rattle.std.proofs.Common.{◌≡◌, ◌≢◌, ◌⊎◌, inl, inr, ℕ, suc, ◌+◌, ◌-◌, ◌<◌, ◌≤◌, Bool, true, false, cond, not, ◌&&◌, List, [], ◌∷◌, ◌++◌, length, take, get_or, All, refl, sym, ap, subst, ◌∙◌, length-append, arith}
+use Rattle.std.proofs.Common.{◌≡◌, ◌≢◌, ◌⊎◌, inl, inr, ℕ, suc, ◌+◌, ◌-◌, ◌<◌, ◌≤◌, Bool, true, false, cond, not, ◌&&◌}
+use Rattle.std.proofs.Common.{List, [], ◌∷◌, ◌++◌, length, take, get_or, All, refl, sym, ap, subst}
+use Rattle.std.proofs.Common.{◌∙◌, length-append, arith}
 use Rattle.std.specs.Cmp.{IsTotalOrder}
 use Rattle.std.specs.Prelude.{◌==◌}
 use Rattle.std.specs.List.{Contains}
@@ -10,7 +12,9 @@ use Rattle.std.specs.declared.cmp.Ordering.TheVariants.{Less, Equal, Greater}
 use Rattle.std.proofs.lemmas.Bool.{cases_lt, eqb-true}
 use Rattle.std.proofs.lemmas.Cmp.{nat_cmp_total, nat_list_cmp_total, on_total, then_total, tied_itself}
 use Rattle.std.proofs.lemmas.List.{get_or-take, length-take, take_all, take_more}
-use Rattle.std.proofs.lemmas.List.Elements.{All-filter, All-from_get_or, All-head, All-nil, All-tail, Contains-append_left, Contains-get_or, Contains-push, Contains-push_cases, filter-append, filter_agree}
+use Rattle.std.proofs.lemmas.List.Elements.{All-filter, All-from_get_or, All-head, All-nil, All-tail}
+use Rattle.std.proofs.lemmas.List.Elements.{Contains-append_left, Contains-get_or, Contains-push, Contains-push_cases}
+use Rattle.std.proofs.lemmas.List.Elements.{filter-append, filter_agree}
 use Rattle.std.proofs.lemmas.List.Quantifiers.{all_pairs_push}
 use Rattle.std.proofs.lemmas.List.Sorted.{ranks_by, sorted_far}
 use Rattle.gix_index.specs.Order.{record_cmp, record_stage}
@@ -28,7 +32,8 @@ first_push : (rs : List Record) (x r : Record) → IsFirst rs r → IsFirst (rs 
 first_push rs x r h = record {
   named = h.named;
   others = h.others ++ with_key_of r (x ∷ []);
-  first = filter-append (λ q. is_eq (record_cmp r q)) rs (x ∷ []) ∙ ap (λ (l : List Record). l ++ with_key_of r (x ∷ [])) h.first;
+  first = filter-append (λ q. is_eq (record_cmp r q)) rs (x ∷ [])
+      ∙ ap (λ (l : List Record). l ++ with_key_of r (x ∷ [])) h.first;
 }
 
 own_first : (x : Record) → with_key_of x (x ∷ []) ≡ x ∷ []
@@ -38,7 +43,8 @@ first_own : (rs : List Record) (x : Record) → x.path ≢ [] → with_key_of x 
 first_own rs x named none = record {
   named = named;
   others = [];
-  first = filter-append (λ q. is_eq (record_cmp x q)) rs (x ∷ []) ∙ ap (λ (l : List Record). l ++ with_key_of x (x ∷ [])) none ∙ own_first x;
+  first = filter-append (λ q. is_eq (record_cmp x q)) rs (x ∷ [])
+      ∙ ap (λ (l : List Record). l ++ with_key_of x (x ∷ [])) none ∙ own_first x;
 }
 
 only_by : (b : Bool) (x r : Record) (others : List Record) → cond b (x ∷ []) [] ≡ r ∷ others → x ≡ r
@@ -46,13 +52,18 @@ only_by true x r others e = cc
 only_by false x r others e = absurd cc
 
 -- a first of more records is one of those before, or the new one
-first_back : (rs : List Record) (x r : Record) → IsFirst (rs ++ x ∷ []) r → IsFirst rs r ⊎ ((x ≡ r) × (with_key_of r rs ≡ []))
-first_back rs x r h = by (with_key_of r rs) refl (sym (filter-append (λ q. is_eq (record_cmp r q)) rs (x ∷ [])) ∙ h.first)
+first_back : (rs : List Record) (x r : Record) → IsFirst (rs ++ x ∷ []) r
+    → IsFirst rs r ⊎ ((x ≡ r) × (with_key_of r rs ≡ []))
+first_back rs x r h =
+    by (with_key_of r rs) refl (sym (filter-append (λ q. is_eq (record_cmp r q)) rs (x ∷ [])) ∙ h.first)
   where
-    by : (l : List Record) → with_key_of r rs ≡ l → with_key_of r rs ++ with_key_of r (x ∷ []) ≡ r ∷ h.others → IsFirst rs r ⊎ ((x ≡ r) × (with_key_of r rs ≡ []))
-    by [] e f = inr (only_by (is_eq (record_cmp r x)) x r h.others (ap (λ (l : List Record). l ++ with_key_of r (x ∷ [])) (sym e) ∙ f), e)
+    by : (l : List Record) → with_key_of r rs ≡ l → with_key_of r rs ++ with_key_of r (x ∷ []) ≡ r ∷ h.others
+        → IsFirst rs r ⊎ ((x ≡ r) × (with_key_of r rs ≡ []))
+    by [] e f = inr (only_by (is_eq (record_cmp r x)) x r h.others
+        (ap (λ (l : List Record). l ++ with_key_of r (x ∷ [])) (sym e) ∙ f), e)
     by (q ∷ l) e f =
-        let g : q ∷ (l ++ with_key_of r (x ∷ [])) ≡ r ∷ h.others = ap (λ (l : List Record). l ++ with_key_of r (x ∷ [])) (sym e) ∙ f in
+        let g : q ∷ (l ++ with_key_of r (x ∷ [])) ≡ r ∷ h.others =
+        ap (λ (l : List Record). l ++ with_key_of r (x ∷ [])) (sym e) ∙ f in
         let same : q ≡ r = cc in
         inl (record { named = h.named; others = l; first = e ∙ ap (λ (p : Record). p ∷ l) same })
 
@@ -61,16 +72,23 @@ none_alike [] x h = refl
 none_alike (q ∷ rs) x h =
     let less : record_cmp q x ≡ Less = All-head (λ q. record_cmp q x ≡ Less) q rs h in
     let above : record_cmp x q ≡ Greater = records_total.antisymm x q ∙ ap ordering_reverse less in
-    ap (λ (o : Ordering). cond (is_eq o) (q ∷ with_key_of x rs) (with_key_of x rs)) above ∙ none_alike rs x (All-tail (λ q. record_cmp q x ≡ Less) q rs h)
+    ap (λ (o : Ordering). cond (is_eq o) (q ∷ with_key_of x rs) (with_key_of x rs)) above
+    ∙ none_alike rs x (All-tail (λ q. record_cmp q x ≡ Less) q rs h)
 
 -- what holds of all records holds of a first
 first_holds : (P : Record → Type 0) (rs : List Record) (r : Record) → All P rs → IsFirst rs r → P r
-first_holds P rs r all h = All-head P r h.others (subst (All P) h.first (All-filter (λ q. is_eq (record_cmp r q)) P rs all))
+first_holds P rs r all h =
+    All-head P r h.others (subst (All P) h.first (All-filter (λ q. is_eq (record_cmp r q)) P rs all))
 
 -- a record above all others is kept
-pub saved_more : (rs kept : List Record) (x : Record) → All (λ q. record_cmp q x ≡ Less) rs → x.path ≢ [] → IsSavedOf rs kept → IsSavedOf (rs ++ x ∷ []) (kept ++ x ∷ [])
+pub saved_more : (rs kept : List Record) (x : Record) → All (λ q. record_cmp q x ≡ Less) rs → x.path ≢ []
+    → IsSavedOf rs kept → IsSavedOf (rs ++ x ∷ []) (kept ++ x ∷ [])
 saved_more rs kept x above named h = record {
-  ordered = record { less = all_pairs_push (λ r q. record_cmp r q ≡ Less) kept x h.ordered.less (λ k d lt. first_holds (λ q. record_cmp q x ≡ Less) rs (get_or kept k d) above ((h.are (get_or kept k d)).0 (Contains-get_or kept k d lt))) };
+  ordered = record {
+    less = all_pairs_push (λ r q. record_cmp r q ≡ Less) kept x h.ordered.less (λ k d lt.
+        first_holds (λ q. record_cmp q x ≡ Less) rs (get_or kept k d) above
+        ((h.are (get_or kept k d)).0 (Contains-get_or kept k d lt)));
+  };
   are = λ r. (λ c. there r (Contains-push_cases kept x r c), λ f. back r (first_back rs x r f));
 }
   where
@@ -83,30 +101,37 @@ saved_more rs kept x above named h = record {
     back r (inr e) = subst (Contains (kept ++ x ∷ [])) e.0 (Contains-push kept x)
 
 -- one that has no path, or isn't the first with its path and stage, isn't
-saved_same : (rs kept : List Record) (x : Record) → (with_key_of x rs ≡ [] → x.path ≡ []) → IsSavedOf rs kept → IsSavedOf (rs ++ x ∷ []) kept
+saved_same : (rs kept : List Record) (x : Record) → (with_key_of x rs ≡ [] → x.path ≡ []) → IsSavedOf rs kept
+    → IsSavedOf (rs ++ x ∷ []) kept
 saved_same rs kept x none h = record {
   ordered = h.ordered;
   are = λ r. (λ c. first_push rs x r ((h.are r).0 c), λ f. back r f (first_back rs x r f));
 }
   where
-    back : (r : Record) → IsFirst (rs ++ x ∷ []) r → IsFirst rs r ⊎ ((x ≡ r) × (with_key_of r rs ≡ [])) → Contains kept r
+    back : (r : Record) → IsFirst (rs ++ x ∷ []) r
+        → IsFirst rs r ⊎ ((x ≡ r) × (with_key_of r rs ≡ [])) → Contains kept r
     back r f (inl g) = (h.are r).1 g
-    back r f (inr e) = absurd (f.named (subst (λ (q : Record). q.path ≡ []) e.0 (none (subst (λ (q : Record). with_key_of q rs ≡ []) (sym e.0) e.1))))
+    back r f (inr e) = absurd (f.named
+        (subst (λ (q : Record). q.path ≡ []) e.0 (none (subst (λ (q : Record). with_key_of q rs ≡ []) (sym e.0) e.1))))
 
 -- ---- a list in order
 
-below_by : (o : Ordering) (p q x : Record) → record_cmp p q ≡ o → is_lt o ≡ false → record_cmp p x ≡ Less → record_cmp q x ≡ Less
+below_by : (o : Ordering) (p q x : Record) → record_cmp p q ≡ o → is_lt o ≡ false → record_cmp p x ≡ Less
+    → record_cmp q x ≡ Less
 below_by Less p q x e n less = absurd cc
 below_by Equal p q x e n less = sym (records_total.congr p q x e) ∙ less
 below_by Greater p q x e n less = records_total.trans q p x (records_total.antisymm q p ∙ ap ordering_reverse e) less
 
 -- all records before a place are below the one there, where the last of them is
-all_below : (rs : List Record) (i : ℕ) (x d : Record) → IsOrdered rs → 0 < i → i ≤ length rs → record_cmp (get_or rs (i - 1) d) x ≡ Less → All (λ q. record_cmp q x ≡ Less) (take i rs)
+all_below : (rs : List Record) (i : ℕ) (x d : Record) → IsOrdered rs → 0 < i → i ≤ length rs
+    → record_cmp (get_or rs (i - 1) d) x ≡ Less → All (λ q. record_cmp q x ≡ Less) (take i rs)
 all_below rs i x d up pos le less = All-from_get_or (λ q. record_cmp q x ≡ Less) (take i rs) d (λ k lt.
     let within : k < i = omega (arith, length-take i rs) in
     let same : get_or (take i rs) k d ≡ get_or rs k d = get_or-take i rs k d within in
-    let far = sorted_far (λ (r q : Record). is_lt (record_cmp r q)) (ranks_by records_total (λ (r : Record). r)) rs up k (i - 1) d (omega arith) (omega arith) in
-    subst (λ (q : Record). record_cmp q x ≡ Less) (sym same) (below_by (record_cmp (get_or rs (i - 1) d) (get_or rs k d)) (get_or rs (i - 1) d) (get_or rs k d) x refl far less))
+    let far = sorted_far (λ (r q : Record). is_lt (record_cmp r q)) (ranks_by records_total (λ (r : Record). r))
+    rs up k (i - 1) d (omega arith) (omega arith) in
+    subst (λ (q : Record). record_cmp q x ≡ Less) (sym same)
+    (below_by (record_cmp (get_or rs (i - 1) d) (get_or rs k d)) (get_or rs (i - 1) d) (get_or rs k d) x refl far less))
 
 alike_by : (o : Ordering) → is_lt o ≡ false → is_lt (ordering_reverse o) ≡ false → is_eq (ordering_reverse o) ≡ true
 alike_by Less n m = absurd cc
@@ -114,17 +139,24 @@ alike_by Equal n m = refl
 alike_by Greater n m = absurd cc
 
 ends_in : (l m : List Record) (r : Record) → l ≡ m ++ r ∷ [] → l ≡ [] → ⊥
-ends_in l m r e n = let len : 0 ≡ length m + 1 = ap length (sym n ∙ e) ∙ length-append m (r ∷ []) in absurd (omega arith)
+ends_in l m r e n =
+    let len : 0 ≡ length m + 1 = ap length (sym n ∙ e) ∙ length-append m (r ∷ []) in
+    absurd (omega arith)
 
 -- the one before a place agrees with the one there, where it isn't below it
-some_alike : (rs : List Record) (i : ℕ) (d : Record) → IsOrdered rs → 0 < i → i < length rs → is_lt (record_cmp (get_or rs (i - 1) d) (get_or rs i d)) ≡ false → with_key_of (get_or rs i d) (take i rs) ≡ [] → ⊥
+some_alike : (rs : List Record) (i : ℕ) (d : Record) → IsOrdered rs → 0 < i → i < length rs
+    → is_lt (record_cmp (get_or rs (i - 1) d) (get_or rs i d)) ≡ false
+    → with_key_of (get_or rs i d) (take i rs) ≡ [] → ⊥
 some_alike rs i d up pos lt not_less none =
     let p = get_or rs (i - 1) d in
     let x = get_or rs i d in
-    let far = sorted_far (λ (r q : Record). is_lt (record_cmp r q)) (ranks_by records_total (λ (r : Record). r)) rs up (i - 1) i d (omega arith) lt in
+    let far = sorted_far (λ (r q : Record). is_lt (record_cmp r q)) (ranks_by records_total (λ (r : Record). r))
+    rs up (i - 1) i d (omega arith) lt in
     let turned : record_cmp x p ≡ ordering_reverse (record_cmp p x) = records_total.antisymm x p in
-    let alike : is_eq (record_cmp x p) ≡ true = ap is_eq turned ∙ alike_by (record_cmp p x) not_less (sym (ap is_lt turned) ∙ far) in
-    let last : take i rs ≡ take (i - 1) rs ++ p ∷ [] = let e : i - 1 + 1 ≡ i = omega arith in rw e at (take_more rs (i - 1) d (omega arith)) in
+    let alike : is_eq (record_cmp x p) ≡ true = ap is_eq turned
+    ∙ alike_by (record_cmp p x) not_less (sym (ap is_lt turned) ∙ far) in
+    let last : take i rs ≡ take (i - 1) rs ++ p ∷ [] = let e : i - 1 + 1 ≡ i = omega arith in
+    rw e at (take_more rs (i - 1) d (omega arith)) in
     let kept : with_key_of x (take i rs) ≡ with_key_of x (take (i - 1) rs) ++ p ∷ [] =
     ap (with_key_of x) last ∙ filter-append (λ q. is_eq (record_cmp x q)) (take (i - 1) rs) (p ∷ [])
     ∙ ap (λ (b : Bool). with_key_of x (take (i - 1) rs) ++ cond b (p ∷ []) []) alike in
@@ -142,7 +174,8 @@ same_key : (rs ys : List Record) (r : Record) → IsStable record_cmp rs ys → 
 same_key rs ys r s =
     let agree = λ (q : Record). tie_by (record_cmp r q) (record_cmp q r) (records_total.antisymm q r) in
     let test = ties (λ (a b : Record). is_lt (record_cmp a b)) r in
-    sym (filter_agree test (λ q. is_eq (record_cmp r q)) agree ys) ∙ s r ∙ filter_agree test (λ q. is_eq (record_cmp r q)) agree rs
+    sym (filter_agree test (λ q. is_eq (record_cmp r q)) agree ys) ∙ s r
+    ∙ filter_agree test (λ q. is_eq (record_cmp r q)) agree rs
 
 first_of_sorted : (rs ys : List Record) (r : Record) → with_key_of r rs ≡ with_key_of r ys → IsFirst ys r → IsFirst rs r
 first_of_sorted rs ys r e h = record { named = h.named; others = h.others; first = e ∙ h.first }
@@ -150,7 +183,8 @@ first_of_sorted rs ys r e h = record { named = h.named; others = h.others; first
 pub saved_sorted : (rs ys kept : List Record) → IsStable record_cmp rs ys → IsSavedOf ys kept → IsSavedOf rs kept
 saved_sorted rs ys kept s h = record {
   ordered = h.ordered;
-  are = λ r. (λ c. first_of_sorted rs ys r (sym (same_key rs ys r s)) ((h.are r).0 c), λ f. (h.are r).1 (first_of_sorted ys rs r (same_key rs ys r s) f));
+  are = λ r. (λ c. first_of_sorted rs ys r (sym (same_key rs ys r s)) ((h.are r).0 c),
+      λ f. (h.are r).1 (first_of_sorted ys rs r (same_key rs ys r s) f));
 }
 
 -- ---- a walk over a list in order
@@ -170,25 +204,35 @@ no_path [] e = refl
 no_path (b ∷ path) e = let none : suc (length path) ≡ 0 = eqb-true (suc (length path)) 0 e in absurd (omega arith)
 
 -- a record that has a path, at the first place or above the one before it
-pub takes : (rs : List Record) (i : ℕ) (path : List ℕ) → IsOrdered rs → i < length rs → ((d : Record) → (get_or rs i d).path ≡ path) → (length path == 0) ≡ false
+pub takes : (rs : List Record) (i : ℕ) (path : List ℕ) → IsOrdered rs → i < length rs
+    → ((d : Record) → (get_or rs i d).path ≡ path) → (length path == 0) ≡ false
     → (0 < i → (d : Record) → record_cmp (get_or rs (i - 1) d) (get_or rs i d) ≡ Less) → TakesNext rs i true
 takes rs i path up lt is named rises kept d h =
     let x = get_or rs i d in
-    let more = saved_more (take i rs) kept x (below (cases_lt 0 i)) (λ none. long_path path named (sym (is d) ∙ none)) h in
+    let more =
+    saved_more (take i rs) kept x (below (cases_lt 0 i)) (λ none. long_path path named (sym (is d) ∙ none)) h in
     subst (λ (l : List Record). IsSavedOf l (kept ++ x ∷ [])) (sym (take_more rs i d lt)) more
   where
     below : (0 < i) ⊎ (i ≤ 0) → All (λ q. record_cmp q (get_or rs i d) ≡ Less) (take i rs)
-    below (inr none) = let e : i ≡ 0 = omega arith in subst (λ (n : ℕ). All (λ q. record_cmp q (get_or rs i d) ≡ Less) (take n rs)) (sym e) (All-nil (λ q. record_cmp q (get_or rs i d) ≡ Less))
+    below (inr none) =
+        let e : i ≡ 0 = omega arith in
+        subst (λ (n : ℕ). All (λ q. record_cmp q (get_or rs i d) ≡ Less) (take n rs)) (sym e)
+        (All-nil (λ q. record_cmp q (get_or rs i d) ≡ Less))
     below (inl pos) = all_below rs i (get_or rs i d) d up pos (omega arith) (rises pos d)
 
 -- one that hasn't
-pub leaves_nameless : (rs : List Record) (i : ℕ) (path : List ℕ) → i < length rs → ((d : Record) → (get_or rs i d).path ≡ path) → (length path == 0) ≡ true → TakesNext rs i false
-leaves_nameless rs i path lt is none kept d h = subst (λ (l : List Record). IsSavedOf l kept) (sym (take_more rs i d lt)) (saved_same (take i rs) kept (get_or rs i d) (λ _. is d ∙ no_path path none) h)
+pub leaves_nameless : (rs : List Record) (i : ℕ) (path : List ℕ) → i < length rs
+    → ((d : Record) → (get_or rs i d).path ≡ path) → (length path == 0) ≡ true → TakesNext rs i false
+leaves_nameless rs i path lt is none kept d h =
+    subst (λ (l : List Record). IsSavedOf l kept) (sym (take_more rs i d lt))
+    (saved_same (take i rs) kept (get_or rs i d) (λ _. is d ∙ no_path path none) h)
 
 -- one that isn't above the one before it
-leaves_again : (rs : List Record) (i : ℕ) → IsOrdered rs → 0 < i → i < length rs → ((d : Record) → is_lt (record_cmp (get_or rs (i - 1) d) (get_or rs i d)) ≡ false) → TakesNext rs i false
+leaves_again : (rs : List Record) (i : ℕ) → IsOrdered rs → 0 < i → i < length rs
+    → ((d : Record) → is_lt (record_cmp (get_or rs (i - 1) d) (get_or rs i d)) ≡ false) → TakesNext rs i false
 leaves_again rs i up pos lt again kept d h =
-    subst (λ (l : List Record). IsSavedOf l kept) (sym (take_more rs i d lt)) (saved_same (take i rs) kept (get_or rs i d) (λ none. absurd (some_alike rs i d up pos lt (again d) none)) h)
+    subst (λ (l : List Record). IsSavedOf l kept) (sym (take_more rs i d lt))
+    (saved_same (take i rs) kept (get_or rs i d) (λ none. absurd (some_alike rs i d up pos lt (again d) none)) h)
 
 less_of : (o : Ordering) → is_lt o ≡ true → o ≡ Less
 less_of Less e = refl
@@ -196,9 +240,11 @@ less_of Equal e = absurd cc
 less_of Greater e = absurd cc
 
 -- by where the one before it stands
-pub takes_by : (b : Bool) (rs : List Record) (i : ℕ) (path : List ℕ) (o : Ordering) → IsOrdered rs → i < length rs → ((d : Record) → (get_or rs i d).path ≡ path) → (length path == 0) ≡ false → 0 < i
+pub takes_by : (b : Bool) (rs : List Record) (i : ℕ) (path : List ℕ) (o : Ordering) → IsOrdered rs → i < length rs
+    → ((d : Record) → (get_or rs i d).path ≡ path) → (length path == 0) ≡ false → 0 < i
     → ((d : Record) → record_cmp (get_or rs (i - 1) d) (get_or rs i d) ≡ o) → b ≡ is_lt o → TakesNext rs i b
-takes_by true rs i path o up lt is named pos stands e = takes rs i path up lt is named (λ _ d. stands d ∙ less_of o (sym e))
+takes_by true rs i path o up lt is named pos stands e =
+    takes rs i path up lt is named (λ _ d. stands d ∙ less_of o (sym e))
 takes_by false rs i path o up lt is named pos stands e = leaves_again rs i up pos lt (λ d. ap is_lt (stands d) ∙ sym e)
 
 pub saved_all : (rs kept : List Record) (n : ℕ) → length rs ≤ n → IsSavedOf (take n rs) kept → IsSavedOf rs kept

@@ -1,5 +1,7 @@
 -- Entries that are spelled one after another: one more, and which bytes and parts they are.
-use Rattle.std.proofs.Common.{◌≡◌, ◌≤◌, ℕ, ◌+◌, List, [], ◌∷◌, ◌++◌, length, take, drop, Option, Some, None, option_map, unwrap_or, refl, sym, ap, subst, ◌∙◌, append_assoc, append-nil, length-append, length-drop, length-take, arith}
+use Rattle.std.proofs.Common.{◌≡◌, ◌≤◌, ℕ, ◌+◌, List, [], ◌∷◌, ◌++◌, length, take, drop, Option, Some, None, option_map}
+use Rattle.std.proofs.Common.{unwrap_or, refl, sym, ap, subst, ◌∙◌, append_assoc, append-nil, length-append}
+use Rattle.std.proofs.Common.{length-drop, length-take, arith}
 use Rattle.gix_index.specs.Entries.{last_path}
 use Rattle.gix_index.specs.Kind.{Kind}
 use Rattle.gix_index.specs.Record.{Record}
@@ -11,45 +13,62 @@ use Rattle.index_inspect.specs.Spelling.{Spelling, AreSpelled, IsSpelled, entrie
 use Rattle.index_inspect.specs.declared.part.Part.{Part}
 use Rattle.index_inspect.specs.declared.part.What.TheVariants as whats
 
-pub spelled_push : (version : Version) (kind : Kind) (previous : Option (List ℕ)) (bytes : List ℕ) (ss : List Spelling) (s : Spelling) (middle rest : List ℕ)
-    → AreSpelled version kind previous bytes ss middle → IsSpelled version kind (last_path previous (entries_spelled ss)) middle s rest → AreSpelled version kind previous bytes (ss ++ s ∷ []) rest
-spelled_push version kind previous bytes [] s middle rest h e = (rest, subst (λ (b : List ℕ). IsSpelled version kind previous b s rest) (sym h) e, refl)
-spelled_push version kind previous bytes (x ∷ ss) s middle rest h e = (h.0, h.1, spelled_push version kind (Some x.entry.path) h.0 ss s middle rest h.2 e)
+pub spelled_push : (version : Version) (kind : Kind) (previous : Option (List ℕ)) (bytes : List ℕ) (ss : List Spelling)
+    (s : Spelling) (middle rest : List ℕ) → AreSpelled version kind previous bytes ss middle
+    → IsSpelled version kind (last_path previous (entries_spelled ss)) middle s rest
+    → AreSpelled version kind previous bytes (ss ++ s ∷ []) rest
+spelled_push version kind previous bytes [] s middle rest h e =
+    (rest, subst (λ (b : List ℕ). IsSpelled version kind previous b s rest) (sym h) e, refl)
+spelled_push version kind previous bytes (x ∷ ss) s middle rest h e =
+    (h.0, h.1, spelled_push version kind (Some x.entry.path) h.0 ss s middle rest h.2 e)
 
-pub entries_push : (ss : List Spelling) (s : Spelling) → entries_spelled (ss ++ s ∷ []) ≡ entries_spelled ss ++ s.entry ∷ []
+pub entries_push : (ss : List Spelling) (s : Spelling)
+    → entries_spelled (ss ++ s ∷ []) ≡ entries_spelled ss ++ s.entry ∷ []
 entries_push [] s = refl
 entries_push (x ∷ ss) s = ap (λ (l : List Record). x.entry ∷ l) (entries_push ss s)
 
-pub pieces_push : (n m : ℕ) (ss : List Spelling) (s : Spelling) → m ≡ n + length ss → entry_pieces n (ss ++ s ∷ []) ≡ entry_pieces n ss ++ (record { what = whats.Entry m; bytes = s.own } ∷ some_piece whats.Padding s.padding)
+pub pieces_push : (n m : ℕ) (ss : List Spelling) (s : Spelling) → m ≡ n + length ss
+    → entry_pieces n (ss ++ s ∷ [])
+    ≡ entry_pieces n ss ++ (record { what = whats.Entry m; bytes = s.own } ∷ some_piece whats.Padding s.padding)
 pieces_push n m [] s e =
-    ap (λ (k : ℕ). record { what = whats.Entry k; bytes = s.own } ∷ (some_piece whats.Padding s.padding ++ [])) (let k : n ≡ m = omega arith in k)
-    ∙ ap (λ (l : List Piece). record { what = whats.Entry m; bytes = s.own } ∷ l) (append-nil (some_piece whats.Padding s.padding))
+    ap (λ (k : ℕ). record { what = whats.Entry k; bytes = s.own } ∷ (some_piece whats.Padding s.padding ++ []))
+    (let k : n ≡ m = omega arith in k)
+    ∙ ap (λ (l : List Piece). record { what = whats.Entry m; bytes = s.own } ∷ l)
+    (append-nil (some_piece whats.Padding s.padding))
 pieces_push n m (x ∷ ss) s e =
     let last : List Piece = record { what = whats.Entry m; bytes = s.own } ∷ some_piece whats.Padding s.padding in
     ap (λ (l : List Piece). record { what = whats.Entry n; bytes = x.own } ∷ l)
-    (ap (λ (l : List Piece). some_piece whats.Padding x.padding ++ l) (pieces_push (n + 1) m ss s (omega arith)) ∙ sym (append_assoc (some_piece whats.Padding x.padding) (entry_pieces (n + 1) ss) last))
+    (ap (λ (l : List Piece). some_piece whats.Padding x.padding ++ l) (pieces_push (n + 1) m ss s (omega arith))
+    ∙ sym (append_assoc (some_piece whats.Padding x.padding) (entry_pieces (n + 1) ss) last))
 
-pub bytes_spelled : (version : Version) (kind : Kind) (previous : Option (List ℕ)) (n : ℕ) (bytes : List ℕ) (ss : List Spelling) (rest : List ℕ)
-    → AreSpelled version kind previous bytes ss rest → bytes ≡ bytes_of (entry_pieces n ss) ++ rest
+pub bytes_spelled : (version : Version) (kind : Kind) (previous : Option (List ℕ)) (n : ℕ) (bytes : List ℕ)
+    (ss : List Spelling) (rest : List ℕ) → AreSpelled version kind previous bytes ss rest
+    → bytes ≡ bytes_of (entry_pieces n ss) ++ rest
 bytes_spelled version kind previous n bytes [] rest h = h
 bytes_spelled version kind previous n bytes (s ∷ ss) rest h =
     let more = entry_pieces (n + 1) ss in
     let inner : s.padding ++ h.0 ≡ bytes_of (some_piece whats.Padding s.padding ++ more) ++ rest =
     ap (λ (t : List ℕ). s.padding ++ t) (bytes_spelled version kind (Some s.entry.path) (n + 1) h.0 ss rest h.2)
     ∙ sym (append_assoc s.padding (bytes_of more) rest)
-    ∙ ap (λ (t : List ℕ). t ++ rest) (ap (λ (t : List ℕ). t ++ bytes_of more) (sym (bytes_some whats.Padding s.padding)) ∙ sym (bytes_append (some_piece whats.Padding s.padding) more)) in
-    spelled_parts version kind previous bytes s h.0 h.1 ∙ ap (λ (t : List ℕ). s.own ++ t) inner ∙ sym (append_assoc s.own (bytes_of (some_piece whats.Padding s.padding ++ more)) rest)
+    ∙ ap (λ (t : List ℕ). t ++ rest) (ap (λ (t : List ℕ). t ++ bytes_of more) (sym (bytes_some whats.Padding s.padding))
+    ∙ sym (bytes_append (some_piece whats.Padding s.padding) more)) in
+    spelled_parts version kind previous bytes s h.0 h.1 ∙ ap (λ (t : List ℕ). s.own ++ t) inner
+    ∙ sym (append_assoc s.own (bytes_of (some_piece whats.Padding s.padding ++ more)) rest)
 
 -- an entry's parts come behind the header's and those of others
-pub front_grown : (place m : ℕ) (head : List Piece) (ss : List Spelling) (s : Spelling) (old new : List Part) → m ≡ length ss → old ≡ laid 0 (head ++ entry_pieces 0 ss) → place ≡ length (bytes_of (head ++ entry_pieces 0 ss))
-    → new ≡ old ++ laid place (one_piece (whats.Entry m) s.own ++ some_piece whats.Padding s.padding) → new ≡ laid 0 (head ++ entry_pieces 0 (ss ++ s ∷ []))
+pub front_grown : (place m : ℕ) (head : List Piece) (ss : List Spelling) (s : Spelling) (old new : List Part)
+    → m ≡ length ss → old ≡ laid 0 (head ++ entry_pieces 0 ss) → place ≡ length (bytes_of (head ++ entry_pieces 0 ss))
+    → new ≡ old ++ laid place (one_piece (whats.Entry m) s.own ++ some_piece whats.Padding s.padding)
+    → new ≡ laid 0 (head ++ entry_pieces 0 (ss ++ s ∷ []))
 front_grown place m head ss s old new e o p h =
     let last : List Piece = record { what = whats.Entry m; bytes = s.own } ∷ some_piece whats.Padding s.padding in
     laid_more 0 place (head ++ entry_pieces 0 ss) last old new o (omega (arith, p)) h
-    ∙ ap (laid 0) (append_assoc head (entry_pieces 0 ss) last ∙ ap (λ (l : List Piece). head ++ l) (sym (pieces_push 0 m ss s (omega arith))))
+    ∙ ap (laid 0) (append_assoc head (entry_pieces 0 ss) last
+    ∙ ap (λ (l : List Piece). head ++ l) (sym (pieces_push 0 m ss s (omega arith))))
 
 -- how many bytes stand behind the header and so many entries
-pub front_len : (version : Version) (kind : Kind) (bytes : List ℕ) (ss : List Spelling) (rest : List ℕ) → 12 ≤ length bytes → AreSpelled version kind None (drop 12 bytes) ss rest
+pub front_len : (version : Version) (kind : Kind) (bytes : List ℕ) (ss : List Spelling) (rest : List ℕ)
+    → 12 ≤ length bytes → AreSpelled version kind None (drop 12 bytes) ss rest
     → length (bytes_of (one_piece whats.Header (take 12 bytes) ++ entry_pieces 0 ss)) + length rest ≡ length bytes
 front_len version kind bytes ss rest le are =
     let middle = bytes_of (entry_pieces 0 ss) in
@@ -66,6 +85,11 @@ front_len version kind bytes ss rest le are =
     )
 
 -- a path of which so many bytes are lent
-pub path_len : (o : Option (List ℕ)) (room : Option ℕ) (shared : ℕ) (path : List ℕ) → room ≡ option_map length o → shared ≤ unwrap_or room 0 → length (take shared (unwrap_or o []) ++ path) ≡ shared + length path
-path_len None room shared path e le = let none : shared ≤ 0 = rw e at le in omega (arith, none, length-append (take shared []) path, length-take shared (let l : List ℕ = [] in l))
-path_len (Some p) room shared path e le = let some : shared ≤ length p = rw e at le in omega (arith, some, length-append (take shared p) path, length-take shared p)
+pub path_len : (o : Option (List ℕ)) (room : Option ℕ) (shared : ℕ) (path : List ℕ) → room ≡ option_map length o
+    → shared ≤ unwrap_or room 0 → length (take shared (unwrap_or o []) ++ path) ≡ shared + length path
+path_len None room shared path e le =
+    let none : shared ≤ 0 = rw e at le in
+    omega (arith, none, length-append (take shared []) path, length-take shared (let l : List ℕ = [] in l))
+path_len (Some p) room shared path e le =
+    let some : shared ≤ length p = rw e at le in
+    omega (arith, some, length-append (take shared p) path, length-take shared p)

@@ -1,5 +1,6 @@
 -- The link that remains of bytes that are read as an index is that of the index.
-use Rattle.std.proofs.Common.{◌≡◌, ℕ, false, List, ◌++◌, length, drop, take, Option, Some, None, Ok, Err, refl, sym, ap, subst, ◌∙◌}
+use Rattle.std.proofs.Common.{◌≡◌, ℕ, false, List, ◌++◌, length, drop, take, Option, Some, None, Ok, Err, refl, sym}
+use Rattle.std.proofs.Common.{ap, subst, ◌∙◌}
 use Rattle.std.specs.Prelude.{codes}
 use Rattle.gix_index.proofs.OnceAnswers.{answer_one}
 use Rattle.gix_index.specs.Answer.{Answer, Fault, IsAnswer, TrailerLength}
@@ -18,13 +19,15 @@ use Rattle.gix_index.specs.Outcome.{AreSound}
 use Rattle.gix_index.specs.Record.{Record}
 use Rattle.gix_index.specs.Version.{Version}
 use Rattle.gix_index.specs.Walk.{Item, AreItems}
-use Rattle.index_inspect.specs.Division.{IsBehindEntries, IsCrowded, IsDivided, IsFileEnd, lacks, crowded, short, walked, faulty, left, broken, whole, headless, headed}
+use Rattle.index_inspect.specs.Division.{IsBehindEntries, IsCrowded, IsDivided, IsFileEnd, lacks, crowded, short}
+use Rattle.index_inspect.specs.Division.{walked, faulty, left, broken, whole, headless, headed}
 use Rattle.index_inspect.specs.Piece.{Piece, one_piece}
 use Rattle.index_inspect.specs.Spelling.{Spelling, AreSpelled, entries_spelled, entry_pieces}
 use Rattle.index_inspect.specs.declared.part.What.TheVariants as whats
 use Rattle.index_inspect.proofs.KeptLinks.{link_piece, walked_link}
 use Rattle.index_inspect.proofs.Readable.{IsAnswered, whole_answer}
-use Rattle.index_inspect.proofs.Unreadable.{crowded_refused, ending_refused, faulty_refused, headless_refused, lacks_refused, left_refused}
+use Rattle.index_inspect.proofs.Unreadable.{crowded_refused, ending_refused, faulty_refused, headless_refused}
+use Rattle.index_inspect.proofs.Unreadable.{lacks_refused, left_refused}
 
 -- the link in an answer, or none
 abbrev link_of_answer : Answer → Option LinkValue

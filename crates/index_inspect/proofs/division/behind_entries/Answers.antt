@@ -9,9 +9,11 @@ use Rattle.index_inspect.specs.Piece.{item_pieces}
 use Rattle.index_inspect.proofs.division.behind_entries.Goals as goal
 
 pub returns-then-read-declared : goal.returns-then-read-declared
-returns-then-read-declared c = if_ok_both c.refused.result _ _ _ c.refused.ensures.parts c.refused.ensures.fault (λ x p q ss l n.
+returns-then-read-declared c =
+    if_ok_both c.refused.result _ _ _ c.refused.ensures.parts c.refused.ensures.fault (λ x p q ss l n.
     let lt : c.args.found.read < c.args.found.declared = search rules in
-    let stands : Some (NoEntry c.args.found.read) ≡ Some (NoEntry (length ss)) = ap (λ (k : ℕ). Some (NoEntry k)) (sym l) in
+    let stands : Some (NoEntry c.args.found.read) ≡ Some (NoEntry (length ss)) =
+    ap (λ (k : ℕ). Some (NoEntry k)) (sym l) in
     record {
       pieces = unread_piece c.args.after.now;
       fault = Some (NoEntry (length ss));
@@ -20,7 +22,8 @@ returns-then-read-declared c = if_ok_both c.refused.result _ _ _ c.refused.ensur
     })
 
 pub returns-then-is_crowded : goal.returns-then-is_crowded
-returns-then-is_crowded c = if_ok_both c.refused-then-is_crowded.result _ _ _ c.refused-then-is_crowded.ensures.parts c.refused-then-is_crowded.ensures.fault (λ x p q ss l n.
+returns-then-is_crowded c = if_ok_both c.refused-then-is_crowded.result _ _ _ c.refused-then-is_crowded.ensures.parts
+    c.refused-then-is_crowded.ensures.fault (λ x p q ss l n.
     let all : length ss ≡ count_of c.args.bytes.now = omega (arith, l, c.requires.declared, c.requires.read) in
     record {
       pieces = unread_piece c.args.after.now;
@@ -30,10 +33,12 @@ returns-then-is_crowded c = if_ok_both c.refused-then-is_crowded.result _ _ _ c.
     })
 
 pub returns-then-actual-expected : goal.returns-then-actual-expected
-returns-then-actual-expected c = if_ok_both c.refused-then-actual-expected.result _ _ _ c.refused-then-actual-expected.ensures.parts c.refused-then-actual-expected.ensures.fault (λ x p q ss l n.
+returns-then-actual-expected c = if_ok_both c.refused-then-actual-expected.result _ _ _
+    c.refused-then-actual-expected.ensures.parts c.refused-then-actual-expected.ensures.fault (λ x p q ss l n.
     let all : length ss ≡ count_of c.args.bytes.now = omega (arith, l, c.requires.declared, c.requires.read) in
     let few : length c.args.after.now < id_len c.args.kind = omega (arith, c.len_in_bytes-expected.ensures) in
-    let stands : Some (TrailerLength c.len_in_bytes-expected.result (length c.args.after.now)) ≡ Some (TrailerLength (id_len c.args.kind) (length c.args.after.now)) = rw c.len_in_bytes-expected.ensures refl in
+    let stands : Some (TrailerLength c.len_in_bytes-expected.result (length c.args.after.now))
+    ≡ Some (TrailerLength (id_len c.args.kind) (length c.args.after.now)) = rw c.len_in_bytes-expected.ensures refl in
     record {
       pieces = unread_piece c.args.after.now;
       fault = Some (TrailerLength (id_len c.args.kind) (length c.args.after.now));
@@ -47,6 +52,7 @@ returns c = if_ok_then c.walk_ending.result _ _ c.walk_ending.ensures (λ x h ss
     record {
       pieces = item_pieces h.items ++ h.last;
       fault = h.fault;
-      is = walked all c.if-is_crowded.ensures h.items h.tail h.trailer h.extensions h.last h.parted h.trailer_len h.items_are h.sound refl h.is_end;
+      is = walked all c.if-is_crowded.ensures h.items h.tail h.trailer h.extensions h.last h.parted h.trailer_len
+          h.items_are h.sound refl h.is_end;
       grows = h.grows;
     })

@@ -5,11 +5,16 @@ use Rattle.index_inspect.proofs.Fronts.{front_divides, front_rest, header_long}
 use Rattle.index_inspect.proofs.division.divide.Goals as goal
 
 pub overflow_sub-offset : goal.overflow_sub-offset
-overflow_sub-offset c = front_rest _ c.args.kind _ c.args.bytes.now _ _ _ (header_long c.args.kind c.args.bytes.now _ c.in-Ok.ensures.0) c.in_ok-parts.ensures
+overflow_sub-offset c = front_rest _ c.args.kind _ c.args.bytes.now _ _ _
+    (header_long c.args.kind c.args.bytes.now _ c.in-Ok.ensures.0) c.in_ok-parts.ensures
 
 pub returns-clause-divided : goal.returns-clause-divided
-returns-clause-divided c = front_divides _ c.args.kind _ _ _ c.args.bytes.now _ _ _ c.in_ok-parts-2.field-0 c.in-Ok.ensures.0 c.in_ok-parts.ensures (c.len-read.ensures ∙ ap (λ (l : List Record). length l) c.as_slice.ensures) refl c.in_ok-parts-2.ensures
+returns-clause-divided c = front_divides _ c.args.kind _ _ _ c.args.bytes.now _ _ _ c.in_ok-parts-2.field-0
+    c.in-Ok.ensures.0 c.in_ok-parts.ensures (c.len-read.ensures ∙ ap (λ (l : List Record). length l) c.as_slice.ensures)
+    refl c.in_ok-parts-2.ensures
 
 pub returns-clause-covered : goal.returns-clause-covered
 returns-clause-covered c = covered_of c.args.kind c.args.bytes.now _ _ _
-    (front_divides _ c.args.kind _ _ _ c.args.bytes.now _ _ _ c.in_ok-parts-2.field-0 c.in-Ok.ensures.0 c.in_ok-parts.ensures (c.len-read.ensures ∙ ap (λ (l : List Record). length l) c.as_slice.ensures) refl c.in_ok-parts-2.ensures)
+    (front_divides _ c.args.kind _ _ _ c.args.bytes.now _ _ _ c.in_ok-parts-2.field-0 c.in-Ok.ensures.0
+    c.in_ok-parts.ensures (c.len-read.ensures ∙ ap (λ (l : List Record). length l) c.as_slice.ensures) refl
+    c.in_ok-parts-2.ensures)

@@ -13,6 +13,7 @@ returns c = λ kind e. record {
   pieces = unread_piece c.args.bytes.now;
   fault = Some (Header (header_fault c.args.fault));
   is_divided = headless (header_fault c.args.fault) e (ap (λ (h : Held). h.records) c.new-entries.ensures) refl refl;
-  are = c.in_ok-parts.ensures.parts ∙ ap (λ (l : List Part). l ++ laid 0 (unread_piece c.args.bytes.now)) c.new.ensures.items;
+  are = c.in_ok-parts.ensures.parts
+      ∙ ap (λ (l : List Part). l ++ laid 0 (unread_piece c.args.bytes.now)) c.new.ensures.items;
   told = tells _ _ _ c.in_ok-parts.ensures.fault refl;
 }

@@ -19,7 +19,8 @@ returns-in-Err c =
       pieces = over ++ unread_piece trailer;
       fault = Some fault;
       is_end = broken c.requires.ended c.requires.none_left c.in-Err.ensures.broken refl refl;
-      grows = refused_grows c.args.offset _ over (unread_piece trailer) c.args.parts.items _ x _ fault (c.in_ok-push_some.ensures tail refl) place p q (ap fault_of c.in-Err.ensures.err);
+      grows = refused_grows c.args.offset _ over (unread_piece trailer) c.args.parts.items _ x _ fault
+          (c.in_ok-push_some.ensures tail refl) place p q (ap fault_of c.in-Err.ensures.err);
     })
 
 pub returns : goal.returns
@@ -33,5 +34,9 @@ returns c =
       pieces = over ++ last;
       fault = None;
       is_end = whole c.requires.ended c.requires.none_left c.in_default.ensures.ok refl refl;
-      grows = record { are = grown_more c.args.offset _ over last c.args.parts.items _ _ (c.in_ok-push_some.ensures tail refl) place (c.in_ok-push_part.ensures trailer refl); told = refl };
+      grows = record {
+        are = grown_more c.args.offset _ over last c.args.parts.items _ _ (c.in_ok-push_some.ensures tail refl) place
+            (c.in_ok-push_part.ensures trailer refl);
+        told = refl;
+      };
     }

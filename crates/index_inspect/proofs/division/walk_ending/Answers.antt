@@ -19,9 +19,11 @@ returns-in-Some c =
     let w = c.in_ok-parts.ensures in
     let r : IsAtFault c.args.kind w.tail c.in-Some.fault = rw c.in-Some.is at w.ended in
     let parted = split_parts _ c.args.after.now _ _ c.split_at.ensures.front c.split_at.ensures.back in
-    let len : length c.split_at.result.1.now ≡ id_len c.args.kind = omega (arith, c.split_at.ensures.back_len, c.len_in_bytes-expected.ensures, c.requires.long) in
+    let len : length c.split_at.result.1.now ≡ id_len c.args.kind =
+    omega (arith, c.split_at.ensures.back_len, c.len_in_bytes-expected.ensures, c.requires.long) in
     if_ok_both c.refused.result _ _ _ c.refused.ensures.parts c.refused.ensures.fault (λ x p q.
-    walked_refused c.args.kind c.args.bytes.now c.args.after.now c.args.offset c.args.parts.items c.in_ok-parts.field-0 x c.split_at.result.0.now c.split_at.result.1.now _ _ (Extension r.fault) w parted len c.split_at-2.ensures.back p q
+    walked_refused c.args.kind c.args.bytes.now c.args.after.now c.args.offset c.args.parts.items c.in_ok-parts.field-0
+    x c.split_at.result.0.now c.split_at.result.1.now _ _ (Extension r.fault) w parted len c.split_at-2.ensures.back p q
     (ap (option_map Extension) r.told) (faulty r.item r.rest r.fault r.is_item r.is_fault refl refl))
 
 pub returns-then-left-ne0 : goal.returns-then-left-ne0
@@ -29,12 +31,18 @@ returns-then-left-ne0 c =
     let w = c.in_ok-parts.ensures in
     let ended : NoItem w.tail × (c.in_ok-parts.field-0.left ≡ left_of w.tail) = rw c.in_default.is at w.ended in
     let parted = split_parts _ c.args.after.now _ _ c.split_at.ensures.front c.split_at.ensures.back in
-    let len : length c.split_at.result.1.now ≡ id_len c.args.kind = omega (arith, c.split_at.ensures.back_len, c.len_in_bytes-expected.ensures, c.requires.long) in
+    let len : length c.split_at.result.1.now ≡ id_len c.args.kind =
+    omega (arith, c.split_at.ensures.back_len, c.len_in_bytes-expected.ensures, c.requires.long) in
     let some : left_of w.tail ≢ 0 = λ e. c.if-left-ne0.true (ended.1 ∙ e) in
     let fault : Fault = TrailerLength (id_len c.args.kind) (left_of w.tail + id_len c.args.kind) in
-    let stands : Some (TrailerLength c.len_in_bytes-expected.result (c.in_ok-parts.field-0.left + c.len_in_bytes-expected.result)) ≡ Some fault = rw (c.len_in_bytes-expected.ensures, ended.1) refl in
-    if_ok_both c.refused-then-left-ne0.result _ _ _ c.refused-then-left-ne0.ensures.parts c.refused-then-left-ne0.ensures.fault (λ x p q.
-    walked_refused c.args.kind c.args.bytes.now c.args.after.now c.args.offset c.args.parts.items c.in_ok-parts.field-0 x c.split_at.result.0.now c.split_at.result.1.now _ _ fault w parted len c.split_at-2.ensures.back p q stands (left ended.0 some refl refl))
+    let stands : Some (TrailerLength c.len_in_bytes-expected.result
+    (c.in_ok-parts.field-0.left + c.len_in_bytes-expected.result)) ≡ Some fault =
+    rw (c.len_in_bytes-expected.ensures, ended.1) refl in
+    if_ok_both c.refused-then-left-ne0.result _ _ _ c.refused-then-left-ne0.ensures.parts
+    c.refused-then-left-ne0.ensures.fault (λ x p q.
+    walked_refused c.args.kind c.args.bytes.now c.args.after.now c.args.offset c.args.parts.items c.in_ok-parts.field-0
+    x c.split_at.result.0.now c.split_at.result.1.now _ _ fault w parted len c.split_at-2.ensures.back p q stands
+    (left ended.0 some refl refl))
 
 pub sealed-requires-clause-ended : goal.sealed-requires-clause-ended
 sealed-requires-clause-ended c =
@@ -46,12 +54,16 @@ pub sealed-requires-clause-none_left : goal.sealed-requires-clause-none_left
 sealed-requires-clause-none_left c =
     let w = c.in_ok-parts.ensures in
     let ended : NoItem w.tail × (c.in_ok-parts.field-0.left ≡ left_of w.tail) = rw c.in_default.is at w.ended in
-    ap left_of (walked_tail c.args.kind c.args.offset _ _ _ _ w c.split_at-3.ensures.back) ∙ sym ended.1 ∙ (search rules)
+    ap left_of (walked_tail c.args.kind c.args.offset _ _ _ _ w c.split_at-3.ensures.back)
+    ∙ sym ended.1 ∙ (search rules)
 
 pub returns : goal.returns
 returns c =
     let w = c.in_ok-parts.ensures in
     let parted = split_parts _ c.args.after.now _ _ c.split_at.ensures.front c.split_at.ensures.back in
-    let len : length c.split_at.result.1.now ≡ id_len c.args.kind = omega (arith, c.split_at.ensures.back_len, c.len_in_bytes-expected.ensures, c.requires.long) in
+    let len : length c.split_at.result.1.now ≡ id_len c.args.kind =
+    omega (arith, c.split_at.ensures.back_len, c.len_in_bytes-expected.ensures, c.requires.long) in
     let same = walked_tail c.args.kind c.args.offset _ _ _ _ w c.split_at-3.ensures.back in
-    if_ok_then c.sealed.result _ _ c.sealed.ensures (λ x h. walked_sealed c.args.kind c.args.bytes.now c.args.after.now c.args.offset c.args.parts.items c.in_ok-parts.field-0 x c.split_at.result.0.now c.split_at.result.1.now _ w parted len same h)
+    if_ok_then c.sealed.result _ _ c.sealed.ensures (λ x h.
+    walked_sealed c.args.kind c.args.bytes.now c.args.after.now c.args.offset c.args.parts.items
+    c.in_ok-parts.field-0 x c.split_at.result.0.now c.split_at.result.1.now _ w parted len same h)

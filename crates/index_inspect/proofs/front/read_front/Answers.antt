@@ -1,4 +1,5 @@
-use Rattle.std.proofs.Common.{◌≡◌, ◌+◌, ◌-◌, ℕ, List, [], ◌∷◌, ◌++◌, length, take, drop, None, refl, sym, ap, subst, ◌∙◌, length-append, length-take, Option, arith}
+use Rattle.std.proofs.Common.{◌≡◌, ◌+◌, ◌-◌, ℕ, List, [], ◌∷◌, ◌++◌, length, take, drop, None, refl, sym, ap, subst}
+use Rattle.std.proofs.Common.{◌∙◌, length-append, length-take, Option, arith}
 use Rattle.gix_index.specs.Entries.{last_path}
 use Rattle.gix_index.specs.Header.{header_len}
 use Rattle.gix_index.specs.Held.{Held}
@@ -17,17 +18,20 @@ pub loop-number-init : goal.loop-number-init
 loop-number-init c =
     let head = take header_len c.args.bytes.now in
     let made = c.in_ok-push_part.ensures head (omega (arith, length-take header_len c.args.bytes.now, c.requires)) in
-    ([], sym c.split_at.ensures.back, ap (λ (h : Held). h.records) c.new-entries.ensures, refl, made ∙ ap (λ (l : List Part). l ++ laid 0 (one_piece whats.Header head)) c.new-parts.ensures.items)
+    ([], sym c.split_at.ensures.back, ap (λ (h : Held). h.records) c.new-entries.ensures, refl,
+    made ∙ ap (λ (l : List Part). l ++ laid 0 (one_piece whats.Header head)) c.new-parts.ensures.items)
 
 pub overflow_sub-total : goal.overflow_sub-total
 overflow_sub-total c =
     let last = last_path None c.loop-number.entries.records in
-    let sp = spelling_of c.args.version c.args.kind last _ _ _ (c.in-Some.ensures.found last (sym c.last_len.ensures)) in
+    let sp =
+    spelling_of c.args.version c.args.kind last _ _ _ (c.in-Some.ensures.found last (sym c.last_len.ensures)) in
     omega (arith, sp.whole)
 
 pub overflow_sub-offset : goal.overflow_sub-offset
 overflow_sub-offset c =
-    omega (arith, front_len c.args.version c.args.kind c.args.bytes.now c.loop-number.invariant.0 c.loop-number.rest.now c.requires c.loop-number.invariant.1)
+    omega (arith, front_len c.args.version c.args.kind c.args.bytes.now c.loop-number.invariant.0 c.loop-number.rest.now
+    c.requires c.loop-number.invariant.1)
 
 pub loop-number-preserved : goal.loop-number-preserved
 loop-number-preserved c =
@@ -38,15 +42,23 @@ loop-number-preserved c =
     let r : Record = lent_record last lent in
     let rest = c.loop-number.rest.now in
     let after = c.in-Some.after.now in
-    let sp = spelling_of c.args.version c.args.kind last rest r after (c.in-Some.ensures.found last (sym c.last_len.ensures)) in
+    let sp =
+    spelling_of c.args.version c.args.kind last rest r after (c.in-Some.ensures.found last (sym c.last_len.ensures)) in
     let s : Spelling = record { entry = r; own = sp.own; padding = sp.padding } in
-    let path : length r.path ≡ lent.shared + length lent.path.now = path_len last c.last_len.result lent.shared lent.path.now c.last_len.ensures c.in-Some.ensures.shared in
-    let own : length sp.own ≡ c.own_len-own.result = sp.own_is ∙ ap (λ (n : ℕ). own_len c.args.version c.args.kind r.flags n (length rest - length after)) path ∙ sym c.own_len-own.ensures.value in
+    let path : length r.path ≡ lent.shared + length lent.path.now =
+    path_len last c.last_len.result lent.shared lent.path.now c.last_len.ensures c.in-Some.ensures.shared in
+    let own : length sp.own ≡ c.own_len-own.result = sp.own_is
+    ∙ ap (λ (n : ℕ). own_len c.args.version c.args.kind r.flags n (length rest - length after)) path
+    ∙ sym c.own_len-own.ensures.value in
     let len = front_len c.args.version c.args.kind c.args.bytes.now ss rest c.requires inv.1 in
     let grown = c.in_ok-push_entry.ensures sp.own sp.padding own (omega (arith, sp.whole, own)) in (
       ss ++ s ∷ [],
-      spelled_push c.args.version c.args.kind None (drop header_len c.args.bytes.now) ss s rest after inv.1 (subst (λ (p : Option (List ℕ)). IsSpelled c.args.version c.args.kind p rest s after) (ap (last_path None) inv.2) sp.is_spelled),
-      ap (λ (h : Held). h.records) c.in_ok-push_after.ensures.pushed ∙ ap (λ (l : List Record). l ++ r ∷ []) inv.2 ∙ sym (entries_push ss s),
+      spelled_push c.args.version c.args.kind None (drop header_len c.args.bytes.now) ss s rest after inv.1
+          (subst (λ (p : Option (List ℕ)). IsSpelled c.args.version c.args.kind p rest s after)
+          (ap (last_path None) inv.2) sp.is_spelled),
+      ap (λ (h : Held). h.records) c.in_ok-push_after.ensures.pushed ∙ ap (λ (l : List Record). l ++ r ∷ []) inv.2
+          ∙ sym (entries_push ss s),
       omega (arith, length-append ss (s ∷ []), inv.3),
-      front_grown _ c.loop-number.number (one_piece whats.Header (take header_len c.args.bytes.now)) ss s _ _ (sym inv.3) inv.4 (omega (arith, len)) grown,
+      front_grown _ c.loop-number.number (one_piece whats.Header (take header_len c.args.bytes.now)) ss s _ _
+          (sym inv.3) inv.4 (omega (arith, len)) grown,
     )

@@ -7,7 +7,8 @@ use Rattle.index_inspect.proofs.front.read_front.Given as goal
 
 -- so many entries were read, with their parts
 abbrev pub invariant-loop-number : goal.invariant-loop-number
-invariant-loop-number l = (spellings : List Spelling) × AreSpelled l.version l.kind None (drop header_len l.bytes) spellings l.rest
+invariant-loop-number l = (spellings : List Spelling)
+    × AreSpelled l.version l.kind None (drop header_len l.bytes) spellings l.rest
     × (l.entries.records ≡ entries_spelled spellings)
     × (length spellings ≡ l.number)
     × (l.parts.items ≡ laid 0 (one_piece whats.Header (take header_len l.bytes) ++ entry_pieces 0 spellings))

@@ -6,4 +6,5 @@ pub returns-in-Corrupt : goal.returns-in-Corrupt
 returns-in-Corrupt c = λ kind content h. (Corrupt c.in-Corrupt.text.now, (refl, rw c.in-Corrupt.is at h))
 
 pub returns-in-BitmapDecode : goal.returns-in-BitmapDecode
-returns-in-BitmapDecode c = λ kind content h. (BitmapDecode c.in-BitmapDecode.err c.in-BitmapDecode.kind.now, (refl, rw c.in-BitmapDecode.is at h))
+returns-in-BitmapDecode c = λ kind content h.
+    (BitmapDecode c.in-BitmapDecode.err c.in-BitmapDecode.kind.now, (refl, rw c.in-BitmapDecode.is at h))
