@@ -1,5 +1,6 @@
 -- The lines of a list of which each item has its place before it.
-use Rattle.std.proofs.Common.{◌≡◌, ℕ, suc, ◌+◌, ◌<◌, ◌≤◌, List, [], ◌∷◌, ◌++◌, length, map, take, get_or, refl, sym, ap, ◌∙◌, append_assoc, append-nil, arith}
+use Rattle.std.proofs.Common.{◌≡◌, ℕ, suc, ◌+◌, ◌<◌, ◌≤◌, List, [], ◌∷◌, ◌++◌, length, map, take, get_or, refl, sym, ap}
+use Rattle.std.proofs.Common.{◌∙◌, append_assoc, append-nil, arith}
 use Rattle.std.proofs.lemmas.List.{length-take-le, take_more, take_all}
 use Rattle.std.proofs.lemmas.List.Concat.{flat_map-cons}
 use Rattle.std.specs.List.{enumerate_from, flat_map}
@@ -11,7 +12,8 @@ placed_last f k [] x = let e : k + 0 ≡ k = omega arith in rw e (flat_map-cons 
 placed_last f k (y ∷ xs) x =
     let e : k + 1 + length xs ≡ k + suc (length xs) = omega arith in
     flat_map-cons f (k, y) (enumerate_from (k + 1) (xs ++ x ∷ []))
-    ∙ ap (λ (l : List ℕ). f (k, y) ++ l) (placed_last f (k + 1) xs x ∙ ap (λ (n : ℕ). flat_map f (enumerate_from (k + 1) xs) ++ f (n, x)) e)
+    ∙ ap (λ (l : List ℕ). f (k, y) ++ l)
+    (placed_last f (k + 1) xs x ∙ ap (λ (n : ℕ). flat_map f (enumerate_from (k + 1) xs) ++ f (n, x)) e)
     ∙ sym (append_assoc (f (k, y)) (flat_map f (enumerate_from (k + 1) xs)) (f (k + suc (length xs), x)))
     ∙ ap (λ (l : List ℕ). l ++ f (k + suc (length xs), x)) (sym (flat_map-cons f (k, y) (enumerate_from (k + 1) xs)))
 
@@ -30,7 +32,8 @@ placed_more f xs i d old mid new lt a b =
     b ∙ ap (λ (l : List ℕ). l ++ f (i, get_or xs i d)) a ∙ append_assoc old all (f (i, get_or xs i d))
     ∙ ap (λ (l : List ℕ). old ++ l) (
     ap (λ (n : ℕ). all ++ f (n, get_or xs i d)) (sym (length-take-le i xs (omega arith)))
-    ∙ sym (placed_behind f (take i xs) (get_or xs i d)) ∙ ap (λ (l : List _). flat_map f (enumerate_from 0 l)) (sym (take_more xs i d lt)))
+    ∙ sym (placed_behind f (take i xs) (get_or xs i d))
+    ∙ ap (λ (l : List _). flat_map f (enumerate_from 0 l)) (sym (take_more xs i d lt)))
 
 -- the lines of what the items stand for
 pub placed_map : {X Y : Type 0} (f : ℕ × Y → List ℕ) (g : X → Y) (k : ℕ) (xs : List X)
@@ -47,4 +50,5 @@ pub placed_all : {X Y : Type 0} (f : ℕ × Y → List ℕ) (g : X → Y) (old n
     → new ≡ old ++ flat_map f (enumerate_from 0 (map g items))
 placed_all {X} f g old new items i le h =
     let lines : List X → List ℕ = λ xs. flat_map (λ (p : ℕ × X). f (p.0, g p.1)) (enumerate_from 0 xs) in
-    h ∙ ap (λ (xs : List X). old ++ lines xs) (take_all i items le) ∙ ap (λ (l : List ℕ). old ++ l) (placed_map f g 0 items)
+    h ∙ ap (λ (xs : List X). old ++ lines xs) (take_all i items le)
+    ∙ ap (λ (l : List ℕ). old ++ l) (placed_map f g 0 items)

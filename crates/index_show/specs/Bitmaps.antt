@@ -1,6 +1,7 @@
--- The lines of a bitmap, and of what has one: a link and a file system monitor (the library's own; the parts are those of
--- gitformat-index, "Split index" and "File System Monitor cache").
-use Rattle.std.specs.Prelude.{ℕ, ◌-◌, ◌==◌, Bool, List, [], ◌++◌, codes, decimal, length, Option, Some, None, if◌then◌else◌}
+-- The lines of a bitmap, and of what has one: a link and a file system monitor (the library's own; the parts are those
+-- of gitformat-index, "Split index" and "File System Monitor cache").
+use Rattle.std.specs.Prelude.{ℕ, ◌-◌, ◌==◌, Bool, List, [], ◌++◌, codes, decimal, length, Option, Some, None}
+use Rattle.std.specs.Prelude.{if◌then◌else◌}
 use Rattle.std.specs.List.{flat_map}
 use Rattle.gix_index.specs.Bitmap.{Bitmap}
 use Rattle.gix_index.specs.FsMonitor.{Monitor, TokenValue, nanoseconds, opaque}
@@ -27,7 +28,8 @@ set_line ranges = codes "    set:" ++ ranges_text ranges ++ codes "\n"
 -- how many bits a bitmap declares, which of them are set, and whether its words break off before the last of them
 unfoldable pub bits_lines : ℕ → List Range → Bool → List ℕ
 bits_lines num_bits ranges is_malformed =
-    number_field (codes "    ") (codes "bits") num_bits ++ set_line ranges ++ answer_field (codes "    ") (codes "malformed") is_malformed
+    number_field (codes "    ") (codes "bits") num_bits ++ set_line ranges
+    ++ answer_field (codes "    ") (codes "malformed") is_malformed
 
 abbrev pub bitmap_lines : List ℕ → Bitmap → List ℕ
 bitmap_lines name b = heading name ++ bits_lines b.num_bits (set_ranges b) (breaks_below b.num_bits (set_places b))
@@ -53,4 +55,5 @@ monitor_heading = codes "file system monitor:\n"
 -- the token, and which entries may have changed, or `none`
 unfoldable pub monitor_lines : Option Monitor → List ℕ
 monitor_lines None = field [] (codes "file system monitor") (codes "none")
-monitor_lines (Some monitor) = monitor_heading ++ token_field monitor.token ++ bitmap_lines (codes "dirty") monitor.dirty
+monitor_lines (Some monitor) =
+    monitor_heading ++ token_field monitor.token ++ bitmap_lines (codes "dirty") monitor.dirty

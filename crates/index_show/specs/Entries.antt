@@ -48,7 +48,8 @@ time_field indent name time = field indent name (time_text time)
 
 unfoldable pub stat_lines : List ℕ → Stat → List ℕ
 stat_lines indent s =
-    number_field indent (codes "size") s.size ++ time_field indent (codes "mtime") s.mtime ++ time_field indent (codes "ctime") s.ctime
+    number_field indent (codes "size") s.size ++ time_field indent (codes "mtime") s.mtime
+    ++ time_field indent (codes "ctime") s.ctime
     ++ number_field indent (codes "dev") s.dev ++ number_field indent (codes "ino") s.ino
     ++ number_field indent (codes "uid") s.uid ++ number_field indent (codes "gid") s.gid
 
@@ -61,7 +62,8 @@ record_lines r =
 
 -- the lines of an entry, and its place before them, counted from 0
 abbrev pub entry_lines : ℕ → Record → List ℕ
-entry_lines place r = number_field (codes "  ") (codes "entry") place ++ record_lines r ++ stat_lines (codes "    ") r.stat
+entry_lines place r = number_field (codes "  ") (codes "entry") place ++ record_lines r
+    ++ stat_lines (codes "    ") r.stat
 
 abbrev pub placed_lines : ℕ × Record → List ℕ
 placed_lines p = entry_lines p.0 p.1

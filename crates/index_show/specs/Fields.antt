@@ -1,5 +1,6 @@
 -- Lines of a name and a value, as people read them (the library's own).
-use Rattle.std.specs.Prelude.{ℕ, ◌+◌, ◌/◌, ◌%◌, ◌^◌, nat_lt, Bool, List, [], ◌∷◌, ◌++◌, codes, decimal, drop, length, Option, Some, None, if◌then◌else◌}
+use Rattle.std.specs.Prelude.{ℕ, ◌+◌, ◌/◌, ◌%◌, ◌^◌, nat_lt, Bool, List, [], ◌∷◌, ◌++◌, codes, decimal, drop, length}
+use Rattle.std.specs.Prelude.{Option, Some, None, if◌then◌else◌}
 use Rattle.hex.specs.Hex.{encode_lower}
 use Rattle.gix_index.specs.Id.{id_bytes}
 use Rattle.gix_index.specs.ObjectId.{ObjectId}
@@ -39,11 +40,13 @@ octal_digit n = 48 + n
 
 -- the six last octal digits of a number
 abbrev pub low_octal : ℕ → List ℕ
-low_octal n = octal_digit (n / 8 ^ 5 % 8) ∷ octal_digit (n / 8 ^ 4 % 8) ∷ octal_digit (n / 8 ^ 3 % 8) ∷ octal_digit (n / 8 ^ 2 % 8) ∷ octal_digit (n / 8 % 8) ∷ octal_digit (n % 8) ∷ []
+low_octal n = octal_digit (n / 8 ^ 5 % 8) ∷ octal_digit (n / 8 ^ 4 % 8) ∷ octal_digit (n / 8 ^ 3 % 8)
+    ∷ octal_digit (n / 8 ^ 2 % 8) ∷ octal_digit (n / 8 % 8) ∷ octal_digit (n % 8) ∷ []
 
 -- the five digits before them, which are all that a number of 32 bits has more
 abbrev pub high_octal : ℕ → List ℕ
-high_octal n = octal_digit (n / 8 ^ 10 % 8) ∷ octal_digit (n / 8 ^ 9 % 8) ∷ octal_digit (n / 8 ^ 8 % 8) ∷ octal_digit (n / 8 ^ 7 % 8) ∷ octal_digit (n / 8 ^ 6 % 8) ∷ []
+high_octal n = octal_digit (n / 8 ^ 10 % 8) ∷ octal_digit (n / 8 ^ 9 % 8) ∷ octal_digit (n / 8 ^ 8 % 8)
+    ∷ octal_digit (n / 8 ^ 7 % 8) ∷ octal_digit (n / 8 ^ 6 % 8) ∷ []
 
 -- six octal digits where they hold the number, else eleven
 unfoldable pub octal : ℕ → List ℕ

@@ -27,7 +27,8 @@ breaks_below limit (Err fault ∷ items) = true
 unfoldable pub with_place : ℕ → List Range → List Range
 with_place place [] = record { first = place; end = place + 1 } ∷ []
 with_place place (r ∷ rs) =
-    if r.first == place + 1 then record { first = place; end = r.end } ∷ rs else record { first = place; end = place + 1 } ∷ (r ∷ rs)
+    if r.first == place + 1 then record { first = place; end = r.end } ∷ rs
+    else record { first = place; end = place + 1 } ∷ (r ∷ rs)
 
 -- ascending places as the fewest ranges
 unfoldable pub ranges_of : List ℕ → List Range

@@ -17,7 +17,8 @@ abbrev mutual
   -- the name of a directory, what is known of it, and the directories in it a level further in
   pub tree_lines : List ℕ → Node → List ℕ
   tree_lines indent (node name id count children) =
-      (text_field indent (codes "directory") name ++ node_lines (within indent) id count) ++ all_tree_lines (within indent) children
+      (text_field indent (codes "directory") name ++ node_lines (within indent) id count)
+      ++ all_tree_lines (within indent) children
 
   pub all_tree_lines : List ℕ → Nodes → List ℕ
   all_tree_lines indent none = []

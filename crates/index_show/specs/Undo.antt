@@ -1,4 +1,5 @@
--- The lines of conflicts that were resolved (the library's own; the parts are those of gitformat-index, "Resolve undo").
+-- The lines of conflicts that were resolved (the library's own; the parts are those of gitformat-index,
+-- "Resolve undo").
 use Rattle.std.specs.Prelude.{ℕ, List, [], ◌++◌, codes, length, Option, Some, None, slice_index_or}
 use Rattle.std.specs.List.{flat_map}
 use Rattle.hex.specs.Hex.{encode_lower}

@@ -15,7 +15,8 @@ exclude_lines name (Some file) = id_field (codes "  ") name file.id ++ stat_line
 
 -- the two files of exclude patterns for all directories
 unfoldable pub exclude_files : Option OidStat → Option OidStat → List ℕ
-exclude_files info excludes = exclude_lines (codes "info/exclude") info ++ exclude_lines (codes "excludes file") excludes
+exclude_files info excludes =
+    exclude_lines (codes "info/exclude") info ++ exclude_lines (codes "excludes file") excludes
 
 -- where the cache is for, how directories were read, and the name of a directory's own file of exclude patterns
 unfoldable pub naming_lines : List ℕ → ℕ → List ℕ → List ℕ
@@ -25,7 +26,8 @@ naming_lines identifier flags name =
 
 -- what a cache says of itself
 unfoldable pub preamble_lines : Preamble → List ℕ
-preamble_lines p = naming_lines p.identifier p.dir_flags p.exclude_filename ++ exclude_files p.info_exclude p.excludes_file
+preamble_lines p = naming_lines p.identifier p.dir_flags p.exclude_filename
+    ++ exclude_files p.info_exclude p.excludes_file
 
 -- the stat of a directory, or `none`
 unfoldable pub stat_or_none : Option Stat → List ℕ

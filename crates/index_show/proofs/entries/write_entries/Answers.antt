@@ -12,19 +12,24 @@ use Rattle.index_show.proofs.entries.write_entries.Goals as goal
 
 -- the lines of the entries are those of the records
 whole : (s : State) (lines : List ℕ) (entries : List Entry) → entries ≡ entries_of s
-    → (lines ++ number_field [] (codes "entries") (length (entries_of s))) ++ flat_map (λ (p : ℕ × Entry). entry_lines p.0 (record_in (storage_of s) p.1)) (enumerate_from 0 entries)
+    → (lines ++ number_field [] (codes "entries") (length (entries_of s)))
+    ++ flat_map (λ (p : ℕ × Entry). entry_lines p.0 (record_in (storage_of s) p.1)) (enumerate_from 0 entries)
     ≡ lines ++ entries_lines (records_in (storage_of s) (entries_of s))
 whole s lines entries all =
-    ap (λ (xs : List Entry). (lines ++ number_field [] (codes "entries") (length (entries_of s))) ++ flat_map (λ (p : ℕ × Entry). entry_lines p.0 (record_in (storage_of s) p.1)) (enumerate_from 0 xs)) all
-    ∙ all_lines placed_lines (record_in (storage_of s)) (λ (n : ℕ). number_field [] (codes "entries") n) lines (entries_of s)
+    ap (λ (xs : List Entry). (lines ++ number_field [] (codes "entries") (length (entries_of s)))
+    ++ flat_map (λ (p : ℕ × Entry). entry_lines p.0 (record_in (storage_of s) p.1)) (enumerate_from 0 xs)) all
+    ∙ all_lines placed_lines (record_in (storage_of s))
+    (λ (n : ℕ). number_field [] (codes "entries") n) lines (entries_of s)
 
 pub loop-place-preserved : goal.loop-place-preserved
 loop-place-preserved g c =
     let f : ℕ × Entry → List ℕ = λ p. entry_lines p.0 (record_in (storage_of c.args.state.now) p.1) in
     let base = c.args.lines.now.items ++ number_field [] (codes "entries") (length (entries_of c.args.state.now)) in
-    written_more f (g.W.Write.contents c.args.out.now) (g.W.Write.contents c.loop-place.out) (g.W.Write.contents c.put_block.new.out) base
-    c.entries-entry-items.result.now c.loop-place.place _ c.loop-place.lines.items c.append_entry.new.lines.items c.put_block.new.lines.items
-    (omega (arith, c.loop-place-test.true)) c.loop-place.invariant c.in_ok-append_entry.ensures c.in_ok-put_block.ensures.ok
+    written_more f (g.W.Write.contents c.args.out.now) (g.W.Write.contents c.loop-place.out)
+    (g.W.Write.contents c.put_block.new.out) base c.entries-entry-items.result.now c.loop-place.place _
+    c.loop-place.lines.items c.append_entry.new.lines.items c.put_block.new.lines.items
+    (omega (arith, c.loop-place-test.true)) c.loop-place.invariant c.in_ok-append_entry.ensures
+    c.in_ok-put_block.ensures.ok
 
 pub returns-in_err-append_entry-clause-err : goal.returns-in_err-append_entry-clause-err
 returns-in_err-append_entry-clause-err g c =
@@ -40,9 +45,11 @@ returns-in_err-put_block-clause-err g c =
     let f : ℕ × Entry → List ℕ = λ p. entry_lines p.0 (record_in (storage_of c.args.state.now) p.1) in
     let base = c.args.lines.now.items ++ number_field [] (codes "entries") (length (entries_of c.args.state.now)) in
     rw (err_from_is_err_and c.from_residual-in_err-put_block.result c.from_residual-in_err-put_block.ensures.1).1
-    (front_of_block f (g.W.Write.contents c.args.out.now) (g.W.Write.contents c.loop-place.out) (g.W.Write.contents c.put_block.new.out) base _
+    (front_of_block f (g.W.Write.contents c.args.out.now) (g.W.Write.contents c.loop-place.out)
+    (g.W.Write.contents c.put_block.new.out) base _
     c.entries-entry-items.result.now c.loop-place.place _ c.loop-place.lines.items c.append_entry.new.lines.items
-    (omega (arith, c.loop-place-test.true)) c.loop-place.invariant c.in_ok-append_entry.ensures c.in_err-put_block.ensures.err
+    (omega (arith, c.loop-place-test.true)) c.loop-place.invariant c.in_ok-append_entry.ensures
+    c.in_err-put_block.ensures.err
     (whole c.args.state.now c.args.lines.now.items c.entries-entry-items.result.now c.entries-entry-items.ensures))
 
 pub returns-clause-ok : goal.returns-clause-ok

@@ -12,4 +12,5 @@ use Rattle.index_show.proofs.entries.write_entries.Given as goal
 abbrev pub invariant-loop-place : goal.invariant-loop-place
 invariant-loop-place g l = Passes (g.W.Write.contents l.fn.out) (g.W.Write.contents l.out) l.lines.items
     ((l.fn.lines.items ++ number_field [] (codes "entries") (length (entries_of l.fn.state)))
-    ++ flat_map (λ (p : ℕ × Entry). entry_lines p.0 (record_in (storage_of l.fn.state) p.1)) (enumerate_from 0 (take l.place l.entry-items)))
+    ++ flat_map (λ (p : ℕ × Entry). entry_lines p.0 (record_in (storage_of l.fn.state) p.1))
+    (enumerate_from 0 (take l.place l.entry-items)))

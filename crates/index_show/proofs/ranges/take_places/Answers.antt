@@ -1,10 +1,12 @@
 use Rattle.std.proofs.Common.{rules, arith, ◌<◌, ◌≤◌, ◌∷◌, sym, ap, ◌∙◌, Result, ℕ}
 use Rattle.gix_index.specs.UnpackingSteps.{items_left}
 use Rattle.gix_index.specs.BitmapMalformed.{Malformed}
-use Rattle.index_show.proofs.RangeLoops.{broken, ended_broken, ended_past, ended_whole, fault_left, no_fault_left, no_fault_past, place_taken}
+use Rattle.index_show.proofs.RangeLoops.{broken, ended_broken, ended_past, ended_whole, fault_left, no_fault_left}
+use Rattle.index_show.proofs.RangeLoops.{no_fault_past, place_taken}
 use Rattle.index_show.proofs.RunLoops.{after_last, after_run, run_ends, run_kept}
 use Rattle.index_show.proofs.ranges.take_places.Goals as goal
-use Rattle.index_show.proofs.ranges.take_places.Goals.{else-first-end-via-then-first-end+else-limit-end, else-first-end-via-else-first-end}
+use Rattle.index_show.proofs.ranges.take_places.Goals.{else-first-end-via-then-first-end+else-limit-end}
+use Rattle.index_show.proofs.ranges.take_places.Goals.{else-first-end-via-else-first-end}
 
 pub loop-position-preserved : goal.loop-position-preserved
 loop-position-preserved c =

@@ -10,6 +10,7 @@ use Rattle.index_show.proofs.undo.append_all.Goals as goal
 pub returns : goal.returns
 returns c = on_ok_then c.append_paths.result
     (λ h. two_more c.args.lines.now.items c.append_number.new.lines.items c.append_paths.new.lines.items _ _
-    (c.in_ok-append_number.ensures ∙ ap (λ (n : ℕ). c.args.lines.now.items ++ number_field [] (codes "resolve undo") n) (sym (length-map c.args.paths.now path_stages)))
-    (h ∙ ap (λ (l : List ℕ). c.append_number.new.lines.items ++ l) (sym (flat_map-map path_lines path_stages c.args.paths.now))))
-    c.append_paths.ensures
+    (c.in_ok-append_number.ensures ∙ ap (λ (n : ℕ). c.args.lines.now.items ++ number_field [] (codes "resolve undo") n)
+    (sym (length-map c.args.paths.now path_stages)))
+    (h ∙ ap (λ (l : List ℕ). c.append_number.new.lines.items ++ l)
+    (sym (flat_map-map path_lines path_stages c.args.paths.now)))) c.append_paths.ensures

@@ -6,4 +6,5 @@ use Rattle.index_show.proofs.undo.append_paths.Given as goal
 
 -- the paths before this one have their lines
 abbrev pub invariant-loop-path : goal.invariant-loop-path
-invariant-loop-path l = l.lines.items ≡ l.fn.lines.items ++ flat_map (λ p. path_lines (path_stages p)) (take l.path-index l.paths)
+invariant-loop-path l = l.lines.items ≡ l.fn.lines.items
+    ++ flat_map (λ p. path_lines (path_stages p)) (take l.path-index l.paths)

@@ -8,4 +8,5 @@ use Rattle.index_show.proofs.untracked.append_directories.Given as goal
 -- the directories before this one have their lines
 abbrev pub invariant-loop-place : goal.invariant-loop-place
 invariant-loop-place l = l.lines.items
-    ≡ l.fn.lines.items ++ flat_map (λ (p : ℕ × Directory). placed_directory (p.0, directory_value p.1)) (enumerate_from 0 (take l.place l.directories))
+    ≡ l.fn.lines.items ++ flat_map (λ (p : ℕ × Directory). placed_directory (p.0, directory_value p.1))
+    (enumerate_from 0 (take l.place l.directories))

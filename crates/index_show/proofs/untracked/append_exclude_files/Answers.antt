@@ -5,5 +5,5 @@ use Rattle.index_show.proofs.untracked.append_exclude_files.Goals as goal
 pub returns : goal.returns
 unfolding exclude_files
 returns c = on_ok_then c.append_exclude-2.result
-    (λ h. two_more c.args.lines.now.items c.append_exclude.new.lines.items c.append_exclude-2.new.lines.items _ _ c.in_ok-append_exclude.ensures h)
-    c.append_exclude-2.ensures
+    (λ h. two_more c.args.lines.now.items c.append_exclude.new.lines.items c.append_exclude-2.new.lines.items _ _
+    c.in_ok-append_exclude.ensures h) c.append_exclude-2.ensures

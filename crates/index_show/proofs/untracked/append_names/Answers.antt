@@ -6,5 +6,6 @@ use Rattle.index_show.proofs.untracked.append_names.Goals as goal
 
 pub returns : goal.returns
 returns c =
-    mapped_all untracked_name bstring_bytes c.args.lines.now.items c.loop-name.lines.items c.untracked_entries-name-items.result.now _ c.loop-name.name-index
+    mapped_all untracked_name bstring_bytes c.args.lines.now.items c.loop-name.lines.items
+    c.untracked_entries-name-items.result.now _ c.loop-name.name-index
     (omega (arith, c.loop-name-test.false)) c.untracked_entries-name-items.ensures c.loop-name.invariant

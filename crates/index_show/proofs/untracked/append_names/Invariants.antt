@@ -6,4 +6,5 @@ use Rattle.index_show.proofs.untracked.append_names.Given as goal
 
 -- the names before this one have their lines
 abbrev pub invariant-loop-name : goal.invariant-loop-name
-invariant-loop-name l = l.lines.items ≡ l.fn.lines.items ++ flat_map (λ n. untracked_name (bstring_bytes n)) (take l.name-index l.name-items)
+invariant-loop-name l = l.lines.items ≡ l.fn.lines.items
+    ++ flat_map (λ n. untracked_name (bstring_bytes n)) (take l.name-index l.name-items)
