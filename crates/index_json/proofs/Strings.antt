@@ -11,11 +11,14 @@ one_string : (s : List ℕ) → print (string s ∷ []) ≡ quoted s
 unfolding print_from
 one_string s = append-nil (quoted s)
 
-pub string_after : (old before new s : List ℕ) (ts : List Token) → before ≡ old → ts ≡ string s ∷ [] → new ≡ before ++ print ts → new ≡ old ++ quoted s
+pub string_after : (old before new s : List ℕ) (ts : List Token) → before ≡ old → ts ≡ string s ∷ []
+    → new ≡ before ++ print ts → new ≡ old ++ quoted s
 string_after old before new s ts b t e =
-    e ∙ ap (λ (l : List ℕ). l ++ print ts) b ∙ ap (λ (l : List Token). old ++ print l) t ∙ ap (λ (l : List ℕ). old ++ l) (one_string s)
+    e ∙ ap (λ (l : List ℕ). l ++ print ts) b ∙ ap (λ (l : List Token). old ++ print l) t
+    ∙ ap (λ (l : List ℕ). old ++ l) (one_string s)
 
-pub text_is : (before name bytes value : List ℕ) → value ≡ bytes → IsUtf8 bytes → member before name (json_string value) ≡ text_member before name bytes
+pub text_is : (before name bytes value : List ℕ) → value ≡ bytes → IsUtf8 bytes
+    → member before name (json_string value) ≡ text_member before name bytes
 unfolding text_member
 text_is before name bytes value e u = let t : is_utf8 bytes ≡ true = is_utf8-from_IsUtf8 bytes u in rw (e, t) refl
 
@@ -23,6 +26,7 @@ not_utf8 : (bytes : List ℕ) (b : Bool) → is_utf8 bytes ≡ b → ¬ (IsUtf8 
 not_utf8 bytes true e u = absurd (u (IsUtf8-from_is_utf8 bytes e))
 not_utf8 bytes false e u = e
 
-pub bytes_are : (before name bytes : List ℕ) → ¬ (IsUtf8 bytes) → member before (name ++ codes "_bytes") (hex_string bytes) ≡ text_member before name bytes
+pub bytes_are : (before name bytes : List ℕ) → ¬ (IsUtf8 bytes)
+    → member before (name ++ codes "_bytes") (hex_string bytes) ≡ text_member before name bytes
 unfolding text_member
 bytes_are before name bytes u = let t : is_utf8 bytes ≡ false = not_utf8 bytes (is_utf8 bytes) refl u in rw t refl

@@ -11,11 +11,13 @@ use Rattle.index_json.specs.Values.{listed, separator}
 use Rattle.index_show.proofs.Appended.{four_more}
 
 all_listed : (k : ℕ) (ts : List Tree)
-    → tree_values k (nodes_from (map node_of ts)) ≡ flat_map (λ (p : ℕ × Tree). separator p.0 ++ tree_value (node_of p.1)) (enumerate_from k ts)
+    → tree_values k (nodes_from (map node_of ts))
+    ≡ flat_map (λ (p : ℕ × Tree). separator p.0 ++ tree_value (node_of p.1)) (enumerate_from k ts)
 all_listed k [] = refl
 all_listed k (t ∷ ts) =
     ap (λ (l : List ℕ). (separator k ++ tree_value (node_of t)) ++ l) (all_listed (k + 1) ts)
-    ∙ sym (flat_map-cons (λ (p : ℕ × Tree). separator p.0 ++ tree_value (node_of p.1)) (k, t) (enumerate_from (k + 1) ts))
+    ∙ sym
+    (flat_map-cons (λ (p : ℕ × Tree). separator p.0 ++ tree_value (node_of p.1)) (k, t) (enumerate_from (k + 1) ts))
 
 -- what is known of a directory, and those in it
 tree_out : (t : Tree) → tree_value (node_of t)
@@ -24,12 +26,15 @@ tree_out : (t : Tree) → tree_value (node_of t)
 tree_out t =
     let o = out-Tree t in
     ap tree_value (fold_out-Tree Node node_step t)
-    ∙ ap (λ (l : List ℕ). directory_members o.name.items o.id o.num_entries ++ codes ",\"children\":[" ++ l ++ codes "]}") (all_listed 0 o.children.items)
+    ∙ ap
+    (λ (l : List ℕ). directory_members o.name.items o.id o.num_entries ++ codes ",\"children\":[" ++ l ++ codes "]}")
+    (all_listed 0 o.children.items)
 
 -- what is appended of a directory, one after the other
 pub tree_step : (t : Tree) (name text known begun below all : List ℕ) (ts : List Tree) → name ≡ (out-Tree t).name.items
-    → known ≡ text ++ directory_members name (out-Tree t).id (out-Tree t).num_entries → begun ≡ known ++ codes ",\"children\":["
-    → ts ≡ (out-Tree t).children.items → below ≡ begun ++ listed (λ (u : Tree). tree_value (node_of u)) ts → all ≡ below ++ codes "]}"
+    → known ≡ text ++ directory_members name (out-Tree t).id (out-Tree t).num_entries
+    → begun ≡ known ++ codes ",\"children\":[" → ts ≡ (out-Tree t).children.items
+    → below ≡ begun ++ listed (λ (u : Tree). tree_value (node_of u)) ts → all ≡ below ++ codes "]}"
     → all ≡ text ++ tree_value (node_of t)
 tree_step t name text known begun below all ts a b c d e f =
     let o = out-Tree t in

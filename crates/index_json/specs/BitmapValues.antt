@@ -1,5 +1,5 @@
--- The values of a bitmap, and of what has one: a link and a file system monitor (the library's own; the parts are those of
--- gitformat-index, "Split index" and "File System Monitor cache").
+-- The values of a bitmap, and of what has one: a link and a file system monitor (the library's own; the parts are those
+-- of gitformat-index, "Split index" and "File System Monitor cache").
 use Rattle.std.specs.Prelude.{ℕ, ◌-◌, Bool, List, ◌++◌, codes, decimal, Option, Some, None}
 use Rattle.gix_index.specs.Bitmap.{Bitmap}
 use Rattle.gix_index.specs.FsMonitor.{Monitor, TokenValue, nanoseconds, opaque}
@@ -25,14 +25,16 @@ bitmap_value b = bits_value b.num_bits (set_ranges b) (breaks_below b.num_bits (
 unfoldable pub pair_or_null : Option BitmapPair → List ℕ
 pair_or_null None = codes "null"
 pair_or_null (Some pair) =
-    member (codes "{") (codes "delete") (bitmap_value pair.delete) ++ member (codes ",") (codes "replace") (bitmap_value pair.replace)
+    member (codes "{") (codes "delete") (bitmap_value pair.delete)
+    ++ member (codes ",") (codes "replace") (bitmap_value pair.replace)
     ++ codes "}"
 
 -- the shared index's id, and the bitmaps, or null
 unfoldable pub link_or_null : Option LinkValue → List ℕ
 link_or_null None = codes "null"
 link_or_null (Some link) =
-    id_member (codes "{") (codes "shared_index_checksum") link.shared ++ member (codes ",") (codes "bitmaps") (pair_or_null link.bitmaps)
+    id_member (codes "{") (codes "shared_index_checksum") link.shared
+    ++ member (codes ",") (codes "bitmaps") (pair_or_null link.bitmaps)
     ++ codes "}"
 
 -- the time in nanoseconds since 1970, or the text that the monitor made
@@ -42,7 +44,8 @@ token_member (opaque text) = text_member (codes "{") (codes "token") text
 
 -- the token, and which entries may have changed
 unfoldable pub watch_value : TokenValue → Bitmap → List ℕ
-watch_value token dirty = token_member token ++ member (codes ",") (codes "entry_dirty") (bitmap_value dirty) ++ codes "}"
+watch_value token dirty =
+    token_member token ++ member (codes ",") (codes "entry_dirty") (bitmap_value dirty) ++ codes "}"
 
 -- both, or null
 abbrev pub monitor_or_null : Option Monitor → List ℕ

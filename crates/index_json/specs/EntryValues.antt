@@ -7,11 +7,13 @@ use Rattle.gix_index.specs.Time.{Time}
 use Rattle.index_json.specs.Values.{id_member, member, number_member, text_member}
 
 abbrev pub time_value : Time → List ℕ
-time_value t = number_member (codes "{") (codes "secs") t.secs ++ number_member (codes ",") (codes "nsecs") t.nsecs ++ codes "}"
+time_value t = number_member (codes "{") (codes "secs") t.secs
+    ++ number_member (codes ",") (codes "nsecs") t.nsecs ++ codes "}"
 
 -- the two times of a file
 unfoldable pub time_members : Stat → List ℕ
-time_members s = member (codes "{") (codes "mtime") (time_value s.mtime) ++ member (codes ",") (codes "ctime") (time_value s.ctime)
+time_members s = member (codes "{") (codes "mtime") (time_value s.mtime)
+    ++ member (codes ",") (codes "ctime") (time_value s.ctime)
 
 -- the other numbers that a file system has of a file
 unfoldable pub file_members : Stat → List ℕ
@@ -27,7 +29,8 @@ stat_value s = time_members s ++ file_members s ++ codes "}"
 unfoldable pub entry_members : Record → List ℕ
 entry_members r =
     text_member (codes "{") (codes "path") r.path ++ id_member (codes ",") (codes "id") r.id
-    ++ number_member (codes ",") (codes "mode") r.mode ++ number_member (codes ",") (codes "stage") (stage_number r.flags)
+    ++ number_member (codes ",") (codes "mode") r.mode
+    ++ number_member (codes ",") (codes "stage") (stage_number r.flags)
     ++ number_member (codes ",") (codes "flags") r.flags
 
 unfoldable pub entry_value : Record → List ℕ

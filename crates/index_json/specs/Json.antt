@@ -23,7 +23,8 @@ version_value V4 = 4
 -- the version, the id at the end of the file, and whether the index is sparse
 unfoldable pub head_members : Contents → Option ObjectId → List ℕ
 head_members c checksum =
-    number_member (codes "{") (codes "version") (version_value c.version) ++ member (codes ",") (codes "checksum") (id_or_null checksum)
+    number_member (codes "{") (codes "version") (version_value c.version)
+    ++ member (codes ",") (codes "checksum") (id_or_null checksum)
     ++ member (codes ",") (codes "is_sparse") (json_bool c.extensions.sparse)
 
 -- the entries in their order
@@ -44,4 +45,5 @@ tail_members o marks = extension_members o ++ mark_members o.had_offset_table o.
 
 -- one object, and a newline
 unfoldable pub json_text : Contents → Option ObjectId → Marks → List ℕ
-json_text c checksum marks = head_members c checksum ++ entries_member c.records ++ tail_members c.extensions marks ++ codes "}\n"
+json_text c checksum marks =
+    head_members c checksum ++ entries_member c.records ++ tail_members c.extensions marks ++ codes "}\n"

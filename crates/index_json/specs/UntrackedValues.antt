@@ -10,12 +10,14 @@ use Rattle.index_json.specs.Values.{array, id_member, id_or_null, json_bool, mem
 -- the stat and the id of a file of exclude patterns, or null
 unfoldable pub exclude_or_null : Option OidStat → List ℕ
 exclude_or_null None = codes "null"
-exclude_or_null (Some file) = member (codes "{") (codes "stat") (stat_value file.stat) ++ id_member (codes ",") (codes "id") file.id ++ codes "}"
+exclude_or_null (Some file) =
+    member (codes "{") (codes "stat") (stat_value file.stat) ++ id_member (codes ",") (codes "id") file.id ++ codes "}"
 
 -- the two files of exclude patterns for all directories
 unfoldable pub exclude_members : Option OidStat → Option OidStat → List ℕ
 exclude_members info excludes =
-    member (codes ",") (codes "info_exclude") (exclude_or_null info) ++ member (codes ",") (codes "excludes_file") (exclude_or_null excludes)
+    member (codes ",") (codes "info_exclude") (exclude_or_null info)
+    ++ member (codes ",") (codes "excludes_file") (exclude_or_null excludes)
 
 -- where the cache is for, how directories were read, and the name of a directory's own file of exclude patterns
 unfoldable pub naming_members : List ℕ → ℕ → List ℕ → List ℕ
@@ -25,7 +27,8 @@ naming_members identifier flags name =
 
 -- what a cache says of itself
 unfoldable pub preamble_members : Preamble → List ℕ
-preamble_members p = naming_members p.identifier p.dir_flags p.exclude_filename ++ exclude_members p.info_exclude p.excludes_file
+preamble_members p = naming_members p.identifier p.dir_flags p.exclude_filename
+    ++ exclude_members p.info_exclude p.excludes_file
 
 unfoldable pub stat_or_null : Option Stat → List ℕ
 stat_or_null None = codes "null"
@@ -39,7 +42,8 @@ name_value name = text_member (codes "{") (codes "name") name ++ codes "}"
 unfoldable pub own_members : DirectoryValue → List ℕ
 own_members d =
     text_member (codes "{") (codes "name") d.name ++ member (codes ",") (codes "stat") (stat_or_null d.stat)
-    ++ member (codes ",") (codes "exclude_file_oid") (id_or_null d.exclude) ++ member (codes ",") (codes "check_only") (json_bool d.check_only)
+    ++ member (codes ",") (codes "exclude_file_oid") (id_or_null d.exclude)
+    ++ member (codes ",") (codes "check_only") (json_bool d.check_only)
 
 -- what is known of a directory, the names of what is untracked in it, and the places of the directories in it
 unfoldable pub cached_directory : DirectoryValue → List ℕ
@@ -51,4 +55,5 @@ cached_directory d =
 unfoldable pub untracked_or_null : Option Cache → List ℕ
 untracked_or_null None = codes "null"
 untracked_or_null (Some c) =
-    preamble_members c.preamble ++ member (codes ",") (codes "directories") (array cached_directory c.directories) ++ codes "}"
+    preamble_members c.preamble
+    ++ member (codes ",") (codes "directories") (array cached_directory c.directories) ++ codes "}"

@@ -1,6 +1,6 @@
 -- Values of a JSON text, and members of an object (RFC 8259, sections 4, 5 and 7). How a string is escaped is the kit's
--- `quoted`: by two characters where the section on strings has such an escape, and by `\u00` and two digits at any other
--- control character.
+-- `quoted`: by two characters where the section on strings has such an escape, and by `\u00` and two digits at any
+-- other control character.
 use Rattle.std.specs.Prelude.{ℕ, ◌==◌, Bool, List, [], ◌++◌, codes, decimal, Option, Some, None, if◌then◌else◌}
 use Rattle.std.specs.List.{enumerate_from, flat_map}
 use Rattle.std.specs.Str.{is_utf8}
@@ -43,7 +43,8 @@ id_member before name id = member before name (hex_string (id_bytes id))
 -- a text as a string, or where the bytes aren't UTF-8 the digits of each, under a name that says so
 unfoldable pub text_member : List ℕ → List ℕ → List ℕ → List ℕ
 text_member before name bytes =
-    if is_utf8 bytes then member before name (json_string bytes) else member before (name ++ codes "_bytes") (hex_string bytes)
+    if is_utf8 bytes then member before name (json_string bytes)
+    else member before (name ++ codes "_bytes") (hex_string bytes)
 
 -- ---- arrays
 

@@ -11,7 +11,9 @@ returns c =
     let text = c.args.text.now.items in
     let b = bitmap c.args.map.now in
     on_ok_then c.append_bits.result
-    (λ h. h ∙ ap (λ (n : ℕ). text ++ bits_value n c.in_ok-bits.bits.ranges.items c.in_ok-bits.bits.is_malformed) c.num_bits.ensures
-    ∙ ap (λ (rs : List Range). text ++ bits_value b.num_bits rs c.in_ok-bits.bits.is_malformed) c.in_ok-bits.ensures.ranges
+    (λ h. h ∙ ap (λ (n : ℕ). text ++ bits_value n c.in_ok-bits.bits.ranges.items c.in_ok-bits.bits.is_malformed)
+    c.num_bits.ensures
+    ∙ ap (λ (rs : List Range). text ++ bits_value b.num_bits rs c.in_ok-bits.bits.is_malformed)
+    c.in_ok-bits.ensures.ranges
     ∙ ap (λ (m : Bool). text ++ bits_value b.num_bits (set_ranges b) m) c.in_ok-bits.ensures.malformed)
     c.append_bits.ensures

@@ -37,34 +37,49 @@ pub returns-in_err-write_entries-clause-err : goal.returns-in_err-write_entries-
 unfolding begin own end
 returns-in_err-write_entries-clause-err g c =
     let k = contents c.args.state.now in
-    let first : c.append_begin.new.text.items ≡ begin k c.args.checksum = first_lines c.new-text.result.items c.append_begin.new.text.items (begin k c.args.checksum) c.new-text.ensures.items c.in_ok-append_begin.ensures in
-    let P : List ℕ → Type 0 = λ l. AppendsPrefix (g.W.Write.contents c.args.out.now) (g.W.Write.contents c.write_entries.new.out) (l ++ own k) in
-    let Q : List ℕ → Type 0 = λ l. AppendsPrefix (g.W.Write.contents c.args.out.now) (g.W.Write.contents c.write_entries.new.out) l in
-    rw (err_from_is_err_and c.from_residual-in_err-write_entries.result c.from_residual-in_err-write_entries.ensures.1).1
-    (subst Q (joined k c.args.checksum c.args.marks.now) (prefix_before (subst P first c.in_err-write_entries.ensures.err) (end k c.args.marks.now)))
+    let first : c.append_begin.new.text.items ≡ begin k c.args.checksum = first_lines c.new-text.result.items
+    c.append_begin.new.text.items (begin k c.args.checksum) c.new-text.ensures.items c.in_ok-append_begin.ensures in
+    let P : List ℕ → Type 0 =
+    λ l. AppendsPrefix (g.W.Write.contents c.args.out.now) (g.W.Write.contents c.write_entries.new.out) (l ++ own k) in
+    let Q : List ℕ → Type 0 =
+    λ l. AppendsPrefix (g.W.Write.contents c.args.out.now) (g.W.Write.contents c.write_entries.new.out) l in
+    rw (err_from_is_err_and c.from_residual-in_err-write_entries.result
+    c.from_residual-in_err-write_entries.ensures.1).1
+    (subst Q (joined k c.args.checksum c.args.marks.now)
+    (prefix_before (subst P first c.in_err-write_entries.ensures.err) (end k c.args.marks.now)))
 
 pub returns-in_err-append_end-clause-err : goal.returns-in_err-append_end-clause-err
 unfolding begin own end
 returns-in_err-append_end-clause-err g c =
     let k = contents c.args.state.now in
-    let first : c.append_begin.new.text.items ≡ begin k c.args.checksum = first_lines c.new-text.result.items c.append_begin.new.text.items (begin k c.args.checksum) c.new-text.ensures.items c.in_ok-append_begin.ensures in
-    let P : List ℕ → Type 0 = λ l. Passes (g.W.Write.contents c.args.out.now) (g.W.Write.contents c.write_entries.new.out) c.write_entries.new.text.items (l ++ own k) in
-    let Q : List ℕ → Type 0 = λ l. AppendsPrefix (g.W.Write.contents c.args.out.now) (g.W.Write.contents c.write_entries.new.out) l in
+    let first : c.append_begin.new.text.items ≡ begin k c.args.checksum = first_lines c.new-text.result.items
+    c.append_begin.new.text.items (begin k c.args.checksum) c.new-text.ensures.items c.in_ok-append_begin.ensures in
+    let P : List ℕ → Type 0 = λ l. Passes (g.W.Write.contents c.args.out.now)
+    (g.W.Write.contents c.write_entries.new.out) c.write_entries.new.text.items (l ++ own k) in
+    let Q : List ℕ → Type 0 =
+    λ l. AppendsPrefix (g.W.Write.contents c.args.out.now) (g.W.Write.contents c.write_entries.new.out) l in
     rw (err_from_is_err_and c.from_residual-in_err-append_end.result c.from_residual-in_err-append_end.ensures.1).1
     (subst Q (joined k c.args.checksum c.args.marks.now)
-    (out_before (g.W.Write.contents c.args.out.now) (g.W.Write.contents c.write_entries.new.out) (begin k c.args.checksum ++ own k) (end k c.args.marks.now) c.write_entries.new.text.items
+    (out_before (g.W.Write.contents c.args.out.now) (g.W.Write.contents c.write_entries.new.out)
+    (begin k c.args.checksum ++ own k) (end k c.args.marks.now) c.write_entries.new.text.items
     (subst P first c.in_ok-write_entries.ensures.ok)))
 
 pub returns-clause-ok : goal.returns-clause-ok
 unfolding begin own end
 returns-clause-ok g c =
     let k = contents c.args.state.now in
-    let first : c.append_begin.new.text.items ≡ begin k c.args.checksum = first_lines c.new-text.result.items c.append_begin.new.text.items (begin k c.args.checksum) c.new-text.ensures.items c.in_ok-append_begin.ensures in
-    let P : List ℕ → Type 0 = λ l. Passes (g.W.Write.contents c.args.out.now) (g.W.Write.contents c.write_entries.new.out) c.write_entries.new.text.items (l ++ own k) in
-    let Q : List ℕ → Type 0 = λ l. Appends (g.W.Write.contents c.write_entries.new.out) (g.W.Write.contents c.put_all.new.out) l in
-    let R : List ℕ → Type 0 = λ l. Appends (g.W.Write.contents c.args.out.now) (g.W.Write.contents c.put_all.new.out) l in
+    let first : c.append_begin.new.text.items ≡ begin k c.args.checksum = first_lines c.new-text.result.items
+    c.append_begin.new.text.items (begin k c.args.checksum) c.new-text.ensures.items c.in_ok-append_begin.ensures in
+    let P : List ℕ → Type 0 = λ l. Passes (g.W.Write.contents c.args.out.now)
+    (g.W.Write.contents c.write_entries.new.out) c.write_entries.new.text.items (l ++ own k) in
+    let Q : List ℕ → Type 0 =
+    λ l. Appends (g.W.Write.contents c.write_entries.new.out) (g.W.Write.contents c.put_all.new.out) l in
+    let R : List ℕ → Type 0 =
+    λ l. Appends (g.W.Write.contents c.args.out.now) (g.W.Write.contents c.put_all.new.out) l in
     on_ok_then c.put_all.result
-    (λ h. subst R (joined k c.args.checksum c.args.marks.now) (out_whole (g.W.Write.contents c.args.out.now) (g.W.Write.contents c.write_entries.new.out) (g.W.Write.contents c.put_all.new.out) (begin k c.args.checksum ++ own k) (end k c.args.marks.now) c.write_entries.new.text.items c.append_end.new.text.items
+    (λ h. subst R (joined k c.args.checksum c.args.marks.now) (out_whole (g.W.Write.contents c.args.out.now)
+    (g.W.Write.contents c.write_entries.new.out) (g.W.Write.contents c.put_all.new.out) (begin k c.args.checksum
+    ++ own k) (end k c.args.marks.now) c.write_entries.new.text.items c.append_end.new.text.items
     (subst P first c.in_ok-write_entries.ensures.ok) c.in_ok-append_end.ensures (subst Q c.as_slice.ensures.value h)))
     c.put_all.ensures.ok
 
@@ -72,11 +87,17 @@ pub returns-clause-err : goal.returns-clause-err
 unfolding begin own end
 returns-clause-err g c =
     let k = contents c.args.state.now in
-    let first : c.append_begin.new.text.items ≡ begin k c.args.checksum = first_lines c.new-text.result.items c.append_begin.new.text.items (begin k c.args.checksum) c.new-text.ensures.items c.in_ok-append_begin.ensures in
-    let P : List ℕ → Type 0 = λ l. Passes (g.W.Write.contents c.args.out.now) (g.W.Write.contents c.write_entries.new.out) c.write_entries.new.text.items (l ++ own k) in
-    let Q : List ℕ → Type 0 = λ l. AppendsPrefix (g.W.Write.contents c.write_entries.new.out) (g.W.Write.contents c.put_all.new.out) l in
-    let R : List ℕ → Type 0 = λ l. AppendsPrefix (g.W.Write.contents c.args.out.now) (g.W.Write.contents c.put_all.new.out) l in
+    let first : c.append_begin.new.text.items ≡ begin k c.args.checksum = first_lines c.new-text.result.items
+    c.append_begin.new.text.items (begin k c.args.checksum) c.new-text.ensures.items c.in_ok-append_begin.ensures in
+    let P : List ℕ → Type 0 = λ l. Passes (g.W.Write.contents c.args.out.now)
+    (g.W.Write.contents c.write_entries.new.out) c.write_entries.new.text.items (l ++ own k) in
+    let Q : List ℕ → Type 0 =
+    λ l. AppendsPrefix (g.W.Write.contents c.write_entries.new.out) (g.W.Write.contents c.put_all.new.out) l in
+    let R : List ℕ → Type 0 =
+    λ l. AppendsPrefix (g.W.Write.contents c.args.out.now) (g.W.Write.contents c.put_all.new.out) l in
     on_err_then c.put_all.result
-    (λ h. subst R (joined k c.args.checksum c.args.marks.now) (out_front (g.W.Write.contents c.args.out.now) (g.W.Write.contents c.write_entries.new.out) (g.W.Write.contents c.put_all.new.out) (begin k c.args.checksum ++ own k) (end k c.args.marks.now) c.write_entries.new.text.items c.append_end.new.text.items
+    (λ h. subst R (joined k c.args.checksum c.args.marks.now) (out_front (g.W.Write.contents c.args.out.now)
+    (g.W.Write.contents c.write_entries.new.out) (g.W.Write.contents c.put_all.new.out) (begin k c.args.checksum
+    ++ own k) (end k c.args.marks.now) c.write_entries.new.text.items c.append_end.new.text.items
     (subst P first c.in_ok-write_entries.ensures.ok) c.in_ok-append_end.ensures (subst Q c.as_slice.ensures.value h)))
     c.put_all.ensures.err

@@ -16,23 +16,28 @@ placed s p = separator p.0 ++ entry_value (record_in (storage_of s) p.1)
 
 -- the values of the entries are those of the records
 whole : (s : State) (text : List ℕ) (entries : List Entry) → entries ≡ entries_of s
-    → text ++ listed_as entry_value (record_in (storage_of s)) entries ≡ text ++ listed entry_value (records_in (storage_of s) (entries_of s))
+    → text ++ listed_as entry_value (record_in (storage_of s)) entries ≡ text
+    ++ listed entry_value (records_in (storage_of s) (entries_of s))
 whole s text entries all =
     ap (λ (xs : List Entry). text ++ listed_as entry_value (record_in (storage_of s)) xs) all
-    ∙ ap (λ (l : List ℕ). text ++ l) (placed_map (λ (p : ℕ × Record). separator p.0 ++ entry_value p.1) (record_in (storage_of s)) 0 (entries_of s))
+    ∙ ap (λ (l : List ℕ). text ++ l)
+    (placed_map (λ (p : ℕ × Record). separator p.0 ++ entry_value p.1) (record_in (storage_of s)) 0 (entries_of s))
 
 pub loop-place-preserved : goal.loop-place-preserved
 unfolding placed
 loop-place-preserved g c =
-    written_more (placed c.args.state.now) (g.W.Write.contents c.args.out.now) (g.W.Write.contents c.loop-place.out) (g.W.Write.contents c.put_block.new.out) c.args.text.now.items
-    c.entries-entry-items.result.now c.loop-place.place _ c.loop-place.text.items c.append_placed.new.text.items c.put_block.new.lines.items
-    (omega (arith, c.loop-place-test.true)) c.loop-place.invariant c.in_ok-append_placed.ensures c.in_ok-put_block.ensures.ok
+    written_more (placed c.args.state.now) (g.W.Write.contents c.args.out.now) (g.W.Write.contents c.loop-place.out)
+    (g.W.Write.contents c.put_block.new.out) c.args.text.now.items c.entries-entry-items.result.now c.loop-place.place _
+    c.loop-place.text.items c.append_placed.new.text.items c.put_block.new.lines.items
+    (omega (arith, c.loop-place-test.true)) c.loop-place.invariant c.in_ok-append_placed.ensures
+    c.in_ok-put_block.ensures.ok
 
 pub returns-in_err-append_placed-clause-err : goal.returns-in_err-append_placed-clause-err
 unfolding placed
 returns-in_err-append_placed-clause-err g c =
     rw (err_from_is_err_and c.from_residual.result c.from_residual.ensures.1).1
-    (front_before_entry (placed c.args.state.now) (g.W.Write.contents c.args.out.now) (g.W.Write.contents c.loop-place.out) c.args.text.now.items _
+    (front_before_entry (placed c.args.state.now) (g.W.Write.contents c.args.out.now)
+    (g.W.Write.contents c.loop-place.out) c.args.text.now.items _
     c.entries-entry-items.result.now c.loop-place.place c.loop-place.text.items c.loop-place.invariant
     (whole c.args.state.now c.args.text.now.items c.entries-entry-items.result.now c.entries-entry-items.ensures))
 
@@ -40,15 +45,18 @@ pub returns-in_err-put_block-clause-err : goal.returns-in_err-put_block-clause-e
 unfolding placed
 returns-in_err-put_block-clause-err g c =
     rw (err_from_is_err_and c.from_residual-in_err-put_block.result c.from_residual-in_err-put_block.ensures.1).1
-    (front_of_block (placed c.args.state.now) (g.W.Write.contents c.args.out.now) (g.W.Write.contents c.loop-place.out) (g.W.Write.contents c.put_block.new.out) c.args.text.now.items _
+    (front_of_block (placed c.args.state.now) (g.W.Write.contents c.args.out.now) (g.W.Write.contents c.loop-place.out)
+    (g.W.Write.contents c.put_block.new.out) c.args.text.now.items _
     c.entries-entry-items.result.now c.loop-place.place _ c.loop-place.text.items c.append_placed.new.text.items
-    (omega (arith, c.loop-place-test.true)) c.loop-place.invariant c.in_ok-append_placed.ensures c.in_err-put_block.ensures.err
+    (omega (arith, c.loop-place-test.true)) c.loop-place.invariant c.in_ok-append_placed.ensures
+    c.in_err-put_block.ensures.err
     (whole c.args.state.now c.args.text.now.items c.entries-entry-items.result.now c.entries-entry-items.ensures))
 
 pub returns-clause-ok : goal.returns-clause-ok
 unfolding placed
 returns-clause-ok g c =
-    written_all (placed c.args.state.now) (g.W.Write.contents c.args.out.now) (g.W.Write.contents c.loop-place.out) c.args.text.now.items _
+    written_all (placed c.args.state.now) (g.W.Write.contents c.args.out.now)
+    (g.W.Write.contents c.loop-place.out) c.args.text.now.items _
     c.entries-entry-items.result.now c.loop-place.place c.loop-place.text.items
     (omega (arith, c.loop-place-test.false)) c.loop-place.invariant
     (whole c.args.state.now c.args.text.now.items c.entries-entry-items.result.now c.entries-entry-items.ensures)

@@ -6,4 +6,5 @@ use Rattle.index_json.proofs.trees.+directories.Given as goal
 
 -- the directories before this one have their values
 abbrev pub invariant-append_directories-loop-place : goal.invariant-append_directories-loop-place
-invariant-append_directories-loop-place l = l.text.items ≡ l.fn.text.items ++ listed (λ t. tree_value (node_of t)) (take l.place l.trees)
+invariant-append_directories-loop-place l =
+    l.text.items ≡ l.fn.text.items ++ listed (λ t. tree_value (node_of t)) (take l.place l.trees)

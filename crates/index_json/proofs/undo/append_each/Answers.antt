@@ -9,7 +9,8 @@ loop-place-preserved c =
     listed_more path_value path_stages c.args.paths.now c.loop-place.place c.index-paths-place.result
     c.args.text.now.items c.loop-place.text.items c.append_separator.new.text.items c.append_path.new.text.items
     (omega (arith, c.loop-place-test.true)) c.loop-place.invariant c.in_ok-append_separator.ensures
-    (c.in_ok-append_path.ensures ∙ ap (λ p. c.append_separator.new.text.items ++ path_value (path_stages p)) c.index-paths-place.is)
+    (c.in_ok-append_path.ensures
+    ∙ ap (λ p. c.append_separator.new.text.items ++ path_value (path_stages p)) c.index-paths-place.is)
 
 pub returns : goal.returns
 returns c =

@@ -6,4 +6,5 @@ use Rattle.index_json.proofs.untracked.append_directories.Given as goal
 
 -- the directories before this one have their values
 abbrev pub invariant-loop-place : goal.invariant-loop-place
-invariant-loop-place l = l.text.items ≡ l.fn.text.items ++ listed_as cached_directory directory_value (take l.place l.directories)
+invariant-loop-place l = l.text.items ≡ l.fn.text.items
+    ++ listed_as cached_directory directory_value (take l.place l.directories)

@@ -5,5 +5,5 @@ use Rattle.index_json.proofs.untracked.append_exclude_files.Goals as goal
 pub returns : goal.returns
 unfolding exclude_members
 returns c = on_ok_then c.append_exclude_member-2.result
-    (λ h. two_more c.args.text.now.items c.append_exclude_member.new.text.items c.append_exclude_member-2.new.text.items _ _ c.in_ok-append_exclude_member.ensures h)
-    c.append_exclude_member-2.ensures
+    (λ h. two_more c.args.text.now.items c.append_exclude_member.new.text.items c.append_exclude_member-2.new.text.items
+    _ _ c.in_ok-append_exclude_member.ensures h) c.append_exclude_member-2.ensures

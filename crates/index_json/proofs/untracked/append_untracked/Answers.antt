@@ -7,6 +7,7 @@ use Rattle.index_json.proofs.untracked.append_untracked.Goals as goal
 pub returns : goal.returns
 unfolding member
 returns c = on_ok_then c.append_cache.result
-    (λ h. two_more c.args.text.now.items c.append_name.new.text.items c.append_cache.new.text.items _ _ c.in_ok-append_name.ensures
+    (λ h. two_more c.args.text.now.items c.append_name.new.text.items c.append_cache.new.text.items _ _
+    c.in_ok-append_name.ensures
     (h ∙ ap (λ o. c.append_name.new.text.items ++ untracked_or_null o) c.untracked.ensures))
     c.append_cache.ensures
