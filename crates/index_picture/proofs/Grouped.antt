@@ -1,5 +1,6 @@
 -- One part more behind groups.
-use Rattle.std.proofs.Common.{◌≡◌, ℕ, ◌+◌, ◌<◌, ◌≤◌, List, [], ◌∷◌, ◌++◌, Bool, true, false, length, take, get_or, refl, sym, ap, ◌∙◌, append_assoc, arith}
+use Rattle.std.proofs.Common.{◌≡◌, ℕ, ◌+◌, ◌<◌, ◌≤◌, List, [], ◌∷◌, ◌++◌, Bool, true, false, length, take, get_or, refl}
+use Rattle.std.proofs.Common.{sym, ap, ◌∙◌, append_assoc, arith}
 use Rattle.std.proofs.lemmas.List.{take_all, take_more}
 use Rattle.std.proofs.lemmas.Bool.{false≢true}
 use Rattle.std.specs.Prelude.{min}
@@ -42,7 +43,8 @@ together_as a b c e = ap (λ s. reaches_over s c) (sym (shade_kept (group_shade 
 
 stretched_twice : (x g z : Part) → stretched x (stretched g z) ≡ stretched (stretched x g) z
 stretched_twice x g z =
-    let e : min (x.len + min (g.len + z.len) 0xffffffffffffffff) 0xffffffffffffffff ≡ min (min (x.len + g.len) 0xffffffffffffffff + z.len) 0xffffffffffffffff = omega arith in
+    let e : min (x.len + min (g.len + z.len) 0xffffffffffffffff) 0xffffffffffffffff
+    ≡ min (min (x.len + g.len) 0xffffffffffffffff + z.len) 0xffffffffffffffff = omega arith in
     ap (λ (n : ℕ). record { offset = x.offset; len = n; what = x.what }) e
 
 two_more : (x g z : Part) (b c : Bool) → go_together x.what g.what ≡ b → go_together g.what z.what ≡ c
@@ -77,20 +79,23 @@ grown_last (a ∷ []) g z = refl
 grown_last (a ∷ b ∷ groups) g z = ap (λ (l : List Part). a ∷ l) (grown_last (b ∷ groups) g z)
 
 -- the last group reaches over one part more
-pub last_stretched : (groups : List Part) (g z : Part) → go_together g.what z.what ≡ true → groups ++ (stretched g z ∷ []) ≡ grown (groups ++ (g ∷ [])) z
+pub last_stretched : (groups : List Part) (g z : Part) → go_together g.what z.what ≡ true
+    → groups ++ (stretched g z ∷ []) ≡ grown (groups ++ (g ∷ [])) z
 last_stretched groups g z e =
     let one : grown (g ∷ []) z ≡ stretched g z ∷ [] = rw e refl in
     sym (grown_last groups g z ∙ ap (λ (l : List Part). groups ++ l) one)
 
 -- a part comes behind the last group
-pub last_apart : (groups : List Part) (g z : Part) → go_together g.what z.what ≡ false → (groups ++ (g ∷ [])) ++ (z ∷ []) ≡ grown (groups ++ (g ∷ [])) z
+pub last_apart : (groups : List Part) (g z : Part) → go_together g.what z.what ≡ false
+    → (groups ++ (g ∷ [])) ++ (z ∷ []) ≡ grown (groups ++ (g ∷ [])) z
 last_apart groups g z e =
     let two : grown (g ∷ []) z ≡ g ∷ z ∷ [] = rw e refl in
     append_assoc groups (g ∷ []) (z ∷ []) ∙ sym (grown_last groups g z ∙ ap (λ (l : List Part). groups ++ l) two)
 
 -- groups of parts up to a place, and of the next part too
 pub groups_more : (first : Part) (others : List Part) (i : ℕ) (d : Part) (old new : List Part) → i < length others
-    → old ≡ grouped (first ∷ take i others) → new ≡ grown old (get_or others i d) → new ≡ grouped (first ∷ take (i + 1) others)
+    → old ≡ grouped (first ∷ take i others) → new ≡ grown old (get_or others i d)
+    → new ≡ grouped (first ∷ take (i + 1) others)
 groups_more first others i d old new lt before step =
     step ∙ ap (λ (l : List Part). grown l (get_or others i d)) before
     ∙ sym (grouped_more (first ∷ take i others) (get_or others i d))
@@ -99,4 +104,5 @@ groups_more first others i d old new lt before step =
 -- groups of all
 pub groups_all : (first : Part) (others : List Part) (i : ℕ) (old new : List Part) → length others ≤ i
     → old ≡ grouped (first ∷ take i others) → new ≡ old → new ≡ grouped (first ∷ others)
-groups_all first others i old new le before e = e ∙ before ∙ ap (λ (l : List Part). grouped (first ∷ l)) (take_all i others le)
+groups_all first others i old new le before e =
+    e ∙ before ∙ ap (λ (l : List Part). grouped (first ∷ l)) (take_all i others le)

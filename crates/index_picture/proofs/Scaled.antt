@@ -14,9 +14,12 @@ scaled_inside len offset = div-le_of_le-mul len (mul-le-mul_right 8800 (omega ar
 
 divided_rises : (k a b : ℕ) → a ≤ b → a / k ≤ b / k
 divided_rises zero a b le = omega (arith, div-zero a, div-zero b)
-divided_rises (suc n) a b le = (le-div_iff_mul-le {k = suc n} {x = a / suc n} {y = b} (omega arith)).1 (omega (arith, div-mul-le_self a (suc n), le))
+divided_rises (suc n) a b le =
+    (le-div_iff_mul-le {k = suc n} {x = a / suc n} {y = b} (omega arith)).1
+    (omega (arith, div-mul-le_self a (suc n), le))
 
 -- what stands further on in a file stands no less far in its bar
 pub scaled_rises : (len a b : ℕ) → a ≤ b → scaled len a ≤ scaled len b
 unfolding scaled
-scaled_rises len a b le = divided_rises len (min a len * 8800) (min b len * 8800) (mul-le-mul_right 8800 (omega (arith, le)))
+scaled_rises len a b le =
+    divided_rises len (min a len * 8800) (min b len * 8800) (mul-le-mul_right 8800 (omega (arith, le)))

@@ -16,7 +16,8 @@ piece_more old a b x y e f = f ∙ ap (λ (l : List ℕ). l ++ y) e ∙ append_a
 
 -- two that come at once
 pub pair_more : (old a b x y z : List ℕ) → a ≡ old ++ x → b ≡ a ++ (y ++ z) → b ≡ old ++ ((x ++ y) ++ z)
-pair_more old a b x y z e f = piece_more old a b x (y ++ z) e f ∙ ap (λ (l : List ℕ). old ++ l) (sym (append_assoc x y z))
+pair_more old a b x y z e f =
+    piece_more old a b x (y ++ z) e f ∙ ap (λ (l : List ℕ). old ++ l) (sym (append_assoc x y z))
 
 -- a piece, and a number behind it
 pub number_is : (old a x : List ℕ) (m n : ℕ) → m ≡ n → a ≡ old ++ (x ++ decimal m) → a ≡ old ++ (x ++ decimal n)

@@ -1,5 +1,7 @@
--- A picture to scale of the parts of a file (the library's own; Scalable Vector Graphics 1.1). Lengths are tenths of a pixel.
-use Rattle.std.specs.Prelude.{ℕ, ◌+◌, ◌*◌, nat_le, Bool, true, false, List, [], ◌++◌, codes, decimal, length, if◌then◌else◌}
+-- A picture to scale of the parts of a file (the library's own; Scalable Vector Graphics 1.1). Lengths are tenths
+-- of a pixel.
+use Rattle.std.specs.Prelude.{ℕ, ◌+◌, ◌*◌, nat_le, Bool, true, false, List, [], ◌++◌, codes, decimal, length}
+use Rattle.std.specs.Prelude.{if◌then◌else◌}
 use Rattle.std.specs.List.{flat_map}
 use Rattle.gix_index.specs.Record.{Record}
 use Rattle.index_inspect.specs.Escaped.{escaped}
@@ -80,7 +82,8 @@ title_text =
 -- how many bytes, parts and entries there are; and the bar's begin
 unfoldable pub totals : ℕ → ℕ → ℕ → List ℕ
 totals bytes parts entries =
-    codes "<text x=\"9200\" y=\"440\" text-anchor=\"end\" fill=\"#5f6368\">bytes: " ++ decimal bytes ++ codes ", parts: " ++ decimal parts
+    codes "<text x=\"9200\" y=\"440\" text-anchor=\"end\" fill=\"#5f6368\">bytes: " ++ decimal bytes
+    ++ codes ", parts: " ++ decimal parts
     ++ codes ", entries: " ++ decimal entries
     ++ codes "</text>\n<g transform=\"translate(400 640)\" stroke=\"#202124\" stroke-width=\"4\">\n"
 
@@ -93,16 +96,18 @@ bar_end bytes =
 -- the names of the columns
 unfoldable pub list_begin : List ℕ
 list_begin =
-    codes "<text y=\"2480\" xml:space=\"preserve\"><tspan x=\"1500\" text-anchor=\"end\" fill=\"#5f6368\">offset</tspan>"
+    codes
+    "<text y=\"2480\" xml:space=\"preserve\"><tspan x=\"1500\" text-anchor=\"end\" fill=\"#5f6368\">offset</tspan>"
     ++ codes "<tspan x=\"2700\" text-anchor=\"end\" fill=\"#5f6368\">length</tspan><tspan x=\"3000\" fill=\"#5f6368\">what</tspan>\n"
 
 unfoldable pub svg_end : List ℕ
 svg_end = codes "</text>\n</svg>\n"
 
--- A picture with these boxes, each for a part or for a group: what stands before the boxes, the boxes, what stands between them
--- and the rows, the rows, and the end.
+-- A picture with these boxes, each for a part or for a group: what stands before the boxes, the boxes, what stands
+-- between them and the rows, the rows, and the end.
 abbrev pub front_text : List Record → List Part → List Part → List ℕ
-front_text rs parts boxes = svg_begin (height (length boxes)) ++ title_text ++ totals (drawn_len parts) (length parts) (length rs)
+front_text rs parts boxes =
+    svg_begin (height (length boxes)) ++ title_text ++ totals (drawn_len parts) (length parts) (length rs)
 
 abbrev pub middle_text : Bool → List Part → List ℕ
 middle_text each parts = bar_end (drawn_len parts) ++ legend each ++ list_begin
@@ -114,4 +119,5 @@ drawing each rs parts boxes =
 
 -- at most 64 parts are drawn part by part, more of them by groups
 abbrev pub picture_text : List Record → List Part → List ℕ
-picture_text rs parts = if nat_le (length parts) 64 then drawing true rs parts parts else drawing false rs parts (grouped parts)
+picture_text rs parts = if nat_le (length parts) 64 then drawing true rs parts parts
+    else drawing false rs parts (grouped parts)

@@ -7,4 +7,5 @@ unfolding list_begin
 returns c =
     let old = c.args.lines.now.items in
     let first = c.in_ok-append_piece.ensures in
-    on_ok_then c.append_piece-2.result (λ h. piece_more old c.append_piece.new.lines.items c.append_piece-2.new.lines.items _ _ first h) c.append_piece-2.ensures
+    on_ok_then c.append_piece-2.result (λ h. piece_more old c.append_piece.new.lines.items
+    c.append_piece-2.new.lines.items _ _ first h) c.append_piece-2.ensures

@@ -20,9 +20,15 @@ returns c =
     let x = codes "<rect x=\"" ++ decimal begin in
     let y = codes "\" width=\"" in
     let z = codes "\" height=\"600\" fill=\"" in
-    let first : a ≡ old ++ x = number_is old a (codes "<rect x=\"") c.box_begin.result begin c.box_begin.ensures c.in_ok-append_number.ensures in
-    let second : b ≡ a ++ (y ++ decimal width) = number_is a b y c.box_width.result width c.box_width.ensures c.in_ok-append_number-2.ensures in
+    let first : a ≡ old ++ x =
+    number_is old a (codes "<rect x=\"") c.box_begin.result begin c.box_begin.ensures c.in_ok-append_number.ensures in
+    let second : b ≡ a ++ (y ++ decimal width) =
+    number_is a b y c.box_width.result width c.box_width.ensures c.in_ok-append_number-2.ensures in
     let sized : b ≡ old ++ ((x ++ y) ++ decimal width) = pair_more old a b x y (decimal width) first second in
-    let third : d ≡ old ++ (((x ++ y) ++ decimal width) ++ z) = piece_more old b d ((x ++ y) ++ decimal width) z sized c.in_ok-append_piece.ensures in
-    let fourth : e ≡ old ++ ((((x ++ y) ++ decimal width) ++ z) ++ colour) = piece_more old d e (((x ++ y) ++ decimal width) ++ z) colour third (piece_is d e c.ink.result.now colour (c.ink.ensures ∙ ap ink c.shade_of.ensures) c.in_ok-append_piece-2.ensures) in
-    on_ok_then c.append_piece-3.result (λ h. piece_more old e c.append_piece-3.new.lines.items ((((x ++ y) ++ decimal width) ++ z) ++ colour) (codes "\">") fourth h) c.append_piece-3.ensures
+    let third : d ≡ old ++ (((x ++ y) ++ decimal width) ++ z) =
+    piece_more old b d ((x ++ y) ++ decimal width) z sized c.in_ok-append_piece.ensures in
+    let fourth : e ≡ old ++ ((((x ++ y) ++ decimal width) ++ z) ++ colour) =
+    piece_more old d e (((x ++ y) ++ decimal width) ++ z) colour third
+    (piece_is d e c.ink.result.now colour (c.ink.ensures ∙ ap ink c.shade_of.ensures) c.in_ok-append_piece-2.ensures) in
+    on_ok_then c.append_piece-3.result (λ h. piece_more old e c.append_piece-3.new.lines.items
+    ((((x ++ y) ++ decimal width) ++ z) ++ colour) (codes "\">") fourth h) c.append_piece-3.ensures

@@ -7,5 +7,7 @@ unfolding svg_begin
 returns c =
     let old = c.args.lines.now.items in
     let first = c.in_ok-append_number.ensures in
-    let second = pair_more old c.append_number.new.lines.items c.append_number-2.new.lines.items _ _ _ first c.in_ok-append_number-2.ensures in
-    on_ok_then c.append_piece.result (λ h. piece_more old c.append_number-2.new.lines.items c.append_piece.new.lines.items _ _ second h) c.append_piece.ensures
+    let second = pair_more old c.append_number.new.lines.items c.append_number-2.new.lines.items _ _ _ first
+    c.in_ok-append_number-2.ensures in
+    on_ok_then c.append_piece.result (λ h. piece_more old c.append_number-2.new.lines.items
+    c.append_piece.new.lines.items _ _ second h) c.append_piece.ensures
