@@ -12,7 +12,8 @@ slash = 47
 
 -- id in base 16, space, number of entries or -1, tab, path, newline
 abbrev pub directory_line : List ℕ → ObjectId → Option ℕ → List ℕ
-directory_line path id count = encode_lower (id_bytes id) ++ (space ∷ []) ++ count_bytes count ++ (tab ∷ []) ++ path ++ (newline ∷ [])
+directory_line path id count =
+    encode_lower (id_bytes id) ++ (space ∷ []) ++ count_bytes count ++ (tab ∷ []) ++ path ++ (newline ∷ [])
 
 -- what stands before the names in a directory with this path: the path and a slash, and nothing in the root
 abbrev pub front_of : List ℕ → List ℕ
@@ -21,7 +22,8 @@ front_of path = if length path == 0 then [] else path ++ (slash ∷ [])
 abbrev mutual
   -- the lines of a directory whose name stands behind a front, and of all below it, in preorder
   pub subtree_lines : List ℕ → Node → List ℕ
-  subtree_lines front (node name id count children) = directory_line (front ++ name) id count ++ all_subtree_lines (front_of (front ++ name)) children
+  subtree_lines front (node name id count children) =
+      directory_line (front ++ name) id count ++ all_subtree_lines (front_of (front ++ name)) children
 
   pub all_subtree_lines : List ℕ → Nodes → List ℕ
   all_subtree_lines front none = []

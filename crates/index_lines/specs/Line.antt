@@ -21,11 +21,13 @@ digit_character n = 48 + n
 
 -- the six last octal digits of a mode
 abbrev pub mode_digits : ℕ → List ℕ
-mode_digits n = digit_character (n / 8 ^ 5 % 8) ∷ digit_character (n / 8 ^ 4 % 8) ∷ digit_character (n / 8 ^ 3 % 8) ∷ digit_character (n / 8 ^ 2 % 8) ∷ digit_character (n / 8 % 8) ∷ digit_character (n % 8) ∷ []
+mode_digits n = digit_character (n / 8 ^ 5 % 8) ∷ digit_character (n / 8 ^ 4 % 8) ∷ digit_character (n / 8 ^ 3 % 8)
+    ∷ digit_character (n / 8 ^ 2 % 8) ∷ digit_character (n / 8 % 8) ∷ digit_character (n % 8) ∷ []
 
 -- mode, space, id in base 16, space, stage, tab, path, newline
 abbrev pub line_of_parts : ℕ → List ℕ → ℕ → List ℕ → List ℕ
-line_of_parts mode id stage path = mode_digits mode ++ (space ∷ []) ++ encode_lower id ++ (space ∷ digit_character stage ∷ tab ∷ []) ++ path ++ (newline ∷ [])
+line_of_parts mode id stage path = mode_digits mode ++ (space ∷ []) ++ encode_lower id
+    ++ (space ∷ digit_character stage ∷ tab ∷ []) ++ path ++ (newline ∷ [])
 
 abbrev pub line_of : Record → List ℕ
 line_of r = line_of_parts r.mode (id_bytes r.id) (stage_number r.flags) r.path

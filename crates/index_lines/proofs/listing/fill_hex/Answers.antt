@@ -7,7 +7,9 @@ use Rattle.index_lines.proofs.listing.fill_hex.Goals as goal
 pub pairs-preserved : goal.pairs-preserved
 pairs-preserved c =
     let byte : ℕ = slice_index c.args.bytes.now c.pairs.i in
-    encode_step lower_digits c.args.bytes.now c.pairs.digits c.pairs.i _ _ (omega arith) (omega arith) c.hex_digit.ensures (c.hex_digit-in-pairs.ensures ∙ ap (λ (k : ℕ). slice_index lower_digits k) (and_mask byte 4)) c.pairs.invariant
+    encode_step lower_digits c.args.bytes.now c.pairs.digits c.pairs.i _ _ (omega arith)
+    (omega arith) c.hex_digit.ensures
+    (c.hex_digit-in-pairs.ensures ∙ ap (λ (k : ℕ). slice_index lower_digits k) (and_mask byte 4)) c.pairs.invariant
 
 pub returns : goal.returns
 returns c = encode_done _ _ _ c.pairs.i (omega arith) (omega arith) c.pairs.invariant

@@ -22,39 +22,58 @@ on_err_then (Err e) f p = f p
 
 -- the lines of the entries are those of the records
 lines_of : (s : State) (entries : List Entry) → entries ≡ entries_of s
-    → flat_map (λ e. line_of (record_in (storage_of s) e)) entries ≡ flat_map line_of (records_in (storage_of s) (entries_of s))
+    → flat_map (λ e. line_of (record_in (storage_of s) e)) entries
+    ≡ flat_map line_of (records_in (storage_of s) (entries_of s))
 lines_of s entries all =
-    ap (flat_map (λ e. line_of (record_in (storage_of s) e))) all ∙ sym (flat_map-map line_of (record_in (storage_of s)) (entries_of s))
+    ap (flat_map (λ e. line_of (record_in (storage_of s) e))) all
+    ∙ sym (flat_map-map line_of (record_in (storage_of s)) (entries_of s))
 
 pub loop-entry-preserved : goal.loop-entry-preserved
 loop-entry-preserved g c =
     let f : Entry → List ℕ = λ e. line_of (record_in (storage_of c.args.state.now) e) in
-    listed_more f _ _ _ c.entries-entry-items.result.now c.loop-entry.entry-index _ _ _ _ _ _ c.loop-entry-test.true c.loop-entry.invariant.1 c.loop-entry.invariant.2 c.in_ok-append_line.ensures c.in_ok-put_block.ensures.ok.1 c.in_ok-put_block.ensures.ok.2
+    listed_more f _ _ _ c.entries-entry-items.result.now c.loop-entry.entry-index _ _ _ _ _ _ c.loop-entry-test.true
+    c.loop-entry.invariant.1 c.loop-entry.invariant.2 c.in_ok-append_line.ensures c.in_ok-put_block.ensures.ok.1
+    c.in_ok-put_block.ensures.ok.2
 
 pub returns-in_err-append_line-clause-err : goal.returns-in_err-append_line-clause-err
 returns-in_err-append_line-clause-err g c =
     let f : Entry → List ℕ = λ e. line_of (record_in (storage_of c.args.state.now) e) in
-    let P : List ℕ → Type 0 = λ t. AppendsPrefix (g.W.Write.contents c.args.out.now) (g.W.Write.contents c.loop-entry.out) t in
-    let front = front_before_line f _ _ c.entries-entry-items.result.now c.loop-entry.entry-index _ _ c.loop-entry.invariant.1 c.loop-entry.invariant.2 in
-    rw (err_from_is_err_and c.from_residual-in_err-append_line.result c.from_residual-in_err-append_line.ensures.1).1 (subst P (lines_of c.args.state.now _ c.entries-entry-items.ensures) front)
+    let P : List ℕ → Type 0 =
+    λ t. AppendsPrefix (g.W.Write.contents c.args.out.now) (g.W.Write.contents c.loop-entry.out) t in
+    let front = front_before_line f _ _ c.entries-entry-items.result.now c.loop-entry.entry-index _ _
+    c.loop-entry.invariant.1 c.loop-entry.invariant.2 in
+    rw (err_from_is_err_and c.from_residual-in_err-append_line.result c.from_residual-in_err-append_line.ensures.1).1
+    (subst P (lines_of c.args.state.now _ c.entries-entry-items.ensures) front)
 
 pub returns-in_err-put_block-clause-err : goal.returns-in_err-put_block-clause-err
 returns-in_err-put_block-clause-err g c =
     let f : Entry → List ℕ = λ e. line_of (record_in (storage_of c.args.state.now) e) in
-    let P : List ℕ → Type 0 = λ t. AppendsPrefix (g.W.Write.contents c.args.out.now) (g.W.Write.contents c.put_block.new.out) t in
-    let front = front_of_block f _ _ _ c.entries-entry-items.result.now c.loop-entry.entry-index _ _ _ _ c.loop-entry-test.true c.loop-entry.invariant.1 c.loop-entry.invariant.2 c.in_ok-append_line.ensures c.in_err-put_block.ensures.err in
-    rw (err_from_is_err_and c.from_residual-in_err-put_block.result c.from_residual-in_err-put_block.ensures.1).1 (subst P (lines_of c.args.state.now _ c.entries-entry-items.ensures) front)
+    let P : List ℕ → Type 0 =
+    λ t. AppendsPrefix (g.W.Write.contents c.args.out.now) (g.W.Write.contents c.put_block.new.out) t in
+    let front = front_of_block f _ _ _ c.entries-entry-items.result.now c.loop-entry.entry-index _ _ _ _
+    c.loop-entry-test.true c.loop-entry.invariant.1 c.loop-entry.invariant.2 c.in_ok-append_line.ensures
+    c.in_err-put_block.ensures.err in
+    rw (err_from_is_err_and c.from_residual-in_err-put_block.result c.from_residual-in_err-put_block.ensures.1).1
+    (subst P (lines_of c.args.state.now _ c.entries-entry-items.ensures) front)
 
 pub returns-clause-ok : goal.returns-clause-ok
 returns-clause-ok g c =
     let f : Entry → List ℕ = λ e. line_of (record_in (storage_of c.args.state.now) e) in
-    let P : List ℕ → Type 0 = λ t. Appends (g.W.Write.contents c.args.out.now) (g.W.Write.contents c.put_all.new.out) t in
-    let Q : List ℕ → Type 0 = λ t. Appends (g.W.Write.contents c.loop-entry.out) (g.W.Write.contents c.put_all.new.out) t in
-    on_ok_then c.put_all.result (λ h. subst P (lines_of c.args.state.now _ c.entries-entry-items.ensures) (listed_all f _ _ _ c.entries-entry-items.result.now c.loop-entry.entry-index _ _ c.loop-entry-test.false c.loop-entry.invariant.1 c.loop-entry.invariant.2 (subst Q c.as_slice.ensures.value h))) c.put_all.ensures.ok
+    let P : List ℕ → Type 0 =
+    λ t. Appends (g.W.Write.contents c.args.out.now) (g.W.Write.contents c.put_all.new.out) t in
+    let Q : List ℕ → Type 0 =
+    λ t. Appends (g.W.Write.contents c.loop-entry.out) (g.W.Write.contents c.put_all.new.out) t in
+    on_ok_then c.put_all.result (λ h. subst P (lines_of c.args.state.now _ c.entries-entry-items.ensures)
+    (listed_all f _ _ _ c.entries-entry-items.result.now c.loop-entry.entry-index _ _ c.loop-entry-test.false
+    c.loop-entry.invariant.1 c.loop-entry.invariant.2 (subst Q c.as_slice.ensures.value h))) c.put_all.ensures.ok
 
 pub returns-clause-err : goal.returns-clause-err
 returns-clause-err g c =
     let f : Entry → List ℕ = λ e. line_of (record_in (storage_of c.args.state.now) e) in
-    let P : List ℕ → Type 0 = λ t. AppendsPrefix (g.W.Write.contents c.args.out.now) (g.W.Write.contents c.put_all.new.out) t in
-    let Q : List ℕ → Type 0 = λ t. AppendsPrefix (g.W.Write.contents c.loop-entry.out) (g.W.Write.contents c.put_all.new.out) t in
-    on_err_then c.put_all.result (λ h. subst P (lines_of c.args.state.now _ c.entries-entry-items.ensures) (front_of_rest f _ _ _ c.entries-entry-items.result.now c.loop-entry.entry-index _ _ c.loop-entry.invariant.1 c.loop-entry.invariant.2 (subst Q c.as_slice.ensures.value h))) c.put_all.ensures.err
+    let P : List ℕ → Type 0 =
+    λ t. AppendsPrefix (g.W.Write.contents c.args.out.now) (g.W.Write.contents c.put_all.new.out) t in
+    let Q : List ℕ → Type 0 =
+    λ t. AppendsPrefix (g.W.Write.contents c.loop-entry.out) (g.W.Write.contents c.put_all.new.out) t in
+    on_err_then c.put_all.result (λ h. subst P (lines_of c.args.state.now _ c.entries-entry-items.ensures)
+    (front_of_rest f _ _ _ c.entries-entry-items.result.now c.loop-entry.entry-index _ _ c.loop-entry.invariant.1
+    c.loop-entry.invariant.2 (subst Q c.as_slice.ensures.value h))) c.put_all.ensures.err

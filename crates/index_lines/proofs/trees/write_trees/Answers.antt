@@ -11,5 +11,8 @@ on_err_then (Err e) f p = f p
 
 pub returns-clause-err : goal.returns-clause-err
 returns-clause-err g c =
-    let Q : List ℕ → Type 0 = λ l. AppendsPrefix (g.W.Write.contents c.append_directory.new.out) (g.W.Write.contents c.put_all.new.out) l in
-    on_err_then c.put_all.result (λ h. front_of_last (node_of c.args.tree.now) c.new-lines.ensures.items c.new-front.ensures.items c.in_ok-append_directory.ensures.lines (subst Q c.as_slice.ensures.value h)) c.put_all.ensures.err
+    let Q : List ℕ → Type 0 =
+    λ l. AppendsPrefix (g.W.Write.contents c.append_directory.new.out) (g.W.Write.contents c.put_all.new.out) l in
+    on_err_then c.put_all.result
+    (λ h. front_of_last (node_of c.args.tree.now) c.new-lines.ensures.items c.new-front.ensures.items
+    c.in_ok-append_directory.ensures.lines (subst Q c.as_slice.ensures.value h)) c.put_all.ensures.err
