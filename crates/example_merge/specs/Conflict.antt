@@ -6,7 +6,8 @@ use Rattle.example_merge.specs.declared.conflict.Side.{Side}
 
 -- the record of one side of a conflict: its flags have the stage, in bits 12 and 13, and nothing else
 abbrev pub stage_of : List ℕ → ℕ → Side → Record
-stage_of path stage side = record { path = path; stat = side.stat; id = side.id; flags = stage * 4096; mode = side.mode.0 }
+stage_of path stage side =
+    record { path = path; stat = side.stat; id = side.id; flags = stage * 4096; mode = side.mode.0 }
 
 -- the records of a path in conflict
 abbrev pub stages : List ℕ → Side → Side → Side → List Record

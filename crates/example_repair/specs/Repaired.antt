@@ -16,7 +16,8 @@ use Rattle.gix_index.specs.WriteOptions.{Options}
 -- Bytes that say of an index what a file keeps of it: their one answer, to each reader of the index's kind that has no
 -- limit and expects no id, is that value, with the trailer that they were written with.
 abbrev pub ReadsAs : Contents → Options → List ℕ → Type 0
-ReadsAs v options bytes = (time : FileTime) (reading : Reading) (a : Answer) → TakesAll reading → IsAnswer v.kind time reading bytes a
+ReadsAs v options bytes = (time : FileTime) (reading : Reading) (a : Answer) → TakesAll reading
+    → IsAnswer v.kind time reading bytes a
     → a ≡ Ok (expected v options time, trailer_checksum v.kind (trailer v options))
 
 -- a fault's name

@@ -16,14 +16,16 @@ total : IsTotalOrder record_cmp
 total = then_total (on_total (λ (r : Record). r.path) nat_list_cmp_total) (on_total record_stage nat_cmp_total)
 
 one_path : (r q : Record) → record_cmp r q ≡ Equal → r.path ≡ q.path
-one_path r q h = ap (λ (p : List ℕ × ℕ). p.0) (exact_pairs (slice_cmp nat_cmp) nat_cmp exact_bytes exact_unsigned (r.path, record_stage r) (q.path, record_stage q) h)
+one_path r q h = ap (λ (p : List ℕ × ℕ). p.0) (exact_pairs (slice_cmp nat_cmp) nat_cmp exact_bytes exact_unsigned
+    (r.path, record_stage r) (q.path, record_stage q) h)
 
 neither_less : (o p : Ordering) → p ≡ ordering_reverse o → p ≢ Less → is_lt o ≡ false → p ≡ Equal
 neither_less Less p e h k = absurd (true≢false k)
 neither_less Equal p e h k = e
 neither_less Greater p e h k = absurd (h e)
 
-pub fallen : (rs : List Record) (place : ℕ) → IsOrdered rs → IsFall rs place → (d : Record) → (slice_index_or rs (place - 1) d).path ≡ (slice_index_or rs place d).path
+pub fallen : (rs : List Record) (place : ℕ) → IsOrdered rs → IsFall rs place → (d : Record)
+    → (slice_index_or rs (place - 1) d).path ≡ (slice_index_or rs place d).path
 fallen rs place ordered fall d =
     let behind = fall.behind_one in
     let e : (place - 1) + 1 ≡ place = omega (arith, behind) in
@@ -31,4 +33,5 @@ fallen rs place ordered fall d =
     let r = slice_index_or rs (place - 1) d in
     let q = slice_index_or rs place d in
     one_path r q (neither_less (record_cmp q r) (record_cmp r q) (total.antisymm r q) (fall.falls d)
-    (ap (λ k. is_lt (record_cmp (slice_index_or rs k d) (slice_index_or rs (place - 1) d))) (sym e) ∙ ordered (place - 1) d (omega arith) inside))
+    (ap (λ k. is_lt (record_cmp (slice_index_or rs k d) (slice_index_or rs (place - 1) d))) (sym e)
+    ∙ ordered (place - 1) d (omega arith) inside))

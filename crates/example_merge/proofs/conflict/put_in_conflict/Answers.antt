@@ -9,8 +9,10 @@ use Rattle.example_merge.proofs.conflict.put_in_conflict.Goals as goal
 pub returns-clause-exactly : goal.returns-clause-exactly
 returns-clause-exactly c =
     let path = c.args.path.now in
-    let pushed = three_pushed (records c.remove_path.new.state) (records c.push_side.new.state) (records c.push_side-2.new.state) (records c.push_side-3.new.state)
+    let pushed = three_pushed (records c.remove_path.new.state) (records c.push_side.new.state)
+    (records c.push_side-2.new.state) (records c.push_side-3.new.state)
     (stage_of path 1 c.args.base) (stage_of path 2 c.args.ours) (stage_of path 3 c.args.theirs)
     c.in_ok-push_side.ensures.pushed c.in_ok-push_side-2.ensures.pushed c.in_ok-push_side-3.ensures.pushed in
     let P : List Record → Type 0 = λ l. IsPermutation l (records c.sort_entries.new.self) in
-    on_ok c.sort_entries.result (subst P (rw (sym c.remove_path.ensures.others) pushed) c.sort_entries.ensures.permutation)
+    on_ok c.sort_entries.result
+    (subst P (rw (sym c.remove_path.ensures.others) pushed) c.sort_entries.ensures.permutation)

@@ -10,9 +10,12 @@ use Rattle.gix_index.specs.State.{entries_of, storage_of}
 use Rattle.example_merge.proofs.Removals.{left_by_path, records_left}
 use Rattle.example_merge.proofs.conflict.remove_path.Goals as goal
 
-entries_left : (c : goal.After-remove_entries) → entries_of c.remove_entries.new.self ≡ filter (λ e. not (bytes_eq (record_in (storage_of c.args.state.now) e).path c.args.path.now)) (entries_of c.args.state.now)
+entries_left : (c : goal.After-remove_entries) → entries_of c.remove_entries.new.self
+    ≡ filter (λ e. not (bytes_eq (record_in (storage_of c.args.state.now) e).path c.args.path.now))
+    (entries_of c.args.state.now)
 entries_left c = let removed = c.remove_entries.ensures.removed in
-    left_by_path _ (storage_of c.args.state.now) (λ p. bytes_eq p c.args.path.now) _ (λ i p e b e' g k. search rules) _ _ removed.0 removed.1
+    left_by_path _ (storage_of c.args.state.now) (λ p. bytes_eq p c.args.path.now) _
+    (λ i p e b e' g k. search rules) _ _ removed.0 removed.1
 
 pub returns-clause-others : goal.returns-clause-others
 returns-clause-others c =
@@ -23,4 +26,5 @@ returns-clause-others c =
 pub returns-clause-placed : goal.returns-clause-placed
 returns-clause-placed c =
     let test = λ (e : Entry). not (bytes_eq (record_in (storage_of c.args.state.now) e).path c.args.path.now) in
-    rw (entries_left c, c.remove_entries.ensures.storage) (All-filter test (IsPlaced (length (storage_of c.args.state.now))) (entries_of c.args.state.now) c.requires)
+    rw (entries_left c, c.remove_entries.ensures.storage)
+    (All-filter test (IsPlaced (length (storage_of c.args.state.now))) (entries_of c.args.state.now) c.requires)

@@ -12,8 +12,10 @@ use Rattle.gix_index.specs.State.{contents}
 use Rattle.example_repair.proofs.again.written_again.Goals as goal
 
 only_answer : (kind : Kind) (time : FileTime) (reading : Options) (bytes image : List ℕ) (a b : Answer) → bytes ≡ image
-    → ((x y : Answer) → IsAnswer kind time reading bytes x → IsAnswer kind time reading bytes y → x ≡ y) → IsAnswer kind time reading bytes a → IsAnswer kind time reading image b → a ≡ b
-only_answer kind time reading bytes image a b e one h k = one a b h (subst (λ l. IsAnswer kind time reading l b) (sym e) k)
+    → ((x y : Answer) → IsAnswer kind time reading bytes x → IsAnswer kind time reading bytes y → x ≡ y)
+    → IsAnswer kind time reading bytes a → IsAnswer kind time reading image b → a ≡ b
+only_answer kind time reading bytes image a b e one h k =
+    one a b h (subst (λ l. IsAnswer kind time reading l b) (sym e) k)
 
 pub returns-in-None : goal.returns-in-None
 returns-in-None c = λ time reading a takes is.
@@ -23,11 +25,13 @@ returns-in-None c = λ time reading a takes is.
     let kind : c.object_hash.result ≡ v.kind = search rules in
     let unmarked = subst (λ m. IsMarker c.object_hash.result c.deref.result.now m) c.in-None.is c.decode.ensures in
     let marker : IsMarker v.kind (image v options) None =
-    subst (λ k. IsMarker k (image v options) None) kind (subst (λ l. IsMarker c.object_hash.result l None) (c.deref.ensures.value ∙ bytes) unmarked) in
+    subst (λ k. IsMarker k (image v options) None) kind
+    (subst (λ l. IsMarker c.object_hash.result l None) (c.deref.ensures.value ∙ bytes) unmarked) in
     let faithful : IsFaithful v options = record {
       storable = c.requires.storable;
       writable = c.in-Ok.ensures.writable;
       unmistakable = λ _ _. marker;
     } in
-    only_answer v.kind time reading c.write_to.new.out.inner.items (image v options) a _ bytes (c.one_answer.ensures.one v.kind time reading c.write_to.new.out.inner.items)
+    only_answer v.kind time reading c.write_to.new.out.inner.items (image v options) a _ bytes
+    (c.one_answer.ensures.one v.kind time reading c.write_to.new.out.inner.items)
     is (c.written_reads_back.ensures v options time reading faithful takes)
