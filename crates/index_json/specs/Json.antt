@@ -1,11 +1,10 @@
 -- All that an index file holds, as one JSON text on one line (the library's own; the text is that of RFC 8259).
 use Rattle.std.specs.Prelude.{List, ℕ, ◌++◌, codes, Option}
 use Rattle.gix_index.specs.Contents.{Contents}
+use Rattle.gix_index.specs.EntryImage.{version_code}
 use Rattle.gix_index.specs.Outcome.{Outcome}
 use Rattle.gix_index.specs.ObjectId.{ObjectId}
 use Rattle.gix_index.specs.Record.{Record}
-use Rattle.gix_index.specs.Version.{Version}
-use Rattle.gix_index.specs.Version.TheVariants.{V2, V3, V4}
 use Rattle.index_inspect.specs.declared.marks.Marks.{Marks}
 use Rattle.index_json.specs.BitmapValues.{link_or_null, monitor_or_null}
 use Rattle.index_json.specs.EntryValues.{entry_value}
@@ -15,15 +14,10 @@ use Rattle.index_json.specs.UndoValues.{undo_or_null}
 use Rattle.index_json.specs.UntrackedValues.{untracked_or_null}
 use Rattle.index_json.specs.Values.{id_or_null, json_bool, listed, member, number_member}
 
-abbrev pub version_value : Version → ℕ
-version_value V2 = 2
-version_value V3 = 3
-version_value V4 = 4
-
 -- the version, the id at the end of the file, and whether the index is sparse
 unfoldable pub head_members : Contents → Option ObjectId → List ℕ
 head_members c checksum =
-    number_member (codes "{") (codes "version") (version_value c.version)
+    number_member (codes "{") (codes "version") (version_code c.version)
     ++ member (codes ",") (codes "checksum") (id_or_null checksum)
     ++ member (codes ",") (codes "is_sparse") (json_bool c.extensions.sparse)
 

@@ -2,10 +2,11 @@
 
 ghost use Rattle.std.specs.Prelude.{◌≡◌, ◌++◌, OnOk, OnErr, codes};
 ghost use Rattle.std.specs.Io.KnownBytes.{Appends};
+ghost use Rattle.gix_index.specs.EntryImage.{version_code};
 ghost use Rattle.gix_index.specs.File.{checksum_of, state_of};
 ghost use Rattle.gix_index.specs.State.{PathsInStorage, contents};
 ghost use Rattle.gix_index.specs.Taking.{AppendsPrefix};
-ghost use Rattle.index_json.specs.Json.{extension_members, head_members, json_text, tail_members, version_value};
+ghost use Rattle.index_json.specs.Json.{extension_members, head_members, json_text, tail_members};
 ghost use Rattle.index_json.specs.Values.{id_or_null, member};
 
 use crate::bitmaps::{append_link, append_monitor};
@@ -22,8 +23,9 @@ use index_inspect::marks::Marks;
 use std::alloc::{AllocError, Global};
 use std::io;
 
-fn version_value(version: Version) -> u64
-    ensures { result ≡ version_value version }
+/// The number of a version.
+fn number_of_version(version: Version) -> u64
+    ensures { result ≡ version_code version }
 {
     match version {
         Version::V2 => 2,
@@ -52,7 +54,7 @@ fn append_head(
     ensures { OnOk result
         (text.new.items ≡ text.old.items ++ head_members (contents state.now) checksum) }
 {
-    append_number_member(text, b"{", b"version", version_value(state.version()))?;
+    append_number_member(text, b"{", b"version", number_of_version(state.version()))?;
     append_checksum(text, checksum)?;
     append_bool_member(text, b",", b"is_sparse", state.is_sparse())
 }

@@ -1,10 +1,9 @@
 -- All that is told of an index file (the library's own).
 use Rattle.std.specs.Prelude.{List, ℕ, [], ◌++◌, codes, decimal, Option}
 use Rattle.gix_index.specs.Contents.{Contents}
+use Rattle.gix_index.specs.EntryImage.{version_code}
 use Rattle.gix_index.specs.Outcome.{Outcome}
 use Rattle.gix_index.specs.ObjectId.{ObjectId}
-use Rattle.gix_index.specs.Version.{Version}
-use Rattle.gix_index.specs.Version.TheVariants.{V2, V3, V4}
 use Rattle.index_show.specs.Bitmaps.{link_lines, monitor_lines}
 use Rattle.index_show.specs.Entries.{entries_lines}
 use Rattle.index_show.specs.Fields.{answer_field, field, id_or_none}
@@ -14,15 +13,10 @@ use Rattle.index_show.specs.Undo.{undo_lines}
 use Rattle.index_show.specs.Untracked.{untracked_lines}
 use Rattle.index_inspect.specs.declared.marks.Marks.{Marks}
 
-abbrev pub shown_version : Version → ℕ
-shown_version V2 = 2
-shown_version V3 = 3
-shown_version V4 = 4
-
 -- what stands before the entries: the version, the id at the end of the file, and whether the index is sparse
 unfoldable pub head_lines : Contents → Option ObjectId → List ℕ
 head_lines c checksum =
-    field [] (codes "version") (decimal (shown_version c.version)) ++ field [] (codes "checksum") (id_or_none checksum)
+    field [] (codes "version") (decimal (version_code c.version)) ++ field [] (codes "checksum") (id_or_none checksum)
     ++ answer_field [] (codes "sparse") c.extensions.sparse
 
 -- what stands behind the entries

@@ -3,9 +3,10 @@
 ghost use Rattle.std.specs.Prelude.{◌≡◌, ◌++◌, OnOk, OnErr, codes, decimal};
 ghost use Rattle.std.specs.Io.KnownBytes.{Appends};
 ghost use Rattle.gix_index.specs.Taking.{AppendsPrefix};
+ghost use Rattle.gix_index.specs.EntryImage.{version_code};
 ghost use Rattle.gix_index.specs.File.{checksum_of, state_of};
 ghost use Rattle.gix_index.specs.State.{PathsInStorage, contents};
-ghost use Rattle.index_show.specs.Show.{behind_lines, head_lines, show_lines, shown_version};
+ghost use Rattle.index_show.specs.Show.{behind_lines, head_lines, show_lines};
 
 use crate::bitmaps::{append_link, append_monitor};
 use crate::entries::write_entries;
@@ -21,8 +22,9 @@ use index_inspect::marks::Marks;
 use std::alloc::{AllocError, Global};
 use std::io;
 
-fn shown_version(version: Version) -> u64
-    ensures { result ≡ shown_version version }
+/// The number of a version.
+fn number_of_version(version: Version) -> u64
+    ensures { result ≡ version_code version }
 {
     match version {
         Version::V2 => 2,
@@ -41,7 +43,7 @@ fn append_head(
     ensures { OnOk result
         (lines.new.items ≡ lines.old.items ++ head_lines (contents state.now) checksum) }
 {
-    append_number(lines, b"", b"version", shown_version(state.version()))?;
+    append_number(lines, b"", b"version", number_of_version(state.version()))?;
     append_id_or_none(lines, b"", b"checksum", checksum)?;
     append_answer(lines, b"", b"sparse", state.is_sparse())
 }
