@@ -1,17 +1,9 @@
 -- What is appended piece by piece.
 use Rattle.std.proofs.Common.{◌≡◌, ℕ, List, ◌++◌, length, map, take, ap, sym, ◌∙◌, ◌≤◌, append_assoc, Result, Ok, Err}
-use Rattle.std.specs.Prelude.{OnOk, OnErr, flat_map, if◌then◌else◌}
+use Rattle.std.specs.Prelude.{OnOk, flat_map, if◌then◌else◌}
 use Rattle.std.specs.Result.{is_ok}
 use Rattle.std.proofs.lemmas.List.{take_all}
 use Rattle.std.proofs.lemmas.List.Folds.{flat_map-map}
-
-pub on_ok_then : {A E : Type 0} (r : Result A E) {P Q : Type 0} → (P → Q) → OnOk r P → OnOk r Q
-on_ok_then (Ok x) f p = f p
-on_ok_then (Err e) f p = p
-
-pub on_err_then : {A E : Type 0} (r : Result A E) {P Q : Type 0} → (P → Q) → OnErr r P → OnErr r Q
-on_err_then (Ok x) f p = p
-on_err_then (Err e) f p = f p
 
 pub on_ok_items : {A E : Type 0} (r : Result A E) (new all old : List ℕ)
     → new ≡ (if is_ok r then all else old) → OnOk r (new ≡ all)

@@ -1,5 +1,5 @@
 use Rattle.std.proofs.Common.{◌≡◌, ℕ, List, Option, ◌++◌, codes, subst}
-use Rattle.std.proofs.lemmas.Result.{err_from_is_err_and}
+use Rattle.std.proofs.lemmas.Result.{err_from_is_err_and, on_err_weaker, on_ok_weaker}
 use Rattle.std.specs.Io.KnownBytes.{Appends}
 use Rattle.gix_index.specs.Contents.{Contents}
 use Rattle.gix_index.specs.ObjectId.{ObjectId}
@@ -12,7 +12,6 @@ use Rattle.index_json.specs.Values.{listed}
 use Rattle.index_json.proofs.Texts.{regrouped}
 use Rattle.index_show.specs.Blocks.{Passes}
 use Rattle.index_inspect.specs.declared.marks.Marks.{Marks}
-use Rattle.index_show.proofs.Appended.{on_err_then, on_ok_then}
 use Rattle.index_show.proofs.Written.{first_lines, out_before, out_front, out_whole}
 use Rattle.index_json.proofs.document.write_state.Goals as goal
 
@@ -76,7 +75,7 @@ returns-clause-ok g c =
     λ l. Appends (g.W.Write.contents c.write_entries.new.out) (g.W.Write.contents c.put_all.new.out) l in
     let R : List ℕ → Type 0 =
     λ l. Appends (g.W.Write.contents c.args.out.now) (g.W.Write.contents c.put_all.new.out) l in
-    on_ok_then c.put_all.result
+    on_ok_weaker c.put_all.result
     (λ h. subst R (joined k c.args.checksum c.args.marks.now) (out_whole (g.W.Write.contents c.args.out.now)
     (g.W.Write.contents c.write_entries.new.out) (g.W.Write.contents c.put_all.new.out) (begin k c.args.checksum
     ++ own k) (end k c.args.marks.now) c.write_entries.new.text.items c.append_end.new.text.items
@@ -95,7 +94,7 @@ returns-clause-err g c =
     λ l. AppendsPrefix (g.W.Write.contents c.write_entries.new.out) (g.W.Write.contents c.put_all.new.out) l in
     let R : List ℕ → Type 0 =
     λ l. AppendsPrefix (g.W.Write.contents c.args.out.now) (g.W.Write.contents c.put_all.new.out) l in
-    on_err_then c.put_all.result
+    on_err_weaker c.put_all.result
     (λ h. subst R (joined k c.args.checksum c.args.marks.now) (out_front (g.W.Write.contents c.args.out.now)
     (g.W.Write.contents c.write_entries.new.out) (g.W.Write.contents c.put_all.new.out) (begin k c.args.checksum
     ++ own k) (end k c.args.marks.now) c.write_entries.new.text.items c.append_end.new.text.items

@@ -1,7 +1,8 @@
 use Rattle.std.proofs.Common.{ℕ, ◌++◌, ◌∙◌, ap, codes}
+use Rattle.std.proofs.lemmas.Result.{on_ok_weaker}
 use Rattle.index_json.specs.MarkValues.{block_value}
 use Rattle.index_json.specs.Values.{number_member}
-use Rattle.index_show.proofs.Appended.{on_ok_items, on_ok_then, two_more}
+use Rattle.index_show.proofs.Appended.{on_ok_items, two_more}
 use Rattle.index_json.proofs.marks.append_block.Goals as goal
 
 pub returns : goal.returns
@@ -10,7 +11,7 @@ returns c =
     let old = c.args.text.now.items in
     let placed = c.append_number_member.new.text.items in
     let counted = c.append_number_member-2.new.text.items in
-    on_ok_then c.extend_from_slice.result
+    on_ok_weaker c.extend_from_slice.result
     (λ h. two_more old counted c.extend_from_slice.new.self.items _ _
     (two_more old placed counted _ _
     (c.in_ok-append_number_member.ensures

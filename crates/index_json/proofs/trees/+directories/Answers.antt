@@ -1,10 +1,11 @@
 use Rattle.std.proofs.Common.{◌∙◌, ap, arith, ◌++◌}
+use Rattle.std.proofs.lemmas.Result.{on_ok_weaker}
 use Rattle.gix_index.specs.Tree.{node_of}
 use Rattle.gix_index.specs.TreeType.{Tree}
 use Rattle.index_json.specs.TreeValues.{tree_value}
 use Rattle.index_json.proofs.Listed.{listed_more}
 use Rattle.index_json.proofs.TreeTexts.{tree_step}
-use Rattle.index_show.proofs.Appended.{on_ok_items, on_ok_then}
+use Rattle.index_show.proofs.Appended.{on_ok_items}
 use Rattle.index_json.proofs.trees.+directories.Goals as goal
 
 pub append_directories-loop-place-preserved : goal.append_directories-loop-place-preserved
@@ -16,7 +17,7 @@ append_directories-loop-place-preserved t c =
     ∙ ap (λ (u : Tree). c.append_separator.new.text.items ++ tree_value (node_of u)) c.index-trees-place.is)
 
 pub append_directory-returns : goal.append_directory-returns
-append_directory-returns t c = on_ok_then c.extend_from_slice-2.result
+append_directory-returns t c = on_ok_weaker c.extend_from_slice-2.result
     (λ h. tree_step c.args.tree.now c.as_slice.result.now c.args.text.now.items
     c.append_directory_members.new.text.items c.extend_from_slice.new.self.items
     c.append_directories.new.text.items c.extend_from_slice-2.new.self.items c.deref.result.now

@@ -1,8 +1,8 @@
-use Rattle.std.proofs.Common.{◌≡◌, ℕ, List, sym, ◌∙◌, ap, subst, Result, Ok, Err}
-use Rattle.std.specs.Prelude.{OnOk, OnErr, flat_map}
+use Rattle.std.proofs.Common.{◌≡◌, ℕ, List, sym, ◌∙◌, ap, subst}
+use Rattle.std.specs.Prelude.{flat_map}
 use Rattle.std.specs.Io.KnownBytes.{Appends}
 use Rattle.std.proofs.lemmas.List.Folds.{flat_map-map}
-use Rattle.std.proofs.lemmas.Result.{err_from_is_err_and}
+use Rattle.std.proofs.lemmas.Result.{err_from_is_err_and, on_err_weaker, on_ok_weaker}
 use Rattle.gix_index.specs.Taking.{AppendsPrefix}
 use Rattle.gix_index.specs.Record.{record_in, records_in}
 use Rattle.gix_index.specs.State.{storage_of, entries_of}
@@ -11,14 +11,6 @@ use Rattle.gix_index.specs.StateType.{State}
 use Rattle.index_lines.specs.Line.{line_of}
 use Rattle.index_inspect.proofs.Printed.{listed_more, listed_all, front_before_line, front_of_block, front_of_rest}
 use Rattle.index_lines.proofs.listing.write_listing.Goals as goal
-
-on_ok_then : {A E : Type 0} (r : Result A E) {P Q : Type 0} → (P → Q) → OnOk r P → OnOk r Q
-on_ok_then (Ok x) f p = f p
-on_ok_then (Err e) f p = p
-
-on_err_then : {A E : Type 0} (r : Result A E) {P Q : Type 0} → (P → Q) → OnErr r P → OnErr r Q
-on_err_then (Ok x) f p = p
-on_err_then (Err e) f p = f p
 
 -- the lines of the entries are those of the records
 lines_of : (s : State) (entries : List Entry) → entries ≡ entries_of s
@@ -63,7 +55,7 @@ returns-clause-ok g c =
     λ t. Appends (g.W.Write.contents c.args.out.now) (g.W.Write.contents c.put_all.new.out) t in
     let Q : List ℕ → Type 0 =
     λ t. Appends (g.W.Write.contents c.loop-entry.out) (g.W.Write.contents c.put_all.new.out) t in
-    on_ok_then c.put_all.result (λ h. subst P (lines_of c.args.state.now _ c.entries-entry-items.ensures)
+    on_ok_weaker c.put_all.result (λ h. subst P (lines_of c.args.state.now _ c.entries-entry-items.ensures)
     (listed_all f _ _ _ c.entries-entry-items.result.now c.loop-entry.entry-index _ _ c.loop-entry-test.false
     c.loop-entry.invariant.1 c.loop-entry.invariant.2 (subst Q c.as_slice.ensures.value h))) c.put_all.ensures.ok
 
@@ -74,6 +66,6 @@ returns-clause-err g c =
     λ t. AppendsPrefix (g.W.Write.contents c.args.out.now) (g.W.Write.contents c.put_all.new.out) t in
     let Q : List ℕ → Type 0 =
     λ t. AppendsPrefix (g.W.Write.contents c.loop-entry.out) (g.W.Write.contents c.put_all.new.out) t in
-    on_err_then c.put_all.result (λ h. subst P (lines_of c.args.state.now _ c.entries-entry-items.ensures)
+    on_err_weaker c.put_all.result (λ h. subst P (lines_of c.args.state.now _ c.entries-entry-items.ensures)
     (front_of_rest f _ _ _ c.entries-entry-items.result.now c.loop-entry.entry-index _ _ c.loop-entry.invariant.1
     c.loop-entry.invariant.2 (subst Q c.as_slice.ensures.value h))) c.put_all.ensures.err

@@ -1,5 +1,6 @@
+use Rattle.std.proofs.lemmas.Result.{on_ok_weaker}
 use Rattle.index_picture.specs.Legend.{last_part_marks}
-use Rattle.index_picture.proofs.Written.{on_ok_then, piece_more}
+use Rattle.index_picture.proofs.Written.{piece_more}
 use Rattle.index_picture.proofs.legend.append_last_parts.Goals as goal
 
 pub returns : goal.returns
@@ -11,5 +12,5 @@ returns c =
     c.in_ok-append_mark-2.ensures in
     let third = piece_more old c.append_mark-2.new.lines.items c.append_mark-3.new.lines.items _ _ second
     c.in_ok-append_mark-3.ensures in
-    on_ok_then c.append_mark-4.result (λ h. piece_more old c.append_mark-3.new.lines.items
+    on_ok_weaker c.append_mark-4.result (λ h. piece_more old c.append_mark-3.new.lines.items
     c.append_mark-4.new.lines.items _ _ third h) c.append_mark-4.ensures

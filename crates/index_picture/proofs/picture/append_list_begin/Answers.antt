@@ -1,5 +1,6 @@
+use Rattle.std.proofs.lemmas.Result.{on_ok_weaker}
 use Rattle.index_picture.specs.Picture.{list_begin}
-use Rattle.index_picture.proofs.Written.{on_ok_then, piece_more}
+use Rattle.index_picture.proofs.Written.{piece_more}
 use Rattle.index_picture.proofs.picture.append_list_begin.Goals as goal
 
 pub returns : goal.returns
@@ -7,5 +8,5 @@ unfolding list_begin
 returns c =
     let old = c.args.lines.now.items in
     let first = c.in_ok-append_piece.ensures in
-    on_ok_then c.append_piece-2.result (λ h. piece_more old c.append_piece.new.lines.items
+    on_ok_weaker c.append_piece-2.result (λ h. piece_more old c.append_piece.new.lines.items
     c.append_piece-2.new.lines.items _ _ first h) c.append_piece-2.ensures

@@ -1,9 +1,10 @@
 use Rattle.std.proofs.Common.{◌≡◌, ◌++◌, ◌∙◌, ap}
 use Rattle.std.specs.Prelude.{codes, decimal}
+use Rattle.std.proofs.lemmas.Result.{on_ok_weaker}
 use Rattle.index_picture.specs.Picture.{box_shape}
 use Rattle.index_picture.specs.Scale.{box_begin, box_width}
 use Rattle.index_picture.specs.Shade.{ink, shade_of}
-use Rattle.index_picture.proofs.Written.{number_is, on_ok_then, pair_more, piece_is, piece_more}
+use Rattle.index_picture.proofs.Written.{number_is, pair_more, piece_is, piece_more}
 use Rattle.index_picture.proofs.picture.append_shape.Goals as goal
 
 pub returns : goal.returns
@@ -30,5 +31,5 @@ returns c =
     let fourth : e ≡ old ++ ((((x ++ y) ++ decimal width) ++ z) ++ colour) =
     piece_more old d e (((x ++ y) ++ decimal width) ++ z) colour third
     (piece_is d e c.ink.result.now colour (c.ink.ensures ∙ ap ink c.shade_of.ensures) c.in_ok-append_piece-2.ensures) in
-    on_ok_then c.append_piece-3.result (λ h. piece_more old e c.append_piece-3.new.lines.items
+    on_ok_weaker c.append_piece-3.result (λ h. piece_more old e c.append_piece-3.new.lines.items
     ((((x ++ y) ++ decimal width) ++ z) ++ colour) (codes "\">") fourth h) c.append_piece-3.ensures

@@ -1,5 +1,6 @@
+use Rattle.std.proofs.lemmas.Result.{on_ok_weaker}
 use Rattle.index_picture.specs.Picture.{svg_begin}
-use Rattle.index_picture.proofs.Written.{on_ok_then, pair_more, piece_more}
+use Rattle.index_picture.proofs.Written.{pair_more, piece_more}
 use Rattle.index_picture.proofs.picture.append_svg_begin.Goals as goal
 
 pub returns : goal.returns
@@ -9,5 +10,5 @@ returns c =
     let first = c.in_ok-append_number.ensures in
     let second = pair_more old c.append_number.new.lines.items c.append_number-2.new.lines.items _ _ _ first
     c.in_ok-append_number-2.ensures in
-    on_ok_then c.append_piece.result (λ h. piece_more old c.append_number-2.new.lines.items
+    on_ok_weaker c.append_piece.result (λ h. piece_more old c.append_number-2.new.lines.items
     c.append_piece.new.lines.items _ _ second h) c.append_piece.ensures

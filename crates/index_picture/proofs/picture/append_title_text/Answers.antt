@@ -1,5 +1,6 @@
+use Rattle.std.proofs.lemmas.Result.{on_ok_weaker}
 use Rattle.index_picture.specs.Picture.{title_text}
-use Rattle.index_picture.proofs.Written.{on_ok_then, piece_more}
+use Rattle.index_picture.proofs.Written.{piece_more}
 use Rattle.index_picture.proofs.picture.append_title_text.Goals as goal
 
 pub returns : goal.returns
@@ -7,5 +8,5 @@ unfolding title_text
 returns c =
     let old = c.args.lines.now.items in
     let first = c.in_ok-append_piece.ensures in
-    on_ok_then c.append_piece-2.result (λ h. piece_more old c.append_piece.new.lines.items
+    on_ok_weaker c.append_piece-2.result (λ h. piece_more old c.append_piece.new.lines.items
     c.append_piece-2.new.lines.items _ _ first h) c.append_piece-2.ensures

@@ -1,11 +1,10 @@
 use Rattle.std.proofs.Common.{ℕ, List, subst}
 use Rattle.std.specs.Io.KnownBytes.{Appends}
-use Rattle.std.proofs.lemmas.Result.{err_from_is_err_and}
+use Rattle.std.proofs.lemmas.Result.{err_from_is_err_and, on_err_weaker, on_ok_weaker}
 use Rattle.gix_index.specs.Taking.{AppendsPrefix}
 use Rattle.index_inspect.specs.declared.part.Part.{Part}
 use Rattle.index_inspect.proofs.Printed.{front_before_line, front_of_block, front_of_rest, listed_all, listed_more}
 use Rattle.index_picture.specs.Picture.{box}
-use Rattle.index_picture.proofs.Written.{on_err_then, on_ok_then}
 use Rattle.index_picture.proofs.picture.write_boxes.Goals as goal
 
 pub loop-part-preserved : goal.loop-part-preserved
@@ -34,7 +33,7 @@ returns-clause-ok g c =
     let f : Part → List ℕ = box c.args.each c.args.entries.now c.args.len in
     let Q : List ℕ → Type 0 =
     λ t. Appends (g.W.Write.contents c.loop-part.out) (g.W.Write.contents c.put_all.new.out) t in
-    on_ok_then c.put_all.result
+    on_ok_weaker c.put_all.result
     (λ h. listed_all f _ _ _ c.args.boxes.now c.loop-part.part-index _ _ c.loop-part-test.false c.loop-part.invariant.1
     c.loop-part.invariant.2 (subst Q c.as_slice.ensures.value h)) c.put_all.ensures.ok
 
@@ -43,5 +42,5 @@ returns-clause-err g c =
     let f : Part → List ℕ = box c.args.each c.args.entries.now c.args.len in
     let Q : List ℕ → Type 0 =
     λ t. AppendsPrefix (g.W.Write.contents c.loop-part.out) (g.W.Write.contents c.put_all.new.out) t in
-    on_err_then c.put_all.result (λ h. front_of_rest f _ _ _ c.args.boxes.now c.loop-part.part-index _ _
+    on_err_weaker c.put_all.result (λ h. front_of_rest f _ _ _ c.args.boxes.now c.loop-part.part-index _ _
     c.loop-part.invariant.1 c.loop-part.invariant.2 (subst Q c.as_slice.ensures.value h)) c.put_all.ensures.err

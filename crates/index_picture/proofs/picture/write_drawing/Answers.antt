@@ -1,12 +1,11 @@
 use Rattle.std.proofs.Common.{ℕ, List, ◌++◌, subst}
 use Rattle.std.specs.Prelude.{flat_map}
 use Rattle.std.specs.Io.KnownBytes.{Appends}
-use Rattle.std.proofs.lemmas.Result.{err_from_is_err_and}
+use Rattle.std.proofs.lemmas.Result.{err_from_is_err_and, on_err_weaker, on_ok_weaker}
 use Rattle.gix_index.proofs.Taking.{Appends-trans, prefix_after, prefix_before}
 use Rattle.gix_index.specs.Taking.{AppendsPrefix}
 use Rattle.index_picture.specs.Picture.{box, front_text, middle_text, row, svg_end}
 use Rattle.index_picture.specs.Scale.{drawn_len}
-use Rattle.index_picture.proofs.Written.{on_err_then, on_ok_then}
 use Rattle.index_picture.proofs.picture.write_drawing.Goals as goal
 
 pub returns-in_err-write_front-clause-err : goal.returns-in_err-write_front-clause-err
@@ -107,7 +106,7 @@ returns-clause-ok g c =
     (g.W.Write.contents c.write_rows.new.out) (front ++ boxes ++ middle) rows three c.in_ok-write_rows.ensures.ok in
     let Q : List ℕ → Type 0 =
     λ t. Appends (g.W.Write.contents c.write_rows.new.out) (g.W.Write.contents c.put_all.new.out) t in
-    on_ok_then c.put_all.result (λ h. Appends-trans (g.W.Write.contents c.args.out.now)
+    on_ok_weaker c.put_all.result (λ h. Appends-trans (g.W.Write.contents c.args.out.now)
     (g.W.Write.contents c.write_rows.new.out) (g.W.Write.contents c.put_all.new.out) (front ++ boxes ++ middle ++ rows)
     svg_end four (subst Q c.svg_end.ensures h)) c.put_all.ensures.ok
 
@@ -135,6 +134,6 @@ returns-clause-err g c =
     (g.W.Write.contents c.write_rows.new.out) (front ++ boxes ++ middle) rows three c.in_ok-write_rows.ensures.ok in
     let Q : List ℕ → Type 0 =
     λ t. AppendsPrefix (g.W.Write.contents c.write_rows.new.out) (g.W.Write.contents c.put_all.new.out) t in
-    on_err_then c.put_all.result (λ h. prefix_after (g.W.Write.contents c.args.out.now)
+    on_err_weaker c.put_all.result (λ h. prefix_after (g.W.Write.contents c.args.out.now)
     (g.W.Write.contents c.write_rows.new.out) (g.W.Write.contents c.put_all.new.out) (front ++ boxes ++ middle ++ rows)
     svg_end four (subst Q c.svg_end.ensures h)) c.put_all.ensures.err

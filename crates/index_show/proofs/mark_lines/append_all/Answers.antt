@@ -1,8 +1,9 @@
-use Rattle.index_show.proofs.Appended.{on_ok_then, two_more}
+use Rattle.std.proofs.lemmas.Result.{on_ok_weaker}
+use Rattle.index_show.proofs.Appended.{two_more}
 use Rattle.index_show.proofs.mark_lines.append_all.Goals as goal
 
 pub returns : goal.returns
-returns c = on_ok_then c.append_each.result
+returns c = on_ok_weaker c.append_each.result
     (λ h. two_more c.args.lines.now.items c.append_number.new.lines.items c.append_each.new.lines.items _ _
     c.in_ok-append_number.ensures h)
     c.append_each.ensures

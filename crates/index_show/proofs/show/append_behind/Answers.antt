@@ -1,7 +1,8 @@
 use Rattle.std.proofs.Common.{◌∙◌, Bool, ◌++◌, ap}
+use Rattle.std.proofs.lemmas.Result.{on_ok_weaker}
 use Rattle.index_show.specs.MarkLines.{mark_lines}
 use Rattle.index_show.specs.Show.{behind_lines}
-use Rattle.index_show.proofs.Appended.{on_ok_then, two_more}
+use Rattle.index_show.proofs.Appended.{two_more}
 use Rattle.index_show.proofs.show.append_behind.Goals as goal
 
 pub returns : goal.returns
@@ -16,7 +17,7 @@ returns c =
     let cached = two_more old c.append_undo.new.lines.items c.append_untracked.new.lines.items _ _ undone
     c.in_ok-append_untracked.ensures in
     let watched = two_more old c.append_untracked.new.lines.items lines _ _ cached c.in_ok-append_monitor.ensures in
-    on_ok_then c.append_marks.result
+    on_ok_weaker c.append_marks.result
     (λ h. two_more old lines c.append_marks.new.lines.items _ _ watched
     (h ∙ ap (λ (b : Bool). lines ++ mark_lines b c.had_end_of_index_marker.result c.args.marks.now)
     c.had_offset_table.ensures

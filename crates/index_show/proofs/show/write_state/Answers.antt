@@ -1,12 +1,11 @@
 use Rattle.std.proofs.Common.{◌≡◌, ℕ, List, ◌++◌, subst}
-use Rattle.std.proofs.lemmas.Result.{err_from_is_err_and}
+use Rattle.std.proofs.lemmas.Result.{err_from_is_err_and, on_err_weaker, on_ok_weaker}
 use Rattle.std.specs.Io.KnownBytes.{Appends}
 use Rattle.gix_index.specs.State.{contents, records}
 use Rattle.gix_index.specs.Taking.{AppendsPrefix}
 use Rattle.index_show.specs.Blocks.{Passes}
 use Rattle.index_show.specs.Entries.{entries_lines}
 use Rattle.index_show.specs.Show.{behind_lines, head_lines, show_lines}
-use Rattle.index_show.proofs.Appended.{on_err_then, on_ok_then}
 use Rattle.index_show.proofs.Written.{first_lines, out_before, out_front, out_whole}
 use Rattle.gix_index.proofs.Taking.{prefix_before}
 use Rattle.index_show.proofs.show.write_state.Goals as goal
@@ -51,7 +50,7 @@ returns-clause-ok g c =
     (g.W.Write.contents c.write_entries.new.out) c.write_entries.new.lines.items (l ++ own) in
     let Q : List ℕ → Type 0 =
     λ l. Appends (g.W.Write.contents c.write_entries.new.out) (g.W.Write.contents c.put_all.new.out) l in
-    on_ok_then c.put_all.result
+    on_ok_weaker c.put_all.result
     (λ h. out_whole (g.W.Write.contents c.args.out.now) (g.W.Write.contents c.write_entries.new.out)
     (g.W.Write.contents c.put_all.new.out) (head ++ own) (behind_lines (contents c.args.state.now).extensions
     c.args.marks.now) c.write_entries.new.lines.items c.append_behind.new.lines.items
@@ -69,7 +68,7 @@ returns-clause-err g c =
     (g.W.Write.contents c.write_entries.new.out) c.write_entries.new.lines.items (l ++ own) in
     let Q : List ℕ → Type 0 =
     λ l. AppendsPrefix (g.W.Write.contents c.write_entries.new.out) (g.W.Write.contents c.put_all.new.out) l in
-    on_err_then c.put_all.result
+    on_err_weaker c.put_all.result
     (λ h. out_front (g.W.Write.contents c.args.out.now) (g.W.Write.contents c.write_entries.new.out)
     (g.W.Write.contents c.put_all.new.out) (head ++ own) (behind_lines (contents c.args.state.now).extensions
     c.args.marks.now) c.write_entries.new.lines.items c.append_behind.new.lines.items
