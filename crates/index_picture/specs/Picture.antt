@@ -90,15 +90,16 @@ totals bytes parts entries =
 -- the bar's end, and the offsets of its ends
 unfoldable pub bar_end : ℕ → List ℕ
 bar_end bytes =
-    codes "</g>\n<text x=\"400\" y=\"1400\" fill=\"#5f6368\">0</text>\n<text x=\"9200\" y=\"1400\" text-anchor=\"end\" fill=\"#5f6368\">"
-    ++ decimal bytes ++ codes "</text>\n"
+    codes "</g>\n<text x=\"400\" y=\"1400\" fill=\"#5f6368\">0</text>\n"
+    ++ codes "<text x=\"9200\" y=\"1400\" text-anchor=\"end\" fill=\"#5f6368\">" ++ decimal bytes ++ codes "</text>\n"
 
 -- the names of the columns
 unfoldable pub list_begin : List ℕ
 list_begin =
-    codes
-    "<text y=\"2480\" xml:space=\"preserve\"><tspan x=\"1500\" text-anchor=\"end\" fill=\"#5f6368\">offset</tspan>"
-    ++ codes "<tspan x=\"2700\" text-anchor=\"end\" fill=\"#5f6368\">length</tspan><tspan x=\"3000\" fill=\"#5f6368\">what</tspan>\n"
+    codes "<text y=\"2480\" xml:space=\"preserve\">"
+    ++ codes "<tspan x=\"1500\" text-anchor=\"end\" fill=\"#5f6368\">offset</tspan>"
+    ++ codes "<tspan x=\"2700\" text-anchor=\"end\" fill=\"#5f6368\">length</tspan>"
+    ++ codes "<tspan x=\"3000\" fill=\"#5f6368\">what</tspan>\n"
 
 unfoldable pub svg_end : List ℕ
 svg_end = codes "</text>\n</svg>\n"

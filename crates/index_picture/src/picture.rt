@@ -192,9 +192,13 @@ fn append_totals(
 fn append_bar_end(lines: &mut Vec<u8>, bytes: u128) -> Result<(), AllocError>
     ensures { OnOk result (lines.new.items ≡ lines.old.items ++ bar_end bytes) }
 {
+    append_piece(
+        lines,
+        b"</g>\n<text x=\"400\" y=\"1400\" fill=\"#5f6368\">0</text>\n",
+    )?;
     append_number(
         lines,
-        b"</g>\n<text x=\"400\" y=\"1400\" fill=\"#5f6368\">0</text>\n<text x=\"9200\" y=\"1400\" text-anchor=\"end\" fill=\"#5f6368\">",
+        b"<text x=\"9200\" y=\"1400\" text-anchor=\"end\" fill=\"#5f6368\">",
         bytes,
     )?;
     append_piece(lines, b"</text>\n")
@@ -205,14 +209,16 @@ fn append_bar_end(lines: &mut Vec<u8>, bytes: u128) -> Result<(), AllocError>
 fn append_list_begin(lines: &mut Vec<u8>) -> Result<(), AllocError>
     ensures { OnOk result (lines.new.items ≡ lines.old.items ++ list_begin) }
 {
+    append_piece(lines, b"<text y=\"2480\" xml:space=\"preserve\">")?;
     append_piece(
         lines,
-        b"<text y=\"2480\" xml:space=\"preserve\"><tspan x=\"1500\" text-anchor=\"end\" fill=\"#5f6368\">offset</tspan>",
+        b"<tspan x=\"1500\" text-anchor=\"end\" fill=\"#5f6368\">offset</tspan>",
     )?;
     append_piece(
         lines,
-        b"<tspan x=\"2700\" text-anchor=\"end\" fill=\"#5f6368\">length</tspan><tspan x=\"3000\" fill=\"#5f6368\">what</tspan>\n",
-    )
+        b"<tspan x=\"2700\" text-anchor=\"end\" fill=\"#5f6368\">length</tspan>",
+    )?;
+    append_piece(lines, b"<tspan x=\"3000\" fill=\"#5f6368\">what</tspan>\n")
 }
 
 /// The picture's end.
