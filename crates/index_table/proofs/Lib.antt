@@ -1,4 +1,4 @@
-mod Joins
+pub mod Joins
 pub mod Refusals
 mod Replacements
 mod Rows

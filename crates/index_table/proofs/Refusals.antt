@@ -1,14 +1,16 @@
 -- What an error of reading says of bytes, by the fault that it stands for.
 use Rattle.std.proofs.Common.{◌≡◌, ℕ, pos, List, Bool, true, false, Option, Some, None, Ok, Err, refl, subst, inl, inr}
-use Rattle.std.proofs.Common.{arith}
+use Rattle.std.proofs.Common.{arith, sym}
 use Rattle.std.specs.Option.{option_map}
 use Rattle.std.specs.Prelude.{◌⊎◌, MatchBool, MatchOption}
 use Rattle.gix_index.specs.Answer.{Answer, Fault, Extension, IsAnswer, Verify}
+use Rattle.gix_index.proofs.Checks.{from_file}
 use Rattle.gix_index.proofs.Joined.{read_kind}
+use Rattle.gix_index.proofs.OnceAnswers.{answer_one}
 use Rattle.gix_index.specs.Checked.{IsFileAnswer, SaysFile, link_error_of}
 use Rattle.gix_index.specs.Contents.{Contents}
 use Rattle.gix_index.specs.DecodeError.TheVariants as errors
-use Rattle.gix_index.specs.DecodeErrors.{extension_fault}
+use Rattle.gix_index.specs.DecodeErrors.{IsEarly, extension_fault}
 use Rattle.gix_index.specs.DecodeOptions.{Options}
 use Rattle.gix_index.specs.FileTime.{FileTime}
 use Rattle.gix_index.specs.Dissolve.{SaysDissolve}
@@ -25,7 +27,7 @@ use Rattle.gix_index.specs.declared.file.init.Error.TheVariants as reads
 use Rattle.index_table.specs.Faults.{HasNumber, IsNumbered, SaysRefusal, decode_fault, read_status}
 use Rattle.index_table.specs.Joining.{IsLinkRefused, IsSharedRefused, SharedReadsAs}
 use Rattle.index_table.specs.Overwriting.{IsRefusedBefore}
-use Rattle.index_table.specs.Reading.{BytesEndAs, BytesReadAs, IsRefusedIndex, table_options}
+use Rattle.index_table.specs.Reading.{BytesEndAs, BytesReadAs, IsRefusedIndex, LacksMemory, table_options}
 use Rattle.index_table.specs.declared.read.Summary.{Summary}
 use Rattle.index_table.specs.declared.write.Written.{Written}
 
@@ -190,3 +192,50 @@ intact_from expected skip kind bytes v checksum h =
     let isnt : Differs → ⊥ = λ e. absurd cc in
     intact_by (needs_check skip kind bytes) _ _ (IsAnswer kind h.time (table_options expected) bytes (Ok (v, checksum)))
     Differs isnt h.is
+
+-- ---- want of memory
+
+pub lacks_by : (expected : Option ObjectId) (skip : Bool) (kind : Kind) (bytes : List ℕ) (time : FileTime)
+    (options : Options) (error : ReadError)
+    → seconds_of time ≡ pos 0 → nanoseconds_of time ≡ 0 → options ≡ table_options expected
+    → SaysFile (Err error) (IsFileAnswer skip kind time options bytes)
+    → (error ≡ reads.Memory → IsIntact skip kind bytes)
+    → read_status error ≡ 2 → LacksMemory expected skip kind bytes
+lacks_by expected skip kind bytes time options error seconds nanoseconds e says intact is =
+    let memory = memory_from error is in
+    let late : (fault : Fault) → IsEarly fault → IsFileAnswer skip kind time options bytes (Err fault) → ⊥ =
+    subst (λ (x : ReadError). SaysFile (Err x) (IsFileAnswer skip kind time options bytes)) memory says in
+    record {
+      intact = intact memory;
+      time = time;
+      seconds = seconds;
+      nanoseconds = nanoseconds;
+      late = λ fault early h. late fault early
+          (subst (λ (o : Options). IsFileAnswer skip kind time o bytes (Err fault)) (sym e) h);
+    }
+
+-- bytes that are read as a value have no fault
+not_both : (skip : Bool) (kind : Kind) (time : FileTime) (options : Options) (bytes : List ℕ) (v : Contents)
+    (checksum : Option ObjectId) (fault : Fault) → IsIntact skip kind bytes
+    → IsFileAnswer skip kind time options bytes (Ok (v, checksum))
+    → IsFileAnswer skip kind time options bytes (Err fault) → ⊥
+not_both skip kind time options bytes v checksum fault intact h k =
+    let same : ◌≡◌ {A = Answer} (Ok (v, checksum)) (Err fault) =
+    answer_one kind time options bytes (Ok (v, checksum)) (Err fault)
+    (from_file skip kind time options bytes (Ok (v, checksum)) intact h)
+    (from_file skip kind time options bytes (Err fault) intact k) in
+    absurd cc
+
+pub lacks_from : (expected : Option ObjectId) (skip : Bool) (kind : Kind) (bytes : List ℕ) (v : Contents)
+    (checksum : Option ObjectId)
+    → BytesEndAs expected skip kind bytes (Ok (v, checksum)) → LacksMemory expected skip kind bytes
+lacks_from expected skip kind bytes v checksum h =
+    let intact = intact_from expected skip kind bytes v checksum h in
+    record {
+      intact = intact;
+      time = h.time;
+      seconds = h.seconds;
+      nanoseconds = h.nanoseconds;
+      late = λ fault early k.
+          not_both skip kind h.time (table_options expected) bytes v checksum fault intact h.is k;
+    }

@@ -1,6 +1,6 @@
 -- What a call that reads a split index with its shared index says of the bytes of both (gitformat-index, "Split
 -- index").
-use Rattle.std.specs.Prelude.{◌≡◌, ℕ, ◌⊎◌, Bool, false, List, Option, Some, Ok, Err}
+use Rattle.std.specs.Prelude.{◌≡◌, ◌≢◌, ℕ, ◌⊎◌, Bool, false, List, Option, Some, None, Ok, Err}
 use Rattle.gix_index.specs.Answer.{Fault}
 use Rattle.gix_index.specs.Contents.{Contents}
 use Rattle.gix_index.specs.Dissolve.{IsDissolved, IsDissolveFault}
@@ -10,7 +10,7 @@ use Rattle.gix_index.specs.Kind.{Kind}
 use Rattle.gix_index.specs.Link.{LinkFault, LinkValue}
 use Rattle.gix_index.specs.Linked.{IsUnfollowed}
 use Rattle.gix_index.specs.ObjectId.{ObjectId}
-use Rattle.index_table.specs.Reading.{BytesEndAs, IsReadSo, IsRefusedIndex, TellsRefusal}
+use Rattle.index_table.specs.Reading.{BytesEndAs, IsReadSo, IsRefusedIndex, LacksMemory, TellsRefusal}
 use Rattle.index_table.specs.declared.read.Summary.{Summary}
 
 -- ---- the value of both
@@ -76,3 +76,16 @@ IsJoinRefused skip kind shared s split =
 abbrev pub AreRefusedBoth : Bool → Kind → List ℕ → List ℕ → Summary → Type 0
 AreRefusedBoth skip kind bytes shared s =
     IsRefusedIndex skip kind bytes s ⊎ IsReadSo skip kind bytes (IsJoinRefused skip kind shared s)
+
+-- ---- want of memory
+
+-- the value links to a shared index, and want of memory says this of that one's bytes
+abbrev pub LacksForShared : Bool → Kind → List ℕ → Contents → Type 0
+LacksForShared skip kind shared split =
+    (link : LinkValue) × LinksTo split link × LacksMemory (Some link.shared) skip kind shared
+
+-- What want of memory says of both: of the bytes what it says of them alone. Where it is told of the shared index, they
+-- are read as a value that links to one, and it says the same of that one's bytes.
+pub record LackMemory (skip : Bool) (kind : Kind) (bytes shared : List ℕ) (s : Summary) : Type 0 where
+  pub own : LacksMemory None skip kind bytes
+  pub whose : s.of_shared ≢ 0 → IsReadSo skip kind bytes (LacksForShared skip kind shared)

@@ -4,9 +4,11 @@ use Rattle.std.specs.Prelude.{Err}
 use Rattle.gix_index.specs.Answer.{Answer, Fault}
 use Rattle.gix_index.specs.Checked.{IsFileAnswer}
 use Rattle.gix_index.specs.Contents.{Contents}
+use Rattle.gix_index.specs.DecodeErrors.{IsEarly}
 use Rattle.gix_index.specs.DecodeOptions.{Options}
 use Rattle.gix_index.specs.EntryImage.{version_code}
 use Rattle.gix_index.specs.FileTime.{FileTime}
+use Rattle.gix_index.specs.Intact.{IsIntact}
 use Rattle.gix_index.specs.Kind.{Kind}
 use Rattle.gix_index.specs.Link.{LinkValue}
 use Rattle.gix_index.specs.ObjectId.{ObjectId}
@@ -48,12 +50,14 @@ abbrev pub shared_id_bytes : Option LinkValue → List ℕ
 shared_id_bytes None = replicate 32 0
 shared_id_bytes (Some link) = padded_id link.shared
 
--- the summary tells how many entries a value has, which version, and whether it has a link, and to what
+-- the summary tells how many entries a value has, which version, and whether it has a link, and to what; and that
+-- nothing is told of a shared index's bytes
 pub record TellsOfValue (v : Contents) (s : Summary) : Type 0 where
   pub entries : s.entries ≡ length v.records
   pub version : s.version ≡ version_code v.version
   pub link : s.has_link ≡ link_number v.extensions.link
   pub shared : s.shared_id ≡ shared_id_bytes v.extensions.link
+  pub whose : s.of_shared ≡ 0
 
 -- the summary tells of a value, and the table has its records
 pub record Fills (v : Contents) (s : Summary) (rows filled : List Row) (paths spelling : List ℕ) : Type 0 where
@@ -92,6 +96,16 @@ pub record IsRefusedIndex (skip : Bool) (kind : Kind) (bytes : List ℕ) (s : Su
   pub fault : Fault
   pub read : BytesReadAs skip kind bytes (Err fault)
   pub tells : TellsRefusal fault 0 s
+
+-- What want of memory says of bytes: they are intact, and their first fault at the begin of 1970, if they have one,
+-- isn't one that is found before any memory is asked for.
+pub record LacksMemory (expected : Option ObjectId) (skip : Bool) (kind : Kind) (bytes : List ℕ) : Type 0 where
+  pub intact : IsIntact skip kind bytes
+  pub time : FileTime
+  pub seconds : seconds_of time ≡ pos 0
+  pub nanoseconds : nanoseconds_of time ≡ 0
+  pub late : (fault : Fault) → IsEarly fault
+      → IsFileAnswer skip kind time (table_options expected) bytes (Err fault) → ⊥
 
 -- the room for a text was written to in its first bytes alone
 pub record HasText (len : ℕ) (room text : List ℕ) : Type 0 where

@@ -1,12 +1,12 @@
 //! Writing a caller's table in place of an index, of which the cached tree and the mark of a sparse index are kept.
 
-ghost use Rattle.std.specs.Prelude.{◌≡◌, ◌≢◌, ◌≤◌, ◌↔◌, [], false, IfSome, OnOk};
+ghost use Rattle.std.specs.Prelude.{◌≡◌, ◌≢◌, ◌≤◌, ◌↔◌, [], false, IfSome, None, OnOk};
 ghost use Rattle.gix_index.specs.Edits.{with_records};
-ghost use Rattle.gix_index.specs.Intact.{IsIntact};
 ghost use Rattle.gix_index.specs.Order.{IsStrictlyOrdered};
 ghost use Rattle.gix_index.specs.State.{PathsInStorage, contents, records};
 ghost use Rattle.index_table.specs.Faults.{IsNumbered, read_status};
 ghost use Rattle.index_table.specs.Overwriting.{IsAskedOver, IsUnwrittenOver, KeepsTree, TakesPlaceOf, WritesOver, full_options};
+ghost use Rattle.index_table.specs.Reading.{LacksMemory};
 ghost use Rattle.index_table.specs.Table.{records_of};
 ghost use Rattle.index_table.specs.Writing.{HasImage, HasWrongNumber, IsFitTable, PassesLimit, PassesRoom};
 
@@ -125,7 +125,7 @@ fn put_over(
         (λ v. HasImage v options result.told room.old room.new) }
     ensures refused { result.status ≡ 1
         → IsUnwrittenOver kind options index.now paths.now rows.now result.told }
-    ensures memory { result.status ≡ 2 → IsIntact false kind index.now }
+    ensures memory { result.status ≡ 2 → LacksMemory None false kind index.now }
     ensures no_room { result.status ≡ 3
         → WritesOver kind index.now paths.now rows.now result.told
         (λ v. PassesRoom v options result.told room.old) }
@@ -169,7 +169,7 @@ pub fn write_over(
     ensures refused { result.status ≡ 1 → IsAskedOver form.now
         (λ kind options. IsUnwrittenOver kind options index.now paths.now rows.now result.told) }
     ensures memory { result.status ≡ 2
-        → IsAskedOver form.now (λ kind options. IsIntact false kind index.now) }
+        → IsAskedOver form.now (λ kind options. LacksMemory None false kind index.now) }
     ensures no_room { result.status ≡ 3 → IsAskedOver form.now
         (λ kind options. WritesOver kind index.now paths.now rows.now result.told
         (λ v. PassesRoom v options result.told room.old)) }

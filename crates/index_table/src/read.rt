@@ -2,13 +2,12 @@
 
 ghost use Rattle.std.specs.Prelude.{◌≡◌, ◌≢◌, ◌≤◌, ◌↔◌, ◌⊎◌, All, IfErr, IfOk, IsSomeAnd, None, Ok, Option, length};
 ghost use Rattle.gix_index.specs.EntryImage.{version_code};
-ghost use Rattle.gix_index.specs.Intact.{IsIntact};
 ghost use Rattle.gix_index.specs.ObjectId.{ObjectId as Id};
 ghost use Rattle.gix_index.specs.Record.{IsSized};
 ghost use Rattle.gix_index.specs.State.{PathsInStorage, contents, storage_of};
 ghost use Rattle.gix_index.specs.Storable.{IsStorable};
 ghost use Rattle.index_table.specs.Faults.{IsNumbered, SaysRefusal, read_status};
-ghost use Rattle.index_table.specs.Reading.{BytesEndAs, Fills, HasText, IsFilled, IsRefusedIndex, IsTooSmall, LacksRoom, TellsOfValue, link_number, shared_id_bytes};
+ghost use Rattle.index_table.specs.Reading.{BytesEndAs, Fills, HasText, IsFilled, IsRefusedIndex, IsTooSmall, LacksMemory, LacksRoom, TellsOfValue, link_number, shared_id_bytes};
 ghost use Rattle.index_table.specs.Table.{kind_numbered};
 
 use crate::fault::{fault_of, put_fault};
@@ -66,6 +65,7 @@ pub fn kind_of(number: u32) -> Option<Kind>
 /// Nothing was read, and there is no fault to tell.
 pub fn nothing(status: u32) -> Outcome
     ensures status { result.status ≡ status }
+    ensures whose { result.summary.of_shared ≡ 0 }
     ensures text { result.summary.text_bytes ≡ 0 }
 {
     Outcome {
@@ -194,7 +194,8 @@ pub fn index_of(
     ensures storable { IfOk result (λ state. IsStorable (contents state)) }
     ensures fault { IfErr result
         (λ e. SaysRefusal e (BytesEndAs expected skip_hash kind bytes.now)) }
-    ensures intact { IfErr result (λ e. read_status e ≡ 2 → IsIntact skip_hash kind bytes.now) }
+    ensures memory { IfErr result
+        (λ e. read_status e ≡ 2 → LacksMemory expected skip_hash kind bytes.now) }
 {
     let path = PathBuf::new(alloc);
     let time = FileTime::EPOCH;
@@ -222,7 +223,7 @@ fn outcome_of(
     ensures done { result.status ≡ 0 → IsFilled skip_hash kind bytes.now result.summary
         rows.old rows.new paths.old paths.new }
     ensures refused { result.status ≡ 1 → IsRefusedIndex skip_hash kind bytes.now result.summary }
-    ensures memory { result.status ≡ 2 → IsIntact skip_hash kind bytes.now }
+    ensures memory { result.status ≡ 2 → LacksMemory None skip_hash kind bytes.now }
     ensures no_room { result.status ≡ 3
         → LacksRoom skip_hash kind bytes.now result.summary rows.old paths.old }
     ensures rows { result.status ≢ 0 → rows.new ≡ rows.old }
@@ -252,7 +253,7 @@ pub fn read_table(
     ensures refused { result.status ≡ 1 → IsSomeAnd (kind_numbered kind)
         (λ k. IsRefusedIndex skip_hash k bytes.now result.summary) }
     ensures memory { result.status ≡ 2 → IsSomeAnd (kind_numbered kind)
-        (λ k. IsIntact skip_hash k bytes.now) }
+        (λ k. LacksMemory None skip_hash k bytes.now) }
     ensures no_room { result.status ≡ 3 → IsSomeAnd (kind_numbered kind)
         (λ k. LacksRoom skip_hash k bytes.now result.summary rows.old paths.old) }
     ensures wrong_number { (result.status ≡ 4) ↔ (kind_numbered kind ≡ None) }

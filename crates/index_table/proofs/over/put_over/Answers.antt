@@ -1,7 +1,7 @@
 use Rattle.std.proofs.Common.{Bool, inl, inr, refl, subst, sym, ◌∙◌}
 use Rattle.gix_index.specs.State.{contents}
 use Rattle.index_table.specs.Writing.{IsFitTable, IsUnfitTable}
-use Rattle.index_table.proofs.Refusals.{before_refused, intact_from}
+use Rattle.index_table.proofs.Refusals.{before_refused, lacks_from}
 use Rattle.index_table.proofs.over.put_over.Goals as goal
 
 pub returns-in-Err-clause-refused : goal.returns-in-Err-clause-refused
@@ -61,4 +61,4 @@ returns-clause-no_room c = λ is.
     }
 
 pub returns-clause-memory : goal.returns-clause-memory
-returns-clause-memory c = λ is. intact_from _ _ c.args.kind c.args.index.now _ _ c.in-Ok.ensures.read.1
+returns-clause-memory c = λ is. lacks_from _ _ c.args.kind c.args.index.now _ _ c.in-Ok.ensures.read.1

@@ -1,0 +1,18 @@
+use Rattle.gix_index.specs.Contents.{Contents}
+use Rattle.gix_index.specs.State.{contents}
+use Rattle.index_table.specs.Reading.{Fills, IsTooSmall}
+use Rattle.index_table.proofs.Joins.{read_so}
+use Rattle.index_table.proofs.split.table_of_both.Goals as goal
+
+pub returns-in-Ok-clause-done : goal.returns-in-Ok-clause-done
+returns-in-Ok-clause-done c = λ is.
+    read_so c.args.skip_hash c.args.kind c.args.bytes.now c.args.shared.now
+    (λ (v : Contents). Fills v c.table_of.result.summary c.args.rows.now c.table_of.new.rows c.args.paths.now
+    c.table_of.new.paths)
+    (contents c.in-Ok.state) c.in-Ok.ensures.read (c.table_of.ensures.done is)
+
+pub returns-in-Ok-clause-no_room : goal.returns-in-Ok-clause-no_room
+returns-in-Ok-clause-no_room c = λ is.
+    read_so c.args.skip_hash c.args.kind c.args.bytes.now c.args.shared.now
+    (λ (v : Contents). IsTooSmall v c.table_of.result.summary c.args.rows.now c.args.paths.now)
+    (contents c.in-Ok.state) c.in-Ok.ensures.read (c.table_of.ensures.no_room is)
