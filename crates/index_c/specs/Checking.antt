@@ -1,13 +1,13 @@
--- What a call that checks an index says of the bytes (gitformat-index, "Index entries are sorted in ascending order",
--- "Cache tree").
-use Rattle.std.specs.Prelude.{◌≡◌, ℕ, ◌⊎◌, Bool, List, length, Option, Some, Ok}
+-- What a call that checks an index, or a split index with its shared one, says of the bytes (gitformat-index, "Index
+-- entries are sorted in ascending order", "Cache tree").
+use Rattle.std.specs.Prelude.{◌≡◌, ℕ, ◌⊎◌, Bool, List, length, Some}
 use Rattle.gix_index.specs.Contents.{Contents}
 use Rattle.gix_index.specs.Kind.{Kind}
-use Rattle.gix_index.specs.ObjectId.{ObjectId}
 use Rattle.gix_index.specs.Order.{IsStrictlyOrdered}
 use Rattle.gix_index.specs.Sorted.{IsFirstFall}
 use Rattle.gix_index.specs.SoundState.{AreSoundExtensions}
-use Rattle.index_table.specs.Reading.{BytesReadAs, TellsOfValue}
+use Rattle.index_table.specs.Joining.{AreReadSo}
+use Rattle.index_table.specs.Reading.{IsReadSo, TellsOfValue}
 use Rattle.index_table.specs.declared.read.Summary.{Summary}
 
 -- The entries strictly increase by path, then stage. The cached tree, where there is one, holds together, and no node
@@ -37,19 +37,32 @@ pub record HasUnsoundTree (v : Contents) (number place : ℕ) : Type 0 where
 abbrev pub HasCheckFault : Contents → ℕ → ℕ → Type 0
 HasCheckFault v number place = IsOutOfOrder v number place ⊎ HasUnsoundTree v number place
 
--- the bytes are read as a value that is sound, and the summary tells of it
-pub record IsSoundIndex (skip : Bool) (kind : Kind) (bytes : List ℕ) (s : Summary) : Type 0 where
-  pub value : Contents
-  pub checksum : Option ObjectId
-  pub read : BytesReadAs skip kind bytes (Ok (value, checksum))
-  pub told : IsTold value s
-  pub sound : IsSoundValue value
+-- the value is sound, and the summary tells of it
+pub record IsFoundSound (s : Summary) (v : Contents) : Type 0 where
+  pub told : IsTold v s
+  pub sound : IsSoundValue v
 
--- The bytes are read as a value that isn't sound. The summary tells of it, and has the number and the place of its
--- first fault.
-pub record IsUnsoundIndex (skip : Bool) (kind : Kind) (bytes : List ℕ) (s : Summary) : Type 0 where
-  pub value : Contents
-  pub checksum : Option ObjectId
-  pub read : BytesReadAs skip kind bytes (Ok (value, checksum))
-  pub told : IsTold value s
-  pub fault : HasCheckFault value s.fault s.fault_place
+-- The value isn't sound. The summary tells of it, and has the number and the place of its first fault.
+pub record IsFoundUnsound (s : Summary) (v : Contents) : Type 0 where
+  pub told : IsTold v s
+  pub fault : HasCheckFault v s.fault s.fault_place
+
+-- ---- an index alone
+
+-- the bytes are read as a value that is sound, and the summary tells of it
+abbrev pub IsSoundIndex : Bool → Kind → List ℕ → Summary → Type 0
+IsSoundIndex skip kind bytes s = IsReadSo skip kind bytes (IsFoundSound s)
+
+-- the bytes are read as a value that isn't sound, and the summary tells of it and of its first fault
+abbrev pub IsUnsoundIndex : Bool → Kind → List ℕ → Summary → Type 0
+IsUnsoundIndex skip kind bytes s = IsReadSo skip kind bytes (IsFoundUnsound s)
+
+-- ---- an index with its shared one
+
+-- the bytes and those of the shared index are read as a value that is sound, and the summary tells of it
+abbrev pub AreSoundBoth : Bool → Kind → List ℕ → List ℕ → Summary → Type 0
+AreSoundBoth skip kind bytes shared s = AreReadSo skip kind bytes shared (IsFoundSound s)
+
+-- the same of a value that isn't sound, and the summary tells of its first fault too
+abbrev pub AreUnsoundBoth : Bool → Kind → List ℕ → List ℕ → Summary → Type 0
+AreUnsoundBoth skip kind bytes shared s = AreReadSo skip kind bytes shared (IsFoundUnsound s)

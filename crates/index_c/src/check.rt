@@ -1,10 +1,10 @@
-//! Checking that an index is in order and that its cached tree holds together.
+//! Checking that an index is in order and that its cached tree holds together, with its shared index or without.
 
 ghost use Rattle.std.specs.Prelude.{◌≡◌, ◌↔◌, ◌≤◌, ◌⊎◌, IfSome, IsSomeAnd, None};
-ghost use Rattle.gix_index.specs.Intact.{IsIntact};
 ghost use Rattle.gix_index.specs.State.{PathsInStorage, contents};
-ghost use Rattle.index_c.specs.Checking.{HasCheckFault, IsSoundValue, IsSoundIndex, IsTold, IsUnsoundIndex};
-ghost use Rattle.index_table.specs.Reading.{HasText, IsRefusedIndex};
+ghost use Rattle.index_c.specs.Checking.{AreSoundBoth, AreUnsoundBoth, HasCheckFault, IsSoundIndex, IsSoundValue, IsTold, IsUnsoundIndex};
+ghost use Rattle.index_table.specs.Joining.{AreRefusedBoth, LackMemory};
+ghost use Rattle.index_table.specs.Reading.{HasText, IsRefusedIndex, LacksMemory};
 ghost use Rattle.index_table.specs.Table.{kind_numbered};
 
 use gix_index::State;
@@ -12,6 +12,7 @@ use gix_index::hash::Kind;
 use gix_index::object::NoObjects;
 use index_table::fault::{CACHED_TREE, ORDER, order_place, put_fault, tree_place};
 use index_table::read::{Outcome, Summary, index_of, kind_of, nothing, refused, summary_of};
+use index_table::split::both_of;
 use index_table::status::{DONE, MEMORY, REFUSED, WRONG_NUMBER};
 use std::alloc::Global;
 
@@ -32,6 +33,7 @@ fn unsound(state: &State, number: u32, place: Option<usize>, text_bytes: usize) 
     ensures told { IfSome place (λ _. IsTold (contents state.now) result.summary) }
     ensures number { IfSome place (λ _. result.summary.fault ≡ number) }
     ensures place { IfSome place (λ p. result.summary.fault_place ≡ p) }
+    ensures whose { result.summary.of_shared ≡ 0 }
     ensures text { result.summary.text_bytes ≡ text_bytes }
 {
     match place {
@@ -62,6 +64,7 @@ fn judge(alloc: Global, state: &State, text: &mut [u8]) -> Outcome
     ensures told { result.status ≤ 1 → IsTold (contents state.now) result.summary }
     ensures fault { result.status ≡ 1
         → HasCheckFault (contents state.now) result.summary.fault result.summary.fault_place }
+    ensures whose { result.summary.of_shared ≡ 0 }
     ensures text { HasText result.summary.text_bytes text.old text.new }
 {
     if let Err(e) = state.verify_entries() {
@@ -84,12 +87,37 @@ fn checked(alloc: Global, bytes: &[u8], kind: Kind, skip_hash: bool, text: &mut 
     ensures done { result.status ≡ 0 → IsSoundIndex skip_hash kind bytes.now result.summary }
     ensures refused { result.status ≡ 1 → IsRefusedIndex skip_hash kind bytes.now result.summary
         ⊎ IsUnsoundIndex skip_hash kind bytes.now result.summary }
-    ensures memory { result.status ≡ 2 → IsIntact skip_hash kind bytes.now }
+    ensures memory { result.status ≡ 2 → LacksMemory None skip_hash kind bytes.now }
     ensures text { HasText result.summary.text_bytes text.old text.new }
 {
     match index_of(alloc, bytes, kind, skip_hash, None) {
         Ok(state) => judge(alloc, &state, text),
         Err(e) => refused(alloc, e, 0, text),
+    }
+}
+
+/// Checks the index of these bytes, joined to the shared index that they link to.
+fn checked_both(
+    alloc: Global,
+    bytes: &[u8],
+    shared: &[u8],
+    kind: Kind,
+    skip_hash: bool,
+    text: &mut [u8],
+) -> Outcome
+    ensures status { result.status ≤ 2 }
+    ensures done { result.status ≡ 0
+        → AreSoundBoth skip_hash kind bytes.now shared.now result.summary }
+    ensures refused { result.status ≡ 1
+        → AreRefusedBoth skip_hash kind bytes.now shared.now result.summary
+        ⊎ AreUnsoundBoth skip_hash kind bytes.now shared.now result.summary }
+    ensures memory { result.status ≡ 2
+        → LackMemory skip_hash kind bytes.now shared.now result.summary }
+    ensures text { HasText result.summary.text_bytes text.old text.new }
+{
+    match both_of(alloc, bytes, shared, kind, skip_hash, text) {
+        Ok(state) => judge(alloc, &state, text),
+        Err(told) => told,
     }
 }
 
@@ -117,12 +145,49 @@ pub extern "C" fn gix_index_check(
         (λ k. IsRefusedIndex skip_hash k bytes.now summary.new
         ⊎ IsUnsoundIndex skip_hash k bytes.now summary.new) }
     ensures memory { result ≡ 2 → IsSomeAnd (kind_numbered kind)
-        (λ k. IsIntact skip_hash k bytes.now) }
+        (λ k. LacksMemory None skip_hash k bytes.now) }
     ensures wrong_number { (result ≡ 4) ↔ (kind_numbered kind ≡ None) }
     ensures text { HasText summary.new.text_bytes text.old text.new }
 {
     let outcome = match kind_of(kind) {
         Some(kind) => checked(alloc, bytes, kind, skip_hash, text),
+        None => nothing(WRONG_NUMBER),
+    };
+    *summary = outcome.summary;
+    outcome.status
+}
+
+/// Checks an index, given as all bytes of its file, with the shared index that it links to, given as all bytes of that
+/// one's file: both are read and joined as `gix_index_read_split` does it, and what comes of it is checked as
+/// `gix_index_check` checks an index.
+///
+/// So where there is no link, or its id is zeros, the shared bytes aren't looked at, and with `DONE` the summary tells
+/// of no link. `DONE`: all of it is so. `REFUSED`: the fault is one that `gix_index_read_split` tells; or `ORDER`, and
+/// its place is that of the first entry of both that isn't above the one before it; or `CACHED_TREE`, and the entries
+/// of both are in order. All else is as there.
+#[unsafe(no_mangle)]
+pub extern "C" fn gix_index_check_split(
+    alloc: Global,
+    bytes: &[u8],
+    shared: &[u8],
+    kind: u32,
+    skip_hash: bool,
+    text: &mut [u8],
+    summary: &mut Summary,
+) -> u32
+    ensures status { (result ≤ 2) ⊎ (result ≡ 4) }
+    ensures done { result ≡ 0 → IsSomeAnd (kind_numbered kind)
+        (λ k. AreSoundBoth skip_hash k bytes.now shared.now summary.new) }
+    ensures refused { result ≡ 1 → IsSomeAnd (kind_numbered kind)
+        (λ k. AreRefusedBoth skip_hash k bytes.now shared.now summary.new
+        ⊎ AreUnsoundBoth skip_hash k bytes.now shared.now summary.new) }
+    ensures memory { result ≡ 2 → IsSomeAnd (kind_numbered kind)
+        (λ k. LackMemory skip_hash k bytes.now shared.now summary.new) }
+    ensures wrong_number { (result ≡ 4) ↔ (kind_numbered kind ≡ None) }
+    ensures text { HasText summary.new.text_bytes text.old text.new }
+{
+    let outcome = match kind_of(kind) {
+        Some(kind) => checked_both(alloc, bytes, shared, kind, skip_hash, text),
         None => nothing(WRONG_NUMBER),
     };
     *summary = outcome.summary;

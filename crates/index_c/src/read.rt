@@ -1,9 +1,8 @@
 //! Reading an index into a caller's table.
 
 ghost use Rattle.std.specs.Prelude.{◌≡◌, ◌≢◌, ◌≤◌, ◌↔◌, IsSomeAnd, None};
-ghost use Rattle.gix_index.specs.Intact.{IsIntact};
-ghost use Rattle.index_table.specs.Joining.{AreReadSo, AreRefusedBoth};
-ghost use Rattle.index_table.specs.Reading.{Fills, HasText, IsFilled, IsRefusedIndex, IsTooSmall, LacksRoom};
+ghost use Rattle.index_table.specs.Joining.{AreReadSo, AreRefusedBoth, LackMemory};
+ghost use Rattle.index_table.specs.Reading.{Fills, HasText, IsFilled, IsRefusedIndex, IsTooSmall, LacksMemory, LacksRoom};
 ghost use Rattle.index_table.specs.Table.{kind_numbered};
 
 use index_table::read::{Summary, read_table};
@@ -36,7 +35,7 @@ pub extern "C" fn gix_index_read(
     ensures refused { result ≡ 1 → IsSomeAnd (kind_numbered kind)
         (λ k. IsRefusedIndex skip_hash k bytes.now summary.new) }
     ensures memory { result ≡ 2 → IsSomeAnd (kind_numbered kind)
-        (λ k. IsIntact skip_hash k bytes.now) }
+        (λ k. LacksMemory None skip_hash k bytes.now) }
     ensures no_room { result ≡ 3 → IsSomeAnd (kind_numbered kind)
         (λ k. LacksRoom skip_hash k bytes.now summary.new rows.old paths.old) }
     ensures wrong_number { (result ≡ 4) ↔ (kind_numbered kind ≡ None) }
@@ -76,7 +75,7 @@ pub extern "C" fn gix_index_read_split(
     ensures refused { result ≡ 1 → IsSomeAnd (kind_numbered kind)
         (λ k. AreRefusedBoth skip_hash k bytes.now shared.now summary.new) }
     ensures memory { result ≡ 2 → IsSomeAnd (kind_numbered kind)
-        (λ k. IsIntact skip_hash k bytes.now) }
+        (λ k. LackMemory skip_hash k bytes.now shared.now summary.new) }
     ensures no_room { result ≡ 3 → IsSomeAnd (kind_numbered kind)
         (λ k. AreReadSo skip_hash k bytes.now shared.now
         (λ v. IsTooSmall v summary.new rows.old paths.old)) }

@@ -1,8 +1,8 @@
 //! Writing a caller's table as an index.
 
-ghost use Rattle.std.specs.Prelude.{◌≡◌, ◌≢◌, ◌≤◌, ◌↔◌, false};
-ghost use Rattle.gix_index.specs.Intact.{IsIntact};
+ghost use Rattle.std.specs.Prelude.{◌≡◌, ◌≢◌, ◌≤◌, ◌↔◌, None, false};
 ghost use Rattle.index_table.specs.Overwriting.{IsAskedOver, IsUnwrittenOver, WritesOver};
+ghost use Rattle.index_table.specs.Reading.{LacksMemory};
 ghost use Rattle.index_table.specs.Writing.{HasImage, HasWrongNumber, IsAsked, IsFitTable, IsUnwritten, PassesRoom, Spells};
 
 use index_table::over::write_over;
@@ -71,7 +71,7 @@ pub extern "C" fn gix_index_write_over(
     ensures refused { result ≡ 1 → IsAskedOver form.now
         (λ kind options. IsUnwrittenOver kind options index.now paths.now rows.now told.new) }
     ensures memory { result ≡ 2
-        → IsAskedOver form.now (λ kind options. IsIntact false kind index.now) }
+        → IsAskedOver form.now (λ kind options. LacksMemory None false kind index.now) }
     ensures no_room { result ≡ 3 → IsAskedOver form.now
         (λ kind options. WritesOver kind index.now paths.now rows.now told.new
         (λ v. PassesRoom v options told.new bytes.old)) }
