@@ -76,9 +76,9 @@ extern "C" {
 #define GIX_INDEX_FAULT_TRAILER 7u   /* the bytes behind all entries and extensions aren't as many as the trailer has */
 #define GIX_INDEX_FAULT_DIGEST 8u    /* the digest isn't the trailer: damaged, of the other kind, or no index */
 /* (9 is a fault of files, which no call of these opens) */
-#define GIX_INDEX_FAULT_ORDER 10u       /* gix_index_check, calls that write: the entry at the place isn't above the one
-                                         * before it */
-#define GIX_INDEX_FAULT_CACHED_TREE 11u /* gix_index_check alone: the cached tree doesn't hold together, or counts more
+#define GIX_INDEX_FAULT_ORDER 10u       /* calls that check or write: the entry at the place isn't above the one before
+                                         * it */
+#define GIX_INDEX_FAULT_CACHED_TREE 11u /* calls that check alone: the cached tree doesn't hold together, or counts more
                                          * entries than there are */
 #define GIX_INDEX_FAULT_ROW 12u         /* calls that write alone: the row at the place can't stand in a file */
 #define GIX_INDEX_FAULT_COUNT 13u       /* calls that write alone: there are more rows than 4294967295 */
@@ -110,7 +110,7 @@ typedef struct {
  * faults ORDER and CACHED_TREE the bytes were read, and entries, version and has_link are as with DONE. */
 typedef struct {
     size_t entries;     /* DONE, NO_ROOM: how many entries the index has, and so how many rows it takes */
-    size_t path_bytes;  /* DONE, NO_ROOM: how many bytes for paths it takes; gix_index_check says 0 */
+    size_t path_bytes;  /* DONE, NO_ROOM: how many bytes for paths it takes; calls that check say 0 */
     size_t text_bytes;  /* REFUSED, MEMORY: how many bytes of text were written */
     size_t fault_place; /* REFUSED: the place that the fault names, or 0 */
     uint32_t fault;     /* REFUSED: one of the faults above */
@@ -175,11 +175,11 @@ uint32_t gix_index_read_split(const uint8_t *bytes, size_t bytes_len, const uint
                               uint32_t kind, bool skip_hash, gix_index_row *rows, size_t rows_len, uint8_t *paths,
                               size_t paths_len, uint8_t *text, size_t text_len, gix_index_summary *summary);
 
-/* Checks an index, given as all bytes of its file, as `index-tool check` does: the bytes are read as gix_index_read
- * reads them; the entries have to increase strictly by path, byte by byte, and then by stage, as the calls below
- * take them; and the cached tree, where there is one, has to hold together and to count no more entries than there
- * are. Objects aren't looked at. Of a split index only its own entries are checked; those that have an empty path
- * are out of order where they are more than one, and has_link tells of it.
+/* Checks an index, given as all bytes of its file: the bytes are read as gix_index_read reads them; the entries have
+ * to increase strictly by path, byte by byte, and then by stage, as the calls below take them; and the cached tree,
+ * where there is one, has to hold together and to count no more entries than there are. Objects aren't looked at. Of
+ * a split index only its own entries are checked; those that have an empty path are out of order where they are more
+ * than one, and has_link tells of it.
  *
  * DONE: all of it is so. REFUSED: the fault is one that gix_index_read tells; or ORDER, and the place is the first
  * entry that isn't above the one before it; or CACHED_TREE, and the entries are in order. The text has it in words,
@@ -188,6 +188,20 @@ uint32_t gix_index_read_split(const uint8_t *bytes, size_t bytes_len, const uint
  * answered. */
 uint32_t gix_index_check(const uint8_t *bytes, size_t bytes_len, uint32_t kind, bool skip_hash, uint8_t *text,
                          size_t text_len, gix_index_summary *summary);
+
+/* Checks an index with the shared index that it links to, each given as all bytes of its file, as `index-tool check`
+ * does: both are read and joined as gix_index_read_split does it, and what comes of it is checked as gix_index_check
+ * checks an index. Where there is no link, or its id is zeros, shared isn't looked at, and its length may be 0. With
+ * DONE and the faults ORDER and CACHED_TREE has_link is 0, and entries are those of both.
+ *
+ * DONE: all of it is so. REFUSED: the fault is one that gix_index_read_split tells; or ORDER, and the place is that of
+ * the first entry of both that isn't above the one before it; or CACHED_TREE, and the entries of both are in order. All
+ * else is as there.
+ *
+ * gix_index_file.h checks a path with its link followed. */
+uint32_t gix_index_check_split(const uint8_t *bytes, size_t bytes_len, const uint8_t *shared, size_t shared_len,
+                               uint32_t kind, bool skip_hash, uint8_t *text, size_t text_len,
+                               gix_index_summary *summary);
 
 /* The place of the row with this path and this stage, counted from 0, or rows_len where there is none.
  *

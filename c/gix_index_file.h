@@ -1,4 +1,4 @@
-/* Reading the index at a path into a table, with its link followed, and writing a table to a path by way of a lock, for
+/* Reading and checking the index at a path, with its link followed, and writing a table to a path by way of a lock, for
  * POSIX systems. (With -std=c11, _POSIX_C_SOURCE has to be 200809L.)
  *
  * The library itself opens no files, so this stands in C beside it, and isn't proved. */
@@ -101,6 +101,33 @@ static inline uint32_t gix_index_fill(gix_index_table *t, const uint8_t *shared,
                                 text, text_len, &t->said);
 }
 
+/* The bytes of the shared index that these bytes, of the index at a path, link to, which the caller frees. NULL with
+ * DONE where there is none to follow, as the bytes don't link or can't be read. REFUSED, MEMORY: of these bytes, as
+ * gix_index_read answers; MEMORY also where malloc gives nothing for the path. SYSTEM: the file of the shared index
+ * can't be read, and errno says why. */
+static inline uint32_t gix_index_shared_of(const char *path, const uint8_t *bytes, size_t bytes_len, uint32_t kind,
+                                           uint8_t *text, size_t text_len, gix_index_summary *said, uint8_t **shared,
+                                           size_t *shared_len) {
+    gix_index_row no_row;
+    uint8_t no_path;
+    *shared = NULL;
+    *shared_len = 0;
+    uint32_t status = gix_index_read(bytes, bytes_len, kind, true, &no_row, 0, &no_path, 0, text, text_len, said);
+    bool is_read = status == GIX_INDEX_DONE || status == GIX_INDEX_NO_ROOM;
+    if (!is_read || !gix_index_links(said)) return GIX_INDEX_DONE;
+    /* (a wrong digest is told before a shared index is looked for) */
+    status = gix_index_read(bytes, bytes_len, kind, false, &no_row, 0, &no_path, 0, text, text_len, said);
+    if (status != GIX_INDEX_DONE && status != GIX_INDEX_NO_ROOM) return status;
+    char *shared_path = gix_index_shared_path(path, kind, said);
+    if (!shared_path) return GIX_INDEX_MEMORY;
+    *shared = gix_index_bytes_of(shared_path, shared_len);
+    int error = errno;
+    free(shared_path);
+    errno = error;
+    said->of_shared = 1;
+    return *shared ? GIX_INDEX_DONE : GIX_INDEX_SYSTEM;
+}
+
 /* Reads the index at a path into a table. A link to a shared index is followed: that is the file sharedindex.ID beside
  * it.
  *
@@ -109,29 +136,39 @@ static inline uint32_t gix_index_fill(gix_index_table *t, const uint8_t *shared,
  * t->said.of_shared it is the shared one. With each status gix_index_drop_table gives the memory back. */
 static inline uint32_t gix_index_read_file(const char *path, uint32_t kind, uint8_t *text, size_t text_len,
                                            gix_index_table *t) {
-    gix_index_row no_row;
-    uint8_t no_path;
+    uint8_t *shared, no_byte;
+    size_t shared_len;
     *t = (gix_index_table){0};
     t->bytes = gix_index_bytes_of(path, &t->bytes_len);
     if (!t->bytes) return GIX_INDEX_SYSTEM;
-    uint32_t status = gix_index_read(t->bytes, t->bytes_len, kind, true, &no_row, 0, &no_path, 0, text, text_len,
-                                     &t->said);
-    bool is_read = status == GIX_INDEX_DONE || status == GIX_INDEX_NO_ROOM;
-    if (!is_read || !gix_index_links(&t->said)) return gix_index_fill(t, &no_path, 0, kind, text, text_len);
-    /* (a wrong digest is told before a shared index is looked for) */
-    status = gix_index_read(t->bytes, t->bytes_len, kind, false, &no_row, 0, &no_path, 0, text, text_len, &t->said);
-    if (status != GIX_INDEX_DONE && status != GIX_INDEX_NO_ROOM) return status;
-    char *shared_path = gix_index_shared_path(path, kind, &t->said);
-    if (!shared_path) return GIX_INDEX_MEMORY;
-    size_t shared_len;
-    uint8_t *shared = gix_index_bytes_of(shared_path, &shared_len);
-    int error = errno;
-    free(shared_path);
-    errno = error;
-    t->said.of_shared = 1;
-    if (!shared) return GIX_INDEX_SYSTEM;
-    status = gix_index_fill(t, shared, shared_len, kind, text, text_len);
+    uint32_t status = gix_index_shared_of(path, t->bytes, t->bytes_len, kind, text, text_len, &t->said, &shared,
+                                          &shared_len);
+    if (status != GIX_INDEX_DONE) return status;
+    status = gix_index_fill(t, shared ? shared : &no_byte, shared_len, kind, text, text_len);
     free(shared);
+    return status;
+}
+
+/* Checks the index at a path as gix_index_check_split checks bytes, which is what `index-tool check` does. A link to a
+ * shared index is followed, as gix_index_read_file follows it.
+ *
+ * Statuses, the summary and the text are those of gix_index_check_split. MEMORY also where malloc gives nothing for
+ * a path. SYSTEM: a file can't be read, and errno says why; with said->of_shared it is the shared one. */
+static inline uint32_t gix_index_check_file(const char *path, uint32_t kind, uint8_t *text, size_t text_len,
+                                            gix_index_summary *said) {
+    uint8_t *shared, no_byte;
+    size_t len, shared_len;
+    *said = (gix_index_summary){0};
+    uint8_t *bytes = gix_index_bytes_of(path, &len);
+    if (!bytes) return GIX_INDEX_SYSTEM;
+    uint32_t status = gix_index_shared_of(path, bytes, len, kind, text, text_len, said, &shared, &shared_len);
+    if (status == GIX_INDEX_DONE)
+        status = gix_index_check_split(bytes, len, shared ? shared : &no_byte, shared_len, kind, false, text, text_len,
+                                       said);
+    int error = errno;
+    free(bytes);
+    free(shared);
+    errno = error;
     return status;
 }
 

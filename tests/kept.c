@@ -4,9 +4,10 @@
  * over        writes the table of FILE over FILE into rooms of each size, from none up to one too large, and with rows
  *             that keep the cached tree, that put it out, and that can't be written; over WANTED again; and to a path
  * split       reads FILE with SHARED, which have to be the table of WANTED, into tables of each size, and without what
- *             has to be there; by its path too
+ *             has to be there; by its path too; and checks both so
  * over-once   writes it so without a request for memory of its own, so that each is the library's
  * split-once  reads both so
+ * check-once  checks both so
  *
  * A line on standard output for each thing that isn't so, or 'ok'. The status is 1 where a file can't be read here. */
 #define _POSIX_C_SOURCE 200809L
@@ -199,8 +200,18 @@ static void holds_wanted(const gix_index_row *those, const uint8_t *those_paths,
     }
 }
 
+static uint32_t check_both(const uint8_t *other, size_t other_len) {
+    memset(text, FILL, sizeof text);
+    uint32_t status = gix_index_check_split(bytes, bytes_len, other, other_len, form.kind, false, text, sizeof text,
+                                            &said);
+    expect(is_filled(text + said.text_bytes, sizeof text - said.text_bytes), "a text that goes on", status, 0);
+    return status;
+}
+
 static void refused_both(const uint8_t *other, size_t len, uint32_t fault, const char *what) {
     uint32_t status = read_both(other, len, MOST / 16, MOST);
+    expect(status == GIX_INDEX_REFUSED && said.fault == fault && said.of_shared == 1, what, said.fault, said.of_shared);
+    status = check_both(other, len);
     expect(status == GIX_INDEX_REFUSED && said.fault == fault && said.of_shared == 1, what, said.fault, said.of_shared);
 }
 
@@ -217,6 +228,19 @@ static void split_sizes(void) {
             expect(said.has_link == 0 && said.of_shared == 0, "a link that is left", said.has_link, said.of_shared);
         }
     }
+}
+
+/* Both pass a check together; the split index alone doesn't, as it has entries with an empty path. */
+static void split_checked(const char *file, size_t entries) {
+    uint32_t status = check_both(shared, shared_len);
+    expect(status == GIX_INDEX_DONE && said.entries == entries, "both don't pass", status, said.entries);
+    expect(said.has_link == 0 && said.path_bytes == 0, "a link that is left", said.has_link, said.path_bytes);
+    status = gix_index_check(bytes, bytes_len, form.kind, false, text, sizeof text, &said);
+    expect(status == GIX_INDEX_REFUSED && said.has_link == 1, "one alone passes", status, said.has_link);
+    status = gix_index_check_file(file, form.kind, text, sizeof text, &said);
+    expect(status == GIX_INDEX_DONE && said.entries == entries, "the file doesn't pass", status, said.entries);
+    status = gix_index_check_split(wanted, wanted_len, shared, 0, form.kind, false, text, sizeof text, &said);
+    expect(status == GIX_INDEX_DONE && said.entries == entries, "an index without a link doesn't pass", status, 0);
 }
 
 static void split(const char *file) {
@@ -236,6 +260,7 @@ static void split(const char *file) {
     status = gix_index_read_file(file, form.kind, text, sizeof text, &t);
     expect(status == GIX_INDEX_DONE, "the file isn't read with its link", status, t.said.of_shared);
     holds_wanted(t.rows, t.paths, t.said.entries);
+    split_checked(file, t.said.entries);
     gix_index_drop_table(&t);
 }
 
@@ -264,6 +289,12 @@ static void split_once(void) {
     if (status == GIX_INDEX_MEMORY) puts("memory");
 }
 
+static void check_once(void) {
+    uint32_t status = check_both(shared, shared_len);
+    expect(status == GIX_INDEX_DONE || status == GIX_INDEX_MEMORY, "another status", status, said.fault);
+    if (status == GIX_INDEX_MEMORY) puts("memory");
+}
+
 static size_t read_here(const char *path, uint8_t *to) {
     int file = open(path, O_RDONLY);
     ssize_t len = read(file, to, MOST);
@@ -283,6 +314,7 @@ int main(int argc, char **argv) {
     if (!strcmp(argv[1], "split")) split(argv[4]);
     if (!strcmp(argv[1], "over-once")) over_once();
     if (!strcmp(argv[1], "split-once")) split_once();
+    if (!strcmp(argv[1], "check-once")) check_once();
     if (faults == 0) puts("ok");
     return 0;
 }

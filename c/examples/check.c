@@ -1,5 +1,5 @@
-/* Checks an index as `index-tool check` does: its entries have to be in order, and its cached tree has to hold
- * together.
+/* Checks an index as `index-tool check` does, with its link followed: its entries have to be in order, and its cached
+ * tree has to hold together.
  *
  * Usage: check sha1|sha256 FILE
  *
@@ -13,17 +13,13 @@ int main(int argc, char **argv) {
         fputs("usage: check sha1|sha256 FILE\n", stderr);
         return 2;
     }
-    size_t len;
-    uint8_t *bytes = gix_index_bytes_of(argv[2], &len), text[8192];
-    if (!bytes) {
-        fprintf(stderr, "check: %s: %s\n", argv[2], strerror(errno));
+    uint8_t text[8192];
+    gix_index_summary said;
+    uint32_t status = gix_index_check_file(argv[2], kind_of(argv[1]), text, sizeof text, &said);
+    if (status != GIX_INDEX_DONE) {
+        tell("check", argv[2], status, &said, text);
         return 1;
     }
-    gix_index_summary said;
-    uint32_t status = gix_index_check(bytes, len, kind_of(argv[1]), false, text, sizeof text, &said);
-    free(bytes);
-    if (status == GIX_INDEX_MEMORY) fprintf(stderr, "check: %s: out of memory\n", argv[2]);
-    if (status == GIX_INDEX_REFUSED) fprintf(stderr, "check: %s: %.*s\n", argv[2], (int)said.text_bytes, (char *)text);
-    if (status == GIX_INDEX_DONE) puts("ok");
-    return status == GIX_INDEX_DONE && fflush(stdout) == 0 ? 0 : 1;
+    puts("ok");
+    return fflush(stdout) == 0 ? 0 : 1;
 }
