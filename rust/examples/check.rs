@@ -1,5 +1,5 @@
-//! Checks an index as `index-tool check` does: its entries have to be in order, and its cached tree has to hold
-//! together.
+//! Checks an index as `index-tool check` does, with its link followed: its entries have to be in order, and its cached
+//! tree has to hold together.
 //!
 //! Usage: check sha1|sha256 FILE
 //!
@@ -20,8 +20,7 @@ fn main() -> ExitCode {
             return ExitCode::from(2);
         }
     };
-    let bytes = std::fs::read(file).map_err(|error| error.to_string());
-    match bytes.and_then(|bytes| gix_index_proved::verify(&bytes, kind).map_err(|error| error.to_string())) {
+    match gix_index_proved::verify_file(file, kind) {
         Ok(()) => {
             println!("ok");
             ExitCode::SUCCESS

@@ -24,10 +24,9 @@ pub enum Fault {
     /// The digest isn't the trailer.
     Digest,
     /// The entry at this place, counted from 0, isn't above the one before it, by path, then stage.
-    /// [`verify`](crate::verify) and calls that write alone tell so.
+    /// Calls that check or write alone tell so.
     Order(usize),
-    /// The cached tree doesn't hold together, or counts more entries than there are. [`verify`](crate::verify) alone
-    /// tells so.
+    /// The cached tree doesn't hold together, or counts more entries than there are. Calls that check alone tell so.
     CachedTree,
     /// The entry at this place, counted from 0, can't be written: its path is empty or has a NUL, or it is a directory
     /// of a sparse index where no such index is written over.

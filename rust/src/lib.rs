@@ -5,15 +5,17 @@
 //! `crates/index_c/README.md`; this crate isn't proved: it hands slices to the library's calls and takes their answers.
 //! It has no dependencies, so its errors implement [`std::error::Error`] by hand.
 
+mod check;
 mod edit;
 mod error;
 mod raw;
 mod read;
 pub mod write;
 
+pub use check::{verify, verify_file, verify_split};
 pub use edit::EntryMut;
 pub use error::{Error, Fault};
-use raw::{Places, Row, Summary};
+use raw::{Places, Row};
 use std::ops::Range;
 
 /// Which hash function a repository names its objects by.
@@ -164,27 +166,6 @@ fn room<T: Copy>(value: T, len: usize) -> Result<Vec<T>, Error> {
     values.try_reserve_exact(len).map_err(|_| Error::Memory)?;
     values.resize(len, value);
     Ok(values)
-}
-
-/// Whether these are all bytes of an index whose entries strictly increase by path, then stage, and whose cached tree,
-/// where there is one, holds together and counts no more entries than there are. Objects aren't looked at.
-///
-/// The bytes are read as [`Index::from_bytes`] reads them, whose faults come first; then comes [`Fault::Order`], and
-/// last [`Fault::CachedTree`]. Of a split index its own entries alone are checked, and those with an empty path are
-/// out of order where they are more than one.
-pub fn verify(bytes: &[u8], kind: Kind) -> Result<(), Error> {
-    let mut text = [0; 8192];
-    let mut summary = Summary::default();
-    // SAFETY: each pointer goes with the length of its slice; those that are written through are distinct.
-    let status = unsafe {
-        let (room, len) = (text.as_mut_ptr(), text.len());
-        raw::gix_index_check(bytes.as_ptr(), bytes.len(), kind.number(), false, room, len, &mut summary)
-    };
-    match status {
-        raw::DONE => Ok(()),
-        raw::MEMORY => Err(Error::Memory),
-        _ => Err(Error::of(&summary, &text)),
-    }
 }
 
 impl Index {

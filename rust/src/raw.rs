@@ -122,6 +122,18 @@ unsafe extern "C" {
         summary: *mut Summary,
     ) -> u32;
 
+    pub fn gix_index_check_split(
+        bytes: *const u8,
+        bytes_len: usize,
+        shared: *const u8,
+        shared_len: usize,
+        kind: u32,
+        skip_hash: bool,
+        text: *mut u8,
+        text_len: usize,
+        summary: *mut Summary,
+    ) -> u32;
+
     pub fn gix_index_find_prefix(
         rows: *const Row,
         rows_len: usize,

@@ -6,10 +6,10 @@ use std::path::{Path, PathBuf};
 
 /// The bytes of an index, and of the shared index that it links to, where they are given.
 #[derive(Clone, Copy)]
-struct Files<'a> {
-    bytes: &'a [u8],
-    shared: Option<&'a [u8]>,
-    kind: Kind,
+pub(crate) struct Files<'a> {
+    pub bytes: &'a [u8],
+    pub shared: Option<&'a [u8]>,
+    pub kind: Kind,
 }
 
 impl Files<'_> {
@@ -77,8 +77,27 @@ impl Files<'_> {
     }
 }
 
-fn bytes_of(path: PathBuf) -> Result<Vec<u8>, Error> {
+pub(crate) fn bytes_of(path: PathBuf) -> Result<Vec<u8>, Error> {
     std::fs::read(&path).map_err(|error| Error::Io { path, error })
+}
+
+/// The bytes of the shared index with this id, beside the index at a path.
+fn beside(path: &Path, id: &[u8]) -> Result<Vec<u8>, Error> {
+    let name: String = id.iter().map(|byte| format!("{byte:02x}")).collect();
+    bytes_of(path.with_file_name(format!("sharedindex.{name}")))
+}
+
+/// The bytes of the shared index that these bytes, of the index at a path, link to. None where there is none to follow,
+/// as they don't link or can't be read. A wrong digest is told before the shared index is looked for.
+pub(crate) fn shared_bytes_of(path: &Path, bytes: &[u8], kind: Kind) -> Result<Option<Vec<u8>>, Error> {
+    let own = Files { bytes, shared: None, kind };
+    let Ok((_, Summary { has_link, shared_id, .. })) = own.read(true, &mut [], &mut []) else { return Ok(None) };
+    let id = &shared_id[..kind.len_in_bytes()];
+    if has_link == 0 || id.iter().all(|byte| *byte == 0) {
+        return Ok(None);
+    }
+    own.read(false, &mut [], &mut [])?;
+    beside(path, id).map(Some)
 }
 
 impl Index {
@@ -110,8 +129,6 @@ impl Index {
         let Some(id) = index.shared_id() else {
             return Index::from_split_bytes(&bytes, &[], kind);
         };
-        let name: String = id.iter().map(|byte| format!("{byte:02x}")).collect();
-        let shared = bytes_of(path.with_file_name(format!("sharedindex.{name}")))?;
-        Index::from_split_bytes(&bytes, &shared, kind)
+        Index::from_split_bytes(&bytes, &beside(path, id)?, kind)
     }
 }

@@ -1,11 +1,11 @@
-//! Holds what is kept of an index that is written over against what was there, and a split index that is read with its
-//! shared one against the entries of both. `tests/linked` at the top of the repository runs it.
+//! Holds what is kept of an index that is written over against what was there, and a split index that is read and
+//! checked with its shared one against the entries of both. `tests/linked` at the top of the repository runs it.
 //!
 //! GIX_INDEX_SHA1 and GIX_INDEX_SHA256 name files of repositories, GIX_INDEX_SPLIT_SHA1 and GIX_INDEX_SPLIT_SHA256
 //! split indices beside their shared ones. Without them nothing is looked at.
 
 use gix_index_proved::write::{CachedTree, Options, VersionChoice};
-use gix_index_proved::{Error, Fault, Index, Kind, Stat};
+use gix_index_proved::{Error, Fault, Index, Kind, Stat, verify_file, verify_split};
 use std::path::PathBuf;
 use std::{env, fs};
 
@@ -91,5 +91,23 @@ fn a_link_is_followed() {
         assert!(matches!(error, Error::RefusedShared { fault: Fault::Digest, .. }), "{error}");
         let error = Index::from_split_bytes(&bytes, b"", kind).err().expect("it is none");
         assert!(matches!(error, Error::RefusedShared { fault: Fault::Header, .. }), "{error}");
+    }
+}
+
+#[test]
+fn a_split_index_is_checked_with_its_shared_one() {
+    for (kind, path, bytes) in files("GIX_INDEX_SPLIT") {
+        verify_file(&path, kind).expect("both are sound");
+        let whole = Index::open(&path, kind).expect("both can be read");
+        let id = Index::from_bytes(&bytes, kind).expect("it can be read").shared_id().expect("it links").to_vec();
+        let name: String = id.iter().map(|byte| format!("{byte:02x}")).collect();
+        let shared = fs::read(path.with_file_name(format!("sharedindex.{name}"))).expect("it is there");
+        verify_split(&bytes, &shared, kind).expect("both are sound");
+        let (written, _) = whole.write_to_over(&bytes, Options::default()).expect("it can be written");
+        verify_split(&written, b"", kind).expect("it links to none");
+        let error = verify_split(&bytes, &written, kind).expect_err("it is another's");
+        assert!(matches!(error, Error::RefusedShared { fault: Fault::Digest, .. }), "{error}");
+        let error = verify_file(path.with_file_name("HEAD"), kind).expect_err("it is no index");
+        assert!(matches!(error, Error::Refused { fault: Fault::Digest | Fault::Header, .. }), "{error}");
     }
 }
