@@ -1,22 +1,42 @@
 -- What was read at the begin of 1970, with the default options.
 use Rattle.std.proofs.Common.{◌≡◌, subst, false, List, ℕ, Option, None, Ok, refl}
-use Rattle.gix_index.specs.FileTime.{FileTime}
-use Rattle.gix_index.specs.Kind.{Kind}
-use Rattle.gix_index.specs.ObjectId.{ObjectId}
+use Rattle.gix_index.specs.Behind.{FollowEntries}
+use Rattle.gix_index.specs.Checked.{IsFileAnswer}
 use Rattle.gix_index.specs.Contents.{Contents}
 use Rattle.gix_index.specs.DecodeOptions.{Options}
-use Rattle.gix_index.specs.Checked.{IsFileAnswer}
+use Rattle.gix_index.specs.FileTime.{FileTime}
+use Rattle.gix_index.specs.Kind.{Kind}
 use Rattle.gix_index.specs.Linked.{IsOnDisk}
+use Rattle.gix_index.specs.ObjectId.{ObjectId}
+use Rattle.index_inspect.specs.Marks.{AreMarks}
+use Rattle.index_inspect.specs.declared.marks.Marks.{Marks}
 use Rattle.index_tool.specs.Listing.{unlimited_options, IsBeginOf1970, IsInFile}
-use Rattle.index_tool.specs.Showing.{IsInBytes}
+use Rattle.index_tool.specs.Showing.{IsInSomeBytes}
 
-pub in_file : (kind : Kind) (time : FileTime) (options : Options) (v : Contents) (checksum : Option ObjectId) → IsBeginOf1970 time → options ≡ unlimited_options → IsOnDisk false kind time options v checksum → IsInFile kind v checksum
-in_file kind time options v checksum begin e is = record { time = time; begin = begin; is = subst (λ (o : Options). IsOnDisk false kind time o v checksum) e is }
+pub in_file : (kind : Kind) (time : FileTime) (options : Options) (v : Contents) (checksum : Option ObjectId)
+    → IsBeginOf1970 time → options ≡ unlimited_options → IsOnDisk false kind time options v checksum
+    → IsInFile kind v checksum
+in_file kind time options v checksum begin e is = record {
+  time = time;
+  begin = begin;
+  is = subst (λ (o : Options). IsOnDisk false kind time o v checksum) e is;
+}
 
-pub options_are : (options : Options) → options.thread_limit ≡ None → options.min_extension_block_in_bytes_for_threading ≡ 0 → options.expected_checksum ≡ None → options.alloc_limit_bytes ≡ None
-    → options ≡ unlimited_options
+pub options_are : (options : Options) → options.thread_limit ≡ None
+    → options.min_extension_block_in_bytes_for_threading ≡ 0 → options.expected_checksum ≡ None
+    → options.alloc_limit_bytes ≡ None → options ≡ unlimited_options
 options_are options a b c d = rw (a, b, c, d) refl
 
-pub in_bytes : (kind : Kind) (bytes : List ℕ) (time : FileTime) (options : Options) (v : Contents) (checksum : Option ObjectId) → IsBeginOf1970 time → options ≡ unlimited_options
-    → IsFileAnswer false kind time options bytes (Ok (v, checksum)) → IsInBytes kind bytes v checksum
-in_bytes kind bytes time options v checksum begin e is = record { time = time; begin = begin; is = subst (λ (o : Options). IsFileAnswer false kind time o bytes (Ok (v, checksum))) e is }
+pub in_bytes : (kind : Kind) (bytes ending : List ℕ) (time : FileTime) (options : Options) (v : Contents)
+    (checksum : Option ObjectId) (marks : Marks) → IsBeginOf1970 time → options ≡ unlimited_options
+    → IsFileAnswer false kind time options bytes (Ok (v, checksum)) → FollowEntries kind bytes ending
+    → AreMarks kind ending marks → IsInSomeBytes kind v checksum marks
+in_bytes kind bytes ending time options v checksum marks begin e is behind marked = record {
+  time = time;
+  begin = begin;
+  bytes = bytes;
+  ending = ending;
+  is = subst (λ (o : Options). IsFileAnswer false kind time o bytes (Ok (v, checksum))) e is;
+  behind = behind;
+  marked = marked;
+}

@@ -1,5 +1,6 @@
 -- The words of each command, and what a command leaves on the output (the program's own).
-use Rattle.std.specs.Prelude.{◌≡◌, ℕ, nat_eq, Bool, true, false, List, [], ◌∷◌, codes, Option, Some, None, if◌then◌else◌}
+use Rattle.std.specs.Prelude.{◌≡◌, ℕ, nat_eq, Bool, true, false, List, [], ◌∷◌, codes, Option, Some, None}
+use Rattle.std.specs.Prelude.{if◌then◌else◌}
 use Rattle.std.specs.Cmp.Lexicographic.{pointwise}
 use Rattle.std.specs.Io.KnownBytes.{Keeps}
 use Rattle.std.specs.Option.{option_map}
@@ -14,9 +15,8 @@ use Rattle.index_tool.specs.declared.command.Reading.TheVariants as readings
 use Rattle.index_tool.specs.declared.command.Writing.{Writing}
 use Rattle.index_tool.specs.declared.command.Writing.TheVariants as writings
 use Rattle.index_tool.specs.Checking.{Checks, ChecksFront}
-use Rattle.index_tool.specs.Drawing.{Draws, DrawsDamaged, DrawsFront}
 use Rattle.index_tool.specs.Listing.{ListsIndex, ListsFront}
-use Rattle.index_tool.specs.Mapping.{Maps, MapsDamaged, MapsFront}
+use Rattle.index_tool.specs.Mapping.{Draws, DrawsDamaged, DrawsFront, Maps, MapsDamaged, MapsFront}
 use Rattle.index_tool.specs.Rewriting.{Rewrites}
 use Rattle.index_tool.specs.Salvaging.{Salvages}
 use Rattle.index_tool.specs.Showing.{Shows, ShowsFront, ShowsJson, ShowsJsonFront}
@@ -37,7 +37,10 @@ is_word word text = pointwise nat_eq word text
 
 -- the kind that a word names
 abbrev pub kind_named : List ℕ → Option Kind
-kind_named word = if is_word word (codes "sha1") then Some Sha1 else (if is_word word (codes "sha256") then Some Sha256 else None)
+kind_named word =
+    if is_word word (codes "sha1") then Some Sha1
+    else (if is_word word (codes "sha256") then Some Sha256
+    else None)
 
 -- what the command with this name tells
 abbrev pub reading_named : List ℕ → Option Reading
@@ -81,8 +84,9 @@ abbrev pub command_named : List (List ℕ) → Option CommandValue
 command_named (name ∷ words) = named_so (reading_named name) (writing_named name) words
 command_named [] = None
 
--- known bytes of the output grew by what is told of a file: the listing of an index, the line of one that passed all checks, the map
--- or the picture of a file without a fault, the lines or the JSON of what a file holds, or the lines of the trees that an index makes
+-- known bytes of the output grew by what is told of a file: the listing of an index, the line of one that passed all
+-- checks, the map or the picture of a file without a fault, the lines or the JSON of what a file holds, or the lines of
+-- the trees that an index makes
 abbrev pub Prints : Reading → Kind → Option (List ℕ) → Option (List ℕ) → Type 0
 Prints readings.List kind old new = ListsIndex kind old new
 Prints readings.Check kind old new = Checks false kind old new
@@ -115,15 +119,19 @@ abbrev pub reports : CommandValue → Bool
 reports (Writes writings.Salvage kind file to) = true
 reports command = false
 
--- what a command that succeeded did: known bytes of the output grew by all that it tells, or stayed, and an index was written
+-- what a command that succeeded did: known bytes of the output grew by all that it tells, or stayed, and an index was
+-- written
 abbrev pub Succeeds : CommandValue → Option (List ℕ) → Option (List ℕ) → Type 0
 Succeeds (Reads what kind file) old new = Prints what kind old new
 Succeeds (Writes what kind file to) old new = StoresIndex what kind to × Keeps old new
 
--- what a command that was refused did to them: nothing, or they grew by a prefix of that, or by the map or
--- the picture of a damaged file
+-- what a command that was refused did to them: nothing, or they grew by a prefix of that, or by the map or the picture
+-- of a damaged file
 pub data GivesUp (command : CommandValue) (old new : Option (List ℕ)) : Type 0 where
   nothing : Keeps old new → GivesUp command old new
-  some_of : (what : Reading) (kind : Kind) (file : List ℕ) → command ≡ Reads what kind file → PrintsFront what kind old new → GivesUp command old new
-  damaged_map : (kind : Kind) (file : List ℕ) (offset : ℕ) (e : Error) → command ≡ Reads readings.Map kind file → MapsDamaged kind offset e old new → GivesUp command old new
-  damaged_picture : (kind : Kind) (file : List ℕ) (offset : ℕ) (e : Error) → command ≡ Reads readings.MapSvg kind file → DrawsDamaged kind offset e old new → GivesUp command old new
+  some_of : (what : Reading) (kind : Kind) (file : List ℕ) → command ≡ Reads what kind file
+      → PrintsFront what kind old new → GivesUp command old new
+  damaged_map : (kind : Kind) (file : List ℕ) (offset : ℕ) (e : Error) → command ≡ Reads readings.Map kind file
+      → MapsDamaged kind offset e old new → GivesUp command old new
+  damaged_picture : (kind : Kind) (file : List ℕ) (offset : ℕ) (e : Error) → command ≡ Reads readings.MapSvg kind file
+      → DrawsDamaged kind offset e old new → GivesUp command old new

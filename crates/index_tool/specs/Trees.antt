@@ -1,6 +1,6 @@
 -- The trees of an index in a file: their lines, and the index that is written with them (the program's own).
 use Rattle.std.specs.Prelude.{◌≡◌, ℕ, List, [], Option}
-use Rattle.std.specs.Io.KnownBytes.{Appends, Keeps}
+use Rattle.std.specs.Io.KnownBytes.{Appends}
 use Rattle.gix_index.specs.Cached.{IsCached}
 use Rattle.gix_index.specs.Contents.{Contents}
 use Rattle.gix_index.specs.Edits.{with_cached_tree}
@@ -21,6 +21,7 @@ use Rattle.index_tool.specs.declared.failure.Failure.{Failure}
 use Rattle.index_tool.specs.declared.failure.Failure.TheVariants as failures
 use Rattle.index_tool.specs.Listing.{IsInFile, FailsToRead}
 use Rattle.index_tool.specs.Rewriting.{rewrite_options}
+use Rattle.index_tool.specs.Telling.{FailsTelling}
 
 -- the entries of an index are in order, and this is the cached tree of what they stage
 pub record IsTreeOfIndex (value : Contents) (tree : Node) : Type 0 where
@@ -55,10 +56,9 @@ FailsToTree path (failures.Entries file e) = file.now ≡ path
 FailsToTree path (failures.Trees file e) = file.now ≡ path
 FailsToTree path failure = FailsToRead path failure
 
--- a failure of telling trees: only a failed output took some lines
+-- a failure of telling trees
 abbrev pub FailsToTellTrees : Kind → List ℕ → Failure → Option (List ℕ) → Option (List ℕ) → Type 0
-FailsToTellTrees kind path (failures.Output e) old new = TreesFront kind old new
-FailsToTellTrees kind path failure old new = FailsToTree path failure × Keeps old new
+FailsToTellTrees kind path failure old new = FailsTelling (TreesFront kind) (FailsToTree path) failure old new
 
 -- An index in a file, once it was written to a path with a cached tree made anew.
 pub record IsRetreed (kind : Kind) (to : List ℕ) (written : File) : Type 0 where

@@ -14,7 +14,7 @@ use std::path::PathBuf;
 use std::rt::Files;
 
 /// Why there is no index to be had of a file.
-fn failure_of(path: &str, fault: file::init::Error) -> Failure<'_>
+pub fn failure_of(path: &str, fault: file::init::Error) -> Failure<'_>
     ensures { FailsToRead path.now result }
 {
     match fault {

@@ -1,7 +1,7 @@
 //! The command `map-svg`.
 
 ghost use Rattle.std.specs.Prelude.{◌≡◌, IfErr, OnOk};
-ghost use Rattle.index_tool.specs.Drawing.{Draws, FailsToDraw};
+ghost use Rattle.index_tool.specs.Mapping.{Draws, FailsToDraw};
 
 use crate::command::map::{bytes_at, last_offset, out_of_memory};
 use crate::failure::Failure;

@@ -4,11 +4,13 @@ ghost use Rattle.std.specs.Prelude.{◌≡◌, IfErr, IfOk, OnOk};
 ghost use Rattle.gix_index.specs.File.{checksum_of, state_of};
 ghost use Rattle.gix_index.specs.State.{PathsInStorage, contents};
 ghost use Rattle.index_tool.specs.Listing.{FailsToRead};
-ghost use Rattle.index_tool.specs.Showing.{FailsToShow, IsInSomeBytes, IsInBytes, Shows};
+ghost use Rattle.index_tool.specs.Showing.{FailsToShow, IsInSomeBytes, Shows};
 
-use crate::command::map::{bytes_at, out_of_memory};
+use crate::command::index::failure_of;
+use crate::command::map::out_of_memory;
 use crate::failure::Failure;
 use gix_index::entry::FileTime;
+use gix_index::file::Unfollowed;
 use gix_index::hash::Kind;
 use gix_index::{File, decode};
 use index_inspect::marks::{Marks, marks_of};
@@ -18,29 +20,6 @@ use std::io;
 use std::path::PathBuf;
 use std::rt::Files;
 
-/// The index in the bytes of a file, whose link isn't followed.
-pub fn index_in<'a>(
-    alloc: Global,
-    kind: Kind,
-    path: &'a str,
-    bytes: &[u8],
-) -> Result<File, Failure<'a>>
-    ensures read { IfOk result
-        (λ file. IsInBytes kind bytes.now (contents (state_of file)) (checksum_of file)) }
-    ensures placed { IfOk result (λ file. PathsInStorage (state_of file)) }
-    ensures fault { IfErr result (FailsToRead path.now) }
-{
-    let Ok(place) = PathBuf::from_str(alloc, path) else {
-        return Err(out_of_memory(path));
-    };
-    let time = FileTime::EPOCH;
-    let options = decode::Options::default();
-    match File::decode(alloc, bytes, place, kind, false, time, options) {
-        Ok(file) => Ok(file),
-        Err(fault) => Err(Failure::Index { path, fault }),
-    }
-}
-
 /// The index in a file, and what the file's offset table and its end marker say.
 #[derive(Drop)]
 pub struct Told {
@@ -48,7 +27,7 @@ pub struct Told {
     pub marks: Marks,
 }
 
-/// What a file holds, whose link isn't followed. Its bytes are let go.
+/// What a file holds, whose link isn't followed.
 pub fn told_at<'a, R: Files>(
     rt: &R,
     alloc: Global,
@@ -60,15 +39,17 @@ pub fn told_at<'a, R: Files>(
     ensures placed { IfOk result (λ told. PathsInStorage (state_of told.index)) }
     ensures fault { IfErr result (FailsToRead path.now) }
 {
-    let bytes = match bytes_at(rt, alloc, path) {
-        Ok(bytes) => bytes,
-        Err(failure) => return Err(failure),
+    let Ok(file) = PathBuf::from_str(alloc, path) else {
+        return Err(out_of_memory(path));
     };
-    let index = match index_in(alloc, kind, path, &bytes) {
-        Ok(index) => index,
-        Err(failure) => return Err(failure),
+    let time = FileTime::EPOCH;
+    let options = decode::Options::default();
+    let read = match File::unfollowed_at(rt, alloc, file, kind, false, time, options) {
+        Ok(read) => read,
+        Err(fault) => return Err(failure_of(path, fault)),
     };
-    match marks_of(alloc, kind, &bytes) {
+    let Unfollowed { index, ending } = read;
+    match marks_of(alloc, kind, &ending) {
         Ok(marks) => Ok(Told { index, marks }),
         Err(_) => Err(out_of_memory(path)),
     }

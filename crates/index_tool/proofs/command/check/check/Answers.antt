@@ -15,13 +15,22 @@ pub returns-in-Err-verify_integrity-clause-refused : goal.returns-in-Err-verify_
 returns-in-Err-verify_integrity-clause-refused g c = (refl, Keeps-refl (g.W.Write.contents c.args.out.now))
 
 pub returns-in-Err-compare_trees-clause-refused : goal.returns-in-Err-compare_trees-clause-refused
-returns-in-Err-compare_trees-clause-refused g c = compare_fails c.in-Err-compare_trees.failure c.args.ids c.args.kind c.args.path.now (g.W.Write.contents c.args.out.now) c.in-Err-compare_trees.ensures.fault
+returns-in-Err-compare_trees-clause-refused g c =
+    compare_fails c.in-Err-compare_trees.failure c.args.ids c.args.kind c.args.path.now
+    (g.W.Write.contents c.args.out.now) c.in-Err-compare_trees.ensures.fault
 
 pub returns-in-Ok-put_all-clause-checked : goal.returns-in-Ok-put_all-clause-checked
 returns-in-Ok-put_all-clause-checked g c = record {
   value = contents (state_of c.in-Ok.index);
   checksum = checksum_of c.in-Ok.index;
-  sound = record { read = c.in-Ok.ensures.read; ordered = rw c.deref.ensures at (c.in_default.ensures.ok.0 refl); tree = sound_counted (state_of c.in-Ok.index) (rw c.deref-2.ensures at ((c.in_default-verify_extensions.ensures.sound refl).0 refl)); trees = c.in_default-compare_trees.ensures.right; intact = c.in_default-verify_integrity.ensures.ok };
+  sound = record {
+    read = c.in-Ok.ensures.read;
+    ordered = rw c.deref.ensures at (c.in_default.ensures.ok.0 refl);
+    tree = sound_counted (state_of c.in-Ok.index)
+        (rw c.deref-2.ensures at ((c.in_default-verify_extensions.ensures.sound refl).0 refl));
+    trees = c.in_default-compare_trees.ensures.right;
+    intact = c.in_default-verify_integrity.ensures.ok;
+  };
   grew = c.in-Ok-put_all.ensures.ok;
 }
 
@@ -29,6 +38,13 @@ pub returns-clause-refused : goal.returns-clause-refused
 returns-clause-refused g c = record {
   value = contents (state_of c.in-Ok.index);
   checksum = checksum_of c.in-Ok.index;
-  sound = record { read = c.in-Ok.ensures.read; ordered = rw c.deref.ensures at (c.in_default.ensures.ok.0 refl); tree = sound_counted (state_of c.in-Ok.index) (rw c.deref-2.ensures at ((c.in_default-verify_extensions.ensures.sound refl).0 refl)); trees = c.in_default-compare_trees.ensures.right; intact = c.in_default-verify_integrity.ensures.ok };
+  sound = record {
+    read = c.in-Ok.ensures.read;
+    ordered = rw c.deref.ensures at (c.in_default.ensures.ok.0 refl);
+    tree = sound_counted (state_of c.in-Ok.index)
+        (rw c.deref-2.ensures at ((c.in_default-verify_extensions.ensures.sound refl).0 refl));
+    trees = c.in_default-compare_trees.ensures.right;
+    intact = c.in_default-verify_integrity.ensures.ok;
+  };
   grew = c.in-Err-put_all.ensures.err;
 }

@@ -7,5 +7,6 @@ returns-in-Ok-write-clause-written g c = record {
   index = c.set_path.new.self;
   read = rw (c.set_path.ensures.state, c.set_path.ensures.checksum) c.in-Ok.ensures.read;
   path = c.set_path.ensures.path ∙ c.in-Ok-from_str.ensures;
-  is = written_so _ _ c.default.result.extensions c.args.version c.default.result.skip_hash c.default.ensures.0 c.default.ensures.1.1 c.in-Ok-write.ensures.ok;
+  is = written_so _ _ c.default.result.extensions c.args.version c.default.result.skip_hash c.default.ensures.0
+      c.default.ensures.1.1 c.in-Ok-write.ensures.ok;
 }

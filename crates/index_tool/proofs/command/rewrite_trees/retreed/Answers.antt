@@ -12,9 +12,16 @@ returns-in-Ok-write-clause-written g c =
     record {
       value = contents (state_of c.in-Ok.index);
       tree = tree;
-      is = record { checksum = checksum_of c.in-Ok.index; read = c.in-Ok.ensures.read; is_tree = c.in-Ok-tree_of.ensures.made };
+      is = record {
+        checksum = checksum_of c.in-Ok.index;
+        read = c.in-Ok.ensures.read;
+        is_tree = c.in-Ok-tree_of.ensures.made;
+      };
       index = c.from_state-index.result;
-      set = ap contents c.from_state-index.ensures.state ∙ c.set_tree.ensures.set ∙ ap (λ s. with_cached_tree (contents s) tree) c.into_parts-state.ensures.state;
+      set = ap contents c.from_state-index.ensures.state ∙ c.set_tree.ensures.set
+          ∙ ap (λ s. with_cached_tree (contents s) tree) c.into_parts-state.ensures.state;
       path = c.from_state-index.ensures.path ∙ c.in-Ok-from_str.ensures;
-      is_written = written_by_default _ _ c.default.result.extensions c.default.result.version c.default.result.skip_hash c.default.ensures.0 c.default.ensures.1.0 c.default.ensures.1.1 c.in-Ok-write.ensures.ok;
+      is_written = written_by_default _ _ c.default.result.extensions c.default.result.version
+          c.default.result.skip_hash c.default.ensures.0 c.default.ensures.1.0 c.default.ensures.1.1
+          c.in-Ok-write.ensures.ok;
     }

@@ -11,6 +11,7 @@ returns-in-Ok-write-clause-written g c = record {
   index = c.from_state-index.result;
   holds = ap contents c.from_state-index.ensures.state;
   path = c.from_state-index.ensures.path ∙ c.in-Ok-from_str.ensures;
-  is_written = written_by_default _ _ c.default.result.extensions c.default.result.version c.default.result.skip_hash c.default.ensures.0 c.default.ensures.1.0 c.default.ensures.1.1 c.in-Ok-write.ensures.ok;
+  is_written = written_by_default _ _ c.default.result.extensions c.default.result.version c.default.result.skip_hash
+      c.default.ensures.0 c.default.ensures.1.0 c.default.ensures.1.1 c.in-Ok-write.ensures.ok;
   reports = record { declared = refl; read = refl; kept = c.kept-kept.ensures; fault = refl; shared = refl };
 }

@@ -1,11 +1,11 @@
-use Rattle.std.proofs.Common.{List, ℕ, subst, sym, ◌∙◌}
-use Rattle.index_inspect.specs.Marks.{AreMarks}
+use Rattle.std.proofs.Common.{refl}
+use Rattle.index_tool.proofs.Readings.{in_bytes, options_are}
 use Rattle.index_tool.proofs.command.show.told_at.Goals as goal
 
 pub returns-in-Ok-marks_of-clause-told : goal.returns-in-Ok-marks_of-clause-told
-returns-in-Ok-marks_of-clause-told g c = record {
-  bytes = c.deref.result.now;
-  read = c.in-Ok-index_in.ensures.read;
-  marked = subst (λ (b : List ℕ). AreMarks c.args.kind b c.in-Ok-marks_of.marks) (c.deref-2.ensures.value
-      ∙ sym c.deref.ensures.value) c.in-Ok-marks_of.ensures;
-}
+returns-in-Ok-marks_of-clause-told g c =
+    let default = c.default-options.ensures in
+    let is = c.in-Ok-unfollowed_at.ensures.read in
+    in_bytes c.args.kind is.0 _ _ _ _ _ _ (refl, refl)
+    (options_are _ default.0 default.1.0 default.1.1.0 default.1.1.1) is.1.read is.1.ending
+    (rw c.deref.ensures.value at c.in-Ok-marks_of.ensures)
