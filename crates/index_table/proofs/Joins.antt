@@ -6,7 +6,6 @@ use Rattle.gix_index.specs.Kind.{Kind}
 use Rattle.gix_index.specs.Link.{LinkValue}
 use Rattle.gix_index.specs.Linked.{IsUnfollowed}
 use Rattle.gix_index.specs.ObjectId.{ObjectId}
-use Rattle.gix_index.specs.Storable.{IsStorable}
 use Rattle.index_table.specs.Joining.{AreReadSo, AreRefusedBoth, IsFollowed, IsJoinedBy, IsLinkRefused, IsSharedRefused}
 use Rattle.index_table.specs.Joining.{LackMemory, LinksTo}
 use Rattle.index_table.specs.Reading.{BytesReadAs, LacksMemory}
@@ -97,13 +96,6 @@ pub lack_read : (skip : Bool) (kind : Kind) (bytes shared : List ℕ) (P : Conte
 lack_read skip kind bytes shared P s h e =
     lack_own skip kind bytes shared s (lacks_from None skip kind bytes h.value h.checksum h.read) e
 
--- ---- a value that lost its link
-
--- a value that lost its link can still be stored
-pub still_storable : (v w : Contents) → w ≡ without_link v → IsStorable v → IsStorable w
-still_storable v w e h =
-    subst IsStorable (sym e) (record { ids = h.ids; paths = h.paths; fits = h.fits; tree = h.tree })
-
--- and is of the same kind
+-- a value that lost its link is of the same kind
 pub same_kind : (v w : Contents) (kind : Kind) → w ≡ without_link v → v.kind ≡ kind → w.kind ≡ kind
 same_kind v w kind e h = subst (λ (x : Contents). x.kind ≡ kind) (sym e) h

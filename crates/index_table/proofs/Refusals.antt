@@ -183,7 +183,7 @@ intact_by true E N P Q isnt (inl h) = h.0
 intact_by true E N P Q isnt (inr h) = absurd (isnt h.1)
 intact_by false E N P Q isnt h = tt
 
-pub intact_from : (expected : Option ObjectId) (skip : Bool) (kind : Kind) (bytes : List ℕ) (v : Contents)
+intact_from : (expected : Option ObjectId) (skip : Bool) (kind : Kind) (bytes : List ℕ) (v : Contents)
     (checksum : Option ObjectId)
     → BytesEndAs expected skip kind bytes (Ok (v, checksum)) → IsIntact skip kind bytes
 intact_from expected skip kind bytes v checksum h =
