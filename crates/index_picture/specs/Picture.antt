@@ -1,6 +1,6 @@
 -- A picture to scale of the parts of a file (the library's own; Scalable Vector Graphics 1.1). Lengths are tenths
 -- of a pixel.
-use Rattle.std.specs.Prelude.{ℕ, ◌+◌, ◌*◌, nat_le, Bool, true, false, List, [], ◌++◌, codes, decimal, length}
+use Rattle.std.specs.Prelude.{ℕ, ◌+◌, ◌*◌, nat_le, Bool, true, false, List, ◌++◌, codes, decimal, length}
 use Rattle.std.specs.Prelude.{if◌then◌else◌}
 use Rattle.std.specs.List.{flat_map}
 use Rattle.gix_index.specs.Record.{Record}

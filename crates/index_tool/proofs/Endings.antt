@@ -1,5 +1,5 @@
 -- What a failure of one command says of the output, and what was checked says of the index.
-use Rattle.std.proofs.Common.{◌≡◌, ℕ, List, length, Option, Result, Ok, Err, refl, sym, subst}
+use Rattle.std.proofs.Common.{ℕ, List, length, Option, Result, Ok, Err, refl, sym, subst}
 use Rattle.std.specs.Prelude.{Bool, IfErr, OnErr}
 use Rattle.std.proofs.KnownBytes.{Keeps-refl}
 use Rattle.std.proofs.lemmas.List.{length-map}

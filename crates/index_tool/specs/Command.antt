@@ -6,7 +6,6 @@ use Rattle.std.specs.Io.KnownBytes.{Keeps}
 use Rattle.std.specs.Option.{option_map}
 use Rattle.gix_index.specs.Kind.{Kind}
 use Rattle.gix_index.specs.Kind.TheVariants.{Sha1, Sha256}
-use Rattle.gix_index.specs.VersionChoice.{VersionChoice}
 use Rattle.gix_index.specs.VersionChoice.TheVariants.{Smallest, V4}
 use Rattle.index_tool.specs.declared.command.Command.{Command}
 use Rattle.index_tool.specs.declared.command.Command.TheVariants as commands
