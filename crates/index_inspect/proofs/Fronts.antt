@@ -27,8 +27,11 @@ long_by false n m e r v is h = ltb-false n m is
 -- a header that stands is there whole
 pub header_long : (kind : Kind) (bytes : List ℕ) (version : Version) → header_of kind bytes ≡ Ok version
     → 12 ≤ length bytes
-header_long kind bytes version h = omega (arith, long_by (ltb (length bytes) (header_len + id_len kind)) (length bytes)
-    (header_len + id_len kind) _ _ version refl h)
+header_long kind bytes version h = omega (
+  arith,
+  long_by (ltb (length bytes) (header_len + id_len kind)) (length bytes)
+      (header_len + id_len kind) _ _ version refl h,
+)
 
 pub front_rest : (version : Version) (kind : Kind) (count : ℕ) (bytes : List ℕ) (rs : List Record) (parts : List Part)
     (rest : List ℕ) → 12 ≤ length bytes → IsFront version kind count bytes rs parts rest → length rest ≤ length bytes

@@ -60,9 +60,16 @@ item_grown place end items i front old mid new sig size o p e f =
     let one : mid ≡ front ++ laid place (item_pieces items ++ head) =
     grown_more place end (item_pieces items) head front old mid o p e in
     let len : end + 8 ≡ place + length (bytes_of (item_pieces items ++ head)) =
-    omega (arith, sig, size, p, ap length (bytes_append (item_pieces items) head),
-    length-append (bytes_of (item_pieces items)) (bytes_of head), length-append (i.signature ++ i.size) [],
-    length-append i.signature i.size) in
+    omega (
+      arith,
+      sig,
+      size,
+      p,
+      ap length (bytes_append (item_pieces items) head),
+      length-append (bytes_of (item_pieces items)) (bytes_of head),
+      length-append (i.signature ++ i.size) [],
+      length-append i.signature i.size,
+    ) in
     let two : new ≡ front ++ laid place ((item_pieces items ++ head) ++ content) =
     grown_more place (end + 8) (item_pieces items ++ head) content front mid new one len f in
     two ∙ ap (λ (l : List Piece). front ++ laid place l) (append_assoc (item_pieces items) head content

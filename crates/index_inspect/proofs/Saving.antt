@@ -59,8 +59,11 @@ first_back rs x r h =
   where
     by : (l : List Record) → with_key_of r rs ≡ l → with_key_of r rs ++ with_key_of r (x ∷ []) ≡ r ∷ h.others
         → IsFirst rs r ⊎ ((x ≡ r) × (with_key_of r rs ≡ []))
-    by [] e f = inr (only_by (is_eq (record_cmp r x)) x r h.others
-        (ap (λ (l : List Record). l ++ with_key_of r (x ∷ [])) (sym e) ∙ f), e)
+    by [] e f = inr (
+      only_by (is_eq (record_cmp r x)) x r h.others
+          (ap (λ (l : List Record). l ++ with_key_of r (x ∷ [])) (sym e) ∙ f),
+      e,
+    )
     by (q ∷ l) e f =
         let g : q ∷ (l ++ with_key_of r (x ∷ [])) ≡ r ∷ h.others =
         ap (λ (l : List Record). l ++ with_key_of r (x ∷ [])) (sym e) ∙ f in
@@ -183,8 +186,10 @@ first_of_sorted rs ys r e h = record { named = h.named; others = h.others; first
 pub saved_sorted : (rs ys kept : List Record) → IsStable record_cmp rs ys → IsSavedOf ys kept → IsSavedOf rs kept
 saved_sorted rs ys kept s h = record {
   ordered = h.ordered;
-  are = λ r. (λ c. first_of_sorted rs ys r (sym (same_key rs ys r s)) ((h.are r).0 c),
-      λ f. (h.are r).1 (first_of_sorted ys rs r (same_key rs ys r s) f));
+  are = λ r. (
+    λ c. first_of_sorted rs ys r (sym (same_key rs ys r s)) ((h.are r).0 c),
+    λ f. (h.are r).1 (first_of_sorted ys rs r (same_key rs ys r s) f),
+  );
 }
 
 -- ---- a walk over a list in order

@@ -49,8 +49,16 @@ pub head_is : (kind : Kind) (h : EntryHead) (flags : ℕ) → IsEntryHead kind h
 head_is kind h flags is e =
     let s : length h.second ≡ cond (is_extended flags) 2 0 = second_len (is_extended (be h.word)) h.second is.second
     ∙ ap (λ (b : Bool). cond b 2 0) (sym e) in
-    omega (arith, s, is.numbers, is.id, is.word, length-append h.numbers (h.id ++ (h.word ++ h.second)),
-    length-append h.id (h.word ++ h.second), length-append h.word h.second)
+    omega (
+      arith,
+      s,
+      is.numbers,
+      is.id,
+      is.word,
+      length-append h.numbers (h.id ++ (h.word ++ h.second)),
+      length-append h.id (h.word ++ h.second),
+      length-append h.word h.second,
+    )
 
 -- ---- an entry
 

@@ -17,9 +17,13 @@ use Rattle.index_inspect.proofs.front.read_front.Goals as goal
 pub loop-number-init : goal.loop-number-init
 loop-number-init c =
     let head = take header_len c.args.bytes.now in
-    let made = c.in_ok-push_part.ensures head (omega (arith, length-take header_len c.args.bytes.now, c.requires)) in
-    ([], sym c.split_at.ensures.back, ap (λ (h : Held). h.records) c.new-entries.ensures, refl,
-    made ∙ ap (λ (l : List Part). l ++ laid 0 (one_piece whats.Header head)) c.new-parts.ensures.items)
+    let made = c.in_ok-push_part.ensures head (omega (arith, length-take header_len c.args.bytes.now, c.requires)) in (
+      [],
+      sym c.split_at.ensures.back,
+      ap (λ (h : Held). h.records) c.new-entries.ensures,
+      refl,
+      made ∙ ap (λ (l : List Part). l ++ laid 0 (one_piece whats.Header head)) c.new-parts.ensures.items,
+    )
 
 pub overflow_sub-total : goal.overflow_sub-total
 overflow_sub-total c =
@@ -30,8 +34,11 @@ overflow_sub-total c =
 
 pub overflow_sub-offset : goal.overflow_sub-offset
 overflow_sub-offset c =
-    omega (arith, front_len c.args.version c.args.kind c.args.bytes.now c.loop-number.invariant.0 c.loop-number.rest.now
-    c.requires c.loop-number.invariant.1)
+    omega (
+      arith,
+      front_len c.args.version c.args.kind c.args.bytes.now c.loop-number.invariant.0 c.loop-number.rest.now
+          c.requires c.loop-number.invariant.1,
+    )
 
 pub loop-number-preserved : goal.loop-number-preserved
 loop-number-preserved c =

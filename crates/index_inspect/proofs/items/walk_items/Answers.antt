@@ -45,9 +45,15 @@ loop-item-preserved c =
     let head = c.in_ok-push_part.ensures (i.signature ++ i.size)
     (omega (arith, length-append i.signature i.size, h.is_item.signature_len, h.is_item.size_len)) in
     let content = c.in_ok-push_part-2.ensures x.1 refl in
-    let len : length from.rest ≡ 8 + length x.1 + length to.rest = omega (arith, ap length h.is_item.parts,
-    h.is_item.signature_len, h.is_item.size_len, length-append i.signature (i.size ++ (i.content ++ to.rest)),
-    length-append i.size (i.content ++ to.rest), length-append i.content to.rest) in (
+    let len : length from.rest ≡ 8 + length x.1 + length to.rest = omega (
+      arith,
+      ap length h.is_item.parts,
+      h.is_item.signature_len,
+      h.is_item.size_len,
+      length-append i.signature (i.size ++ (i.content ++ to.rest)),
+      length-append i.size (i.content ++ to.rest),
+      length-append i.content to.rest,
+    ) in (
       inv.0 ++ i ∷ [],
       step_more c.args.extensions.now inv.0 x from to inv.1 h,
       All-push (λ (y : Item). (f : ExtensionFault) → IsFault c.args.kind y f → ⊥) inv.0 i inv.2 (sound h.size),

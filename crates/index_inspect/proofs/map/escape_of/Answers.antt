@@ -5,5 +5,8 @@ use Rattle.index_inspect.proofs.map.escape_of.Goals as goal
 
 pub returns : goal.returns
 unfolding encode_with
-returns c = rw (c.hex_digit.ensures, c.hex_digit-2.ensures
-    ∙ ap (λ (k : ℕ). slice_index lower_digits k) (and_mask c.args.byte 4)) refl
+returns c = rw (
+  c.hex_digit.ensures,
+  c.hex_digit-2.ensures
+      ∙ ap (λ (k : ℕ). slice_index lower_digits k) (and_mask c.args.byte 4),
+) refl
