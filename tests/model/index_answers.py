@@ -143,13 +143,15 @@ def answer_order(found, _):
     return [f"cmp {place}: {show.sign(one.key, other.key)}" for place, (one, other) in enumerate(pairs)]
 
 
-def answer_entry(found, row):
-    place = int(row[0])
+def images_of_entry(found, place):
+    """The bytes of the entry at the place, and those in version 4."""
     entry, previous = found.entries[place], found.entries[place - 1].path if place > 0 else b""
-    return [
-        f"write_to: {show.bytes_word(writing.entry_bytes(entry))}",
-        f"write_delta_to: {show.bytes_word(writing.compressed_bytes(entry, previous))}",
-    ]
+    return writing.entry_bytes(entry), writing.compressed_bytes(entry, previous)
+
+
+def answer_entry(found, row):
+    data, compressed = images_of_entry(found, int(row[0]))
+    return [f"write_to: {show.bytes_word(data)}", f"write_delta_to: {show.bytes_word(compressed)}"]
 
 
 def answer_body(found, _):
@@ -168,10 +170,20 @@ def answer_write(found, row):
     return [f"version: {version}", f"checksum: {checksum.hex()}", f"bytes: {show.bytes_word(data)}"]
 
 
+def cuts(name, data):
+    """What is answered beside writers of which each has room for so many of these bytes, from none to all."""
+    return ranges(name, ["a front, and the writer's fault"] * len(data) + ["whole"])
+
+
 def answer_cuts(found, row):
     options = writing.Options(with_digest="null" not in row, is_version_4="v4" in row)
     data = (writing.body(found, options)[1] if "body" in row else writing.image(found, options)[2])
-    return ranges("write_to", ["a front, and the writer's fault"] * len(data) + ["whole"])
+    return cuts("write_to", data)
+
+
+def answer_entry_cuts(found, row):
+    data, compressed = images_of_entry(found, int(row[0]))
+    return cuts("write_to", data) + cuts("write_delta_to", compressed)
 
 
 def value_or_none(read_value, *taken):
@@ -364,6 +376,7 @@ CALLS = {
     "write": with_state(answer_write),
     "copy": with_state(lambda found, _: show.whole(found, None)),
     "cuts": with_state(answer_cuts),
+    "entry-cuts": with_state(answer_entry_cuts),
     "tree": answer_tree,
     "resolve-undo": answer_resolve_undo,
     "untracked": answer_untracked,

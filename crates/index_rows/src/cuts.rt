@@ -1,36 +1,108 @@
-//! What becomes of an index whose writer fails once, behind each number of bytes that it takes.
+//! What becomes of an index, or of one entry, whose writer fails once, behind each number of bytes that it takes.
 
+ghost use Rattle.std.specs.Prelude.{◌≡◌, ◌<◌, false, length};
 ghost use Rattle.gix_index.specs.File.{state_of};
-ghost use Rattle.gix_index.specs.State.{PathsInStorage};
+ghost use Rattle.gix_index.specs.State.{PathsInStorage, entries_of};
 
 use crate::ranges::ranges;
 use gix_index::hash::io::{Out, Plain};
 use gix_index::write::{Error, Options, VersionChoice};
 use gix_index::{File, State};
-use index_row_kit::{Lines, Words, refusal};
-use std::alloc::AllocError;
+use index_row_kit::{Fault, Lines, Words, refusal};
+use std::alloc::{AllocError, Global};
 use std::io::{self, ErrorKind};
 use std::path::PathBuf;
 
-/// What is written, and how its writer fails.
+/// How a writer fails once.
 #[derive(Clone, Copy)]
-pub struct Cuts {
-    /// `body`: the state alone, without a trailer.
-    is_body: bool,
-    /// `null`: a trailer that is null.
-    skip_hash: bool,
-    /// `v4`: version 4.
-    version: VersionChoice,
-    /// `nothing`: the writer takes nothing once, in place of a fault.
-    takes_nothing: bool,
+enum Failure {
+    /// With a fault of a kind that the library never gives by itself.
+    Full,
+    /// `nothing`: it takes nothing, in place of a fault.
+    Nothing,
 }
 
-/// Takes so many bytes and then fails once, or takes nothing once. What comes behind that it would take.
+impl Failure {
+    /// What the words say.
+    fn of_words(words: &mut Words<'_>) -> Failure {
+        if words.has("nothing") {
+            return Failure::Nothing;
+        }
+        Failure::Full
+    }
+
+    /// The kind of the fault that a call answers then.
+    fn kind(self) -> ErrorKind {
+        match self {
+            Failure::Full => ErrorKind::StorageFull,
+            Failure::Nothing => ErrorKind::WriteZero,
+        }
+    }
+
+    /// A writer that has room for so many bytes.
+    fn writer(self, alloc: Global, room: usize) -> Plain<Short>
+        ensures { ⟦<Plain<Short> as Out>⟧.failed result ≡ false }
+    {
+        Plain::new(Short {
+            taken: Vec::new(alloc),
+            room,
+            failure: self,
+        })
+    }
+
+    /// Tells in lines of this name for which numbers of bytes a front is taken and the writer's fault is the answer, and
+    /// for which all is.
+    fn tell<F: Fn(usize) -> Written>(
+        self,
+        out: &mut Lines,
+        name: &str,
+        write: F,
+    ) -> Result<(), AllocError>
+        requires { F.IsAlwaysCallable write }
+    {
+        let whole = match write(usize::MAX) {
+            (whole, Ok(())) => whole.inner.taken,
+            (_, Err(e)) => {
+                refusal::write(out, &e);
+                return Ok(());
+            }
+        };
+        let mut texts = Vec::new(out.alloc());
+        for room in 0..=whole.len() {
+            let mut line = Lines::new(out.alloc());
+            line.put(name, self.told(write(room), room, &whole));
+            texts.push(line.end()?)?;
+        }
+        ranges(out, &texts, name);
+        Ok(())
+    }
+
+    /// What a writer took that had room for so many bytes, and the answer, beside the bytes that one takes that never
+    /// fails.
+    fn told(self, written: Written, room: usize, whole: &[u8]) -> &'static str {
+        let (plain, answer) = written;
+        let is_failed = plain.has_failed();
+        let taken = plain.inner.taken;
+        match answer {
+            Ok(()) if !is_failed && taken.as_slice() == whole => "whole",
+            Err(Error::Io(e)) if is_failed && Some(taken.as_slice()) == whole.get(..room) => {
+                if e.kind() == self.kind() {
+                    "a front, and the writer's fault"
+                } else {
+                    "a front, and another fault"
+                }
+            }
+            _ => "another answer",
+        }
+    }
+}
+
+/// Takes so many bytes and then fails once. What comes behind that it would take.
 #[derive(Drop)]
 struct Short {
     taken: Vec<u8>,
     room: usize,
-    takes_nothing: bool,
+    failure: Failure,
 }
 
 impl io::Write for Short {
@@ -38,10 +110,10 @@ impl io::Write for Short {
         let count = piece.len().min(self.room);
         if count == 0 {
             self.room = usize::MAX;
-            if self.takes_nothing {
-                return Ok(0);
-            }
-            return Err(io::Error::from(ErrorKind::StorageFull));
+            return match self.failure {
+                Failure::Full => Err(io::Error::from(ErrorKind::StorageFull)),
+                Failure::Nothing => Ok(0),
+            };
         }
         self.taken.extend_from_slice(&piece[..count])?;
         self.room -= count;
@@ -51,6 +123,21 @@ impl io::Write for Short {
     fn flush(&mut self) -> io::Result<()> {
         Ok(())
     }
+}
+
+/// What a writer took, and what the call answered that wrote to it.
+type Written = (Plain<Short>, Result<(), Error>);
+
+/// What is written of a state, and how its writer fails.
+#[derive(Clone, Copy)]
+pub struct Cuts {
+    /// `body`: the state alone, without a trailer.
+    is_body: bool,
+    /// `null`: a trailer that is null.
+    skip_hash: bool,
+    /// `v4`: version 4.
+    version: VersionChoice,
+    failure: Failure,
 }
 
 impl Cuts {
@@ -64,34 +151,22 @@ impl Cuts {
             } else {
                 VersionChoice::Smallest
             },
-            takes_nothing: words.has("nothing"),
+            failure: Failure::of_words(words),
         }
     }
 
-    /// Tells for which numbers of bytes a front is taken and the writer's fault is the answer, and for which all is.
+    /// Tells what is written of the state.
     pub fn answer(self, out: &mut Lines, state: State) -> Result<(), AllocError>
         requires { PathsInStorage state }
     {
-        let file = File::from_state(state, PathBuf::new(out.alloc()));
-        let whole = match self.written(out, &file, usize::MAX) {
-            (whole, Ok(())) => whole.inner.taken,
-            (_, Err(e)) => {
-                refusal::write(out, &e);
-                return Ok(());
-            }
-        };
-        let mut texts = Vec::new(out.alloc());
-        for room in 0..=whole.len() {
-            let mut line = Lines::new(out.alloc());
-            line.put("write_to", self.told(out, &file, room, &whole));
-            texts.push(line.end()?)?;
-        }
-        ranges(out, &texts, "write_to");
-        Ok(())
+        let alloc = out.alloc();
+        let file = File::from_state(state, PathBuf::new(alloc));
+        self.failure
+            .tell(out, "write_to", |room| self.written(alloc, &file, room))
     }
 
-    /// What a writer took that had room for so many bytes, and the answer.
-    fn written(self, out: &Lines, file: &File, room: usize) -> (Plain<Short>, Result<(), Error>)
+    /// What a writer takes that has room for so many bytes, and the answer.
+    fn written(self, alloc: Global, file: &File, room: usize) -> Written
         requires { PathsInStorage (state_of file.now) }
     {
         let options = Options {
@@ -99,11 +174,7 @@ impl Cuts {
             version: self.version,
             ..Options::default()
         };
-        let mut plain = Plain::new(Short {
-            taken: Vec::new(out.alloc()),
-            room,
-            takes_nothing: self.takes_nothing,
-        });
+        let mut plain = self.failure.writer(alloc, room);
         let answer = if self.is_body {
             let state: &State = file;
             state.write_to(&mut plain, options).map(|_| ())
@@ -112,20 +183,32 @@ impl Cuts {
         };
         (plain, answer)
     }
+}
 
-    /// The same in words, beside the bytes that a writer takes that never fails.
-    fn told(self, out: &Lines, file: &File, room: usize, whole: &[u8]) -> &'static str
-        requires { PathsInStorage (state_of file.now) }
-    {
-        let (plain, answer) = self.written(out, file, room);
-        let is_failed = plain.has_failed();
-        let taken = plain.inner.taken;
-        match answer {
-            Ok(()) if !is_failed && taken.as_slice() == whole => "whole",
-            Err(Error::Io(_)) if is_failed && Some(taken.as_slice()) == whole.get(..room) => {
-                "a front, and the writer's fault"
-            }
-            _ => "another answer",
-        }
+/// Tells what is written of one entry: as versions 2 and 3 have it, and as version 4 does behind the entry before it.
+pub fn entry(out: &mut Lines, state: &State, words: &mut Words<'_>) -> Result<(), Fault>
+    requires { PathsInStorage state.now }
+{
+    let place: usize = words.number()?;
+    if place >= state.entries().len() {
+        return Err(Fault::Wrong("the place of an entry"));
     }
+    let (alloc, failure) = (out.alloc(), Failure::of_words(words));
+    failure.tell(out, "write_to", |room| {
+        let mut plain = failure.writer(alloc, room);
+        let answer = state.entry(place).write_to(&mut plain, state);
+        (plain, answer.map_err(Error::Io))
+    })?;
+    let previous: &[u8] = match place.checked_sub(1) {
+        Some(place) => state.entry(place).path(state),
+        None => b"",
+    };
+    failure.tell(out, "write_delta_to", |room| {
+        let mut plain = failure.writer(alloc, room);
+        let answer = state
+            .entry(place)
+            .write_delta_to(&mut plain, state, previous);
+        (plain, answer.map_err(Error::Io))
+    })?;
+    Ok(())
 }

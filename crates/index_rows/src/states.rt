@@ -5,7 +5,7 @@ ghost use Rattle.gix_index.specs.State.{PathsInStorage};
 
 use crate::cuts::Cuts;
 use crate::reading::{Reading, read};
-use crate::{prefixes, show};
+use crate::{cuts, prefixes, show};
 use gix_index::entry::Stage;
 use gix_index::hash::Kind;
 use gix_index::hash::io::Plain;
@@ -39,6 +39,8 @@ pub enum Call {
     Copy,
     /// `cuts`: what is written to a writer that fails.
     Cuts,
+    /// `entry-cuts`: what of one entry is.
+    EntryCuts,
 }
 
 impl Call {
@@ -56,6 +58,7 @@ impl Call {
             "write" => Some(Call::Write),
             "copy" => Some(Call::Copy),
             "cuts" => Some(Call::Cuts),
+            "entry-cuts" => Some(Call::EntryCuts),
             _ => None,
         }
     }
@@ -118,6 +121,7 @@ impl Call {
             Call::Body => body(out, &state),
             Call::Copy => copy(out, &state),
             Call::Cuts => Cuts::of_words(words).answer(out, state)?,
+            Call::EntryCuts => cuts::entry(out, &state, words)?,
             _ => file(out, state, words.has("null")),
         }
         Ok(())
