@@ -107,9 +107,7 @@ fn show(out: &mut Lines, found: Result<(), Error>) {
 
 fn fault(out: &mut Lines, fault: &Error) {
     match fault {
-        Error::RootWithName { name } => {
-            writeln!(out, "fault: a root named {}", Text(name));
-        }
+        Error::RootWithName { name } => writeln!(out, "fault: a root named {}", Text(name)),
         Error::EntriesCount { actual, expected } => {
             writeln!(out, "fault: {actual} within {expected}");
         }

@@ -13,30 +13,18 @@ use std::alloc::{AllocError, Global};
 use std::io::{self, ErrorKind};
 use std::path::PathBuf;
 
-/// How a writer fails once.
+/// How a writer fails once: with a fault of this kind, which the library never gives by itself; or, where the kind is
+/// [`ErrorKind::WriteZero`], by taking nothing, for which the library gives such a fault.
 #[derive(Clone, Copy)]
-enum Failure {
-    /// With a fault of a kind that the library never gives by itself.
-    Full,
-    /// `nothing`: it takes nothing, in place of a fault.
-    Nothing,
-}
+struct Failure(ErrorKind);
 
 impl Failure {
     /// What the words say.
     fn of_words(words: &mut Words<'_>) -> Failure {
         if words.has("nothing") {
-            return Failure::Nothing;
+            return Failure(ErrorKind::WriteZero);
         }
-        Failure::Full
-    }
-
-    /// The kind of the fault that a call answers then.
-    fn kind(self) -> ErrorKind {
-        match self {
-            Failure::Full => ErrorKind::StorageFull,
-            Failure::Nothing => ErrorKind::WriteZero,
-        }
+        Failure(ErrorKind::StorageFull)
     }
 
     /// A writer that has room for so many bytes.
@@ -86,7 +74,7 @@ impl Failure {
         match answer {
             Ok(()) if !is_failed && taken.as_slice() == whole => "whole",
             Err(Error::Io(e)) if is_failed && Some(taken.as_slice()) == whole.get(..room) => {
-                if e.kind() == self.kind() {
+                if e.kind() == self.0 {
                     "a front, and the writer's fault"
                 } else {
                     "a front, and another fault"
@@ -110,9 +98,9 @@ impl io::Write for Short {
         let count = piece.len().min(self.room);
         if count == 0 {
             self.room = usize::MAX;
-            return match self.failure {
-                Failure::Full => Err(io::Error::from(ErrorKind::StorageFull)),
-                Failure::Nothing => Ok(0),
+            return match self.failure.0 {
+                ErrorKind::WriteZero => Ok(0),
+                kind => Err(io::Error::from(kind)),
             };
         }
         self.taken.extend_from_slice(&piece[..count])?;
