@@ -1,5 +1,5 @@
--- What stands behind the entries of a file: its extensions and its trailer (gitformat-index, "The git index file has the
--- following format").
+-- What stands behind the entries of a file: its extensions and its trailer (gitformat-index, "The git index file has
+-- the following format").
 use Rattle.std.specs.Prelude.{◌≡◌, List, ℕ, drop, length, None, Ok}
 use Rattle.index_parts.specs.declared.hash.Kind.{Kind}
 use Rattle.index_entries.specs.declared.Version.{Version}

@@ -144,7 +144,7 @@ fn read_alone<F: OpenFile + Read + Seek + Drop>(
 impl File {
     /// Reads the index in the file at a path as [`File::at`] does, but leaves its link to a shared index alone, as
     /// [`File::decode`] does; and gives the bytes behind its entries, which the extensions and the trailer are
-    /// (gitformat-index, "Extensions"). Of a large file no more bytes than these are held beside the index.
+    /// (gitformat-index, "Extensions"). Of a large file no more than these and a window are held beside the index.
     ///
     /// [`Error::Io`] names the file, which can't be opened or read. [`Error::Decode`] and [`Error::Memory`] are those
     /// of [`File::decode`].
