@@ -1,5 +1,5 @@
 -- An empty index, and what edits of one leave (the library's own).
-use Rattle.std.specs.Prelude.{◌≡◌, ℕ, List, [], ◌∷◌, ◌++◌, length, Option, Some, None, OnSome}
+use Rattle.std.specs.Prelude.{◌≡◌, ℕ, List, [], ◌∷◌, ◌++◌, length, Option, Some, None, IfSome, slice_index_or}
 use Rattle.std.specs.Borrow.{Lends, LendsIf, LendsSo, MutBor, Fml, Array}
 use Rattle.index_parts.specs.declared.hash.Kind.{Kind}
 use Rattle.index_metadata.specs.declared.entry.stat.FileTime.{FileTime}
@@ -85,12 +85,13 @@ LendsEntries s r = Lends state.the_row (Array entry.the_row 0) s r (with_entries
 abbrev pub with_entry_at : State → ℕ → Entry → State
 with_entry_at s i e = record s { parts = parts_with_entry_at s.parts i e }
 
--- the state ends with the last entry behind the loan where one with the path and the stage stands; without a loan it
--- ends as it was
+-- the entry that is lent stands at a place, with the path and the stage, and the state ends with the last entry behind
+-- the loan there; without a loan it ends as it was
 abbrev pub LendsEntryAt : List ℕ → ℕ → MutBor State → Option (MutBor Entry) → Fml
 LendsEntryAt path stage s r =
     LendsSo state.the_row entry.the_row s r
-    (λ last e. OnSome r ((i : ℕ) × IsKeyAt path stage (records s.now) i × (last ≡ with_entry_at s.now i e)))
+    (λ last e. IfSome r (λ lent. (i : ℕ) × IsKeyAt path stage (records s.now) i
+    × (lent.now ≡ slice_index_or (entries_of s.now) i lent.now) × (last ≡ with_entry_at s.now i e)))
     (λ last. IsUnchanged s.now last)
 
 -- the state with this cached tree; all else stays

@@ -107,8 +107,7 @@ impl State {
 }
 
 impl State {
-    /// The entries, lent for writing; what was last written through the slice is what the state has then. All else
-    /// stays.
+    /// The entries, lent for writing: the state has then what was last written through the slice. All else stays.
     ///
     /// An entry from another state brings a range of that state's storage:
     /// [`paths_in_storage`](State::paths_in_storage) tells whether all ranges still lie inside this one's.

@@ -109,8 +109,7 @@ impl State {
         self.parts.extensions.is_sparse
     }
 
-    /// Whether each entry's path lies inside the storage, as calls that read paths ask; true where there are no
-    /// entries.
+    /// Whether each entry's path lies inside the storage, as calls that read paths ask; true without entries.
     pub fn paths_in_storage(&self) -> bool
         ensures { IsTrue result ↔ PathsInStorage self.now }
     {

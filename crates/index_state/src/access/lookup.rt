@@ -98,6 +98,9 @@ impl State {
         ensures exactly { IsOrderedByPath (records self.now)
             → (range : Option (Range ℕ)) × IsPrefixRange prefix.now (records self.now) range
             × (option_copied result ≡ option_map (part_at (entries_of self.now)) range) }
+        ensures empty { length prefix.now ≡ 0
+            → (range : Option (Range ℕ)) × IsPrefixRange prefix.now (records self.now) range
+            × (option_copied result ≡ option_map (part_at (entries_of self.now)) range) }
     {
         let range = range::prefixed_entries_range(&self.slice(), prefix)?;
         Some(&self.parts.entries[range])

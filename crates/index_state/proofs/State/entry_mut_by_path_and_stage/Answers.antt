@@ -16,7 +16,7 @@ returns c =
     let inside : i < length es = omega (arith, found.in_range, length-map es (record_in storage)) in
     let unchanged : IsUnchanged c.args.self.now c.args.self.now =
     record { same_entries = refl; same_storage = refl; same_contents = refl } in (
-      (refl, λ w. (i, found, refl), unchanged),
+      (refl, λ w. (i, found, c.entry_mut.ensures.value, refl), unchanged),
       record {
         writes_back = tt;
         found = (i, inside, sym c.entry_mut.ensures.value);
