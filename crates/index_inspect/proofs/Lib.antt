@@ -20,3 +20,4 @@ mod SpelledFronts
 mod Unreadable
 mod Walked
 mod WholeLinks
+mod Wholeness
