@@ -5,6 +5,7 @@ mod EntrySkips
 mod FileFaults
 pub mod Files
 pub mod Joined
+pub use Rattle.index_entries.proofs.ReadRecords
 pub use Rattle.index_entries.proofs.Storing
 pub use Rattle.index_extensions.proofs.Walks
 pub use Rattle.index_extensions.proofs.MarkerReadings

@@ -39,7 +39,7 @@ end_covered kind bytes tail trailer ps f (left a b e g) = one_is whats.Unread (t
 end_covered kind bytes tail trailer ps f (broken a b c e g) = two_are whats.LeftOver whats.Unread tail trailer ps e
 end_covered kind bytes tail trailer ps f (whole a b c e g) = two_are whats.LeftOver whats.Trailer tail trailer ps e
 
-behind_covered : (kind : Kind) (version : Version) (bytes : List ℕ) (ss : List Spelling) (after : List ℕ)
+pub behind_covered : (kind : Kind) (version : Version) (bytes : List ℕ) (ss : List Spelling) (after : List ℕ)
     (ps : List Piece) (f : Option Fault) → IsBehindEntries kind version bytes ss after ps f → after ≡ bytes_of ps
 behind_covered kind version bytes ss after ps f (lacks a b e g) = one_is whats.Unread after ps e
 behind_covered kind version bytes ss after ps f (crowded a b e g) = one_is whats.Unread after ps e

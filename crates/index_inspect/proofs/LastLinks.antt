@@ -20,15 +20,16 @@ pub or_else_none : {A : Type 0} (x : Option A) → or_else x None ≡ x
 or_else_none None = refl
 or_else_none (Some a) = refl
 
-last_push : (ps : List Part) (p : Part) → last_link (ps ++ p ∷ []) ≡ or_else (own_link p) (last_link ps)
-last_push [] p = sym (or_else_none (own_link p))
-last_push (q ∷ ps) p =
-    ap (λ (o : Option Part). or_else o (own_link q)) (last_push ps p)
-    ∙ or_else_assoc (own_link p) (last_link ps) (own_link q)
+-- the last link of parts and others behind them
+pub last_append : (ps qs : List Part) → last_link (ps ++ qs) ≡ or_else (last_link qs) (last_link ps)
+last_append [] qs = sym (or_else_none (last_link qs))
+last_append (p ∷ ps) qs =
+    ap (λ (o : Option Part). or_else o (own_link p)) (last_append ps qs)
+    ∙ or_else_assoc (last_link qs) (last_link ps) (own_link p)
 
 last_more : (ps : List Part) (i : ℕ) (d : Part) → i < length ps
     → last_link (take (i + 1) ps) ≡ or_else (own_link (get_or ps i d)) (last_link (take i ps))
-last_more ps i d lt = ap last_link (take_more ps i d lt) ∙ last_push (take i ps) (get_or ps i d)
+last_more ps i d lt = ap last_link (take_more ps i d lt) ∙ last_append (take i ps) (get_or ps i d ∷ [])
 
 last_by : (ps : List Part) (i : ℕ) (d : Part) (b : Bool) → i < length ps → b ≡ is_link_content (get_or ps i d).what
     → last_link (take (i + 1) ps) ≡ or_else (if b then Some (get_or ps i d) else None) (last_link (take i ps))

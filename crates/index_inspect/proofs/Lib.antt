@@ -1,6 +1,7 @@
 mod Completing
 mod Covered
 mod Divided
+mod Endings
 mod Fronts
 mod KeptLinks
 mod Laid
@@ -10,6 +11,7 @@ mod MarkContents
 pub mod Printed
 mod ReadFronts
 mod Readable
+mod Remaining
 mod Sameness
 mod Saved
 mod Saving
@@ -18,3 +20,4 @@ mod SpelledFronts
 mod Unreadable
 mod Walked
 mod WholeLinks
+mod Wholeness

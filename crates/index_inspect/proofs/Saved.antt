@@ -2,7 +2,6 @@
 use Rattle.std.proofs.Common.{◌≡◌, ℕ, ◌+◌, ◌≤◌, ◌<◌, Bool, true, false, List, [], ◌∷◌, ◌++◌, length, All, get_or}
 use Rattle.std.proofs.Common.{Result, Ok, Err, take, sym, ap, subst, ◌∙◌, arith}
 use Rattle.std.specs.Prelude.{◌≢◌, IfOk, OnOk}
-use Rattle.std.proofs.lemmas.List.{take_more}
 use Rattle.gix_index.specs.Contents.{Contents}
 use Rattle.gix_index.specs.Edits.{empty_contents, with_record, with_records}
 use Rattle.gix_index.specs.EntryType.{Entry}
@@ -94,7 +93,7 @@ alone kind rs s h =
 
 -- ---- a walk over a list in order
 
-first_at : (rs : List Record) (i : ℕ) → i < length rs → Record
+pub first_at : (rs : List Record) (i : ℕ) → i < length rs → Record
 first_at [] i lt = absurd (omega arith)
 first_at (r ∷ rs) i lt = r
 
@@ -122,12 +121,3 @@ pub saved_new : (kind : Kind) (time : FileTime) (s : State) → contents s ≡ e
 saved_new kind time s e placed storable =
     let h = index_new kind time s e placed storable in
     (index_own kind [] s h, subst (IsSavedOf []) (sym (records_are kind [] s h)) saved_none)
-
--- one more record at the end of those before a place
-pub copied_more : (kind : Kind) (rs : List Record) (i : ℕ) (old new : State) → i < length rs → All (IsHeld kind) rs
-    → IsIndexOf kind (take i rs) old
-    → ((d : Record) → IsIndexOf kind (take i rs) old → IsHeld kind (get_or rs i d)
-    → IsIndexOf kind (take i rs ++ get_or rs i d ∷ []) new) → IsIndexOf kind (take (i + 1) rs) new
-copied_more kind rs i old new lt held h pushed =
-    let d = first_at rs i lt in
-    subst (λ (l : List Record). IsIndexOf kind l new) (sym (take_more rs i d lt)) (pushed d h (held i d lt))

@@ -6,8 +6,11 @@ use Rattle.gix_index.specs.Kind.{Kind}
 use Rattle.gix_index.specs.Outcome.{AreSound}
 use Rattle.gix_index.specs.Version.{Version}
 use Rattle.gix_index.specs.Walk.{Item, AreItems}
-use Rattle.index_inspect.specs.Division.{IsBehindEntries, IsFileEnd, TellsFault}
-use Rattle.index_inspect.specs.Piece.{Piece, item_pieces, laid}
+use Rattle.gix_index.specs.DecodeError.{Error}
+use Rattle.gix_index.specs.Record.{Record}
+use Rattle.index_inspect.specs.Division.{Divides, IsBehindEntries, IsFileEnd, TellsFault}
+use Rattle.index_inspect.specs.Piece.{LieBetween, Piece, item_pieces, laid}
+use Rattle.index_inspect.specs.Remains.{has_link, last_begin, last_link}
 use Rattle.index_inspect.specs.Spelling.{Spelling}
 use Rattle.index_inspect.specs.declared.division.Ending.{Ending}
 use Rattle.index_inspect.specs.declared.part.Part.{Part}
@@ -46,3 +49,14 @@ pub record GoesOn (kind : Kind) (version : Version) (bytes : List ℕ) (spelling
   pub fault : Option Fault
   pub is : IsBehindEntries kind version bytes spellings after pieces fault
   pub grows : Grows place old e pieces fault
+
+-- The parts of a file end with these, which tell all that is asked of links, and of the last part.
+pub record EndsDivision (kind : Kind) (bytes : List ℕ) (rs : List Record) (parts : List Part)
+    (error : Option Error) : Type 0 where
+  pub front : List Part
+  pub divides : Divides kind bytes rs (front ++ parts) error
+  pub place : ℕ
+  pub lie : LieBetween place parts (length bytes)
+  pub begin : last_begin (front ++ parts) ≡ last_begin parts
+  pub has_link : has_link (front ++ parts) error ≡ has_link parts error
+  pub link : last_link (front ++ parts) ≡ last_link parts

@@ -1,21 +1,23 @@
 //! A whole file, part by part.
 
-ghost use Rattle.std.specs.Prelude.{◌≡◌, ◌≤◌, ◌<◌, ◌+◌, ◌++◌, List, length, Some, Err, IfOk};
+ghost use Rattle.std.specs.Prelude.{◌≡◌, ◌≤◌, ◌<◌, ◌+◌, ◌++◌, [], List, length, Some, Ok, Err, IfOk};
 ghost use Rattle.gix_index.specs.Header.{count_of, header_of};
 ghost use Rattle.gix_index.specs.HeaderErrors.{header_fault};
 ghost use Rattle.gix_index.specs.Id.{id_len};
 ghost use Rattle.gix_index.specs.Kind.{Kind as KindType};
 ghost use Rattle.gix_index.specs.Walk.{NoItem, left_of};
 ghost use Rattle.index_inspect.specs.Division.{Divides, IsCrowded, NoEntryBehind, unread_piece};
-ghost use Rattle.index_inspect.specs.DivisionSteps.{EndsIn, GoesOn, WalksOn};
+ghost use Rattle.index_inspect.specs.DivisionSteps.{EndsDivision, EndsIn, GoesOn, WalksOn};
 ghost use Rattle.index_inspect.specs.Piece.{LieBetween, laid};
 ghost use Rattle.index_inspect.specs.Spelling.{Spelling};
 
-use crate::front::{Front, read_front};
+use crate::front::{Front, HEADER_LEN, read_front};
 use crate::items::{Walked, walk_items};
 use crate::part::{Part, What, push_part, push_some};
 use gix_index::Version;
-use gix_index::decode::entries::max_entries_possible;
+use gix_index::decode::entries::{
+    FirstEntries, entries_in, estimate_path_storage_requirements_in_bytes, max_entries_possible,
+};
 use gix_index::decode::entry::EntryList;
 use gix_index::decode::{Error, header};
 use gix_index::extension::end_of_index_entry;
@@ -219,6 +221,62 @@ pub fn divide(alloc: Global, kind: Kind, bytes: &[u8]) -> Result<Division, Alloc
         read,
     };
     let Ending { parts, fault } = behind_entries(alloc, kind, found, bytes, rest, offset, parts)?;
+    Ok(Division {
+        parts,
+        entries,
+        fault,
+    })
+}
+
+/// An empty list with room for the entries of a file that declares so many; without any where it can't hold them.
+fn with_room(
+    alloc: Global,
+    version: Version,
+    kind: Kind,
+    count: u32,
+    bytes: &[u8],
+) -> Result<EntryList, AllocError>
+    ensures { IfOk result (λ l. l ≡ record { records = []; storage = [] }) }
+{
+    let offset = end_of_index_entry::decode(bytes, kind);
+    let len = bytes.len();
+    if count as usize > max_entries_possible(len, offset, kind, version) {
+        return Ok(EntryList::new(alloc));
+    }
+    let paths = estimate_path_storage_requirements_in_bytes(count, len, offset, kind, version);
+    EntryList::with_capacity(alloc, count as usize, paths)
+}
+
+/// The entries and the first fault that [`divide`] finds in a file with this header, and of its parts those behind the
+/// entries.
+pub(crate) fn divide_ending(
+    alloc: Global,
+    kind: Kind,
+    version: Version,
+    declared: u32,
+    bytes: &[u8],
+) -> Result<Division, AllocError>
+    requires header { header_of kind bytes.now ≡ Ok version }
+    requires declared { declared ≡ count_of bytes.now }
+    ensures { IfOk result
+        (λ d. EndsDivision kind bytes.now d.entries.records d.parts.items d.fault) }
+{
+    let list = with_room(alloc, version, kind, declared, bytes)?;
+    let mut first = FirstEntries {
+        list,
+        sparse: false,
+    };
+    let (_, behind) = bytes.split_at(HEADER_LEN);
+    let rest = entries_in(version, kind, declared, &mut first, behind)?;
+    let entries = first.list;
+    let offset = bytes.len() - rest.len();
+    let found = Found {
+        version,
+        declared,
+        read: entries.len(),
+    };
+    let none = Vec::new(alloc);
+    let Ending { parts, fault } = behind_entries(alloc, kind, found, bytes, rest, offset, none)?;
     Ok(Division {
         parts,
         entries,

@@ -1,6 +1,6 @@
 //! What remains of an index file that may be damaged: the entries that can be read, and the link to a shared index.
 
-ghost use Rattle.std.specs.Prelude.{◌≡◌, ◌≤◌, ◌<◌, ◌+◌, ◌∷◌, ◌++◌, [], List, All, IfErr, IfOk, IfSome, OnOk, length, slice_index_or};
+ghost use Rattle.std.specs.Prelude.{◌≡◌, ◌<◌, ◌∷◌, ◌++◌, [], ℕ, List, IfErr, IfOk, IfSome, OnOk, length, slice_index_or};
 ghost use Rattle.std.specs.Option.{option_map};
 ghost use Rattle.gix_index.specs.ExtensionValue.{IsValue};
 ghost use Rattle.gix_index.specs.Kind.{Kind as KindType};
@@ -12,7 +12,7 @@ ghost use Rattle.index_inspect.specs.Remains.{IsPlainIndex, Remain, SaysLost, ha
 ghost use Rattle.index_inspect.specs.SalvageSteps.{IsHeld, IsIndexOf};
 ghost use Rattle.index_inspect.specs.declared.remains.Error.TheVariants.{Memory};
 
-use crate::division::{Division, divide};
+use crate::division::{Division, divide_ending};
 use crate::part::{Part, What};
 use gix_index::decode::entry::EntrySlice;
 use gix_index::decode::header;
@@ -20,6 +20,7 @@ use gix_index::entry::FileTime;
 use gix_index::extension::decode::Error as ExtensionError;
 use gix_index::extension::{Link, link};
 use gix_index::hash::{Kind, ObjectId};
+use gix_index::init::from_entries;
 use gix_index::{State, decode};
 use std::alloc::{AllocError, Global};
 use thiserror::Error;
@@ -96,18 +97,6 @@ pub(crate) fn push_from(
     let entry = entries.entry(place);
     let path = entries.path(place);
     state.dangerously_push_entry(entry.stat, entry.id, entry.flags, entry.mode, path)
-}
-
-/// These entries as an index.
-fn copied(alloc: Global, kind: Kind, entries: &EntrySlice<'_>) -> Result<State, AllocError>
-    requires { All (IsHeld kind) entries.now }
-    ensures { IfOk result (IsIndexOf kind entries.now) }
-{
-    let mut state = State::new(alloc, kind, FileTime::EPOCH);
-    for number in 0..entries.len() {
-        push_from(&mut state, entries, number)?;
-    }
-    Ok(state)
 }
 
 /// Where the last part begins, or 0 where there is none.
@@ -200,7 +189,7 @@ fn link_in(
     bytes: &[u8],
     parts: &[Part],
 ) -> Result<Option<Link>, AllocError>
-    requires { LieBetween 0 parts.now (length bytes.now) }
+    requires { (place : ℕ) × LieBetween place parts.now (length bytes.now) }
     ensures { IfOk result (λ link. IsValue (IsLink kind)
         (link_content bytes.now parts.now) (option_map link_of link)) }
 {
@@ -225,16 +214,16 @@ pub fn remains_of(alloc: Global, kind: Kind, bytes: &[u8]) -> Result<Remains, Er
     ensures plain { IfOk result (λ r. IsPlainIndex r.front) }
     ensures lost { IfErr result (SaysLost kind bytes.now) }
 {
-    let declared = match header::decode(bytes, kind) {
-        Ok((_, declared, _)) => declared,
+    let (version, declared) = match header::decode(bytes, kind) {
+        Ok((version, declared, _)) => (version, declared),
         Err(e) => return Err(Error::Header(e)),
     };
     let Division {
         parts,
         entries,
         fault,
-    } = divide(alloc, kind, bytes)?;
-    let front = copied(alloc, kind, &entries.as_slice())?;
+    } = divide_ending(alloc, kind, version, declared, bytes)?;
+    let front = from_entries(entries, kind, FileTime::EPOCH);
     let link = link_in(alloc, kind, bytes, &parts)?;
     let has_link = has_link(&parts, &fault);
     let fault = first_fault(&parts, fault);

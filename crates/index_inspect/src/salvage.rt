@@ -1,6 +1,6 @@
 //! What can be saved of a damaged index file.
 
-ghost use Rattle.std.specs.Prelude.{◌≡◌, ◌<◌, ◌+◌, Bool, All, IfOk, IfSome, OnOk, Some, false, length, take};
+ghost use Rattle.std.specs.Prelude.{◌≡◌, ◌<◌, ◌+◌, ◌↔◌, Bool, All, IfOk, IfSome, IsTrue, OnOk, Some, false, length, take};
 ghost use Rattle.std.specs.List.Sorted.{IsStable};
 ghost use Rattle.std.specs.Option.{option_map};
 ghost use Rattle.gix_index.specs.Id.{id_bytes, is_null};
@@ -9,6 +9,7 @@ ghost use Rattle.gix_index.specs.Link.{link_of};
 ghost use Rattle.gix_index.specs.Order.{record_cmp};
 ghost use Rattle.gix_index.specs.Sorted.{IsOrdered};
 ghost use Rattle.gix_index.specs.State.{contents, records};
+ghost use Rattle.index_inspect.specs.Laws.{AreWhole};
 ghost use Rattle.index_inspect.specs.Remains.{IsPlainIndex};
 ghost use Rattle.index_inspect.specs.Salvage.{CanBeShared, IsSavedOf, Saves};
 ghost use Rattle.index_inspect.specs.SalvageSteps.{Completes, IsHeld, IsIndexOf, TakesNext};
@@ -180,7 +181,20 @@ fn firsts(alloc: Global, kind: Kind, entries: &EntrySlice<'_>) -> Result<State, 
     Ok(state)
 }
 
-/// An index of what is saved of the entries of another.
+/// Whether each of these entries has a path, and another path or stage than the one before it.
+fn are_whole(entries: &EntrySlice<'_>) -> bool
+    requires { IsOrdered entries.now }
+    ensures { IsTrue result ↔ AreWhole entries.now }
+{
+    for place in 0..entries.len() {
+        if !is_first(entries, place) {
+            return false;
+        }
+    }
+    true
+}
+
+/// An index of what is saved of the entries of another: that one itself, where none is left out.
 fn saved(alloc: Global, state: State) -> Result<State, AllocError>
     requires { IsPlainIndex state }
     ensures saved { IfOk result (λ s. IsSavedOf (records state) (records s)) }
@@ -188,11 +202,11 @@ fn saved(alloc: Global, state: State) -> Result<State, AllocError>
 {
     let kind = state.object_hash();
     let all = sorted(state)?;
-    firsts(
-        alloc,
-        kind,
-        &EntrySlice::new(all.entries(), all.path_backing()),
-    )
+    let entries = EntrySlice::new(all.entries(), all.path_backing());
+    if are_whole(&entries) {
+        return Ok(all);
+    }
+    firsts(alloc, kind, &entries)
 }
 
 impl Remains {
