@@ -1,10 +1,13 @@
 mod Absent
 mod Behind
 pub mod Checks
-mod EntrySkips
+pub mod EntrySkips
 mod FileFaults
 pub mod Files
 pub mod Joined
+mod OutlineFaults
+mod Outlines
+mod PassedSums
 pub use Rattle.index_entries.proofs.Storing
 pub use Rattle.index_extensions.proofs.Walks
 pub use Rattle.index_extensions.proofs.MarkerReadings

@@ -4,6 +4,7 @@ pub mod File
 pub mod FileFaults
 pub mod Hashing
 pub mod Linked
+pub mod Outlined
 pub mod Searching
 pub mod Trees
 pub mod VerifiedFile
