@@ -1,7 +1,7 @@
 -- Bytes that are read as an index have a header and all entries that it counts.
-use Rattle.std.proofs.Common.{◌≡◌, ℕ, ◌<◌, Bool, true, false, ltb, List, length, drop, Option, None, Some, Ok, Err}
+use Rattle.std.proofs.Common.{◌≡◌, ℕ, ◌<◌, Bool, true, false, ltb, List, length, drop, Option, Ok, Err}
 use Rattle.std.proofs.Common.{arith, subst}
-use Rattle.std.specs.Prelude.{IfNone, MatchBool, codes}
+use Rattle.std.specs.Prelude.{MatchBool, codes}
 use Rattle.index_parts.specs.declared.hash.Kind.{Kind}
 use Rattle.index_parts.specs.declared.hash.ObjectId.{ObjectId}
 use Rattle.index_metadata.specs.declared.entry.stat.FileTime.{FileTime}
@@ -36,8 +36,3 @@ module _ (kind : Kind) (time : FileTime) (options : Options) (bytes : List ℕ) 
       all_there version (ltb (most_entries (length bytes) k.0 kind version) (count_of bytes))
       (is_too_large options.alloc_limit_bytes (count_of bytes) (length bytes) k.0 kind version) k.2 i
       (subst (λ (n : ℕ). i < n) counted lt) (subst (λ (b : List ℕ). LacksEntry version kind b i) behind lacking)
-
--- what isn't so where there is nothing
-pub none_then : {A : Type 0} (o : Option A) (P Q : Type 0) → (P → Q) → IfNone o P → IfNone o Q
-none_then None P Q f h = f h
-none_then (Some x) P Q f h = h

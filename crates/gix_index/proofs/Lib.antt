@@ -1,10 +1,11 @@
 mod Absent
 mod Behind
 pub mod Checks
-mod EntrySkips
 mod FileFaults
 pub mod Files
 pub mod Joined
+mod OutlineFaults
+mod Outlines
 pub use Rattle.index_entries.proofs.ReadRecords
 pub use Rattle.index_entries.proofs.Storing
 pub use Rattle.index_extensions.proofs.Walks
@@ -14,3 +15,4 @@ pub use Rattle.index_format.proofs.Outcomes
 pub use Rattle.index_lookups.proofs.RunFilters
 pub use Rattle.index_parts.proofs.Taking
 pub use Rattle.index_split.proofs.Links
+pub use Rattle.index_window.proofs.EntrySkips

@@ -4,6 +4,7 @@ pub mod File
 pub mod FileFaults
 pub mod Hashing
 pub mod Linked
+pub mod Outlined
 pub mod Searching
 pub mod Trees
 pub mod VerifiedFile
@@ -86,6 +87,7 @@ pub use Rattle.index_format.specs.Stored
 pub use Rattle.index_format.specs.Writing
 pub use Rattle.index_window.specs.Behind
 pub use Rattle.index_window.specs.Intact
+pub use Rattle.index_window.specs.Passed
 pub use Rattle.index_window.specs.declared.disk.PathError
 pub use Rattle.index_state.specs.Dissolve
 pub use Rattle.index_state.specs.Edits

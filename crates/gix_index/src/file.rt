@@ -3,6 +3,7 @@
 mod at;
 mod image;
 pub mod init;
+mod outline;
 mod unfollowed;
 pub mod verify;
 pub mod write;
@@ -16,6 +17,7 @@ use index_entries::{PathBacking, PathStorageRef};
 use index_parts::hash::ObjectId;
 use index_state::State;
 pub use index_window::disk::PathError;
+pub use outline::Outline;
 use std::alloc::AllocError;
 use std::fmt;
 use std::ops::{Deref, DerefMut};

@@ -8,6 +8,7 @@ use index_parts::hash::Kind;
 
 pub mod disk;
 pub mod large;
+pub mod passed;
 pub mod pieces;
 pub mod windows;
 

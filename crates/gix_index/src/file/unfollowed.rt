@@ -1,9 +1,8 @@
 //! Reading an index from the disk by itself, with the bytes behind its entries.
 
-ghost use Rattle.std.specs.Prelude.{◌≡◌, ◌<◌, ℕ, Bool, List, Option, IfErr, IfNone, IfOk, IfSome, None, Ok, length};
+ghost use Rattle.std.specs.Prelude.{◌≡◌, Bool, Option, IfErr, IfNone, IfOk, IfSome, Ok};
 ghost use Rattle.std.specs.Path.{path_buf_bytes};
-ghost use Rattle.index_entries.specs.Entries.{AreEntries, LacksEntry};
-ghost use Rattle.index_entries.specs.Record.{IdsAreOf, Record};
+ghost use Rattle.index_entries.specs.Record.{IdsAreOf};
 ghost use Rattle.index_format.specs.Contents.{Contents};
 ghost use Rattle.index_format.specs.Storable.{IsStorable};
 ghost use Rattle.index_format.specs.declared.decode.Options.{Options};
@@ -20,8 +19,6 @@ ghost use Rattle.gix_index.specs.Linked.{IsReadAlone, IsReadAloneIn};
 use super::File;
 use super::at::read_fault;
 use super::init::{Error, decoded};
-use index_entries::Version;
-use index_entry_reading::entry::entry_of;
 use index_format::decode;
 use index_metadata::entry::FileTime;
 use index_parts::hash::{Kind, ObjectId};
@@ -30,6 +27,7 @@ use index_state::State;
 use index_window::ReadOptions;
 use index_window::disk::bytes_of;
 use index_window::large::in_windows;
+use index_window::passed::pass_entries;
 use std::alloc::Global;
 use std::fs;
 use std::fs::OpenFile;
@@ -46,22 +44,6 @@ pub struct Unfollowed {
     pub ending: Vec<u8>,
 }
 
-/// The bytes behind so many entries; None where one of them isn't there.
-fn skip_entries(version: Version, kind: Kind, count: u32, bytes: &[u8]) -> Option<&[u8]>
-    ensures found { IfSome result (λ rest. (records : List Record)
-        × AreEntries version kind None bytes.now records rest.now × (length records ≡ count)) }
-    ensures none { IfNone result ((i : ℕ) × (i < count) × LacksEntry version kind bytes.now i) }
-{
-    let mut room = None;
-    let mut rest = bytes;
-    for _number in 0..count {
-        let (lent, after) = entry_of(version, kind, room, rest)?;
-        room = Some(lent.shared + lent.path.len());
-        rest = after;
-    }
-    Some(rest)
-}
-
 /// The bytes behind the entries of a file; None only where it is no index.
 fn behind_entries(kind: Kind, bytes: &[u8]) -> Option<&[u8]>
     ensures found { IfSome result (λ rest. FollowEntries kind bytes.now rest.now) }
@@ -72,7 +54,10 @@ fn behind_entries(kind: Kind, bytes: &[u8]) -> Option<&[u8]>
     let Ok((version, count, entries)) = header::decode(bytes, kind) else {
         return None;
     };
-    skip_entries(version, kind, count, entries)
+    match pass_entries(version, kind, count, entries) {
+        Ok(passed) => Some(passed.rest),
+        Err(_) => None,
+    }
 }
 
 /// The index in all bytes of a file, with those behind its entries. The digest is taken where it is to be compared and

@@ -1,0 +1,62 @@
+//! Entries that are passed one after another, of which none is kept.
+
+ghost use Rattle.std.specs.Prelude.{◌≡◌, ◌<◌, ◌+◌, ℕ, List, IfErr, IfOk, None, length};
+ghost use Rattle.index_entries.specs.Entries.{AreEntries, LacksEntry};
+ghost use Rattle.index_entries.specs.Record.{Record, has_directory};
+ghost use Rattle.index_window.specs.Passed.{in_64_bits, paths_len};
+
+use index_entries::Version;
+use index_entry_reading::entry::entry_of;
+use index_parts::hash::Kind;
+
+/// What entries come to that were passed.
+#[derive(Clone, Copy)]
+pub struct Passed<'a> {
+    /// How many bytes their paths have together; None where that takes more than 64 bits.
+    pub path_bytes: Option<usize>,
+    /// Whether one of them stands for a whole directory.
+    pub sparse: bool,
+    /// The bytes behind them.
+    pub rest: &'a [u8],
+}
+
+/// The sum of a number and a length, where each has 64 bits.
+fn sum_of(so_far: Option<usize>, len: usize) -> Option<usize>
+    ensures { (n : ℕ) → so_far ≡ in_64_bits n → result ≡ in_64_bits (n + len) }
+{
+    so_far?.checked_add(len)
+}
+
+/// Passes so many entries; or gives the place of the first that isn't there, counted from 0.
+pub fn pass_entries(
+    version: Version,
+    kind: Kind,
+    count: u32,
+    bytes: &[u8],
+) -> Result<Passed<'_>, u32>
+    ensures passed { IfOk result (λ x. (records : List Record)
+        × AreEntries version kind None bytes.now records x.rest.now × (length records ≡ count)
+        × (x.path_bytes ≡ in_64_bits (paths_len records))
+        × (x.sparse ≡ has_directory records)) }
+    ensures fault { IfErr result (λ i. (i < count) × LacksEntry version kind bytes.now i) }
+{
+    let mut path_bytes = Some(0);
+    let mut sparse = false;
+    let mut room = None;
+    let mut rest = bytes;
+    for place in 0..count {
+        let Some((lent, after)) = entry_of(version, kind, room, rest) else {
+            return Err(place);
+        };
+        let len = lent.shared + lent.path.len();
+        path_bytes = sum_of(path_bytes, len);
+        sparse |= lent.entry.mode.is_sparse();
+        room = Some(len);
+        rest = after;
+    }
+    Ok(Passed {
+        path_bytes,
+        sparse,
+        rest,
+    })
+}
