@@ -1,6 +1,7 @@
 //! The map of a file: a line for each part.
 
 ghost use Rattle.std.specs.Prelude.{◌≡◌, ◌++◌, ◌<◌, [], ◌∷◌, ℕ, List, OnOk, OnErr, codes, decimal, slice_index};
+ghost use Rattle.std.specs.Bool.{OnTrue};
 ghost use Rattle.std.specs.Io.KnownBytes.{Appends};
 ghost use Rattle.gix_index.specs.Taking.{AppendsPrefix};
 ghost use Rattle.hex.specs.Hex.{encode_lower, lower_digits};
@@ -54,11 +55,25 @@ fn append_escaped_byte(lines: &mut Vec<u8>, byte: u8) -> Result<(), AllocError>
     lines.extend_from_slice(&escape_of(byte))
 }
 
+/// Whether each byte stands for itself as text. The look goes over all of them, so that many are looked at at once.
+fn stand_for_themselves(bytes: &[u8]) -> bool
+    ensures { OnTrue result (escaped bytes.now ≡ bytes.now) }
+{
+    let mut all = true;
+    for byte in bytes {
+        all &= is_plain(*byte) & (*byte != b'\\');
+    }
+    all
+}
+
 /// Appends bytes as text that fits in one line: plain characters as they are, a backslash doubled, other bytes as `\x`
 /// and two digits of base 16.
 pub fn append_escaped(lines: &mut Vec<u8>, bytes: &[u8]) -> Result<(), AllocError>
     ensures { OnOk result (lines.new.items ≡ lines.old.items ++ escaped bytes.now) }
 {
+    if stand_for_themselves(bytes) {
+        return lines.extend_from_slice(bytes);
+    }
     for byte in bytes {
         append_escaped_byte(lines, *byte)?;
     }

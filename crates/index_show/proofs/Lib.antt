@@ -1,6 +1,7 @@
 pub mod Appended
 pub mod Directed
 pub mod Placed
+mod Prepended
 mod RangeLoops
 mod RunLoops
 pub mod Written

@@ -3,6 +3,7 @@ use Rattle.std.specs.Prelude.{ℕ, ◌==◌, List, [], ◌++◌, bit_and, codes,
 use Rattle.std.specs.List.{enumerate_from, flat_map}
 use Rattle.gix_index.specs.Flags.{stage_number}
 use Rattle.gix_index.specs.Mode.{commit_mode, directory_mode, executable_mode, file_mode, link_mode}
+use Rattle.gix_index.specs.ObjectId.{ObjectId}
 use Rattle.gix_index.specs.Record.{Record}
 use Rattle.gix_index.specs.StatType.{Stat}
 use Rattle.gix_index.specs.Time.{Time}
@@ -53,12 +54,15 @@ stat_lines indent s =
     ++ number_field indent (codes "dev") s.dev ++ number_field indent (codes "ino") s.ino
     ++ number_field indent (codes "uid") s.uid ++ number_field indent (codes "gid") s.gid
 
+-- the id and the mode of the object that an entry names, its stage and its flags
+unfoldable pub object_lines : ObjectId → ℕ → ℕ → List ℕ
+object_lines id mode flags =
+    id_field (codes "    ") (codes "id") id ++ field (codes "    ") (codes "mode") (shown_mode mode)
+    ++ number_field (codes "    ") (codes "stage") (stage_number flags) ++ flags_line (codes "    ") flags
+
 -- the lines of an entry but for its number and its stat
 unfoldable pub record_lines : Record → List ℕ
-record_lines r =
-    text_field (codes "    ") (codes "path") r.path ++ id_field (codes "    ") (codes "id") r.id
-    ++ field (codes "    ") (codes "mode") (shown_mode r.mode)
-    ++ number_field (codes "    ") (codes "stage") (stage_number r.flags) ++ flags_line (codes "    ") r.flags
+record_lines r = text_field (codes "    ") (codes "path") r.path ++ object_lines r.id r.mode r.flags
 
 -- the lines of an entry, and its place before them, counted from 0
 abbrev pub entry_lines : ℕ → Record → List ℕ

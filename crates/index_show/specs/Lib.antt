@@ -3,6 +3,7 @@ pub mod Blocks
 pub mod Entries
 pub mod Fields
 pub mod MarkLines
+pub mod Prepending
 pub mod RangeSteps
 pub mod Ranges
 pub mod Show

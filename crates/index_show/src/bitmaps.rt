@@ -10,18 +10,18 @@ ghost use Rattle.gix_index.specs.State.{contents};
 ghost use Rattle.index_show.specs.Bitmaps.{bitmap_lines, bits_lines, heading, link_lines, monitor_heading, monitor_lines, pair_lines, range_text, ranges_text, set_line, token_field};
 
 use crate::fields::{
-    append_answer, append_decimal, append_field, append_id, append_number, append_text,
+    Appended, append_answer, append_decimal, append_field, append_id, append_number, append_text,
 };
 use crate::ranges::{Range, SetBits, set_bits};
 use gix_index::extension::fs_monitor::Token;
 use gix_index::extension::link::Bitmaps;
 use gix_index::extension::{FsMonitor, Link};
 use gix_index::{State, ewah};
-use std::alloc::{AllocError, Global};
+use std::alloc::Global;
 
 /// Appends the name of what is told further in.
 #[tactic(auto, unfolding(crate::specs::Bitmaps::heading))]
-fn append_heading(lines: &mut Vec<u8>, name: &[u8]) -> Result<(), AllocError>
+fn append_heading(lines: &mut Vec<u8>, name: &[u8]) -> Appended
     ensures { OnOk result (lines.new.items ≡ lines.old.items ++ heading name.now) }
 {
     lines.extend_from_slice(b"  ")?;
@@ -31,7 +31,7 @@ fn append_heading(lines: &mut Vec<u8>, name: &[u8]) -> Result<(), AllocError>
 
 /// Appends a range.
 #[tactic(auto, unfolding(crate::specs::Bitmaps::range_text))]
-fn append_range(lines: &mut Vec<u8>, range: Range) -> Result<(), AllocError>
+fn append_range(lines: &mut Vec<u8>, range: Range) -> Appended
     ensures { OnOk result (lines.new.items ≡ lines.old.items ++ range_text range) }
 {
     lines.extend_from_slice(b" ")?;
@@ -44,7 +44,7 @@ fn append_range(lines: &mut Vec<u8>, range: Range) -> Result<(), AllocError>
 }
 
 /// Appends ranges.
-fn append_each(lines: &mut Vec<u8>, ranges: &[Range]) -> Result<(), AllocError>
+fn append_each(lines: &mut Vec<u8>, ranges: &[Range]) -> Appended
     ensures { OnOk result (lines.new.items ≡ lines.old.items ++ flat_map range_text ranges.now) }
 {
     for range in ranges {
@@ -54,7 +54,7 @@ fn append_each(lines: &mut Vec<u8>, ranges: &[Range]) -> Result<(), AllocError>
 }
 
 /// Appends ranges, or `none`.
-fn append_ranges(lines: &mut Vec<u8>, ranges: &[Range]) -> Result<(), AllocError>
+fn append_ranges(lines: &mut Vec<u8>, ranges: &[Range]) -> Appended
     ensures { OnOk result (lines.new.items ≡ lines.old.items ++ ranges_text ranges.now) }
 {
     if ranges.is_empty() {
@@ -65,7 +65,7 @@ fn append_ranges(lines: &mut Vec<u8>, ranges: &[Range]) -> Result<(), AllocError
 
 /// Appends the line of the bits that are set.
 #[tactic(auto, unfolding(crate::specs::Bitmaps::set_line))]
-fn append_set(lines: &mut Vec<u8>, ranges: &[Range]) -> Result<(), AllocError>
+fn append_set(lines: &mut Vec<u8>, ranges: &[Range]) -> Appended
     ensures { OnOk result (lines.new.items ≡ lines.old.items ++ set_line ranges.now) }
 {
     lines.extend_from_slice(b"    set:")?;
@@ -75,7 +75,7 @@ fn append_set(lines: &mut Vec<u8>, ranges: &[Range]) -> Result<(), AllocError>
 
 /// Appends how many bits there are, and which of them are set.
 #[tactic(auto, unfolding(crate::specs::Bitmaps::bits_lines))]
-fn append_bits(lines: &mut Vec<u8>, num_bits: u32, bits: &SetBits) -> Result<(), AllocError>
+fn append_bits(lines: &mut Vec<u8>, num_bits: u32, bits: &SetBits) -> Appended
     ensures { OnOk result (lines.new.items ≡ lines.old.items
         ++ bits_lines num_bits bits.now.ranges.items bits.now.is_malformed) }
 {
@@ -85,12 +85,7 @@ fn append_bits(lines: &mut Vec<u8>, num_bits: u32, bits: &SetBits) -> Result<(),
 }
 
 /// Appends a bitmap.
-fn append_bitmap(
-    lines: &mut Vec<u8>,
-    alloc: Global,
-    name: &[u8],
-    map: &ewah::Vec,
-) -> Result<(), AllocError>
+fn append_bitmap(lines: &mut Vec<u8>, alloc: Global, name: &[u8], map: &ewah::Vec) -> Appended
     ensures { OnOk result
         (lines.new.items ≡ lines.old.items ++ bitmap_lines name.now (bitmap map.now)) }
 {
@@ -101,7 +96,7 @@ fn append_bitmap(
 
 /// Appends which entries of a shared index are deleted and replaced, or `none`.
 #[tactic(auto, unfolding(crate::specs::Bitmaps::pair_lines))]
-fn append_pair(lines: &mut Vec<u8>, alloc: Global, pair: &Option<Bitmaps>) -> Result<(), AllocError>
+fn append_pair(lines: &mut Vec<u8>, alloc: Global, pair: &Option<Bitmaps>) -> Appended
     ensures { OnOk result
         (lines.new.items ≡ lines.old.items ++ pair_lines (option_map pair_of pair.now)) }
 {
@@ -116,7 +111,7 @@ fn append_pair(lines: &mut Vec<u8>, alloc: Global, pair: &Option<Bitmaps>) -> Re
 
 /// Appends the id of the shared index and the bitmaps, or `none`.
 #[tactic(auto, unfolding(crate::specs::Bitmaps::link_lines))]
-fn append_shared(lines: &mut Vec<u8>, alloc: Global, link: Option<&Link>) -> Result<(), AllocError>
+fn append_shared(lines: &mut Vec<u8>, alloc: Global, link: Option<&Link>) -> Appended
     ensures { OnOk result (lines.new.items
         ≡ lines.old.items ++ link_lines (option_map (λ l. link_of l.now) link.entry)) }
 {
@@ -130,7 +125,7 @@ fn append_shared(lines: &mut Vec<u8>, alloc: Global, link: Option<&Link>) -> Res
 }
 
 /// Appends the link to a shared index, or `none`.
-pub fn append_link(lines: &mut Vec<u8>, alloc: Global, state: &State) -> Result<(), AllocError>
+pub fn append_link(lines: &mut Vec<u8>, alloc: Global, state: &State) -> Appended
     ensures { OnOk result (lines.new.items
         ≡ lines.old.items ++ link_lines (contents state.now).extensions.link) }
 {
@@ -139,7 +134,7 @@ pub fn append_link(lines: &mut Vec<u8>, alloc: Global, state: &State) -> Result<
 
 /// Appends when the monitor was asked.
 #[tactic(auto, unfolding(crate::specs::Bitmaps::token_field))]
-fn append_token(lines: &mut Vec<u8>, token: &Token) -> Result<(), AllocError>
+fn append_token(lines: &mut Vec<u8>, token: &Token) -> Appended
     ensures { OnOk result (lines.new.items
         ≡ lines.old.items ++ token_field (token_value token.now)) }
 {
@@ -150,7 +145,7 @@ fn append_token(lines: &mut Vec<u8>, token: &Token) -> Result<(), AllocError>
 }
 
 #[tactic(auto, unfolding(crate::specs::Bitmaps::monitor_heading))]
-fn append_monitor_heading(lines: &mut Vec<u8>) -> Result<(), AllocError>
+fn append_monitor_heading(lines: &mut Vec<u8>) -> Appended
     ensures { OnOk result (lines.new.items ≡ lines.old.items ++ monitor_heading) }
 {
     lines.extend_from_slice(b"file system monitor:\n")
@@ -158,11 +153,7 @@ fn append_monitor_heading(lines: &mut Vec<u8>) -> Result<(), AllocError>
 
 /// Appends what a file system monitor said, or `none`.
 #[tactic(auto, unfolding(crate::specs::Bitmaps::monitor_lines))]
-fn append_answer_of(
-    lines: &mut Vec<u8>,
-    alloc: Global,
-    monitor: Option<&FsMonitor>,
-) -> Result<(), AllocError>
+fn append_answer_of(lines: &mut Vec<u8>, alloc: Global, monitor: Option<&FsMonitor>) -> Appended
     ensures { OnOk result (lines.new.items
         ≡ lines.old.items ++ monitor_lines (option_map (λ m. monitor_of m.now) monitor.entry)) }
 {
@@ -177,7 +168,7 @@ fn append_answer_of(
 }
 
 /// Appends what the file system monitor said, or `none`.
-pub fn append_monitor(lines: &mut Vec<u8>, alloc: Global, state: &State) -> Result<(), AllocError>
+pub fn append_monitor(lines: &mut Vec<u8>, alloc: Global, state: &State) -> Appended
     ensures { OnOk result (lines.new.items
         ≡ lines.old.items ++ monitor_lines (contents state.now).extensions.fs_monitor) }
 {

@@ -1,31 +1,33 @@
 //! The lines of entries.
 
-ghost use Rattle.std.specs.Prelude.{◌≡◌, ◌++◌, ◌<◌, OnErr, OnOk, codes, length};
+ghost use Rattle.std.specs.Prelude.{◌≡◌, ◌++◌, ◌+◌, ◌<◌, ◌≤◌, OnErr, OnOk, codes, length};
 ghost use Rattle.std.specs.List.{enumerate_from, flat_map};
 ghost use Rattle.gix_index.specs.Taking.{AppendsPrefix};
 ghost use Rattle.gix_index.specs.Record.{IsPlaced, record_in};
 ghost use Rattle.gix_index.specs.State.{PathsInStorage, contents, entries_of, records, storage_of};
 ghost use Rattle.index_show.specs.Blocks.{Passes};
-ghost use Rattle.index_show.specs.Entries.{entries_lines, entry_lines, flag_word, flag_words, flags_line, flags_text, shown_mode, mode_word, record_lines, stat_lines, time_field, time_text};
-ghost use Rattle.index_show.specs.Fields.{field};
+ghost use Rattle.index_show.specs.Entries.{entries_lines, entry_lines, flag_word, flag_words, flags_line, flags_text, object_lines, shown_mode, mode_word, record_lines, stat_lines, time_field};
+ghost use Rattle.index_show.specs.Fields.{field, number_field, text_field};
+ghost use Rattle.index_show.specs.Prepending.{HasRoom, Prepends};
 
 use crate::block::put_block;
-use crate::fields::{
-    append_field, append_id, append_name, append_nanoseconds, append_number, append_octal,
-    append_text,
+use crate::fields::{Appended, append_number};
+use crate::prepend::{
+    prepend, prepend_decimal, prepend_id, prepend_name, prepend_nanoseconds, prepend_number,
+    prepend_octal,
 };
 use gix_index::bitflags::Flags as _;
 use gix_index::entry::stat::Time;
 use gix_index::entry::{Flags, Mode, Stat};
 use gix_index::{Entry, State};
-use itoa::Buffer;
-use std::alloc::AllocError;
+use index_inspect::map::append_escaped;
 use std::io;
 
 /// What a mode says.
 #[tactic(auto, unfolding(crate::specs::Entries::mode_word))]
 fn mode_word<'a>(mode: Mode) -> &'a [u8]
-    ensures { result.now ≡ mode_word mode.0 }
+    ensures word { result.now ≡ mode_word mode.0 }
+    ensures short { length result.now ≤ 11 }
 {
     if mode == Mode::DIR {
         return b" directory";
@@ -45,131 +47,156 @@ fn mode_word<'a>(mode: Mode) -> &'a [u8]
     b" other"
 }
 
-/// Appends the line of a mode.
+/// Puts the line of a mode before the place `end` of the room, and gives where it starts.
 #[tactic(auto, unfolding(crate::specs::Fields::field))]
-fn append_mode(lines: &mut Vec<u8>, indent: &[u8], mode: Mode) -> Result<(), AllocError>
-    ensures { OnOk result
-        (lines.new.items ≡ lines.old.items ++ field indent.now (codes "mode") (shown_mode mode.0)) }
+fn prepend_mode(room: &mut [u8], end: usize, mode: Mode) -> usize
+    requires { HasRoom room.old end 33 }
+    ensures { Prepends room.old room.new end 33 result
+        (field (codes "    ") (codes "mode") (shown_mode mode.0)) }
 {
-    lines.extend_from_slice(indent)?;
-    lines.extend_from_slice(b"mode: ")?;
-    append_octal(lines, mode.bits())?;
-    lines.extend_from_slice(mode_word(mode))?;
-    lines.extend_from_slice(b"\n")
+    let end = prepend(room, end, b"\n");
+    let end = prepend(room, end, mode_word(mode));
+    let end = prepend_octal(room, end, mode.bits());
+    prepend_name(room, end, b"    ", b"mode")
 }
 
-/// Appends the word where all bits of the mask are set.
+/// Puts the word where all bits of the mask are set.
+#[inline(always)]
 #[tactic(auto, unfolding(crate::specs::Entries::flag_word))]
-fn append_flag(lines: &mut Vec<u8>, flags: u32, mask: u32, word: &[u8]) -> Result<(), AllocError>
-    ensures { OnOk result (lines.new.items ≡ lines.old.items ++ flag_word flags mask word.now) }
+fn prepend_flag(room: &mut [u8], end: usize, flags: u32, mask: u32, word: &[u8]) -> usize
+    requires { HasRoom room.old end (length word.now) }
+    ensures prepends { Prepends room.old room.new end (length word.now) result
+        (flag_word flags mask word.now) }
+    ensures len { result + length (flag_word flags mask word.now) ≡ end }
 {
     if flags & mask == mask {
-        lines.extend_from_slice(word)?;
+        return prepend(room, end, word);
     }
-    Ok(())
+    end
 }
 
-/// Appends a word for each flag.
+/// Puts a word for each flag.
 #[tactic(auto, unfolding(crate::specs::Entries::flag_words))]
-fn append_flag_words(lines: &mut Vec<u8>, flags: u32) -> Result<(), AllocError>
-    ensures { OnOk result (lines.new.items ≡ lines.old.items ++ flag_words flags) }
+fn prepend_flag_words(room: &mut [u8], end: usize, flags: u32) -> usize
+    requires { HasRoom room.old end 50 }
+    ensures prepends { Prepends room.old room.new end 50 result (flag_words flags) }
+    ensures len { result + length (flag_words flags) ≡ end }
 {
-    append_flag(lines, flags, 0x8000, b" assume-valid")?;
-    append_flag(lines, flags, 0x4000, b" extended")?;
-    append_flag(lines, flags, 0x2000_0000, b" intent-to-add")?;
-    append_flag(lines, flags, 0x4000_0000, b" skip-worktree")
+    let end = prepend_flag(room, end, flags, 0x4000_0000, b" skip-worktree");
+    let end = prepend_flag(room, end, flags, 0x2000_0000, b" intent-to-add");
+    let end = prepend_flag(room, end, flags, 0x4000, b" extended");
+    prepend_flag(room, end, flags, 0x8000, b" assume-valid")
 }
 
-/// Appends a word for each flag, or ` none`.
-fn append_flags_text(lines: &mut Vec<u8>, flags: u32) -> Result<(), AllocError>
-    ensures { OnOk result (lines.new.items ≡ lines.old.items ++ flags_text flags) }
+/// Puts a word for each flag, or ` none`.
+fn prepend_flags_text(room: &mut [u8], end: usize, flags: u32) -> usize
+    requires { HasRoom room.old end 50 }
+    ensures { Prepends room.old room.new end 50 result (flags_text flags) }
 {
-    let len = lines.len();
-    append_flag_words(lines, flags)?;
-    if lines.len() == len {
-        lines.extend_from_slice(b" none")?;
+    let start = prepend_flag_words(room, end, flags);
+    if start == end {
+        return prepend(room, end, b" none");
     }
-    Ok(())
+    start
 }
 
-/// Appends the line of flags.
+/// Puts the line of flags.
 #[tactic(auto, unfolding(crate::specs::Entries::flags_line))]
-fn append_flags(lines: &mut Vec<u8>, indent: &[u8], flags: Flags) -> Result<(), AllocError>
-    ensures { OnOk result (lines.new.items ≡ lines.old.items ++ flags_line indent.now flags.0) }
+fn prepend_flags(room: &mut [u8], end: usize, flags: Flags) -> usize
+    requires { HasRoom room.old end 61 }
+    ensures { Prepends room.old room.new end 61 result (flags_line (codes "    ") flags.0) }
 {
-    lines.extend_from_slice(indent)?;
-    lines.extend_from_slice(b"flags:")?;
-    append_flags_text(lines, flags.bits())?;
-    lines.extend_from_slice(b"\n")
+    let end = prepend(room, end, b"\n");
+    let end = prepend_flags_text(room, end, flags.bits());
+    prepend(room, end, b"    flags:")
 }
 
-/// Appends a time.
-fn append_time_text(lines: &mut Vec<u8>, time: Time) -> Result<(), AllocError>
-    ensures { OnOk result (lines.new.items ≡ lines.old.items ++ time_text time) }
-{
-    let mut buffer = Buffer::new();
-    lines.extend_from_slice(buffer.format(time.secs).as_bytes())?;
-    lines.extend_from_slice(b".")?;
-    append_nanoseconds(lines, time.nsecs)
-}
-
-/// Appends the line of a time.
+/// Puts the line of a time.
+#[inline(always)]
 #[tactic(auto, unfolding(crate::specs::Fields::field))]
-fn append_time(
-    lines: &mut Vec<u8>,
-    indent: &[u8],
-    name: &[u8],
-    time: Time,
-) -> Result<(), AllocError>
-    ensures { OnOk result (lines.new.items
-        ≡ lines.old.items ++ time_field indent.now name.now time) }
+fn prepend_time(room: &mut [u8], end: usize, indent: &[u8], name: &[u8], time: Time) -> usize
+    requires { HasRoom room.old end (length indent.now + length name.now + 44) }
+    ensures { Prepends room.old room.new end (length indent.now + length name.now + 44) result
+        (time_field indent.now name.now time) }
 {
-    append_name(lines, indent, name)?;
-    append_time_text(lines, time)?;
-    lines.extend_from_slice(b"\n")
+    let end = prepend(room, end, b"\n");
+    let end = prepend_nanoseconds(room, end, time.nsecs);
+    let end = prepend(room, end, b".");
+    let end = prepend_decimal(room, end, u64::from(time.secs));
+    prepend_name(room, end, indent, name)
+}
+
+/// Puts the lines of a stat.
+#[tactic(auto, unfolding(crate::specs::Entries::stat_lines))]
+fn prepend_stat(room: &mut [u8], end: usize, indent: &[u8], stat: Stat) -> usize
+    requires room { HasRoom room.old end 275 }
+    requires short { length indent.now ≤ 6 }
+    ensures { Prepends room.old room.new end 275 result (stat_lines indent.now stat) }
+{
+    let end = prepend_number(room, end, indent, b"gid", u64::from(stat.gid));
+    let end = prepend_number(room, end, indent, b"uid", u64::from(stat.uid));
+    let end = prepend_number(room, end, indent, b"ino", u64::from(stat.ino));
+    let end = prepend_number(room, end, indent, b"dev", u64::from(stat.dev));
+    let end = prepend_time(room, end, indent, b"ctime", stat.ctime);
+    let end = prepend_time(room, end, indent, b"mtime", stat.mtime);
+    prepend_number(room, end, indent, b"size", u64::from(stat.size))
 }
 
 /// Appends the lines of a stat.
-#[tactic(auto, unfolding(crate::specs::Entries::stat_lines))]
-pub fn append_stat(lines: &mut Vec<u8>, indent: &[u8], stat: Stat) -> Result<(), AllocError>
+#[inline(always)]
+pub fn append_stat(lines: &mut Vec<u8>, indent: &[u8], stat: Stat) -> Appended
+    requires { length indent.now ≤ 6 }
     ensures { OnOk result (lines.new.items ≡ lines.old.items ++ stat_lines indent.now stat) }
 {
-    append_number(lines, indent, b"size", u64::from(stat.size))?;
-    append_time(lines, indent, b"mtime", stat.mtime)?;
-    append_time(lines, indent, b"ctime", stat.ctime)?;
-    append_number(lines, indent, b"dev", u64::from(stat.dev))?;
-    append_number(lines, indent, b"ino", u64::from(stat.ino))?;
-    append_number(lines, indent, b"uid", u64::from(stat.uid))?;
-    append_number(lines, indent, b"gid", u64::from(stat.gid))
+    let mut room = [0; 275];
+    let start = prepend_stat(&mut room, 275, indent, stat);
+    lines.extend_from_slice(&room[start..])
 }
 
-/// Appends the lines of an entry but for its number and its stat.
-#[tactic(auto, unfolding(crate::specs::Entries::record_lines))]
-fn append_record(lines: &mut Vec<u8>, state: &State, entry: &Entry) -> Result<(), AllocError>
-    requires { IsPlaced (length (storage_of state.now)) entry.now }
+/// Appends the lines of the object that an entry names, of its stage and its flags.
+#[tactic(auto, unfolding(crate::specs::Entries::object_lines))]
+fn append_object(lines: &mut Vec<u8>, entry: &Entry) -> Appended
     ensures { OnOk result (lines.new.items
-        ≡ lines.old.items ++ record_lines (record_in (storage_of state.now) entry.now)) }
+        ≡ lines.old.items ++ object_lines entry.now.id entry.now.mode.0 entry.now.flags.0) }
 {
-    append_text(lines, b"    ", b"path", entry.path(state))?;
-    append_id(lines, b"    ", b"id", &entry.id)?;
-    append_mode(lines, b"    ", entry.mode)?;
-    append_number(lines, b"    ", b"stage", u64::from(entry.stage_raw()))?;
-    append_flags(lines, b"    ", entry.flags)
+    let mut room = [0; 199];
+    let start = prepend_flags(&mut room, 199, entry.flags);
+    let start = prepend_number(
+        &mut room,
+        start,
+        b"    ",
+        b"stage",
+        u64::from(entry.stage_raw()),
+    );
+    let start = prepend_mode(&mut room, start, entry.mode);
+    let start = prepend_id(&mut room, start, &entry.id);
+    lines.extend_from_slice(&room[start..])
+}
+
+/// Appends the line of an entry's number, and that of its path.
+#[tactic(auto, unfolding(crate::specs::Fields::field))]
+fn append_place(lines: &mut Vec<u8>, place: usize, path: &[u8]) -> Appended
+    ensures { OnOk result (lines.new.items
+        ≡ lines.old.items ++ (number_field (codes "  ") (codes "entry") place
+        ++ text_field (codes "    ") (codes "path") path.now)) }
+{
+    let mut room = [0; 40];
+    let start = prepend_name(&mut room, 40, b"    ", b"path");
+    let start = prepend_number(&mut room, start, b"  ", b"entry", place as u64);
+    lines.extend_from_slice(&room[start..])?;
+    append_escaped(lines, path)?;
+    lines.extend_from_slice(b"\n")
 }
 
 /// Appends the lines of an entry.
-fn append_entry(
-    lines: &mut Vec<u8>,
-    state: &State,
-    place: usize,
-    entry: &Entry,
-) -> Result<(), AllocError>
+#[tactic(auto, unfolding(crate::specs::Entries::record_lines))]
+fn append_entry(lines: &mut Vec<u8>, state: &State, place: usize, entry: &Entry) -> Appended
     requires { IsPlaced (length (storage_of state.now)) entry.now }
     ensures { OnOk result (lines.new.items
         ≡ lines.old.items ++ entry_lines place (record_in (storage_of state.now) entry.now)) }
 {
-    append_number(lines, b"  ", b"entry", place as u64)?;
-    append_record(lines, state, entry)?;
+    append_place(lines, place, entry.path(state))?;
+    append_object(lines, entry)?;
     append_stat(lines, b"    ", entry.stat)
 }
 

@@ -1,17 +1,22 @@
 //! Lines of a name and a value.
 
-ghost use Rattle.std.specs.Prelude.{◌≡◌, ◌++◌, ◌%◌, OnOk, codes, decimal};
+ghost use Rattle.std.specs.Prelude.{◌≡◌, ◌++◌, OnOk, codes, decimal};
 ghost use Rattle.hex.specs.Hex.{encode_lower};
 ghost use Rattle.gix_index.specs.Id.{id_bytes};
-ghost use Rattle.index_show.specs.Fields.{answer_field, octal_digit, field, id_field, id_or_none, nanoseconds, number_field, octal, high_octal, low_octal, text_field, yes_or_no};
+ghost use Rattle.index_show.specs.Fields.{answer_field, field, id_field, id_or_none, nanoseconds, number_field, octal, text_field, yes_or_no};
 
+use crate::digits::{hex_forty, hex_sixty_four};
+use crate::prepend::{prepend_nanoseconds, prepend_octal};
 use gix_index::hash::ObjectId;
 use index_inspect::map::append_escaped;
 use itoa::Buffer;
 use std::alloc::AllocError;
 
+/// Nothing, or that there is no memory for all that was to be appended.
+pub type Appended = Result<(), AllocError>;
+
 /// Appends what stands before a value: the indent, the name, a colon and a space.
-pub fn append_name(lines: &mut Vec<u8>, indent: &[u8], name: &[u8]) -> Result<(), AllocError>
+pub fn append_name(lines: &mut Vec<u8>, indent: &[u8], name: &[u8]) -> Appended
     ensures { OnOk result
         (lines.new.items ≡ lines.old.items ++ (indent.now ++ name.now ++ codes ": ")) }
 {
@@ -22,12 +27,7 @@ pub fn append_name(lines: &mut Vec<u8>, indent: &[u8], name: &[u8]) -> Result<()
 
 /// Appends a line with the value as it is.
 #[tactic(auto, unfolding(crate::specs::Fields::field))]
-pub fn append_field(
-    lines: &mut Vec<u8>,
-    indent: &[u8],
-    name: &[u8],
-    value: &[u8],
-) -> Result<(), AllocError>
+pub fn append_field(lines: &mut Vec<u8>, indent: &[u8], name: &[u8], value: &[u8]) -> Appended
     ensures { OnOk result
         (lines.new.items ≡ lines.old.items ++ field indent.now name.now value.now) }
 {
@@ -37,7 +37,7 @@ pub fn append_field(
 }
 
 /// Appends a number.
-pub fn append_decimal(lines: &mut Vec<u8>, n: u64) -> Result<(), AllocError>
+pub fn append_decimal(lines: &mut Vec<u8>, n: u64) -> Appended
     ensures { OnOk result (lines.new.items ≡ lines.old.items ++ decimal n) }
 {
     let mut buffer = Buffer::new();
@@ -45,12 +45,7 @@ pub fn append_decimal(lines: &mut Vec<u8>, n: u64) -> Result<(), AllocError>
 }
 
 /// Appends a line with a number.
-pub fn append_number(
-    lines: &mut Vec<u8>,
-    indent: &[u8],
-    name: &[u8],
-    n: u64,
-) -> Result<(), AllocError>
+pub fn append_number(lines: &mut Vec<u8>, indent: &[u8], name: &[u8], n: u64) -> Appended
     ensures { OnOk result
         (lines.new.items ≡ lines.old.items ++ number_field indent.now name.now n) }
 {
@@ -60,12 +55,7 @@ pub fn append_number(
 
 /// Appends a line with bytes as text that fits in it.
 #[tactic(auto, unfolding(crate::specs::Fields::field))]
-pub fn append_text(
-    lines: &mut Vec<u8>,
-    indent: &[u8],
-    name: &[u8],
-    bytes: &[u8],
-) -> Result<(), AllocError>
+pub fn append_text(lines: &mut Vec<u8>, indent: &[u8], name: &[u8], bytes: &[u8]) -> Appended
     ensures { OnOk result
         (lines.new.items ≡ lines.old.items ++ text_field indent.now name.now bytes.now) }
 {
@@ -74,24 +64,8 @@ pub fn append_text(
     lines.extend_from_slice(b"\n")
 }
 
-fn hex_forty(bytes: &[u8; 20]) -> [u8; 40]
-    ensures { result ≡ encode_lower bytes.now }
-{
-    let mut digits = [0; 40];
-    let _ = hex::encode_to_slice(bytes.as_slice(), &mut digits);
-    digits
-}
-
-fn hex_sixty_four(bytes: &[u8; 32]) -> [u8; 64]
-    ensures { result ≡ encode_lower bytes.now }
-{
-    let mut digits = [0; 64];
-    let _ = hex::encode_to_slice(bytes.as_slice(), &mut digits);
-    digits
-}
-
 /// Appends an id in base 16.
-pub fn append_hex(lines: &mut Vec<u8>, id: &ObjectId) -> Result<(), AllocError>
+pub fn append_hex(lines: &mut Vec<u8>, id: &ObjectId) -> Appended
     ensures { OnOk result (lines.new.items ≡ lines.old.items ++ encode_lower (id_bytes id.now)) }
 {
     match id {
@@ -102,12 +76,7 @@ pub fn append_hex(lines: &mut Vec<u8>, id: &ObjectId) -> Result<(), AllocError>
 
 /// Appends a line with an id.
 #[tactic(auto, unfolding(crate::specs::Fields::field))]
-pub fn append_id(
-    lines: &mut Vec<u8>,
-    indent: &[u8],
-    name: &[u8],
-    id: &ObjectId,
-) -> Result<(), AllocError>
+pub fn append_id(lines: &mut Vec<u8>, indent: &[u8], name: &[u8], id: &ObjectId) -> Appended
     ensures { OnOk result (lines.new.items
         ≡ lines.old.items ++ id_field indent.now name.now id.now) }
 {
@@ -122,7 +91,7 @@ pub fn append_id_or_none(
     indent: &[u8],
     name: &[u8],
     id: Option<ObjectId>,
-) -> Result<(), AllocError>
+) -> Appended
     ensures { OnOk result
         (lines.new.items ≡ lines.old.items ++ field indent.now name.now (id_or_none id)) }
 {
@@ -140,73 +109,27 @@ fn yes_or_no<'a>(holds: bool) -> &'a [u8]
 }
 
 /// Appends a line with `yes` or `no`.
-pub fn append_answer(
-    lines: &mut Vec<u8>,
-    indent: &[u8],
-    name: &[u8],
-    holds: bool,
-) -> Result<(), AllocError>
+pub fn append_answer(lines: &mut Vec<u8>, indent: &[u8], name: &[u8], holds: bool) -> Appended
     ensures { OnOk result
         (lines.new.items ≡ lines.old.items ++ answer_field indent.now name.now holds) }
 {
     append_field(lines, indent, name, yes_or_no(holds))
 }
 
-/// The last octal digit.
-fn octal_digit(n: u32) -> u8
-    ensures { result ≡ octal_digit (n % 8) }
-{
-    b'0' + (n % 8) as u8
-}
-
-/// The six last octal digits of a number.
-fn low_octal(n: u32) -> [u8; 6]
-    ensures { result ≡ low_octal n }
-{
-    [
-        octal_digit(n / 0o100000),
-        octal_digit(n / 0o10000),
-        octal_digit(n / 0o1000),
-        octal_digit(n / 0o100),
-        octal_digit(n / 0o10),
-        octal_digit(n),
-    ]
-}
-
-/// The five octal digits before them.
-fn high_octal(n: u32) -> [u8; 5]
-    ensures { result ≡ high_octal n }
-{
-    [
-        octal_digit(n / 0o10000000000),
-        octal_digit(n / 0o1000000000),
-        octal_digit(n / 0o100000000),
-        octal_digit(n / 0o10000000),
-        octal_digit(n / 0o1000000),
-    ]
-}
-
 /// Appends a number in octal digits: six where they hold it.
-#[tactic(auto, unfolding(crate::specs::Fields::octal))]
-pub fn append_octal(lines: &mut Vec<u8>, n: u32) -> Result<(), AllocError>
+pub fn append_octal(lines: &mut Vec<u8>, n: u32) -> Appended
     ensures { OnOk result (lines.new.items ≡ lines.old.items ++ octal n) }
 {
-    if n < 0o1000000 {
-        return lines.extend_from_slice(&low_octal(n));
-    }
-    lines.extend_from_slice(&high_octal(n))?;
-    lines.extend_from_slice(&low_octal(n))
+    let mut room = [0; 11];
+    let start = prepend_octal(&mut room, 11, n);
+    lines.extend_from_slice(&room[start..])
 }
 
 /// Appends nanoseconds in nine digits or more.
-pub fn append_nanoseconds(lines: &mut Vec<u8>, n: u32) -> Result<(), AllocError>
+pub fn append_nanoseconds(lines: &mut Vec<u8>, n: u32) -> Appended
     ensures { OnOk result (lines.new.items ≡ lines.old.items ++ nanoseconds n) }
 {
-    let mut buffer = Buffer::new();
-    let digits = buffer.format(n).as_bytes();
-    let zeros = b"000000000".as_slice();
-    if digits.len() < 9 {
-        lines.extend_from_slice(&zeros[digits.len()..])?;
-    }
-    lines.extend_from_slice(digits)
+    let mut room = [0; 20];
+    let start = prepend_nanoseconds(&mut room, 20, n);
+    lines.extend_from_slice(&room[start..])
 }

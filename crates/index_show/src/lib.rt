@@ -3,9 +3,11 @@
 
 mod bitmaps;
 pub mod block;
+mod digits;
 mod entries;
 pub mod fields;
 mod mark_lines;
+mod prepend;
 pub mod ranges;
 pub mod show;
 mod trees;

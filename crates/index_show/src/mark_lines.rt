@@ -6,15 +6,14 @@ ghost use Rattle.std.specs.Option.{option_map};
 ghost use Rattle.index_show.specs.Fields.{number_field};
 ghost use Rattle.index_show.specs.MarkLines.{block_line, blocks_lines, end_lines, end_mark_lines, entry_block, lines_or_none, mark_lines};
 
-use crate::fields::{append_decimal, append_field, append_id, append_number};
+use crate::fields::{Appended, append_decimal, append_field, append_id, append_number};
 use gix_index::extension::index_entry_offset_table::Offset;
 use gix_index::hash::ObjectId;
 use index_inspect::marks::{EndMark, Marks};
-use std::alloc::AllocError;
 
 /// Appends the line of a block that begins at an offset and has so many entries.
 #[tactic(auto, unfolding(crate::specs::MarkLines::block_line))]
-fn append_pair(lines: &mut Vec<u8>, offset: u64, count: u64) -> Result<(), AllocError>
+fn append_pair(lines: &mut Vec<u8>, offset: u64, count: u64) -> Appended
     ensures { OnOk result (lines.new.items ≡ lines.old.items ++ block_line offset count) }
 {
     lines.extend_from_slice(b"  block: offset ")?;
@@ -25,7 +24,7 @@ fn append_pair(lines: &mut Vec<u8>, offset: u64, count: u64) -> Result<(), Alloc
 }
 
 /// Appends the line of a block of entries.
-fn append_block(lines: &mut Vec<u8>, block: Offset) -> Result<(), AllocError>
+fn append_block(lines: &mut Vec<u8>, block: Offset) -> Appended
     ensures { OnOk result (lines.new.items ≡ lines.old.items ++ entry_block block) }
 {
     let offset = u64::from(block.from_beginning_of_file);
@@ -33,7 +32,7 @@ fn append_block(lines: &mut Vec<u8>, block: Offset) -> Result<(), AllocError>
 }
 
 /// Appends the lines of blocks.
-fn append_each(lines: &mut Vec<u8>, blocks: &[Offset]) -> Result<(), AllocError>
+fn append_each(lines: &mut Vec<u8>, blocks: &[Offset]) -> Appended
     ensures { OnOk result (lines.new.items ≡ lines.old.items ++ flat_map entry_block blocks.now) }
 {
     for block in blocks {
@@ -43,7 +42,7 @@ fn append_each(lines: &mut Vec<u8>, blocks: &[Offset]) -> Result<(), AllocError>
 }
 
 /// Appends the number of blocks, and the lines of each.
-fn append_all(lines: &mut Vec<u8>, blocks: &[Offset]) -> Result<(), AllocError>
+fn append_all(lines: &mut Vec<u8>, blocks: &[Offset]) -> Appended
     ensures { OnOk result (lines.new.items ≡ lines.old.items
         ++ (number_field [] (codes "offset table") (length blocks.now)
         ++ flat_map entry_block blocks.now)) }
@@ -54,7 +53,7 @@ fn append_all(lines: &mut Vec<u8>, blocks: &[Offset]) -> Result<(), AllocError>
 
 /// Appends the blocks of an offset table, or that it is malformed.
 #[tactic(auto, unfolding(crate::specs::MarkLines::blocks_lines))]
-fn append_blocks(lines: &mut Vec<u8>, table: &Option<Vec<Offset>>) -> Result<(), AllocError>
+fn append_blocks(lines: &mut Vec<u8>, table: &Option<Vec<Offset>>) -> Appended
     ensures { OnOk result (lines.new.items
         ≡ lines.old.items ++ blocks_lines (option_map (λ v. v.items) table.now)) }
 {
@@ -66,7 +65,7 @@ fn append_blocks(lines: &mut Vec<u8>, table: &Option<Vec<Offset>>) -> Result<(),
 
 /// Appends an offset and a digest.
 #[tactic(auto, unfolding(crate::specs::MarkLines::end_lines))]
-fn append_mark(lines: &mut Vec<u8>, offset: u64, digest: &ObjectId) -> Result<(), AllocError>
+fn append_mark(lines: &mut Vec<u8>, offset: u64, digest: &ObjectId) -> Appended
     ensures { OnOk result (lines.new.items ≡ lines.old.items ++ end_lines offset digest.now) }
 {
     lines.extend_from_slice(b"end marker:\n")?;
@@ -76,7 +75,7 @@ fn append_mark(lines: &mut Vec<u8>, offset: u64, digest: &ObjectId) -> Result<()
 
 /// Appends what an end marker says, or that it is malformed.
 #[tactic(auto, unfolding(crate::specs::MarkLines::end_mark_lines))]
-fn append_end_mark(lines: &mut Vec<u8>, mark: Option<EndMark>) -> Result<(), AllocError>
+fn append_end_mark(lines: &mut Vec<u8>, mark: Option<EndMark>) -> Appended
     ensures { OnOk result (lines.new.items ≡ lines.old.items ++ end_mark_lines mark) }
 {
     match mark {
@@ -87,7 +86,7 @@ fn append_end_mark(lines: &mut Vec<u8>, mark: Option<EndMark>) -> Result<(), All
 
 /// Appends what the offset table says, if there was one.
 #[tactic(auto, unfolding(crate::specs::MarkLines::lines_or_none))]
-fn append_table(lines: &mut Vec<u8>, is_there: bool, marks: &Marks) -> Result<(), AllocError>
+fn append_table(lines: &mut Vec<u8>, is_there: bool, marks: &Marks) -> Appended
     ensures { OnOk result (lines.new.items ≡ lines.old.items
         ++ lines_or_none is_there (codes "offset table")
         (blocks_lines (option_map (λ v. v.items) marks.now.table))) }
@@ -100,7 +99,7 @@ fn append_table(lines: &mut Vec<u8>, is_there: bool, marks: &Marks) -> Result<()
 
 /// Appends what the end marker says, if there was one.
 #[tactic(auto, unfolding(crate::specs::MarkLines::lines_or_none))]
-fn append_end(lines: &mut Vec<u8>, is_there: bool, marks: &Marks) -> Result<(), AllocError>
+fn append_end(lines: &mut Vec<u8>, is_there: bool, marks: &Marks) -> Appended
     ensures { OnOk result (lines.new.items ≡ lines.old.items
         ++ lines_or_none is_there (codes "end marker") (end_mark_lines marks.now.end)) }
 {
@@ -112,12 +111,7 @@ fn append_end(lines: &mut Vec<u8>, is_there: bool, marks: &Marks) -> Result<(), 
 
 /// Appends what an offset table and an end marker say, if there were any.
 #[tactic(auto, unfolding(crate::specs::MarkLines::mark_lines))]
-pub fn append_marks(
-    lines: &mut Vec<u8>,
-    table: bool,
-    marker: bool,
-    marks: &Marks,
-) -> Result<(), AllocError>
+pub fn append_marks(lines: &mut Vec<u8>, table: bool, marker: bool, marks: &Marks) -> Appended
     ensures { OnOk result
         (lines.new.items ≡ lines.old.items ++ mark_lines table marker marks.now) }
 {

@@ -10,7 +10,7 @@ ghost use Rattle.index_show.specs.Show.{behind_lines, head_lines, show_lines};
 
 use crate::bitmaps::{append_link, append_monitor};
 use crate::entries::write_entries;
-use crate::fields::{append_answer, append_id_or_none, append_number};
+use crate::fields::{Appended, append_answer, append_id_or_none, append_number};
 use crate::mark_lines::append_marks;
 use crate::trees::append_tree;
 use crate::undo::append_undo;
@@ -19,7 +19,7 @@ use gix_index::hash::ObjectId;
 use gix_index::hash::io::put_all;
 use gix_index::{File, State, Version};
 use index_inspect::marks::Marks;
-use std::alloc::{AllocError, Global};
+use std::alloc::Global;
 use std::io;
 
 /// The number of a version.
@@ -35,11 +35,7 @@ fn number_of_version(version: Version) -> u64
 
 /// Appends what stands before the entries.
 #[tactic(auto, unfolding(crate::specs::Show::head_lines))]
-fn append_head(
-    lines: &mut Vec<u8>,
-    state: &State,
-    checksum: Option<ObjectId>,
-) -> Result<(), AllocError>
+fn append_head(lines: &mut Vec<u8>, state: &State, checksum: Option<ObjectId>) -> Appended
     ensures { OnOk result
         (lines.new.items ≡ lines.old.items ++ head_lines (contents state.now) checksum) }
 {
@@ -49,12 +45,7 @@ fn append_head(
 }
 
 /// Appends what stands behind the entries.
-fn append_behind(
-    lines: &mut Vec<u8>,
-    alloc: Global,
-    state: &State,
-    marks: &Marks,
-) -> Result<(), AllocError>
+fn append_behind(lines: &mut Vec<u8>, alloc: Global, state: &State, marks: &Marks) -> Appended
     ensures { OnOk result (lines.new.items
         ≡ lines.old.items ++ behind_lines (contents state.now).extensions marks.now) }
 {

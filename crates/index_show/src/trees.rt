@@ -9,14 +9,14 @@ ghost use Rattle.gix_index.specs.State.{contents};
 ghost use Rattle.index_show.specs.Fields.{field};
 ghost use Rattle.index_show.specs.Trees.{cached_tree_lines, node_lines, tree_lines};
 
-use crate::fields::{append_field, append_id, append_text};
+use crate::fields::{Appended, append_field, append_id, append_text};
 use gix_index::State;
 use gix_index::extension::Tree;
 use itoa::Buffer;
-use std::alloc::{AllocError, Global};
+use std::alloc::Global;
 
 /// Appends the line of a number of entries, or of -1 where it isn't known.
-fn append_count(lines: &mut Vec<u8>, indent: &[u8], count: Option<u32>) -> Result<(), AllocError>
+fn append_count(lines: &mut Vec<u8>, indent: &[u8], count: Option<u32>) -> Appended
     ensures { OnOk result (lines.new.items
         ≡ lines.old.items ++ field indent.now (codes "entries") (count_bytes count)) }
 {
@@ -29,7 +29,7 @@ fn append_count(lines: &mut Vec<u8>, indent: &[u8], count: Option<u32>) -> Resul
 
 /// Appends what is known of a directory.
 #[tactic(auto, unfolding(crate::specs::Trees::node_lines))]
-fn append_known(lines: &mut Vec<u8>, indent: &[u8], tree: &Tree) -> Result<(), AllocError>
+fn append_known(lines: &mut Vec<u8>, indent: &[u8], tree: &Tree) -> Appended
     ensures { OnOk result (lines.new.items ≡ lines.old.items
         ++ node_lines indent.now (out-Tree tree.now).id (out-Tree tree.now).num_entries) }
 {
@@ -39,11 +39,7 @@ fn append_known(lines: &mut Vec<u8>, indent: &[u8], tree: &Tree) -> Result<(), A
 
 /// Appends the lines of a directory and of all below it. The indent is as it was afterwards.
 #[cycle(directories)]
-fn append_directory(
-    lines: &mut Vec<u8>,
-    indent: &mut Vec<u8>,
-    tree: &Tree,
-) -> Result<(), AllocError>
+fn append_directory(lines: &mut Vec<u8>, indent: &mut Vec<u8>, tree: &Tree) -> Appended
     ensures lines { OnOk result
         (lines.new.items ≡ lines.old.items ++ tree_lines indent.old.items (node_of tree.now)) }
     ensures indent { OnOk result (indent.new.items ≡ indent.old.items) }
@@ -59,11 +55,7 @@ fn append_directory(
 
 /// Appends the lines of directories that lie in one.
 #[cycle(directories)]
-fn append_directories(
-    lines: &mut Vec<u8>,
-    indent: &mut Vec<u8>,
-    trees: &[Tree],
-) -> Result<(), AllocError>
+fn append_directories(lines: &mut Vec<u8>, indent: &mut Vec<u8>, trees: &[Tree]) -> Appended
     ensures lines { OnOk result (lines.new.items ≡ lines.old.items
         ++ flat_map (λ t. tree_lines indent.old.items (node_of t)) trees.now) }
     ensures indent { OnOk result (indent.new.items ≡ indent.old.items) }
@@ -75,7 +67,7 @@ fn append_directories(
 }
 
 /// Appends the lines of a tree from its root on.
-fn append_root(lines: &mut Vec<u8>, alloc: Global, tree: &Tree) -> Result<(), AllocError>
+fn append_root(lines: &mut Vec<u8>, alloc: Global, tree: &Tree) -> Appended
     ensures { OnOk result (lines.new.items
         ≡ lines.old.items
         ++ (codes "cached tree:\n" ++ tree_lines (codes "  ") (node_of tree.now))) }
@@ -86,7 +78,7 @@ fn append_root(lines: &mut Vec<u8>, alloc: Global, tree: &Tree) -> Result<(), Al
 }
 
 /// Appends the lines of the cached tree, or `none`.
-pub fn append_tree(lines: &mut Vec<u8>, alloc: Global, state: &State) -> Result<(), AllocError>
+pub fn append_tree(lines: &mut Vec<u8>, alloc: Global, state: &State) -> Appended
     ensures { OnOk result (lines.new.items
         ≡ lines.old.items ++ cached_tree_lines (contents state.now).extensions.tree) }
 {

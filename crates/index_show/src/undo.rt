@@ -8,14 +8,13 @@ ghost use Rattle.index_show.specs.Fields.{number_field};
 ghost use Rattle.index_show.specs.Undo.{path_lines, side_field, side_text, sides_lines, undo_lines};
 
 use crate::fields::{
-    append_field, append_hex, append_name, append_number, append_octal, append_text,
+    Appended, append_field, append_hex, append_name, append_number, append_octal, append_text,
 };
 use gix_index::State;
 use gix_index::extension::resolve_undo::{ResolvePath, Stage};
-use std::alloc::AllocError;
 
 /// Appends the mode and the id of a side, or `none`.
-fn append_side_text(lines: &mut Vec<u8>, side: Option<Stage>) -> Result<(), AllocError>
+fn append_side_text(lines: &mut Vec<u8>, side: Option<Stage>) -> Appended
     ensures { OnOk result (lines.new.items ≡ lines.old.items ++ side_text side) }
 {
     match side {
@@ -30,7 +29,7 @@ fn append_side_text(lines: &mut Vec<u8>, side: Option<Stage>) -> Result<(), Allo
 
 /// Appends the line of a side.
 #[tactic(auto, unfolding(crate::specs::Fields::field))]
-fn append_side(lines: &mut Vec<u8>, name: &[u8], side: Option<Stage>) -> Result<(), AllocError>
+fn append_side(lines: &mut Vec<u8>, name: &[u8], side: Option<Stage>) -> Appended
     ensures { OnOk result (lines.new.items ≡ lines.old.items ++ side_field name.now side) }
 {
     append_name(lines, b"    ", name)?;
@@ -40,7 +39,7 @@ fn append_side(lines: &mut Vec<u8>, name: &[u8], side: Option<Stage>) -> Result<
 
 /// Appends the lines of the three sides.
 #[tactic(auto, unfolding(crate::specs::Undo::sides_lines))]
-fn append_sides(lines: &mut Vec<u8>, sides: &[Option<Stage>; 3]) -> Result<(), AllocError>
+fn append_sides(lines: &mut Vec<u8>, sides: &[Option<Stage>; 3]) -> Appended
     ensures { OnOk result (lines.new.items ≡ lines.old.items ++ sides_lines sides.now) }
 {
     append_side(lines, b"base", sides[0])?;
@@ -49,7 +48,7 @@ fn append_sides(lines: &mut Vec<u8>, sides: &[Option<Stage>; 3]) -> Result<(), A
 }
 
 /// Appends the lines of a path.
-fn append_path(lines: &mut Vec<u8>, path: &ResolvePath) -> Result<(), AllocError>
+fn append_path(lines: &mut Vec<u8>, path: &ResolvePath) -> Appended
     ensures { OnOk result
         (lines.new.items ≡ lines.old.items ++ path_lines (path_stages path.now)) }
 {
@@ -58,7 +57,7 @@ fn append_path(lines: &mut Vec<u8>, path: &ResolvePath) -> Result<(), AllocError
 }
 
 /// Appends the lines of paths.
-fn append_paths(lines: &mut Vec<u8>, paths: &[ResolvePath]) -> Result<(), AllocError>
+fn append_paths(lines: &mut Vec<u8>, paths: &[ResolvePath]) -> Appended
     ensures { OnOk result (lines.new.items
         ≡ lines.old.items ++ flat_map (λ p. path_lines (path_stages p)) paths.now) }
 {
@@ -69,7 +68,7 @@ fn append_paths(lines: &mut Vec<u8>, paths: &[ResolvePath]) -> Result<(), AllocE
 }
 
 /// Appends the number of paths, and the lines of each.
-fn append_all(lines: &mut Vec<u8>, paths: &[ResolvePath]) -> Result<(), AllocError>
+fn append_all(lines: &mut Vec<u8>, paths: &[ResolvePath]) -> Appended
     ensures { OnOk result (lines.new.items ≡ lines.old.items
         ++ (number_field [] (codes "resolve undo") (length (map path_stages paths.now))
         ++ flat_map path_lines (map path_stages paths.now))) }
@@ -79,7 +78,7 @@ fn append_all(lines: &mut Vec<u8>, paths: &[ResolvePath]) -> Result<(), AllocErr
 }
 
 /// Appends the paths that were in conflict, or `none`.
-pub fn append_undo(lines: &mut Vec<u8>, state: &State) -> Result<(), AllocError>
+pub fn append_undo(lines: &mut Vec<u8>, state: &State) -> Appended
     ensures { OnOk result (lines.new.items
         ≡ lines.old.items ++ undo_lines (contents state.now).extensions.resolve_undo) }
 {

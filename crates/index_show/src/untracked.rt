@@ -10,21 +10,16 @@ ghost use Rattle.index_show.specs.Untracked.{cache_lines, directory_lines, exclu
 
 use crate::entries::append_stat;
 use crate::fields::{
-    append_answer, append_field, append_id, append_id_or_none, append_number, append_text,
+    Appended, append_answer, append_field, append_id, append_id_or_none, append_number, append_text,
 };
 use gix_index::State;
 use gix_index::entry::Stat;
 use gix_index::extension::UntrackedCache;
 use gix_index::extension::untracked_cache::{Directory, OidStat};
-use std::alloc::AllocError;
 
 /// Appends the id and the stat of a file of exclude patterns, or `none`.
 #[tactic(auto, unfolding(crate::specs::Untracked::exclude_lines))]
-fn append_exclude(
-    lines: &mut Vec<u8>,
-    name: &[u8],
-    file: Option<&OidStat>,
-) -> Result<(), AllocError>
+fn append_exclude(lines: &mut Vec<u8>, name: &[u8], file: Option<&OidStat>) -> Appended
     ensures { OnOk result (lines.new.items
         ≡ lines.old.items ++ exclude_lines name.now (option_map (λ f. f.now) file.entry)) }
 {
@@ -43,7 +38,7 @@ fn append_exclude_files(
     lines: &mut Vec<u8>,
     info: Option<&OidStat>,
     excludes: Option<&OidStat>,
-) -> Result<(), AllocError>
+) -> Appended
     ensures { OnOk result (lines.new.items ≡ lines.old.items
         ++ exclude_files (option_map (λ f. f.now) info.entry)
         (option_map (λ f. f.now) excludes.entry)) }
@@ -55,12 +50,7 @@ fn append_exclude_files(
 /// Appends where the cache is for, how directories were read, and the name of a directory's own file of exclude
 /// patterns.
 #[tactic(auto, unfolding(crate::specs::Untracked::naming_lines))]
-fn append_naming(
-    lines: &mut Vec<u8>,
-    identifier: &[u8],
-    flags: u32,
-    name: &[u8],
-) -> Result<(), AllocError>
+fn append_naming(lines: &mut Vec<u8>, identifier: &[u8], flags: u32, name: &[u8]) -> Appended
     ensures { OnOk result
         (lines.new.items ≡ lines.old.items ++ naming_lines identifier.now flags name.now) }
 {
@@ -71,7 +61,7 @@ fn append_naming(
 
 /// Appends what a cache says of itself.
 #[tactic(auto, unfolding(crate::specs::Untracked::preamble_lines))]
-fn append_preamble(lines: &mut Vec<u8>, cache: &UntrackedCache) -> Result<(), AllocError>
+fn append_preamble(lines: &mut Vec<u8>, cache: &UntrackedCache) -> Appended
     ensures { OnOk result
         (lines.new.items ≡ lines.old.items ++ preamble_lines (cache_of cache.now).preamble) }
 {
@@ -82,7 +72,7 @@ fn append_preamble(lines: &mut Vec<u8>, cache: &UntrackedCache) -> Result<(), Al
 
 /// Appends the stat of a directory, or `none`.
 #[tactic(auto, unfolding(crate::specs::Untracked::stat_or_none))]
-fn append_stat_or_none(lines: &mut Vec<u8>, stat: Option<&Stat>) -> Result<(), AllocError>
+fn append_stat_or_none(lines: &mut Vec<u8>, stat: Option<&Stat>) -> Appended
     ensures { OnOk result
         (lines.new.items ≡ lines.old.items ++ stat_or_none (option_map (λ s. s.now) stat.entry)) }
 {
@@ -97,7 +87,7 @@ fn append_stat_or_none(lines: &mut Vec<u8>, stat: Option<&Stat>) -> Result<(), A
 
 /// Appends what is known of a directory.
 #[tactic(auto, unfolding(crate::specs::Untracked::own_lines))]
-fn append_known(lines: &mut Vec<u8>, directory: &Directory) -> Result<(), AllocError>
+fn append_known(lines: &mut Vec<u8>, directory: &Directory) -> Appended
     ensures { OnOk result
         (lines.new.items ≡ lines.old.items ++ own_lines (directory_value directory.now)) }
 {
@@ -113,7 +103,7 @@ fn append_known(lines: &mut Vec<u8>, directory: &Directory) -> Result<(), AllocE
 }
 
 /// Appends the names of what is untracked in a directory.
-fn append_names(lines: &mut Vec<u8>, directory: &Directory) -> Result<(), AllocError>
+fn append_names(lines: &mut Vec<u8>, directory: &Directory) -> Appended
     ensures { OnOk result (lines.new.items ≡ lines.old.items
         ++ flat_map untracked_name (directory_value directory.now).untracked) }
 {
@@ -124,7 +114,7 @@ fn append_names(lines: &mut Vec<u8>, directory: &Directory) -> Result<(), AllocE
 }
 
 /// Appends the places of the directories in one.
-fn append_subdirectories(lines: &mut Vec<u8>, places: &[usize]) -> Result<(), AllocError>
+fn append_subdirectories(lines: &mut Vec<u8>, places: &[usize]) -> Appended
     ensures { OnOk result
         (lines.new.items ≡ lines.old.items ++ flat_map subdirectory places.now) }
 {
@@ -135,11 +125,7 @@ fn append_subdirectories(lines: &mut Vec<u8>, places: &[usize]) -> Result<(), Al
 }
 
 /// Appends the lines of a directory.
-fn append_directory(
-    lines: &mut Vec<u8>,
-    place: usize,
-    directory: &Directory,
-) -> Result<(), AllocError>
+fn append_directory(lines: &mut Vec<u8>, place: usize, directory: &Directory) -> Appended
     ensures { OnOk result (lines.new.items
         ≡ lines.old.items ++ directory_lines place (directory_value directory.now)) }
 {
@@ -150,7 +136,7 @@ fn append_directory(
 }
 
 /// Appends the lines of directories.
-fn append_directories(lines: &mut Vec<u8>, directories: &[Directory]) -> Result<(), AllocError>
+fn append_directories(lines: &mut Vec<u8>, directories: &[Directory]) -> Appended
     ensures { OnOk result (lines.new.items ≡ lines.old.items
         ++ flat_map placed_directory (enumerate_from 0 (map directory_value directories.now))) }
 {
@@ -161,7 +147,7 @@ fn append_directories(lines: &mut Vec<u8>, directories: &[Directory]) -> Result<
 }
 
 /// Appends the lines of a cache.
-fn append_cache(lines: &mut Vec<u8>, cache: &UntrackedCache) -> Result<(), AllocError>
+fn append_cache(lines: &mut Vec<u8>, cache: &UntrackedCache) -> Appended
     ensures { OnOk result (lines.new.items ≡ lines.old.items ++ cache_lines (cache_of cache.now)) }
 {
     let directories = cache.directories();
@@ -172,7 +158,7 @@ fn append_cache(lines: &mut Vec<u8>, cache: &UntrackedCache) -> Result<(), Alloc
 
 /// Appends the lines of the untracked cache, or `none`.
 #[tactic(auto, unfolding(crate::specs::Untracked::untracked_lines))]
-pub fn append_untracked(lines: &mut Vec<u8>, state: &State) -> Result<(), AllocError>
+pub fn append_untracked(lines: &mut Vec<u8>, state: &State) -> Appended
     ensures { OnOk result (lines.new.items
         ≡ lines.old.items ++ untracked_lines (contents state.now).extensions.untracked) }
 {
