@@ -24,7 +24,7 @@ below_at rs n d lt up = All-from_get_or (λ q. IsBelow q (get_or rs n d)) (take 
     let same : get_or (take n rs) k d ≡ get_or rs k d = get_or-take n rs k d inside in
     subst (λ (q : Record). IsBelow q (get_or rs n d)) (sym same) (up k n d inside lt))
 
-pub front_saved : (rs : List Record) (d : Record) (n : ℕ) → n ≤ length rs → AllPairs IsBelow rs → All (λ r. r.path ≢ []) rs
+front_saved : (rs : List Record) (d : Record) (n : ℕ) → n ≤ length rs → AllPairs IsBelow rs → All (λ r. r.path ≢ []) rs
     → IsSavedOf (take n rs) (take n rs)
 front_saved rs d zero le up named = saved_none
 front_saved rs d (suc n) le up named =

@@ -1,6 +1,6 @@
 -- Indexes of records: a new one, one record more, a sort.
 use Rattle.std.proofs.Common.{◌≡◌, ℕ, ◌+◌, ◌≤◌, ◌<◌, Bool, true, false, List, [], ◌∷◌, ◌++◌, length, All, get_or}
-use Rattle.std.proofs.Common.{Result, Ok, Err, take, sym, ap, subst, ◌∙◌, arith}
+use Rattle.std.proofs.Common.{Result, Ok, Err, take, sym, ap, subst, ◌∙◌}
 use Rattle.std.specs.Prelude.{◌≢◌, IfOk, OnOk}
 use Rattle.gix_index.specs.Contents.{Contents}
 use Rattle.gix_index.specs.Edits.{empty_contents, with_record, with_records}
@@ -15,7 +15,7 @@ use Rattle.gix_index.specs.StateType.{State}
 use Rattle.gix_index.specs.Storable.{IsStorable}
 use Rattle.index_inspect.specs.Salvage.{IsSavedOf}
 use Rattle.index_inspect.specs.SalvageSteps.{IsHeld, IsIndexOf, TakesNext}
-use Rattle.index_inspect.proofs.Saving.{saved_none}
+use Rattle.index_inspect.proofs.Saving.{first_at, saved_none}
 
 -- ---- answers
 
@@ -92,10 +92,6 @@ alone kind rs s h =
     ∙ ap (λ (l : List Record). with_records (empty_contents kind (contents s).time) l) (sym (records_are kind rs s h))
 
 -- ---- a walk over a list in order
-
-pub first_at : (rs : List Record) (i : ℕ) → i < length rs → Record
-first_at [] i lt = absurd (omega arith)
-first_at (r ∷ rs) i lt = r
 
 pub first_added : (kind : Kind) (rs : List Record) (i : ℕ) (old new : State) (b : Bool) → i < length rs → b ≡ true
     → TakesNext rs i b → All (IsHeld kind) rs → IsIndexOf kind (records old) old → IsSavedOf (take i rs) (records old)

@@ -3,7 +3,7 @@ use Rattle.std.proofs.Common.{◌≡◌, ◌≢◌, ◌⊎◌, inl, inr, ℕ, su
 use Rattle.std.proofs.Common.{List, [], ◌∷◌, ◌++◌, length, take, get_or, All, refl, sym, ap, subst}
 use Rattle.std.proofs.Common.{◌∙◌, length-append, arith}
 use Rattle.std.specs.Cmp.{IsTotalOrder}
-use Rattle.std.specs.Prelude.{◌==◌}
+use Rattle.std.specs.Prelude.{◌==◌, ◌↔◌, IsTrue}
 use Rattle.std.specs.List.{Contains}
 use Rattle.std.specs.List.Sorted.{IsStable, ties}
 use Rattle.std.specs.Ordering.{is_eq, is_lt, ordering_reverse}
@@ -11,7 +11,7 @@ use Rattle.std.specs.declared.cmp.Ordering.{Ordering}
 use Rattle.std.specs.declared.cmp.Ordering.TheVariants.{Less, Equal, Greater}
 use Rattle.std.proofs.lemmas.Bool.{cases_lt, eqb-true}
 use Rattle.std.proofs.lemmas.Cmp.{nat_cmp_total, nat_list_cmp_total, on_total, then_total, tied_itself}
-use Rattle.std.proofs.lemmas.List.{get_or-take, length-take, take_all, take_more}
+use Rattle.std.proofs.lemmas.List.{get_or-take, get_or_default, length-take, take_all, take_more}
 use Rattle.std.proofs.lemmas.List.Elements.{All-filter, All-from_get_or, All-head, All-nil, All-tail}
 use Rattle.std.proofs.lemmas.List.Elements.{Contains-append_left, Contains-get_or, Contains-push, Contains-push_cases}
 use Rattle.std.proofs.lemmas.List.Elements.{filter-append, filter_agree}
@@ -21,7 +21,7 @@ use Rattle.gix_index.specs.Order.{record_cmp, record_stage}
 use Rattle.gix_index.specs.Record.{Record}
 use Rattle.gix_index.specs.Sorted.{IsOrdered}
 use Rattle.index_inspect.specs.Salvage.{IsFirst, IsSavedOf, with_key_of}
-use Rattle.index_inspect.specs.SalvageSteps.{TakesNext}
+use Rattle.index_inspect.specs.SalvageSteps.{IsAbove, TakesNext}
 
 pub records_total : IsTotalOrder record_cmp
 records_total = then_total (on_total (λ (r : Record). r.path) nat_list_cmp_total) (on_total record_stage nat_cmp_total)
@@ -208,49 +208,68 @@ no_path : (path : List ℕ) → (length path == 0) ≡ true → path ≡ []
 no_path [] e = refl
 no_path (b ∷ path) e = let none : suc (length path) ≡ 0 = eqb-true (suc (length path)) 0 e in absurd (omega arith)
 
--- a record that has a path, at the first place or above the one before it
-pub takes : (rs : List Record) (i : ℕ) (path : List ℕ) → IsOrdered rs → i < length rs
-    → ((d : Record) → (get_or rs i d).path ≡ path) → (length path == 0) ≡ false
-    → (0 < i → (d : Record) → record_cmp (get_or rs (i - 1) d) (get_or rs i d) ≡ Less) → TakesNext rs i true
-takes rs i path up lt is named rises kept d h =
-    let x = get_or rs i d in
-    let more =
-    saved_more (take i rs) kept x (below (cases_lt 0 i)) (λ none. long_path path named (sym (is d) ∙ none)) h in
-    subst (λ (l : List Record). IsSavedOf l (kept ++ x ∷ [])) (sym (take_more rs i d lt)) more
-  where
-    below : (0 < i) ⊎ (i ≤ 0) → All (λ q. record_cmp q (get_or rs i d) ≡ Less) (take i rs)
-    below (inr none) =
-        let e : i ≡ 0 = omega arith in
-        subst (λ (n : ℕ). All (λ q. record_cmp q (get_or rs i d) ≡ Less) (take n rs)) (sym e)
-        (All-nil (λ q. record_cmp q (get_or rs i d) ≡ Less))
-    below (inl pos) = all_below rs i (get_or rs i d) d up pos (omega arith) (rises pos d)
-
--- one that hasn't
-pub leaves_nameless : (rs : List Record) (i : ℕ) (path : List ℕ) → i < length rs
-    → ((d : Record) → (get_or rs i d).path ≡ path) → (length path == 0) ≡ true → TakesNext rs i false
-leaves_nameless rs i path lt is none kept d h =
-    subst (λ (l : List Record). IsSavedOf l kept) (sym (take_more rs i d lt))
-    (saved_same (take i rs) kept (get_or rs i d) (λ _. is d ∙ no_path path none) h)
-
--- one that isn't above the one before it
-leaves_again : (rs : List Record) (i : ℕ) → IsOrdered rs → 0 < i → i < length rs
-    → ((d : Record) → is_lt (record_cmp (get_or rs (i - 1) d) (get_or rs i d)) ≡ false) → TakesNext rs i false
-leaves_again rs i up pos lt again kept d h =
-    subst (λ (l : List Record). IsSavedOf l kept) (sym (take_more rs i d lt))
-    (saved_same (take i rs) kept (get_or rs i d) (λ none. absurd (some_alike rs i d up pos lt (again d) none)) h)
+pub first_at : (rs : List Record) (i : ℕ) → i < length rs → Record
+first_at [] i lt = absurd (omega arith)
+first_at (r ∷ rs) i lt = r
 
 less_of : (o : Ordering) → is_lt o ≡ true → o ≡ Less
 less_of Less e = refl
 less_of Equal e = absurd cc
 less_of Greater e = absurd cc
 
--- by where the one before it stands
-pub takes_by : (b : Bool) (rs : List Record) (i : ℕ) (path : List ℕ) (o : Ordering) → IsOrdered rs → i < length rs
-    → ((d : Record) → (get_or rs i d).path ≡ path) → (length path == 0) ≡ false → 0 < i
-    → ((d : Record) → record_cmp (get_or rs (i - 1) d) (get_or rs i d) ≡ o) → b ≡ is_lt o → TakesNext rs i b
-takes_by true rs i path o up lt is named pos stands e =
-    takes rs i path up lt is named (λ _ d. stands d ∙ less_of o (sym e))
-takes_by false rs i path o up lt is named pos stands e = leaves_again rs i up pos lt (λ d. ap is_lt (stands d) ∙ sym e)
+less_or : (o : Ordering) → (is_lt o ≡ false → ⊥) → o ≡ Less
+less_or Less h = refl
+less_or Equal h = absurd (h refl)
+less_or Greater h = absurd (h refl)
+
+-- whether a record stands above the one before it, by its path and by the order of the two
+module _ (rs : List Record) (i : ℕ) (path : List ℕ) (is : (d : Record) → (get_or rs i d).path ≡ path) where
+  pub never_nameless : i < length rs → (length path == 0) ≡ true → IsAbove rs i → ⊥
+  never_nameless lt none h = let d = first_at rs i lt in (h d).0 (is d ∙ no_path path none)
+
+  pub above_none : i ≡ 0 → (length path == 0) ≡ false → IsAbove rs i
+  above_none e named d = (λ none. long_path path named (sym (is d) ∙ none), λ pos. absurd (omega arith))
+
+  pub above_by : (b : Bool) (o : Ordering) → i < length rs → 0 < i → (length path == 0) ≡ false → b ≡ is_lt o
+      → ((d : Record) → record_cmp (get_or rs (i - 1) d) (get_or rs i d) ≡ o) → IsTrue b ↔ IsAbove rs i
+  above_by b o lt pos named e stands = (
+    λ t d. (λ none. long_path path named (sym (is d) ∙ none), λ _. stands d ∙ less_of o (sym e ∙ t)),
+    λ h. let d = first_at rs i lt in e ∙ ap is_lt (sym (stands d) ∙ (h d).1 pos),
+  )
+
+-- one that isn't above has no path, where none before it has its path and stage
+nameless : (rs : List Record) (i : ℕ) (d : Record) (path : List ℕ) → IsOrdered rs → i < length rs
+    → (IsAbove rs i → ⊥) → with_key_of (get_or rs i d) (take i rs) ≡ [] → (get_or rs i d).path ≡ path
+    → (get_or rs i d).path ≡ []
+nameless rs i d [] up lt below none e = e
+nameless rs i d (b ∷ path) up lt below none e = absurd (below (λ f.
+    let same : get_or rs i f ≡ get_or rs i d = get_or_default rs i f d lt in (
+      λ empty.
+          let clash : b ∷ path ≡ [] = sym e ∙ sym (ap (λ (r : Record). r.path) same) ∙ empty in
+          absurd cc,
+      λ pos. less_or (record_cmp (get_or rs (i - 1) f) (get_or rs i f)) (λ not_less. some_alike rs i f up pos lt not_less
+          (subst (λ (q : Record). with_key_of q (take i rs) ≡ []) (sym same) none)),
+    )))
+
+pub takes_next : (b : Bool) (rs : List Record) (i : ℕ) → IsOrdered rs → i < length rs → (IsTrue b ↔ IsAbove rs i)
+    → TakesNext rs i b
+takes_next true rs i up lt h kept d saved =
+    let x = get_or rs i d in
+    let above = h.0 refl d in
+    subst (λ (l : List Record). IsSavedOf l (kept ++ x ∷ [])) (sym (take_more rs i d lt))
+    (saved_more (take i rs) kept x (below above.1 (cases_lt 0 i)) above.0 saved)
+  where
+    below : (0 < i → record_cmp (get_or rs (i - 1) d) (get_or rs i d) ≡ Less) → (0 < i) ⊎ (i ≤ 0)
+        → All (λ q. record_cmp q (get_or rs i d) ≡ Less) (take i rs)
+    below rises (inr none) =
+        let e : i ≡ 0 = omega arith in
+        subst (λ (n : ℕ). All (λ q. record_cmp q (get_or rs i d) ≡ Less) (take n rs)) (sym e)
+        (All-nil (λ q. record_cmp q (get_or rs i d) ≡ Less))
+    below rises (inl pos) = all_below rs i (get_or rs i d) d up pos (omega arith) (rises pos)
+takes_next false rs i up lt h kept d saved =
+    subst (λ (l : List Record). IsSavedOf l kept) (sym (take_more rs i d lt))
+    (saved_same (take i rs) kept (get_or rs i d)
+    (λ none. nameless rs i d (get_or rs i d).path up lt (λ a. absurd cc (h.1 a)) none refl) saved)
 
 pub saved_all : (rs kept : List Record) (n : ℕ) → length rs ≤ n → IsSavedOf (take n rs) kept → IsSavedOf rs kept
 saved_all rs kept n le h = subst (λ (l : List Record). IsSavedOf l kept) (take_all n rs le) h

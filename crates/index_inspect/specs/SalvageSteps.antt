@@ -1,12 +1,14 @@
 -- What the steps of saving entries have made (the library's own). Public clauses cite none of these.
-use Rattle.std.specs.Prelude.{◌≡◌, ◌≢◌, ◌≤◌, ◌+◌, ℕ, List, [], ◌∷◌, ◌++◌, All, Bool, Option, length}
+use Rattle.std.specs.Prelude.{◌≡◌, ◌≢◌, ◌≤◌, ◌<◌, ◌+◌, ◌-◌, ℕ, List, [], ◌∷◌, ◌++◌, All, Bool, Option, length}
 use Rattle.std.specs.Prelude.{take, slice_index_or, if◌then◌else◌}
+use Rattle.std.specs.declared.cmp.Ordering.TheVariants.{Less}
 use Rattle.gix_index.specs.Contents.{Contents}
 use Rattle.gix_index.specs.Edits.{empty_contents, with_records}
 use Rattle.gix_index.specs.FileTime.{FileTime}
 use Rattle.gix_index.specs.Id.{id_kind}
 use Rattle.gix_index.specs.Kind.{Kind}
 use Rattle.gix_index.specs.Link.{LinkValue}
+use Rattle.gix_index.specs.Order.{record_cmp}
 use Rattle.gix_index.specs.Record.{Record}
 use Rattle.gix_index.specs.State.{PathsInStorage, contents, records}
 use Rattle.gix_index.specs.StateType.{State}
@@ -33,6 +35,11 @@ pub record Completes (link : Option LinkValue) (found : Bool) (shared : Option C
   pub is : IsCompleted link found shared (records own) (records c.state) c.shared
   pub same_kind : (contents c.state).kind ≡ (contents own).kind
   pub plain : IsPlainIndex c.state
+
+-- the record at a place has a path, and stands above the one before it
+abbrev pub IsAbove : List Record → ℕ → Type 0
+IsAbove rs place = (d : Record) → ((slice_index_or rs place d).path ≢ [])
+    × (0 < place → record_cmp (slice_index_or rs (place - 1) d) (slice_index_or rs place d) ≡ Less)
 
 -- whether the record at a place is saved too, where those before it are
 abbrev pub TakesNext : List Record → ℕ → Bool → Type 0

@@ -12,7 +12,7 @@ ghost use Rattle.gix_index.specs.State.{contents, records};
 ghost use Rattle.index_inspect.specs.Laws.{AreWhole};
 ghost use Rattle.index_inspect.specs.Remains.{IsPlainIndex};
 ghost use Rattle.index_inspect.specs.Salvage.{CanBeShared, IsSavedOf, Saves};
-ghost use Rattle.index_inspect.specs.SalvageSteps.{Completes, IsHeld, IsIndexOf, TakesNext};
+ghost use Rattle.index_inspect.specs.SalvageSteps.{Completes, IsAbove, IsHeld, IsIndexOf};
 
 use crate::remains::{FirstFault, Remains, push_from};
 use gix_index::State;
@@ -136,11 +136,10 @@ fn sorted(mut state: State) -> Result<State, AllocError>
     Ok(state)
 }
 
-/// Whether the entry at a place has a path, and another path or stage than the one before it.
-fn is_first(entries: &EntrySlice<'_>, place: usize) -> bool
-    requires inside { place < length entries.now }
-    requires ordered { IsOrdered entries.now }
-    ensures { TakesNext entries.now place result }
+/// Whether the entry at a place has a path, and stands above the one before it.
+fn is_above(entries: &EntrySlice<'_>, place: usize) -> bool
+    requires { place < length entries.now }
+    ensures { IsTrue result ↔ IsAbove entries.now place }
 {
     if entries.path(place).is_empty() {
         return false;
@@ -161,7 +160,7 @@ fn push_first(state: &mut State, entries: &EntrySlice<'_>, place: usize) -> Resu
         → IsIndexOf kind (records state.new) state.new
         × IsSavedOf (take (place + 1) entries.now) (records state.new)) }
 {
-    if is_first(entries, place) {
+    if is_above(entries, place) {
         return push_from(state, entries, place);
     }
     Ok(())
@@ -181,13 +180,12 @@ fn firsts(alloc: Global, kind: Kind, entries: &EntrySlice<'_>) -> Result<State, 
     Ok(state)
 }
 
-/// Whether each of these entries has a path, and another path or stage than the one before it.
+/// Whether each of these entries has a path, and stands above the one before it.
 fn are_whole(entries: &EntrySlice<'_>) -> bool
-    requires { IsOrdered entries.now }
     ensures { IsTrue result ↔ AreWhole entries.now }
 {
     for place in 0..entries.len() {
-        if !is_first(entries, place) {
+        if !is_above(entries, place) {
             return false;
         }
     }
@@ -200,6 +198,9 @@ fn saved(alloc: Global, state: State) -> Result<State, AllocError>
     ensures saved { IfOk result (λ s. IsSavedOf (records state) (records s)) }
     ensures index { IfOk result (λ s. IsIndexOf (contents state).kind (records s) s) }
 {
+    if are_whole(&EntrySlice::new(state.entries(), state.path_backing())) {
+        return Ok(state);
+    }
     let kind = state.object_hash();
     let all = sorted(state)?;
     let entries = EntrySlice::new(all.entries(), all.path_backing());

@@ -1,20 +1,19 @@
-use Rattle.std.proofs.Common.{refl, arith}
-use Rattle.index_inspect.proofs.Saving.{saved_none}
-use Rattle.index_inspect.proofs.Wholeness.{never_whole, whole_all, whole_more}
+use Rattle.std.proofs.Common.{◌∙◌, refl, sym, arith}
+use Rattle.index_inspect.proofs.Wholeness.{above_at, whole_all, whole_more, whole_none}
 use Rattle.index_inspect.proofs.salvage.are_whole.Goals as goal
 
 pub loop-place-init : goal.loop-place-init
-loop-place-init c = saved_none
+loop-place-init c = whole_none
 
 pub loop-place-preserved : goal.loop-place-preserved
-loop-place-preserved c = whole_more c.args.entries.now c.loop-place.place c.is_first.result (omega arith)
-    c.if-not-is_first.false c.is_first.ensures c.loop-place.invariant
+loop-place-preserved c = whole_more c.args.entries.now c.loop-place.place (omega arith)
+    (c.is_above.ensures.0 c.if-not-is_above.false) c.loop-place.invariant
 
-pub returns-then-not-is_first : goal.returns-then-not-is_first
-returns-then-not-is_first c = (
+pub returns-then-not-is_above : goal.returns-then-not-is_above
+returns-then-not-is_above c = (
   λ t. absurd cc,
-  λ w. absurd (never_whole c.args.entries.now c.loop-place.place c.is_first.result (omega arith)
-      c.if-not-is_first.true c.is_first.ensures c.loop-place.invariant w),
+  λ w. sym c.if-not-is_above.true
+      ∙ c.is_above.ensures.1 (above_at c.args.entries.now c.loop-place.place (omega arith) w),
 )
 
 pub returns : goal.returns
