@@ -23,6 +23,15 @@ use gix_index::{Entry, State};
 use index_inspect::map::append_escaped;
 use std::io;
 
+/// How many bytes the lines of a stat take at most, with six spaces of indent.
+const STAT_LEN: usize = 275;
+
+/// How many bytes the lines of an entry's object, stage and flags take at most.
+const OBJECT_LEN: usize = 199;
+
+/// How many bytes the line of an entry's number takes at most, with what stands before its path.
+const PLACE_LEN: usize = 40;
+
 /// What a mode says.
 #[tactic(auto, unfolding(crate::specs::Entries::mode_word))]
 fn mode_word<'a>(mode: Mode) -> &'a [u8]
@@ -127,6 +136,7 @@ fn prepend_time(room: &mut [u8], end: usize, indent: &[u8], name: &[u8], time: T
 }
 
 /// Puts the lines of a stat.
+#[inline(always)]
 #[tactic(auto, unfolding(crate::specs::Entries::stat_lines))]
 fn prepend_stat(room: &mut [u8], end: usize, indent: &[u8], stat: Stat) -> usize
     requires room { HasRoom room.old end 275 }
@@ -148,8 +158,8 @@ pub fn append_stat(lines: &mut Vec<u8>, indent: &[u8], stat: Stat) -> Appended
     requires { length indent.now ≤ 6 }
     ensures { OnOk result (lines.new.items ≡ lines.old.items ++ stat_lines indent.now stat) }
 {
-    let mut room = [0; 275];
-    let start = prepend_stat(&mut room, 275, indent, stat);
+    let mut room = [0; STAT_LEN];
+    let start = prepend_stat(&mut room, STAT_LEN, indent, stat);
     lines.extend_from_slice(&room[start..])
 }
 
@@ -159,15 +169,10 @@ fn append_object(lines: &mut Vec<u8>, entry: &Entry) -> Appended
     ensures { OnOk result (lines.new.items
         ≡ lines.old.items ++ object_lines entry.now.id entry.now.mode.0 entry.now.flags.0) }
 {
-    let mut room = [0; 199];
-    let start = prepend_flags(&mut room, 199, entry.flags);
-    let start = prepend_number(
-        &mut room,
-        start,
-        b"    ",
-        b"stage",
-        u64::from(entry.stage_raw()),
-    );
+    let stage = u64::from(entry.stage_raw());
+    let mut room = [0; OBJECT_LEN];
+    let start = prepend_flags(&mut room, OBJECT_LEN, entry.flags);
+    let start = prepend_number(&mut room, start, b"    ", b"stage", stage);
     let start = prepend_mode(&mut room, start, entry.mode);
     let start = prepend_id(&mut room, start, &entry.id);
     lines.extend_from_slice(&room[start..])
@@ -180,8 +185,8 @@ fn append_place(lines: &mut Vec<u8>, place: usize, path: &[u8]) -> Appended
         ≡ lines.old.items ++ (number_field (codes "  ") (codes "entry") place
         ++ text_field (codes "    ") (codes "path") path.now)) }
 {
-    let mut room = [0; 40];
-    let start = prepend_name(&mut room, 40, b"    ", b"path");
+    let mut room = [0; PLACE_LEN];
+    let start = prepend_name(&mut room, PLACE_LEN, b"    ", b"path");
     let start = prepend_number(&mut room, start, b"  ", b"entry", place as u64);
     lines.extend_from_slice(&room[start..])?;
     append_escaped(lines, path)?;

@@ -73,7 +73,8 @@ fn prepend_hex(room: &mut [u8], end: usize, id: &ObjectId) -> usize
 #[tactic(auto, unfolding(crate::specs::Fields::field))]
 pub fn prepend_id(room: &mut [u8], end: usize, id: &ObjectId) -> usize
     requires { HasRoom room.old end 73 }
-    ensures { Prepends room.old room.new end 73 result (id_field (codes "    ") (codes "id") id.now) }
+    ensures { Prepends room.old room.new end 73 result
+        (id_field (codes "    ") (codes "id") id.now) }
 {
     let end = prepend(room, end, b"\n");
     let end = prepend_hex(room, end, id);
