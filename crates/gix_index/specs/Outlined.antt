@@ -1,5 +1,6 @@
 -- An index in bytes whose entries are counted and not kept (gitformat-index, as a whole; the library's own).
-use Rattle.std.specs.Prelude.{◌≡◌, ◌^◌, ℕ, nat_lt, Bool, List, [], length, Option, Some, None, Ok, if◌then◌else◌, sum_by}
+use Rattle.std.specs.Prelude.{◌≡◌, ◌^◌, ℕ, nat_lt, Bool, List, [], length, sum_by, Option, Some, None, Ok}
+use Rattle.std.specs.Prelude.{if◌then◌else◌}
 use Rattle.index_parts.specs.declared.hash.Kind.{Kind}
 use Rattle.index_metadata.specs.declared.entry.stat.FileTime.{FileTime}
 use Rattle.index_entries.specs.Entries.{AreEntries}
