@@ -1,6 +1,6 @@
 -- An ending that was read behind no entries is also one behind those that were passed.
-use Rattle.std.proofs.Common.{◌≡◌, ◌∙◌, ℕ, ltb, Bool, true, false, List, [], length, Option, Some, None, Ok, Err, inl, inr}
-use Rattle.std.proofs.Common.{◌<◌, Fits, w8, get_or, refl, sym, ap, arith}
+use Rattle.std.proofs.Common.{◌≡◌, ◌∙◌, ℕ, ltb, Bool, true, false, List, [], length, Option, Some, None, Ok, Err, inl}
+use Rattle.std.proofs.Common.{inr, ◌<◌, Fits, w8, get_or, refl, sym, ap, arith}
 use Rattle.std.specs.Prelude.{◌^◌, ◌||◌, if◌then◌else◌}
 use Rattle.std.proofs.lemmas.List.Elements.{All-from_get_or}
 use Rattle.std.proofs.lemmas.Option.{same_Some}
@@ -42,7 +42,8 @@ verified_fault (Some x) (Some y) v w d f (inr h) = inr h
 verified_anew : (expected actual : Option ObjectId) (v w u : Contents) (c d : Option ObjectId)
     → IsVerified expected actual (Ok (w, d)) (Ok (v, c))
     → (v ≡ w) × IsVerified expected actual (Ok (u, d)) (Ok (u, c))
-verified_anew None actual v w u c d h = (same_value v w c d h, ap (λ (x : Option ObjectId). Ok (u, x)) (same_id v w c d h))
+verified_anew None actual v w u c d h =
+    (same_value v w c d h, ap (λ (x : Option ObjectId). Ok (u, x)) (same_id v w c d h))
 verified_anew (Some x) None v w u c d h =
     (same_value v w c d h, ap (λ (x : Option ObjectId). Ok (u, x)) (same_id v w c d h))
 verified_anew (Some x) (Some y) v w u c d (inl h) =

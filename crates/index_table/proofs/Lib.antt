@@ -1,4 +1,6 @@
+mod FilledTables
 pub mod Joins
+mod OutlinedTables
 pub mod Refusals
 mod Replacements
 mod Rows

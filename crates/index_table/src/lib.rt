@@ -5,6 +5,7 @@
 #![tactic(auto)]
 
 pub mod fault;
+mod filling;
 pub mod over;
 pub mod read;
 pub mod row;

@@ -11,6 +11,7 @@ ghost use Rattle.index_table.specs.Reading.{BytesEndAs, Fills, HasText, IsFilled
 ghost use Rattle.index_table.specs.Table.{kind_numbered};
 
 use crate::fault::{fault_of, put_fault};
+use crate::filling::table_of_outline;
 use crate::row::{Row, fill, padded};
 use crate::status::{DONE, MEMORY, NO_ROOM, REFUSED, SHA1, SHA256, WRONG_NUMBER};
 use gix_index::entry::FileTime;
@@ -209,7 +210,7 @@ pub fn index_of(
     }
 }
 
-/// Reads bytes into a table.
+/// Reads bytes into a table. No entry is kept anywhere else meanwhile.
 fn outcome_of(
     alloc: Global,
     bytes: &[u8],
@@ -230,8 +231,9 @@ fn outcome_of(
     ensures paths { result.status ≢ 0 → paths.new ≡ paths.old }
     ensures text { HasText result.summary.text_bytes text.old text.new }
 {
-    match index_of(alloc, bytes, kind, skip_hash, None) {
-        Ok(state) => table_of(&state, rows, paths),
+    let (time, options) = (FileTime::EPOCH, decode::Options::default());
+    match File::outline(alloc, bytes, kind, skip_hash, time, options) {
+        Ok(outline) => table_of_outline(&outline, rows, paths),
         Err(e) => refused(alloc, e, 0, text),
     }
 }

@@ -96,7 +96,7 @@ pub(crate) fn padded(id: &ObjectId) -> [u8; 32]
 }
 
 /// An entry's row, where the storage that its path lies in stands among the bytes for paths.
-fn row_of(entry: &Entry) -> Row
+pub(crate) fn row_of(entry: &Entry) -> Row
     requires { IsForward entry.now }
     ensures { result ≡ row_of entry.now }
 {

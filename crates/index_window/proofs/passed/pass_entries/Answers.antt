@@ -22,7 +22,8 @@ loop-place-preserved c =
         count = omega (arith, length-append inv.0 (r ∷ []), inv.1.count);
         path_bytes = c.sum_of-path_bytes.ensures (paths_len inv.0) inv.1.path_bytes
             ∙ ap in_64_bits (sym (paths_more inv.0 c.loop-place.room lent inv.1.room c.in-Some.ensures.shared));
-        sparse = sparse_more inv.0 r c.loop-place.sparse c.is_sparse-sparse.result inv.1.sparse c.is_sparse-sparse.ensures;
+        sparse = sparse_more inv.0 r c.loop-place.sparse c.is_sparse-sparse.result inv.1.sparse
+            c.is_sparse-sparse.ensures;
         room = room_more inv.0 c.loop-place.room lent inv.1.room c.in-Some.ensures.shared;
         within = path_fits c.args.version c.args.kind previous c.loop-place.room (length c.args.bytes.now) rest lent
             after
