@@ -28,8 +28,7 @@ use std::alloc::{AllocError, Global};
 /// The parts of a file, the entries that were read, and the first fault.
 #[derive(Drop)]
 pub struct Division {
-    /// The parts, which lie side by side from the first byte to the last. Where there is a fault, the last one begins
-    /// with it.
+    /// The parts, side by side from the first byte to the last. Where there is a fault, the last one begins with it.
     pub parts: Vec<Part>,
     /// The entries, in the order of the file: as far as they can be read.
     pub entries: EntryList,
@@ -62,8 +61,7 @@ fn refused(
     })
 }
 
-/// The parts with what is left over behind extensions, which begins at an offset, and the trailer, which is unread
-/// where it isn't the digest.
+/// The parts with what is left over behind extensions, from an offset on, and the trailer: unread if not the digest.
 fn sealed(
     kind: Kind,
     bytes: &[u8],
@@ -247,8 +245,7 @@ fn with_room(
     EntryList::with_capacity(alloc, count as usize, paths)
 }
 
-/// The entries and the first fault that [`divide`] finds in a file with this header, and of its parts those behind the
-/// entries.
+/// The entries and the first fault that [`divide`] finds behind this header, and its parts behind the entries.
 pub(crate) fn divide_ending(
     alloc: Global,
     kind: Kind,

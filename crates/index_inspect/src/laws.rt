@@ -1,5 +1,4 @@
-//! Laws of the definitions that the contracts of `divide`, `remains_of` and `Remains::save` cite. A law computes
-//! nothing.
+//! Laws of what the contracts of `divide`, `remains_of` and `Remains::save` cite. A law computes nothing.
 
 ghost use Rattle.std.specs.Option.{option_map};
 ghost use Rattle.std.specs.Prelude.{◌≡◌, ℕ, List, None, Option, Some, length};

@@ -66,8 +66,7 @@ fn stand_for_themselves(bytes: &[u8]) -> bool
     all
 }
 
-/// Appends bytes as text that fits in one line: plain characters as they are, a backslash doubled, other bytes as `\x`
-/// and two digits of base 16.
+/// Appends bytes as text of one line: plain ones as they are, a backslash doubled, others as `\x` and base 16.
 pub fn append_escaped(lines: &mut Vec<u8>, bytes: &[u8]) -> Result<(), AllocError>
     ensures { OnOk result (lines.new.items ≡ lines.old.items ++ escaped bytes.now) }
 {
