@@ -18,8 +18,8 @@ use Rattle.index_inspect.specs.Division.{IsBehindEntries, IsFileEnd, NoEntryBehi
 use Rattle.index_inspect.specs.Division.{faulty, left, broken, whole, headed, unread_piece}
 use Rattle.index_inspect.specs.DivisionSteps.{EndsDivision, GoesOn}
 use Rattle.index_inspect.specs.Piece.{LieBetween, Piece, bytes_of, item_pieces, laid, one_piece, some_piece}
-use Rattle.index_inspect.specs.Remains.{begin_or_zero, has_link, is_link_content, is_link_fault, is_link_head, last_begin}
-use Rattle.index_inspect.specs.Remains.{last_link}
+use Rattle.index_inspect.specs.Remains.{begin_or_zero, has_link, is_link_content, is_link_fault, is_link_head}
+use Rattle.index_inspect.specs.Remains.{last_begin, last_link}
 use Rattle.index_inspect.specs.Spelling.{Spelling, AreSpelled, entries_spelled, entry_pieces}
 use Rattle.index_inspect.specs.declared.division.Ending.{Ending}
 use Rattle.index_inspect.specs.declared.part.Part.{Part}
@@ -161,8 +161,8 @@ ends_division kind version bytes count read place rs rest e is h none counted at
     let are : ending ≡ laid place g.pieces = g.grows.are in
     let len = front_len version kind bytes ss rest (header_long kind bytes version is) by.are in
     let reach : place ≡ 0 + length (bytes_of (head ++ middle)) = omega (arith, len) in
-    let some : 0 < length ending =
-    omega (arith, ap length are, laid_len place g.pieces, behind_some kind version bytes ss rest g.pieces g.fault g.is) in
+    let any : 0 < length g.pieces = behind_some kind version bytes ss rest g.pieces g.fault g.is in
+    let some : 0 < length ending = omega (arith, ap length are, laid_len place g.pieces) in
     let end : length bytes ≡ place + length (bytes_of g.pieces) =
     omega (arith, len, ap length (behind_covered kind version bytes ss rest g.pieces g.fault g.is)) in
     let linkless = front_linkless (take header_len bytes) ss in

@@ -247,7 +247,7 @@ nameless rs i d (b ∷ path) up lt below none e = absurd (below (λ f.
       λ empty.
           let clash : b ∷ path ≡ [] = sym e ∙ sym (ap (λ (r : Record). r.path) same) ∙ empty in
           absurd cc,
-      λ pos. less_or (record_cmp (get_or rs (i - 1) f) (get_or rs i f)) (λ not_less. some_alike rs i f up pos lt not_less
+      λ pos. less_or (record_cmp (get_or rs (i - 1) f) (get_or rs i f)) (λ less. some_alike rs i f up pos lt less
           (subst (λ (q : Record). with_key_of q (take i rs) ≡ []) (sym same) none)),
     )))
 

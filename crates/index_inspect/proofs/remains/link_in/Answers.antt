@@ -10,4 +10,8 @@ split_at-requires c =
 pub split_at-requires-2 : goal.split_at-requires-2
 split_at-requires-2 c =
     let is = sym c.last_link.ensures ∙ c.in-Some.is in
-    omega (arith, c.split_at.ensures.back_len, link_within c.requires.0 _ c.args.parts.now c.in-Some.part c.requires.1 is)
+    omega (
+      arith,
+      c.split_at.ensures.back_len,
+      link_within c.requires.0 _ c.args.parts.now c.in-Some.part c.requires.1 is,
+    )
