@@ -1,2 +1,1 @@
-mod Removals
 mod Stages

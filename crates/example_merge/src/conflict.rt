@@ -19,15 +19,6 @@ pub struct Side {
     pub stat: Stat,
 }
 
-/// Takes the entries at a path out, whatever their stage. The others keep their order.
-fn remove_path(state: &mut State, path: &[u8])
-    requires { PathsInStorage state.old }
-    ensures others { records state.new ≡ elsewhere path.now (records state.old) }
-    ensures placed { PathsInStorage state.new }
-{
-    state.remove_entries(|_place, it, _entry| it == path);
-}
-
 /// Puts one side at the end, at a stage.
 fn push_side(state: &mut State, path: &[u8], stage: Stage, side: Side) -> Result<(), AllocError>
     requires { PathsInStorage state.old }
@@ -55,7 +46,7 @@ pub fn put_in_conflict(
         (records state.new)) }
     ensures placed { OnOk result (PathsInStorage state.new) }
 {
-    remove_path(state, path);
+    state.remove_entries(|_place, it, _entry| it == path);
     push_side(state, path, Stage::Base, base)?;
     push_side(state, path, Stage::Ours, ours)?;
     push_side(state, path, Stage::Theirs, theirs)?;

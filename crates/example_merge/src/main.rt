@@ -23,24 +23,18 @@ use std::{env, fs};
 fn index_at(rt: &(impl Files + Alloc), alloc: Global, path: &str) -> anyhow::Result<State>
     ensures { IfOk result PathsInStorage }
 {
-    let bytes = fs::read(rt, path)?;
-    let options = decode::Options::default();
-    let (state, _) = State::from_bytes(alloc, &bytes, FileTime::EPOCH, Kind::Sha1, options)?;
-    Ok(state)
+    let (bytes, options) = (fs::read(rt, path)?, decode::Options::default());
+    Ok(State::from_bytes(alloc, &bytes, FileTime::EPOCH, Kind::Sha1, options)?.0)
 }
 
 /// What an index has at a path that isn't in conflict.
 fn side_in(state: &State, path: &[u8]) -> anyhow::Result<Side>
     requires { PathsInStorage state.now }
 {
-    let entry = state
-        .entry_by_path_and_stage(path, Stage::Unconflicted)
-        .ok_or(anyhow::Error::msg("a side lacks the path"))?;
-    Ok(Side {
-        mode: entry.mode,
-        id: entry.id,
-        stat: Stat::default(),
-    })
+    let entry = state.entry_by_path_and_stage(path, Stage::Unconflicted);
+    let entry = entry.ok_or(anyhow::Error::msg("a side lacks the path"))?;
+    let (mode, id, stat) = (entry.mode, entry.id, Stat::default());
+    Ok(Side { mode, id, stat })
 }
 
 /// Prints the entries.

@@ -1,28 +1,37 @@
 //! An index written again.
 
 ghost use Rattle.std.specs.Prelude.{◌≡◌, IfOk};
-ghost use Rattle.gix_index.specs.File.{state_of};
-ghost use Rattle.gix_index.specs.State.{PathsInStorage, contents};
-ghost use Rattle.gix_index.specs.Storable.{IsStorable};
-ghost use Rattle.example_repair.specs.Repaired.{ReadsAs, name_of};
+ghost use Rattle.example_repair.specs.Repaired.{IsRepaired, name_of};
 
+use gix_index::entry::FileTime;
 use gix_index::extension::decode::Error as ExtensionError;
 use gix_index::extension::end_of_index_entry;
+use gix_index::hash::Kind;
 use gix_index::hash::io::Plain;
-use gix_index::{File, decode, laws, write};
+use gix_index::{File, State, decode, laws, write};
 use std::alloc::Global;
+use std::path::PathBuf;
+use thiserror::Error;
 
 /// Why an index isn't written again.
-#[derive(Debug, Drop)]
+#[derive(Debug, Drop, Error)]
 pub enum Fault {
-    /// It is refused, or memory is short.
-    Write(write::Error),
-    /// The bytes would end as if they had an end marker.
+    #[error("{0}")]
+    Write(#[from] write::Error),
+    #[error("the bytes would end as if they had an end marker")]
     Mistakable,
 }
 
+/// What the bytes of an index come to.
+pub enum Repaired {
+    /// They are none: the name of their first fault, and that fault.
+    Faulty(&'static str, decode::Error),
+    /// The bytes of the index that was written again.
+    Again(Vec<u8>),
+}
+
 /// The name of what is wrong with bytes that are no index.
-pub fn name(fault: &decode::Error) -> &'static str
+fn name(fault: &decode::Error) -> &'static str
     ensures { result.now ≡ name_of fault.now }
 {
     match fault {
@@ -39,23 +48,29 @@ pub fn name(fault: &decode::Error) -> &'static str
     }
 }
 
-/// The bytes of an index that was read or made, written by options that ask for no end marker: read again they give
-/// what a file keeps of it, and nothing else.
-pub fn written_again(alloc: Global, index: &File, options: write::Options) -> Result<Vec<u8>, Fault>
-    requires placed { PathsInStorage (state_of index.now) }
-    requires storable { IsStorable (contents (state_of index.now)) }
-    ensures { IfOk result (λ bytes. ReadsAs (contents (state_of index.now)) options bytes.items) }
+/// The first fault of an index's bytes, by its name, or else the bytes of the index written again, by options that ask
+/// for no end marker: read again they give what a file keeps of it, and nothing else.
+pub fn repair(
+    alloc: Global,
+    bytes: &[u8],
+    kind: Kind,
+    options: write::Options,
+) -> Result<Repaired, Fault>
+    ensures { IfOk result (IsRepaired kind options bytes.now) }
 {
     laws::written_reads_back();
     laws::one_answer();
+    let reading = decode::Options::default();
+    let state = match State::from_bytes(alloc, bytes, FileTime::EPOCH, kind, reading) {
+        Ok((state, _)) => state,
+        Err(fault) => return Ok(Repaired::Faulty(name(&fault), fault)),
+    };
+    let own_kind = state.object_hash();
     let mut out = Plain::new(Vec::new(alloc));
-    match index.write_to(&mut out, options) {
-        Ok(_) => {}
-        Err(e) => return Err(Fault::Write(e)),
-    }
-    let bytes = out.inner;
-    match end_of_index_entry::decode(&bytes, index.object_hash()) {
+    File::from_state(state, PathBuf::new(alloc)).write_to(&mut out, options)?;
+    let again = out.inner;
+    match end_of_index_entry::decode(&again, own_kind) {
         Some(_) => Err(Fault::Mistakable),
-        None => Ok(bytes),
+        None => Ok(Repaired::Again(again)),
     }
 }

@@ -7,12 +7,9 @@
 
 mod again;
 
-use again::{Fault, name, written_again};
-use gix_index::entry::FileTime;
+use again::{Repaired, repair};
 use gix_index::hash::Kind;
 use gix_index::write::{Extensions, Options, VersionChoice};
-use gix_index::{File, State, decode};
-use std::path::PathBuf;
 use std::{env, fs};
 
 /// All extensions that are written but the end marker.
@@ -26,28 +23,17 @@ const OPTIONS: Options = Options {
 };
 
 fn main(rt: HostRuntime) -> anyhow::Result<()> {
-    let alloc = rt.alloc();
-    let args: Vec<String> = env::args(&rt)?.collect(alloc)?;
+    let args: Vec<String> = env::args(&rt)?.collect(rt.alloc())?;
     let [_, index, out] = args.as_slice() else {
         return Err(anyhow::Error::msg("usage: example-repair INDEX OUT"));
     };
     let bytes = fs::read(&rt, index.as_str())?;
-    let reading = decode::Options::default();
-    let state = match State::from_bytes(alloc, &bytes, FileTime::EPOCH, Kind::Sha1, reading) {
-        Ok((state, _)) => state,
-        Err(fault) => {
-            println!(rt; "{}: {fault}", name(&fault))?;
-            return Ok(());
-        }
-    };
-    let file = File::from_state(state, PathBuf::from_str(alloc, out.as_str())?);
-    match written_again(alloc, &file, OPTIONS) {
-        Ok(again) => {
+    match repair(rt.alloc(), &bytes, Kind::Sha1, OPTIONS)? {
+        Repaired::Faulty(name, fault) => println!(rt; "{name}: {fault}")?,
+        Repaired::Again(again) => {
             fs::write(&rt, out.as_str(), &again)?;
             println!(rt; "{} bytes, and again {}", bytes.len(), again.len())?;
         }
-        Err(Fault::Write(fault)) => println!(rt; "{fault}")?,
-        Err(Fault::Mistakable) => println!(rt; "the bytes would end as if they had an end marker")?,
     }
     Ok(())
 }

@@ -8,20 +8,13 @@ use gix_index::State;
 use gix_index::entry::stat::Options;
 use gix_index::entry::{FileTime, Stat};
 use std::alloc::{AllocError, Global};
+use std::collections::BTreeMap;
 
-/// A file of the work tree.
-#[derive(Clone, Copy)]
-pub struct Seen<'a> {
-    pub path: &'a [u8],
-    pub stat: Stat,
-}
-
-/// The stat of the first file that was seen at a path.
-fn stat_at(files: &[Seen<'_>], path: &[u8]) -> Option<Stat>
-    ensures { result ≡ stat_seen files.now path.now }
+/// The stat of the file that was seen at a path.
+fn stat_at<'a>(seen: &BTreeMap<&'a [u8], Stat>, path: &'a [u8]) -> Option<Stat>
+    ensures { result ≡ stat_seen seen.now path.now }
 {
-    let file = files.iter().find(|file| file.path == path)?;
-    Some(file.stat)
+    seen.get(&path).copied()
 }
 
 /// Whether a file may differ from what is listed: none is there, the stat differs, or the entry is too young to tell.
@@ -34,28 +27,23 @@ fn differs(options: Options, time: FileTime, listed: &Stat, seen: Option<Stat>) 
     }
 }
 
-/// The paths of the entries that may have changed in the work tree, all of them and in the order of the index: the
-/// files that were seen are given, and a path that isn't among them has none.
+/// The paths of the entries that may have changed in the work tree, all of them and in the order of the index. A path
+/// that isn't among those that were seen has no file.
 pub fn changed_paths<'a>(
     alloc: Global,
     state: &'a State,
-    files: &[Seen<'_>],
+    seen: &BTreeMap<&'a [u8], Stat>,
     options: Options,
 ) -> Result<Vec<&'a [u8]>, AllocError>
     requires { PathsInStorage state.now }
     ensures { IfOk result (λ paths. map (λ p. p.now) paths.items
         ≡ map (λ r. r.path) (filter
-        (may_have_changed options (contents state.now).time files.now) (records state.now))) }
+        (may_have_changed options (contents state.now).time seen.now) (records state.now))) }
 {
-    let mut paths = Vec::new(alloc);
+    let (mut paths, time) = (Vec::new(alloc), state.timestamp());
     for entry in state.entries() {
         let path = entry.path(state);
-        if differs(
-            options,
-            state.timestamp(),
-            &entry.stat,
-            stat_at(files, path),
-        ) {
+        if differs(options, time, &entry.stat, stat_at(seen, path)) {
             paths.push(path)?;
         }
     }

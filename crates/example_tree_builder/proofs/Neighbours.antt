@@ -1,5 +1,22 @@
--- Neighbours of a sorted list that don't increase have one path.
-use Rattle.std.proofs.Common.{◌≡◌, ◌≢◌, ℕ, ◌+◌, ◌-◌, ◌<◌, false, true≢false, List, length, sym, ap, ◌∙◌, arith}
+-- Neighbours of a sorted list that don't increase have one path, so that a fall among files names one listed twice.
+use Rattle.std.proofs.Common.{
+  ◌≡◌,
+  ◌≢◌,
+  ℕ,
+  ◌+◌,
+  ◌-◌,
+  ◌<◌,
+  false,
+  true≢false,
+  List,
+  length,
+  map,
+  IsPermutation,
+  sym,
+  ap,
+  ◌∙◌,
+  arith,
+}
 use Rattle.std.specs.Prelude.{slice_index_or}
 use Rattle.std.specs.Cmp.{IsTotalOrder}
 use Rattle.std.specs.Cmp.Lexicographic.{slice_cmp}
@@ -9,8 +26,13 @@ use Rattle.std.specs.declared.cmp.Ordering.TheVariants.{Less, Equal, Greater}
 use Rattle.std.proofs.lemmas.Cmp.{then_total, on_total, nat_cmp_total, nat_list_cmp_total}
 use Rattle.std.proofs.lemmas.Map.Lookups.{exact_pairs, exact_bytes, exact_unsigned}
 use Rattle.gix_index.specs.Order.{record_cmp, record_stage}
+use Rattle.gix_index.specs.OrderError.{Error}
+use Rattle.gix_index.specs.OrderError.TheVariants.{Memory, OutOfOrder}
 use Rattle.gix_index.specs.Record.{Record}
 use Rattle.gix_index.specs.Sorted.{IsFall, IsOrdered}
+use Rattle.gix_index.specs.SoundState.{SaysFall}
+use Rattle.example_tree_builder.specs.Listed.{SaysTwice, record_of}
+use Rattle.example_tree_builder.specs.declared.listed.Listed.{Listed}
 
 total : IsTotalOrder record_cmp
 total = then_total (on_total (λ (r : Record). r.path) nat_list_cmp_total) (on_total record_stage nat_cmp_total)
@@ -24,7 +46,7 @@ neither_less Less p e h k = absurd (true≢false k)
 neither_less Equal p e h k = e
 neither_less Greater p e h k = absurd (h e)
 
-pub fallen : (rs : List Record) (place : ℕ) → IsOrdered rs → IsFall rs place → (d : Record)
+fallen : (rs : List Record) (place : ℕ) → IsOrdered rs → IsFall rs place → (d : Record)
     → (slice_index_or rs (place - 1) d).path ≡ (slice_index_or rs place d).path
 fallen rs place ordered fall d =
     let behind = fall.behind_one in
@@ -35,3 +57,17 @@ fallen rs place ordered fall d =
     one_path r q (neither_less (record_cmp q r) (record_cmp r q) (total.antisymm r q) (fall.falls d)
     (ap (λ k. is_lt (record_cmp (slice_index_or rs k d) (slice_index_or rs (place - 1) d))) (sym e)
     ∙ ordered (place - 1) d (omega arith) inside))
+
+pub says_twice : (files : List Listed) (rs : List Record) (e : Error) → IsPermutation (map record_of files) rs
+    → IsOrdered rs → SaysFall rs e → SaysTwice files e
+says_twice files rs (OutOfOrder place path stage previous_path previous_stage) of_files ordered said =
+    let fall : IsFall rs place = said.0.0 in
+    record {
+      records = rs;
+      in_some_order = of_files;
+      place = place;
+      behind_one = fall.behind_one;
+      in_range = fall.in_range;
+      same = fallen rs place ordered fall;
+    }
+says_twice files rs Memory of_files ordered said = tt

@@ -1,5 +1,7 @@
 -- Files that are listed, as entries of an index (the example's own).
 use Rattle.std.specs.Prelude.{◌≡◌, ℕ, ◌-◌, ◌<◌, List, length, map, slice_index_or, IsPermutation}
+use Rattle.gix_index.specs.OrderError.{Error}
+use Rattle.gix_index.specs.OrderError.TheVariants.{Memory, OutOfOrder}
 use Rattle.gix_index.specs.Record.{Record}
 use Rattle.example_tree_builder.specs.declared.listed.Listed.{Listed}
 
@@ -15,3 +17,8 @@ pub record HasPathTwice (files : List Listed) : Type 0 where
   pub behind_one : 0 < place
   pub in_range : place < length records
   pub same : (d : Record) → (slice_index_or records (place - 1) d).path ≡ (slice_index_or records place d).path
+
+-- why there is no index of the files: a path is listed twice, or memory is short
+abbrev pub SaysTwice : List Listed → Error → Type 0
+SaysTwice files (OutOfOrder index path stage previous_path previous_stage) = HasPathTwice files
+SaysTwice files Memory = Unit {0}

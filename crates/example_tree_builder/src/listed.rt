@@ -1,11 +1,10 @@
 //! An index of listed files.
 
-ghost use Rattle.std.specs.Prelude.{◌≡◌, IfOk, IsPermutation, map};
+ghost use Rattle.std.specs.Prelude.{◌≡◌, IfErr, IfOk, IsPermutation, map};
 ghost use Rattle.gix_index.specs.Order.{IsStrictlyOrdered};
 ghost use Rattle.gix_index.specs.State.{PathsInStorage, records};
-ghost use Rattle.example_tree_builder.specs.Listed.{HasPathTwice, record_of};
+ghost use Rattle.example_tree_builder.specs.Listed.{SaysTwice, record_of};
 
-use crate::fault::Fault;
 use gix_index::State;
 use gix_index::entry::{FileTime, Flags, Mode, Stage, Stat};
 use gix_index::hash::{Kind, ObjectId};
@@ -34,20 +33,17 @@ fn unsorted(alloc: Global, kind: Kind, files: &[Listed<'_>]) -> Result<State, Al
     Ok(state)
 }
 
-/// The index of the files that are listed, in any order: these and no others, in strict order. [`Fault::Twice`]: a path
-/// is listed twice.
-pub fn index_of(alloc: Global, kind: Kind, files: &[Listed<'_>]) -> Result<State, Fault>
+/// The index of the files that are listed, in any order: these and no others, in strict order. Where a path is listed
+/// twice, the error names it.
+pub fn index_of(alloc: Global, kind: Kind, files: &[Listed<'_>]) -> Result<State, entries::Error>
     ensures ordered { IfOk result (λ state. IsStrictlyOrdered (records state)) }
     ensures exactly { IfOk result
         (λ state. IsPermutation (map record_of files.now) (records state)) }
     ensures placed { IfOk result PathsInStorage }
-    ensures twice { result ≡ Err Fault.Twice → HasPathTwice files.now }
+    ensures twice { IfErr result (SaysTwice files.now) }
 {
     let mut state = unsorted(alloc, kind, files)?;
     state.sort_entries()?;
-    match state.verify_entries() {
-        Ok(()) => Ok(state),
-        Err(entries::Error::OutOfOrder { .. }) => Err(Fault::Twice),
-        Err(entries::Error::Memory) => Err(Fault::Memory),
-    }
+    state.verify_entries()?;
+    Ok(state)
 }

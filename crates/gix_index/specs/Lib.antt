@@ -87,7 +87,6 @@ pub use Rattle.index_format.specs.Stored
 pub use Rattle.index_format.specs.Writing
 pub use Rattle.index_window.specs.Behind
 pub use Rattle.index_window.specs.Intact
-pub use Rattle.index_window.specs.Passed
 pub use Rattle.index_window.specs.declared.disk.PathError
 pub use Rattle.index_state.specs.Dissolve
 pub use Rattle.index_state.specs.Edits
@@ -120,11 +119,11 @@ pub use Rattle.index_entries.specs.declared.Pathless
 pub use Rattle.index_entries.specs.declared.list.EntryList
 pub use Rattle.index_entries.specs.declared.slice.EntrySlice
 pub use Rattle.index_entries.specs.declared.Version
+pub use Rattle.index_entry_reading.specs.declared.entries.FirstEntries
 pub use Rattle.index_entry_reading.specs.declared.entry.Lent as LentEntry
 pub use Rattle.index_format.specs.declared.error.Header as HeaderError
 pub use Rattle.index_entries.specs.declared.write.VersionChoice
 pub use Rattle.index_tree_writer.specs.declared.error.Error as WriteTreesError
-pub use Rattle.index_tree_writer.specs.declared.error.NameFault
 pub use Rattle.index_tree_writer.specs.declared.tree_ids.Error as TreeIdsError
 pub use Rattle.index_extensions.specs.declared.iter.Iter as ExtensionIter
 pub use Rattle.index_small_extensions.specs.declared.fs_monitor.FsMonitor as FsMonitorType

@@ -8,6 +8,7 @@ use Rattle.index_format.specs.Storable.{IsStorable}
 use Rattle.index_format.specs.declared.decode.Options.{Options}
 use Rattle.index_state.specs.Edits.{with_records}
 use Rattle.index_state.specs.State.{contents}
+pub use Rattle.index_window.specs.Passed
 use Rattle.index_window.specs.Passed.{paths_len}
 use Rattle.gix_index.specs.Checked.{IsFileAnswer}
 use Rattle.gix_index.specs.declared.file.outline.Outline.{Outline}

@@ -7,3 +7,4 @@ pub use Rattle.index_lookups.specs.Tables
 pub use Rattle.index_lookups.specs.declared.folded.AccelerateLookup
 pub use Rattle.index_lookups.specs.declared.paths.FilterMapPaths
 pub use Rattle.index_lookups.specs.declared.tables.DirectoryTable
+pub use Rattle.index_lookups.specs.declared.tables.PathSearch

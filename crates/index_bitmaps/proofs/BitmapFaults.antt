@@ -1,5 +1,6 @@
 -- Bytes begin with a bitmap, or lack one part of it: which, their length and the declared number of words tell.
-use Rattle.std.proofs.Common.{◌≡◌, ℕ, ◌+◌, ◌*◌, ◌<◌, ◌≤◌, ◌⊎◌, inl, inr, List, ◌++◌, length, take, drop, refl, sym, ap, ◌∙◌, arith}
+use Rattle.std.proofs.Common.{◌≡◌, ℕ, ◌+◌, ◌*◌, ◌<◌, ◌≤◌, ◌⊎◌, inl, inr, List, ◌++◌, length, take, drop, refl, sym,
+    ap, ◌∙◌, arith}
 use Rattle.std.proofs.lemmas.List.{take_at, drop_at, take-append-drop, length-append, length-take, length-drop}
 use Rattle.index_parts.specs.Numbers.{be}
 use Rattle.index_bitmaps.specs.Bitmap.{HasBitmap, Lacks, SaysBitmapFault}
@@ -20,16 +21,20 @@ IsLengthFor errors.Words len size = (8 ≤ len) × (len < 8 + size)
 IsLengthFor errors.LastRun len size = (8 + size ≤ len) × (len < 12 + size)
 IsLengthFor errors.Memory len size = 12 + size ≤ len
 
-declared_size_is : (bytes bits len rest : List ℕ) → bytes ≡ bits ++ (len ++ rest) → length bits ≡ 4 → length len ≡ 4 → declared_size bytes ≡ 8 * be len
+declared_size_is : (bytes bits len rest : List ℕ) → bytes ≡ bits ++ (len ++ rest) → length bits ≡ 4 → length len ≡ 4
+    → declared_size bytes ≡ 8 * be len
 declared_size_is bytes bits len rest parts bits_size len_size =
     let behind : drop 4 bytes ≡ len ++ rest = ap (drop 4) parts ∙ drop_at bits (len ++ rest) 4 bits_size in
     let second : take 4 (drop 4 bytes) ≡ len = ap (take 4) behind ∙ take_at len rest 4 len_size in
     ap (λ (l : List ℕ). 8 * be l) second
 
-length_is : (bytes bits len rest : List ℕ) → bytes ≡ bits ++ (len ++ rest) → length bits ≡ 4 → length len ≡ 4 → length bytes ≡ 8 + length rest
-length_is bytes bits len rest parts bits_size len_size = omega (arith, ap length parts, length-append bits (len ++ rest), length-append len rest, bits_size, len_size)
+length_is : (bytes bits len rest : List ℕ) → bytes ≡ bits ++ (len ++ rest) → length bits ≡ 4 → length len ≡ 4
+    → length bytes ≡ 8 + length rest
+length_is bytes bits len rest parts bits_size len_size =
+    omega (arith, ap length parts, length-append bits (len ++ rest), length-append len rest, bits_size, len_size)
 
-says_length : (error : Error) (bytes : List ℕ) → SaysBitmapFault error bytes → IsLengthFor error (length bytes) (declared_size bytes)
+says_length : (error : Error) (bytes : List ℕ) → SaysBitmapFault error bytes
+    → IsLengthFor error (length bytes) (declared_size bytes)
 says_length errors.NumBits bytes h = h
 says_length errors.Length bytes h = h
 says_length errors.Words bytes h =
@@ -45,9 +50,11 @@ says_length errors.Memory bytes h =
     let b = h.is_bitmap in
     let size = declared_size_is bytes b.bits b.len (b.words ++ (b.last ++ h.rest)) b.parts b.bits_size b.len_size in
     let len = length_is bytes b.bits b.len (b.words ++ (b.last ++ h.rest)) b.parts b.bits_size b.len_size in
-    omega (arith, len, length-append b.words (b.last ++ h.rest), length-append b.last h.rest, size, b.words_size, b.last_size)
+    omega (arith, len, length-append b.words (b.last ++ h.rest), length-append b.last h.rest, size, b.words_size,
+        b.last_size)
 
-one_length : (error other : Error) (len size : ℕ) → IsLengthFor error len size → IsLengthFor other len size → error ≡ other
+one_length : (error other : Error) (len size : ℕ) → IsLengthFor error len size → IsLengthFor other len size → error
+    ≡ other
 one_length errors.NumBits errors.NumBits len size h k = refl
 one_length errors.Length errors.Length len size h k = refl
 one_length errors.Words errors.Words len size h k = refl
@@ -60,13 +67,15 @@ some_length len size = elim (le_or_lt 8 len) [
   | inr few ↦ elim (le_or_lt 4 len) [ inr none ↦ (errors.NumBits, none) | inl some ↦ (errors.Length, (some, few)) ]
   | inl front ↦ elim (le_or_lt (8 + size) len) [
     | inr few ↦ (errors.Words, (front, few))
-    | inl words ↦ elim (le_or_lt (12 + size) len) [ inr few ↦ (errors.LastRun, (words, few)) | inl all ↦ (errors.Memory, all) ]
+    | inl words ↦ elim (le_or_lt (12 + size) len)
+        [ inr few ↦ (errors.LastRun, (words, few)) | inl all ↦ (errors.Memory, all) ]
   ]
 ]
 
 -- the first bytes, cut in pieces
 cut : (bytes : List ℕ) → bytes ≡ take 4 bytes ++ (take 4 (drop 4 bytes) ++ drop 4 (drop 4 bytes))
-cut bytes = sym (take-append-drop 4 bytes) ∙ ap (λ (l : List ℕ). take 4 bytes ++ l) (sym (take-append-drop 4 (drop 4 bytes)))
+cut bytes = sym (take-append-drop 4 bytes)
+    ∙ ap (λ (l : List ℕ). take 4 bytes ++ l) (sym (take-append-drop 4 (drop 4 bytes)))
 
 module _ (bytes : List ℕ) (front : 8 ≤ length bytes) where
   bits_size : length (take 4 bytes) ≡ 4
@@ -82,13 +91,17 @@ module _ (bytes : List ℕ) (front : 8 ≤ length bytes) where
     words_size : length (take (declared_size bytes) (drop 4 (drop 4 bytes))) ≡ declared_size bytes
     words_size = omega (arith, behind_len, length-take (declared_size bytes) (drop 4 (drop 4 bytes)))
 
-    words_parts : bytes ≡ take 4 bytes ++ (take 4 (drop 4 bytes) ++ (take (declared_size bytes) (drop 4 (drop 4 bytes)) ++ drop (declared_size bytes) (drop 4 (drop 4 bytes))))
-    words_parts = cut bytes ∙ ap (λ (l : List ℕ). take 4 bytes ++ (take 4 (drop 4 bytes) ++ l)) (sym (take-append-drop (declared_size bytes) (drop 4 (drop 4 bytes))))
+    words_parts : bytes ≡ take 4 bytes
+        ++ (take 4 (drop 4 bytes) ++ (take (declared_size bytes) (drop 4 (drop 4 bytes))
+        ++ drop (declared_size bytes) (drop 4 (drop 4 bytes))))
+    words_parts = cut bytes ∙ ap (λ (l : List ℕ). take 4 bytes ++ (take 4 (drop 4 bytes) ++ l))
+        (sym (take-append-drop (declared_size bytes) (drop 4 (drop 4 bytes))))
 
     rest_len : length (drop (declared_size bytes) (drop 4 (drop 4 bytes))) + (8 + declared_size bytes) ≡ length bytes
     rest_len = omega (arith, behind_len, length-drop (declared_size bytes) (drop 4 (drop 4 bytes)))
 
-length_says : (error : Error) (bytes : List ℕ) → IsLengthFor error (length bytes) (declared_size bytes) → SaysBitmapFault error bytes
+length_says : (error : Error) (bytes : List ℕ) → IsLengthFor error (length bytes) (declared_size bytes)
+    → SaysBitmapFault error bytes
 length_says errors.NumBits bytes h = h
 length_says errors.Length bytes h = h
 length_says errors.Words bytes h = record {
@@ -127,7 +140,10 @@ length_says errors.Memory bytes h =
         len = take 4 (drop 4 bytes);
         words = take (declared_size bytes) (drop 4 (drop 4 bytes));
         last = take 4 behind;
-        parts = words_parts bytes front words ∙ ap (λ (l : List ℕ). take 4 bytes ++ (take 4 (drop 4 bytes) ++ (take (declared_size bytes) (drop 4 (drop 4 bytes)) ++ l))) (sym (take-append-drop 4 behind));
+        parts = words_parts bytes front words
+            ∙ ap (λ (l : List ℕ). take 4 bytes
+            ++ (take 4 (drop 4 bytes) ++ (take (declared_size bytes) (drop 4 (drop 4 bytes)) ++ l)))
+            (sym (take-append-drop 4 behind));
         bits_size = bits_size bytes front;
         len_size = len_size bytes front;
         words_size = size;
@@ -146,7 +162,8 @@ lacks_says errors.Words bytes h = h
 lacks_says errors.LastRun bytes h = h
 lacks_says errors.Memory bytes h = absurd h
 
-says_either : (error : Error) (bytes : List ℕ) → SaysBitmapFault error bytes → HasBitmap bytes ⊎ ((fault : Error) × Lacks fault bytes)
+says_either : (error : Error) (bytes : List ℕ) → SaysBitmapFault error bytes
+    → HasBitmap bytes ⊎ ((fault : Error) × Lacks fault bytes)
 says_either errors.NumBits bytes h = inr (errors.NumBits, h)
 says_either errors.Length bytes h = inr (errors.Length, h)
 says_either errors.Words bytes h = inr (errors.Words, h)
@@ -154,10 +171,13 @@ says_either errors.LastRun bytes h = inr (errors.LastRun, h)
 says_either errors.Memory bytes h = inl h
 
 pub bitmap_or_fault : (bytes : List ℕ) → HasBitmap bytes ⊎ ((fault : Error) × Lacks fault bytes)
-bitmap_or_fault bytes = let some = some_length (length bytes) (declared_size bytes) in says_either some.0 bytes (length_says some.0 bytes some.1)
+bitmap_or_fault bytes = let some = some_length (length bytes) (declared_size bytes) in
+    says_either some.0 bytes (length_says some.0 bytes some.1)
 
-says_one : (error other : Error) (bytes : List ℕ) → SaysBitmapFault error bytes → SaysBitmapFault other bytes → error ≡ other
-says_one error other bytes h k = one_length error other (length bytes) (declared_size bytes) (says_length error bytes h) (says_length other bytes k)
+says_one : (error other : Error) (bytes : List ℕ) → SaysBitmapFault error bytes → SaysBitmapFault other bytes → error
+    ≡ other
+says_one error other bytes h k =
+    one_length error other (length bytes) (declared_size bytes) (says_length error bytes h) (says_length other bytes k)
 
 pub one_fault : (bytes : List ℕ) (fault other : Error) → Lacks fault bytes → Lacks other bytes → fault ≡ other
 one_fault bytes fault other h k = says_one fault other bytes (lacks_says fault bytes h) (lacks_says other bytes k)

@@ -143,8 +143,8 @@ fn write_state<W: io::Write>(
 
 /// Writes what the file holds as one JSON object (RFC 8259) on one line, with the names of fields that the library has.
 /// A text that isn't UTF-8 is told by the digits of its bytes in base 16, and `_bytes` stands behind its member's name.
-/// What its offset table and its end marker say is given beside it, as [`marks_of`](index_inspect::marks::marks_of) reads
-/// them.
+/// What its offset table and its end marker say is given beside it, as [`marks_of`](index_inspect::marks::marks_of)
+/// reads them.
 ///
 /// The text of entries waits in one buffer, which goes out past 64 KiB; that behind them waits in it all. An error is
 /// the writer's, or want of memory for that buffer; what was written by then is a prefix of the text.

@@ -38,8 +38,8 @@ impl Failure {
         })
     }
 
-    /// Tells in lines of this name for which numbers of bytes a front is taken and the writer's fault is the answer, and
-    /// for which all is.
+    /// Tells in lines of this name for which numbers of bytes a front is taken and the writer's fault is the answer,
+    /// and for which all is.
     fn tell<F: Fn(usize) -> Written>(
         self,
         out: &mut Lines,

@@ -16,7 +16,7 @@ use Rattle.gix_index.specs.EntryType.{Entry}
 use Rattle.gix_index.specs.Kind.{Kind}
 use Rattle.gix_index.specs.Lent.{lent_record}
 use Rattle.gix_index.specs.LentEntry.{Lent}
-use Rattle.gix_index.specs.Passed.{paths_len}
+use Rattle.gix_index.specs.Outlined.Passed.{paths_len}
 use Rattle.gix_index.specs.Record.{IsPlaced, IsSized, Record, made_entry, records_in}
 use Rattle.gix_index.specs.Version.{Version}
 use Rattle.index_table.specs.Table.{HoldsRecords, row_of}

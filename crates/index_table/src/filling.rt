@@ -4,7 +4,7 @@ ghost use Rattle.std.specs.Prelude.{◌≡◌, ◌≢◌, ◌≤◌, ◌+◌, �
 ghost use Rattle.gix_index.specs.Contents.{Contents};
 ghost use Rattle.gix_index.specs.Entries.{AreEntries};
 ghost use Rattle.gix_index.specs.Outlined.{Outlines};
-ghost use Rattle.gix_index.specs.Passed.{paths_len};
+ghost use Rattle.gix_index.specs.Outlined.Passed.{paths_len};
 ghost use Rattle.gix_index.specs.Record.{IsSized, Record};
 ghost use Rattle.gix_index.specs.Storable.{IsStorable};
 ghost use Rattle.index_table.specs.Reading.{Fills, IsTooSmall, TellsOfValue};

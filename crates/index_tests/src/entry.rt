@@ -15,10 +15,12 @@ fn all_flags(rt: HostRuntime) {
 #[test]
 fn a_stat_of_the_second_of_the_index_is_racy(rt: HostRuntime) {
     let mut seen = Stat::default();
-    seen.mtime.secs = 5;
+    seen.mtime.secs = 10;
     let options = stat::Options::default();
-    let later = FileTime::new(5, 9).unwrap_or(FileTime::EPOCH);
-    assert!(rt; seen.is_racy(later, options));
-    let next = FileTime::new(6, 0).unwrap_or(FileTime::EPOCH);
+    let same = FileTime::new(10, 9).unwrap_or(FileTime::EPOCH);
+    assert!(rt; seen.is_racy(same, options));
+    let next = FileTime::new(11, 0).unwrap_or(FileTime::EPOCH);
     assert!(rt; !seen.is_racy(next, options));
+    let before = FileTime::new(9, 0).unwrap_or(FileTime::EPOCH);
+    assert!(rt; seen.is_racy(before, options));
 }

@@ -316,7 +316,8 @@ pub fn run<R: Files + Alloc, O: io::Write, E: io::Write>(
     let Some(command) = command_of(words) else {
         let _ = writeln!(
             faults,
-            "index-tool: usage: index-tool list|check|check-trees|map|map-svg|show|show-json|trees sha1|sha256 FILE, or index-tool rewrite|rewrite4|rewrite-trees|salvage sha1|sha256 FILE OUT"
+            "index-tool: usage: index-tool list|check|check-trees|map|map-svg|show|show-json|trees sha1|sha256 FILE, \
+             or index-tool rewrite|rewrite4|rewrite-trees|salvage sha1|sha256 FILE OUT"
         );
         return WRONG_WORDS;
     };

@@ -36,6 +36,8 @@ impl fmt::Display for PathError {
     }
 }
 
+impl std::error::Error for PathError {}
+
 /// Room for as many bytes as a file's metadata says.
 fn room_for<F: OpenFile>(alloc: Global, file: &F) -> io::Result<Vec<u8>>
     ensures { IfOk result (λ room. room.items ≡ []) }

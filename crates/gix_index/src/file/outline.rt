@@ -135,8 +135,8 @@ fn outline_behind_header(
 }
 
 impl File {
-    /// Looks at all bytes of a file as [`File::decode`] does, and finds the same first fault; but it keeps no entry, and
-    /// only counts them and the bytes of their paths. So no memory is taken for entries. A caller reads them from
+    /// Looks at all bytes of a file as [`File::decode`] does, and finds the same first fault; but it keeps no entry,
+    /// and only counts them and the bytes of their paths. So no memory is taken for entries. A caller reads them from
     /// [`Outline::entries`] by [`crate::decode::entry::entry_of`], and none of them is at fault.
     ///
     /// [`Error::Memory`] also stands for paths that have 2^64 bytes or more together.

@@ -44,9 +44,9 @@ fn compare_trees<'a>(
 ///
 /// Its entries have to increase strictly by path, then stage. Its cached tree has to hold together, and no node of it
 /// counts more entries than there are; objects aren't looked at. With `ids`, each node that has a count has to have the
-/// id and the count that the entries give, as `git write-tree` would make them. The file's bytes have to have the digest
-/// still that their trailer gave. Nothing goes to `out` before the last check has passed. Ok: `out` took the whole line.
-/// [`Failure::Output`]: it took a front. Any other failure: it took nothing.
+/// id and the count that the entries give, as `git write-tree` would make them. The file's bytes have to have the
+/// digest still that their trailer gave. Nothing goes to `out` before the last check has passed. Ok: `out` took the
+/// whole line. [`Failure::Output`]: it took a front. Any other failure: it took nothing.
 pub fn check<'a, R: Files, W: io::Write>(
     rt: &R,
     alloc: Global,

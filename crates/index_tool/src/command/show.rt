@@ -57,8 +57,8 @@ pub fn told_at<'a, R: Files>(
 
 /// Writes what a file holds to `out`, for people, as [`write_show`] tells it. Its link isn't followed.
 ///
-/// Nothing goes to `out` before the file was read whole. Ok: `out` took all lines. [`Failure::Output`]: it took a front.
-/// Any other failure: it took nothing.
+/// Nothing goes to `out` before the file was read whole. Ok: `out` took all lines. [`Failure::Output`]: it took a
+/// front. Any other failure: it took nothing.
 pub fn show<'a, R: Files, W: io::Write>(
     rt: &R,
     alloc: Global,

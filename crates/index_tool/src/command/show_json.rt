@@ -13,8 +13,8 @@ use std::rt::Files;
 
 /// Writes what a file holds to `out` as JSON, as [`write_json`] tells it. Its link isn't followed.
 ///
-/// Nothing goes to `out` before the file was read whole. Ok: `out` took all of it. [`Failure::Output`]: it took a front.
-/// Any other failure: it took nothing.
+/// Nothing goes to `out` before the file was read whole. Ok: `out` took all of it. [`Failure::Output`]: it took a
+/// front. Any other failure: it took nothing.
 pub fn show_json<'a, R: Files, W: io::Write>(
     rt: &R,
     alloc: Global,

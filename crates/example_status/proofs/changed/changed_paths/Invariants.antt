@@ -8,5 +8,5 @@ use Rattle.example_status.proofs.changed.changed_paths.Given as goal
 -- the paths of the entries so far that may have changed
 abbrev pub invariant-loop-entry : goal.invariant-loop-entry
 invariant-loop-entry l = map (λ p. p.now) l.paths.items
-    ≡ map (λ r. r.path) (filter (may_have_changed l.options (contents l.state).time l.files)
+    ≡ map (λ r. r.path) (filter (may_have_changed l.options (contents l.state).time l.seen)
     (map (record_in (storage_of l.state)) (take l.entry-index (entries_of l.state))))

@@ -1,20 +1,14 @@
 -- The first fall among the sorted entries is where two of them have one path.
+use Rattle.std.proofs.lemmas.Result.{err_from_is_err_and}
 use Rattle.gix_index.specs.State.{records}
-use Rattle.gix_index.specs.Sorted.{IsFall}
-use Rattle.example_tree_builder.proofs.Neighbours.{fallen}
+use Rattle.example_tree_builder.proofs.Neighbours.{says_twice}
 use Rattle.example_tree_builder.proofs.listed.index_of.Goals as goal
 
-pub returns-in-Err-OutOfOrder-clause-twice : goal.returns-in-Err-OutOfOrder-clause-twice
-returns-in-Err-OutOfOrder-clause-twice c = λ _.
-    let rs = records c.sort_entries.new.self in
-    let place = c.in-Err-OutOfOrder.field-0-0 in
-    let said = rw c.in-Err-OutOfOrder.field-0-is at c.in-Err-OutOfOrder.ensures.fault in
-    let fall : IsFall rs place = said.0.0 in
-    record {
-      records = rs;
-      in_some_order = rw c.in_ok-state.ensures.entries at c.sort_entries.ensures.permutation;
-      place = place;
-      behind_one = fall.behind_one;
-      in_range = fall.in_range;
-      same = fallen rs place c.in_ok-sort_entries.ensures.ordered fall;
-    }
+pub returns-in_err-verify_entries-clause-twice : goal.returns-in_err-verify_entries-clause-twice
+returns-in_err-verify_entries-clause-twice c =
+    let of_files = rw c.in_ok-state.ensures.entries at c.sort_entries.ensures.permutation in
+    let p = err_from_is_err_and c.from_residual-in_err-verify_entries.result
+    c.from_residual-in_err-verify_entries.ensures.1 in
+    rw (p.1, p.2)
+    (says_twice c.args.files.now (records c.sort_entries.new.self) c.in_err-verify_entries.field-0.0 of_files
+    c.in_ok-sort_entries.ensures.ordered c.in_err-verify_entries.ensures.fault)

@@ -1,5 +1,5 @@
 use Rattle.std.proofs.Common.{◌≡◌, ◌∙◌, ℕ, sym, arith, subst}
-use Rattle.gix_index.specs.Passed.{paths_len}
+use Rattle.gix_index.specs.Outlined.Passed.{paths_len}
 use Rattle.index_table.specs.Table.{HoldsRecords}
 use Rattle.index_table.proofs.OutlinedTables.{outlined_entries}
 use Rattle.index_table.proofs.filling.table_of_outline.Goals as goal

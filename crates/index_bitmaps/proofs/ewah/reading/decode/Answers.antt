@@ -7,4 +7,8 @@ returns-in_err-words-clause-fault c =
     let p = err_from_is_err_and c.from_residual-in_err-words.result c.from_residual-in_err-words.ensures.1 in
     let parts = c.in_ok-parts.parts in
     let some = some_words parts.len parts.words.now c.in_ok-parts.ensures.size in
-    rw (p.1, p.2) (record { value = record { num_bits = parts.num_bits; words = some.0 }; rest = parts.rest.now; is_bitmap = c.in_ok-parts.ensures.found some.0 some.1 })
+    rw (p.1, p.2) (record {
+      value = record { num_bits = parts.num_bits; words = some.0 };
+      rest = parts.rest.now;
+      is_bitmap = c.in_ok-parts.ensures.found some.0 some.1;
+    })

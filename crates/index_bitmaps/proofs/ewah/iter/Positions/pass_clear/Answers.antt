@@ -12,7 +12,10 @@ returns-clause-left c =
     let zeros : clear ≤ count_trailing_zeros 64 s.word = omega (arith, c.min-clear.ensures) in
     let small : s.word < 2 ^ 64 = search rules in
     let after : IsPlaceAfter s.place clear c.skip-self.result = rw c.from.ensures at c.skip-self.ensures in
-    rw c.unbounded_shr-self.ensures (step_clear s.ones s.bits 0 c.requires.behind_run clear s.word s.place c.skip-self.result (bits_behind s) within zeros small after)
+    rw c.unbounded_shr-self.ensures
+        (step_clear s.ones s.bits 0 c.requires.behind_run clear s.word s.place c.skip-self.result (bits_behind s)
+            within zeros small after)
 
 pub returns-clause-fewer : goal.returns-clause-fewer
-returns-clause-fewer c = omega (arith, c.requires.begun, c.min-clear.ensures, trailing_even 63 c.args.self.now.word c.requires.clear)
+returns-clause-fewer c =
+    omega (arith, c.requires.begun, c.min-clear.ensures, trailing_even 63 c.args.self.now.word c.requires.clear)

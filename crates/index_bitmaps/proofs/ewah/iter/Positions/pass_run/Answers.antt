@@ -12,4 +12,5 @@ returns-clause-passed c =
     let within : count ≤ s.ones = omega (arith, c.min-count.ensures) in
     let small : c.in-Some.first < 2 ^ 64 = search rules in
     let room : c.in-Some.first + count ≤ 2 ^ 64 = omega (arith, small, c.min-count.ensures) in
-    rw c.in-Some.is (step_run s.ones count c.in-Some.first (c.in-Some.first + count) (low_bits s.bits s.word ++ bits_behind s) within refl room)
+    let bits = low_bits s.bits s.word ++ bits_behind s in
+    rw c.in-Some.is (step_run s.ones count c.in-Some.first (c.in-Some.first + count) bits within refl room)

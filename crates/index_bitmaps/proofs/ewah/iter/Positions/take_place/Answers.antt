@@ -8,4 +8,5 @@ returns-in-Some c =
     let place = c.in-Some.place in
     let bits = bits_left c.args.self.now in
     let small : place < 2 ^ 64 = c.next_place-self.ensures.fits in
-    rw c.in-Some.is (places_set place bits small ∙ ap (λ rest. Ok place ∷ rest) (sym (places_after (Some place) 1 c.next_place-self.result bits c.next_place-self.ensures.after)))
+    let after = places_after (Some place) 1 c.next_place-self.result bits c.next_place-self.ensures.after in
+    rw c.in-Some.is (places_set place bits small ∙ ap (λ rest. Ok place ∷ rest) (sym after))

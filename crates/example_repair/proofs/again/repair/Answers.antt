@@ -3,13 +3,15 @@ use Rattle.std.proofs.Common.{rules, ◌≡◌, None, List, ℕ, sym, subst, ◌
 use Rattle.gix_index.specs.Answer.{Answer, IsAnswer}
 use Rattle.gix_index.specs.DecodeOptions.{Options}
 use Rattle.gix_index.specs.EndMarker.{IsMarker}
-use Rattle.gix_index.specs.File.{state_of}
 use Rattle.gix_index.specs.FileTime.{FileTime}
 use Rattle.gix_index.specs.Image.{image}
 use Rattle.gix_index.specs.Kind.{Kind}
-use Rattle.gix_index.specs.Laws.{IsFaithful}
+use Rattle.gix_index.specs.Laws.{IsFaithful, TakesAll}
 use Rattle.gix_index.specs.State.{contents}
-use Rattle.example_repair.proofs.again.written_again.Goals as goal
+use Rattle.gix_index.specs.Storable.{IsStorable, IsWritable}
+use Rattle.example_repair.specs.Repaired.{ReadsAs}
+use Rattle.example_repair.proofs.again.repair.Goals as goal
+use Rattle.example_repair.proofs.again.repair.Goals.{In-None}
 
 only_answer : (kind : Kind) (time : FileTime) (reading : Options) (bytes image : List ℕ) (a b : Answer) → bytes ≡ image
     → ((x y : Answer) → IsAnswer kind time reading bytes x → IsAnswer kind time reading bytes y → x ≡ y)
@@ -17,21 +19,28 @@ only_answer : (kind : Kind) (time : FileTime) (reading : Options) (bytes image :
 only_answer kind time reading bytes image a b e one h k =
     one a b h (subst (λ l. IsAnswer kind time reading l b) (sym e) k)
 
-pub returns-in-None : goal.returns-in-None
-returns-in-None c = λ time reading a takes is.
-    let v = contents (state_of c.args.index.now) in
+reads : (c : In-None) → ReadsAs (contents c.in-Ok.state) c.args.options c.write_to.new.out.inner.items
+reads c = λ time reading a takes is.
+    let v = contents c.in-Ok.state in
     let options = c.args.options in
     let bytes : c.write_to.new.out.inner.items ≡ image v options = search rules in
-    let kind : c.object_hash.result ≡ v.kind = search rules in
-    let unmarked = subst (λ m. IsMarker c.object_hash.result c.deref.result.now m) c.in-None.is c.decode.ensures in
+    let kind : c.object_hash-own_kind.result ≡ v.kind = search rules in
+    let storable : IsStorable v = search rules in
+    let writable : IsWritable v options = search rules in
+    let unmarked = subst (λ m. IsMarker c.object_hash-own_kind.result c.deref.result.now m) c.in-None.is c.decode.ensures in
     let marker : IsMarker v.kind (image v options) None =
     subst (λ k. IsMarker k (image v options) None) kind
-    (subst (λ l. IsMarker c.object_hash.result l None) (c.deref.ensures.value ∙ bytes) unmarked) in
+    (subst (λ l. IsMarker c.object_hash-own_kind.result l None) (c.deref.ensures.value ∙ bytes) unmarked) in
     let faithful : IsFaithful v options = record {
-      storable = c.requires.storable;
-      writable = c.in-Ok.ensures.writable;
+      storable = storable;
+      writable = writable;
       unmistakable = λ _ _. marker;
     } in
     only_answer v.kind time reading c.write_to.new.out.inner.items (image v options) a _ bytes
     (c.one_answer.ensures.one v.kind time reading c.write_to.new.out.inner.items)
     is (c.written_reads_back.ensures v options time reading faithful takes)
+
+pub returns-in-None : goal.returns-in-None
+returns-in-None c =
+    let takes : TakesAll c.default-reading.result = search rules in
+    (contents c.in-Ok.state, c.in-Ok.field-0-1, _, c.default-reading.result, takes, c.in-Ok.ensures.answer, reads c)
