@@ -1,6 +1,6 @@
 -- Bytes begin with a bitmap, or lack one part of it: which, their length and the declared number of words tell.
-use Rattle.std.proofs.Common.{◌≡◌, ℕ, ◌+◌, ◌*◌, ◌<◌, ◌≤◌, ◌⊎◌, inl, inr, List, ◌++◌, length, take, drop, refl, sym,
-    ap, ◌∙◌, arith}
+use Rattle.std.proofs.Common.{◌≡◌, ℕ, ◌+◌, ◌*◌, ◌<◌, ◌≤◌, ◌⊎◌, inl, inr, List, ◌++◌, length, take, drop, refl, sym, ap}
+use Rattle.std.proofs.Common.{◌∙◌, arith}
 use Rattle.std.proofs.lemmas.List.{take_at, drop_at, take-append-drop, length-append, length-take, length-drop}
 use Rattle.index_parts.specs.Numbers.{be}
 use Rattle.index_bitmaps.specs.Bitmap.{HasBitmap, Lacks, SaysBitmapFault}
@@ -50,8 +50,15 @@ says_length errors.Memory bytes h =
     let b = h.is_bitmap in
     let size = declared_size_is bytes b.bits b.len (b.words ++ (b.last ++ h.rest)) b.parts b.bits_size b.len_size in
     let len = length_is bytes b.bits b.len (b.words ++ (b.last ++ h.rest)) b.parts b.bits_size b.len_size in
-    omega (arith, len, length-append b.words (b.last ++ h.rest), length-append b.last h.rest, size, b.words_size,
-        b.last_size)
+    omega (
+      arith,
+      len,
+      length-append b.words (b.last ++ h.rest),
+      length-append b.last h.rest,
+      size,
+      b.words_size,
+      b.last_size,
+    )
 
 one_length : (error other : Error) (len size : ℕ) → IsLengthFor error len size → IsLengthFor other len size → error
     ≡ other

@@ -1,9 +1,9 @@
 -- The words that bytes spell, and the bitmap or the fault at the front of bytes.
-use Rattle.std.proofs.Common.{◌≡◌, ℕ, zero, suc, ◌+◌, ◌-◌, ◌*◌, List, [], ◌∷◌, ◌++◌, length, take, drop, map, All,
-    refl, sym, ap, subst, ◌∙◌, arith, append_assoc, append-nil}
+use Rattle.std.proofs.Common.{◌≡◌, ℕ, zero, suc, ◌+◌, ◌-◌, ◌*◌, List, [], ◌∷◌, ◌++◌, length, take, drop, map, All, refl}
+use Rattle.std.proofs.Common.{sym, ap, subst, ◌∙◌, arith, append_assoc, append-nil}
 use Rattle.std.specs.List.{concat}
-use Rattle.std.proofs.lemmas.List.{take_at, drop_at, take-append-drop, length-append, length-take, length-drop,
-    map-append, nil_from_length}
+use Rattle.std.proofs.lemmas.List.{take_at, drop_at, take-append-drop, length-append, length-take, length-drop}
+use Rattle.std.proofs.lemmas.List.{map-append, nil_from_length}
 use Rattle.std.proofs.lemmas.List.Elements.{All-nil, All-cons, All-head, All-tail, All-append}
 use Rattle.std.proofs.lemmas.List.Folds.{concat-append}
 use Rattle.index_parts.specs.Numbers.{be, StartsWithNumber}
@@ -20,8 +20,12 @@ pub record ReadsWords (bytes words rest : List ℕ) : Type 0 where
   pub size : length rest ≡ 8 * left
 
 pub no_spelled_words : AreWords [] []
-no_spelled_words = record { spellings = []; parts = refl; sizes = All-nil (λ spelling. length spelling ≡ 8);
-    values = refl }
+no_spelled_words = record {
+  spellings = [];
+  parts = refl;
+  sizes = All-nil (λ spelling. length spelling ≡ 8);
+  values = refl;
+}
 
 -- one more word behind words
 word_behind : (front words spelling : List ℕ) (word : ℕ) → length spelling ≡ 8 → word ≡ be spelling
@@ -42,7 +46,7 @@ pub reads_word : (bytes words rest : List ℕ) (word : ℕ) (after : List ℕ) �
     → ReadsWords bytes words rest → ReadsWords bytes (words ++ word ∷ []) after
 reads_word bytes words rest word after s r =
     let len : length rest ≡ 8 + length after =
-        omega (arith, ap length s.parts, length-append s.spelling after, s.size) in
+    omega (arith, ap length s.parts, length-append s.spelling after, s.size) in
     record {
       front = r.front ++ s.spelling;
       parts = r.parts ∙ ap (λ (l : List ℕ). r.front ++ l) s.parts ∙ sym (append_assoc r.front s.spelling after);
@@ -53,8 +57,10 @@ reads_word bytes words rest word after s r =
 
 -- whole words spell some numbers
 pub some_words : (count : ℕ) (bytes : List ℕ) → length bytes ≡ 8 * count → (words : List ℕ) × AreWords bytes words
-some_words zero bytes size = ([],
-    subst (λ (l : List ℕ). AreWords l []) (sym (nil_from_length bytes (omega (arith, size)))) no_spelled_words)
+some_words zero bytes size = (
+  [],
+  subst (λ (l : List ℕ). AreWords l []) (sym (nil_from_length bytes (omega (arith, size)))) no_spelled_words,
+)
 some_words (suc count) bytes size =
     let spelling = take 8 bytes in
     let len : length spelling ≡ 8 = omega (arith, size, length-take 8 bytes) in
@@ -72,9 +78,12 @@ some_words (suc count) bytes size =
 
 -- equal lists in two pieces have equal pieces, where the first ones are as long
 same_pieces : (a b x y : List ℕ) → a ++ x ≡ b ++ y → length a ≡ length b → (a ≡ b) × (x ≡ y)
-same_pieces a b x y e len = (sym (take_at a x (length a) refl) ∙ ap (take (length a)) e
-    ∙ take_at b y (length a) (sym len), sym (drop_at a x (length a) refl) ∙ ap (drop (length a)) e
-    ∙ drop_at b y (length a) (sym len))
+same_pieces a b x y e len = (
+  sym (take_at a x (length a) refl) ∙ ap (take (length a)) e
+      ∙ take_at b y (length a) (sym len),
+  sym (drop_at a x (length a) refl) ∙ ap (drop (length a)) e
+      ∙ drop_at b y (length a) (sym len),
+)
 
 same_spellings : (a b : List (List ℕ)) → All (λ s. length s ≡ 8) a → All (λ s. length s ≡ 8) b → concat a ≡ concat b
     → map be a ≡ map be b
@@ -85,7 +94,7 @@ same_spellings (s ∷ a) [] h k e =
     absurd (omega (arith, All-head (λ s. length s ≡ 8) s a h, ap length e, length-append s (concat a)))
 same_spellings (s ∷ a) (t ∷ b) h k e =
     let p = same_pieces s t (concat a) (concat b) e
-        (All-head (λ s. length s ≡ 8) s a h ∙ sym (All-head (λ s. length s ≡ 8) t b k)) in
+    (All-head (λ s. length s ≡ 8) s a h ∙ sym (All-head (λ s. length s ≡ 8) t b k)) in
     rw (p.0, same_spellings a b (All-tail (λ s. length s ≡ 8) s a h) (All-tail (λ s. length s ≡ 8) t b k) p.1) refl
 
 -- bytes spell one list of words
@@ -112,13 +121,13 @@ pub one_bitmap : (bytes : List ℕ) (a b : Bitmap) (x y : List ℕ) → IsBitmap
     → (a ≡ b) × (x ≡ y)
 one_bitmap bytes a b x y s t =
     let front = same_front s.bits s.len (s.words ++ (s.last ++ x)) t.bits t.len (t.words ++ (t.last ++ y))
-        (sym s.parts ∙ t.parts) s.bits_size s.len_size t.bits_size t.len_size in
+    (sym s.parts ∙ t.parts) s.bits_size s.len_size t.bits_size t.len_size in
     let size : length s.words ≡ length t.words = s.words_size ∙ ap (λ (l : List ℕ). 8 * be l) front.1
-        ∙ sym t.words_size in
+    ∙ sym t.words_size in
     let words = same_pieces s.words t.words (s.last ++ x) (t.last ++ y) front.2 size in
     let last = same_pieces s.last t.last x y words.1 (s.last_size ∙ sym t.last_size) in
     let num_bits : a.num_bits ≡ b.num_bits = s.num_bits ∙ ap be front.0 ∙ sym t.num_bits in
     let spelled : a.words ≡ b.words =
-        one_spelling t.words a.words b.words (subst (λ (l : List ℕ). AreWords l a.words) words.0 s.are_words)
-        t.are_words in
+    one_spelling t.words a.words b.words (subst (λ (l : List ℕ). AreWords l a.words) words.0 s.are_words)
+    t.are_words in
     (same_bitmap a b num_bits spelled, last.1)

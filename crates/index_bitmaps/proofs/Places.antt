@@ -1,7 +1,7 @@
 -- The places of bits that are set.
-use Rattle.std.proofs.Common.{◌≡◌, ℕ, zero, suc, ◌+◌, ◌-◌, ◌*◌, ◌/◌, ◌%◌, ◌^◌, ◌<◌, ◌≤◌, nat_lt, nat_eq, Bool, true,
-    false, cond, List, [], ◌∷◌, ◌++◌, take, drop, Option, Some, None, Result, Ok, Err, refl, sym, ap, subst, ◌∙◌,
-    arith, append_assoc}
+use Rattle.std.proofs.Common.{◌≡◌, ℕ, zero, suc, ◌+◌, ◌-◌, ◌*◌, ◌/◌, ◌%◌, ◌^◌, ◌<◌, ◌≤◌, nat_lt, nat_eq, Bool, true}
+use Rattle.std.proofs.Common.{false, cond, List, [], ◌∷◌, ◌++◌, take, drop, Option, Some, None, Result, Ok, Err, refl}
+use Rattle.std.proofs.Common.{sym, ap, subst, ◌∙◌, arith, append_assoc}
 use Rattle.std.specs.Prelude.{replicate}
 use Rattle.std.specs.Int.Count.{count_trailing_zeros, under}
 use Rattle.std.specs.List.{flat_map}
@@ -9,8 +9,8 @@ use Rattle.std.proofs.lemmas.Bool.Decides.{nat_tests}
 use Rattle.std.proofs.lemmas.Nat.{trailing_le, shr-shr}
 use Rattle.std.proofs.Math.Nat.{div-eq_of_lt, pow-le-pow_right}
 use Rattle.index_bitmaps.specs.Ascending.{Ascends}
-use Rattle.index_bitmaps.specs.Bits.{Bit, clear, set, broken, bit_of, low_bits, word_bits, repetitions, places,
-    run_places, ListPlaces}
+use Rattle.index_bitmaps.specs.Bits.{Bit, clear, set, broken, bit_of, low_bits, word_bits, repetitions, places}
+use Rattle.index_bitmaps.specs.Bits.{run_places, ListPlaces}
 use Rattle.index_bitmaps.specs.declared.ewah.iter.Malformed.{Malformed}
 use Rattle.index_bitmaps.specs.UnpackingSteps.{unpacked, next_place, IsPlaceAfter}
 use Rattle.index_bitmaps.proofs.Unpackings.{behind_run, one_unpacking, stand_for_unpacked, unpacked-nil, unpacked-cons}
@@ -77,7 +77,7 @@ run_front zero m p bits h = let e : p + 0 ≡ p = omega arith in let z : 0 + m �
 run_front (suc n) m p bits h =
     let e : p + 1 + n ≡ p + suc n = omega arith in
     let rest = subst (λ (k : ℕ). places (p + 1) (replicate (n + m) set ++ bits) ≡ run_places (p + 1) n
-        ++ places k (replicate m set ++ bits))
+    ++ places k (replicate m set ++ bits))
     e (run_front n m (p + 1) bits (omega (arith, h))) in
     let sum : suc n + m ≡ suc (n + m) = omega arith in
     rw sum (places_set p (replicate (n + m) set ++ bits) (omega (arith, h)) ∙ ap (λ items. Ok p ∷ items) rest)
@@ -90,7 +90,7 @@ step_run ones n p end bits le e h =
     let count : end - p ≡ n = omega (arith, e) in
     let front = run_front n (ones - n) p bits (omega (arith, e, h)) in
     rw (count, e) (subst (λ (k : ℕ). places p (replicate k set ++ bits) ≡ run_places p n
-        ++ places (p + n) (replicate (ones - n) set ++ bits)) parts front)
+    ++ places (p + n) (replicate (ones - n) set ++ bits)) parts front)
 
 -- ---- what one step of an iterator takes
 
@@ -141,7 +141,7 @@ trailing_step : (m k w : ℕ) → suc k ≤ count_trailing_zeros (suc m) w
 unfolding count_trailing_zeros
 trailing_step m k w h =
     let P : ℕ → Type 0 = λ d. suc k ≤ under d (count_trailing_zeros m (w / 2))
-        → (d ≡ 0) × (k ≤ count_trailing_zeros m (w / 2)) in
+    → (d ≡ 0) × (k ≤ count_trailing_zeros m (w / 2)) in
     elim (w % 2) as P [ zero ↦ λ l. (refl, omega arith) | suc d ↦ λ l. absurd (omega arith) ] h
 
 -- an even number has a clear digit
@@ -161,7 +161,7 @@ low_clear (suc k) (suc n) (suc m) w le h =
     let b : 1 + k ≡ suc k = omega arith in
     let e : w / 2 / 2 ^ k ≡ w / 2 ^ suc k = shr-shr w 1 k ∙ ap (λ j. w / 2 ^ j) b in
     let tail = subst (λ (v : ℕ). low_bits n (w / 2) ≡ replicate k clear ++ low_bits (n - k) v) e
-        (low_clear k n m (w / 2) (omega arith) p.1) in
+    (low_clear k n m (w / 2) (omega arith) p.1) in
     rw (bit_clear (w % 2) (λ h1. absurd (omega (arith, h1, p.0))), a) (ap (λ (bits : List Bit). clear ∷ bits) tail)
 
 -- a word without its low bits, as a shift by any number gives it
@@ -177,27 +177,27 @@ module _ (ones bits literals : ℕ) (no_run : ones ≡ 0) where
   pub step_clear : (k w : ℕ) (p q : Option ℕ) (tail : List Bit) → k ≤ bits → k ≤ count_trailing_zeros 64 w
       → w < 2 ^ 64 → IsPlaceAfter p k q
       → places (next_place q) (replicate ones set ++ (low_bits (bits - k) (cond (nat_lt k 64) (w / 2 ^ k) 0) ++ tail))
-          ≡ places (next_place p) (replicate ones set ++ (low_bits bits w ++ tail))
+      ≡ places (next_place p) (replicate ones set ++ (low_bits bits w ++ tail))
   step_clear k w p q tail le zeros small a =
       let behind = low_bits (bits - k) (w / 2 ^ k) in
       rw (no_run, shifted k w small, low_clear k bits 64 w le zeros)
-          (places_after p k q (behind ++ tail) a ∙ sym (places_clear k (next_place p) (behind ++ tail))
-          ∙ sym (ap (places (next_place p)) (append_assoc (replicate k clear) behind tail)))
+      (places_after p k q (behind ++ tail) a ∙ sym (places_clear k (next_place p) (behind ++ tail))
+      ∙ sym (ap (places (next_place p)) (append_assoc (replicate k clear) behind tail)))
 
   module _ (no_bits : bits ≡ 0) (is_broken : Bool) (whole : is_broken ≡ false) (w p : ℕ) where
     -- the next literal word is begun
     pub step_literal : (words rest : List ℕ) (first : ℕ) → 0 < literals → words ≡ first ∷ rest
         → places p (replicate ones set ++ (low_bits 64 first
-            ++ cond is_broken (broken ∷ [])
-            (flat_map word_bits (take (literals - 1) rest) ++ unpacked (drop (literals - 1) rest))))
+        ++ cond is_broken (broken ∷ [])
+        (flat_map word_bits (take (literals - 1) rest) ++ unpacked (drop (literals - 1) rest))))
         ≡ places p (replicate ones set ++ (low_bits bits w
-            ++ cond is_broken (broken ∷ [])
-            (flat_map word_bits (take literals words) ++ unpacked (drop literals words))))
+        ++ cond is_broken (broken ∷ [])
+        (flat_map word_bits (take literals words) ++ unpacked (drop literals words))))
     step_literal words rest first pos e =
         let a = append_assoc (word_bits first) (flat_map word_bits (take (literals - 1) rest))
-            (unpacked (drop (literals - 1) rest)) in
+        (unpacked (drop (literals - 1) rest)) in
         rw (no_run, no_bits, whole, e, take_step literals first rest pos, drop_step literals first rest pos)
-            (ap (places p) (sym a))
+        (ap (places p) (sym a))
 
     -- nothing is left
     pub step_end : (words : List ℕ) → words ≡ []

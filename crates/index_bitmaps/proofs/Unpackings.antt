@@ -1,12 +1,12 @@
 -- What words stand for, and that it is one list of bits.
-use Rattle.std.proofs.Common.{◌≡◌, ℕ, zero, suc, ◌<◌, ◌≤◌, nat_le, true, false, cond, ◌⊎◌, inl, inr, List, [], ◌∷◌,
-    ◌++◌, length, take, drop, All, refl, sym, ap, ◌∙◌, arith, append_assoc, length-drop}
+use Rattle.std.proofs.Common.{◌≡◌, ℕ, zero, suc, ◌<◌, ◌≤◌, nat_le, true, false, cond, ◌⊎◌, inl, inr, List, [], ◌∷◌}
+use Rattle.std.proofs.Common.{◌++◌, length, take, drop, All, refl, sym, ap, ◌∙◌, arith, append_assoc, length-drop}
 use Rattle.std.specs.List.{flat_map}
 use Rattle.std.proofs.lemmas.Bool.Decides.{nat_tests}
 use Rattle.std.proofs.lemmas.List.{take_at, drop_at, take-append-drop, length-append, length-take}
 use Rattle.std.proofs.lemmas.List.Elements.{All-nil, All-cons, All-head, All-tail}
-use Rattle.index_bitmaps.specs.Bits.{Bit, broken, word_bits, run_bits, literal_count, Chunk, chunk_words, chunk_bits,
-    IsWhole, IsEnd, StandFor}
+use Rattle.index_bitmaps.specs.Bits.{Bit, broken, word_bits, run_bits, literal_count, Chunk, chunk_words, chunk_bits}
+use Rattle.index_bitmaps.specs.Bits.{IsWhole, IsEnd, StandFor}
 use Rattle.index_bitmaps.specs.UnpackingSteps.{unpacked_within, unpacked}
 
 within_same : (f g : ℕ) (words : List ℕ) → length words ≤ f → length words ≤ g → unpacked_within f words
@@ -34,9 +34,9 @@ pub unpacked-cons : (run : ℕ) (words : List ℕ) → unpacked (run ∷ words) 
 unfolding unpacked
 unpacked-cons run words =
     let n : length (drop (literal_count run) words) ≤ length words =
-        omega (arith, length-drop (literal_count run) words) in
+    omega (arith, length-drop (literal_count run) words) in
     rw (within_same (length words) (length (drop (literal_count run) words)) (drop (literal_count run) words) n
-        (omega arith)) refl
+    (omega arith)) refl
 
 pub behind_whole : (run : ℕ) (words : List ℕ) → literal_count run ≤ length words → behind_run run words
     ≡ flat_map word_bits (take (literal_count run) words) ++ unpacked (drop (literal_count run) words)
@@ -69,14 +69,27 @@ with_chunk run literals words bits len s =
     }
 
 no_words : StandFor [] []
-no_words = record { chunks = []; last = []; last_bits = []; parts = refl; whole = All-nil IsWhole; is_end = refl;
-    joined = refl }
+no_words = record {
+  chunks = [];
+  last = [];
+  last_bits = [];
+  parts = refl;
+  whole = All-nil IsWhole;
+  is_end = refl;
+  joined = refl;
+}
 
 short_chunk : (run : ℕ) (literals : List ℕ) → length literals < literal_count run
     → StandFor (run ∷ literals) (run_bits run ++ broken ∷ [])
-short_chunk run literals few = record
-    { chunks = []; last = run ∷ literals; last_bits = run_bits run ++ broken ∷ []; parts = refl;
-    whole = All-nil IsWhole; is_end = (few, refl); joined = refl }
+short_chunk run literals few = record {
+  chunks = [];
+  last = run ∷ literals;
+  last_bits = run_bits run ++ broken ∷ [];
+  parts = refl;
+  whole = All-nil IsWhole;
+  is_end = (few, refl);
+  joined = refl;
+}
 
 pub le_or_lt : (m n : ℕ) → (m ≤ n) ⊎ (n < m)
 le_or_lt m n = elim (nat_le m n) as (λ t. nat_le m n ≡ t → (m ≤ n) ⊎ (n < m))
@@ -107,8 +120,11 @@ unpacked-chunk : (run : ℕ) (literals words : List ℕ) → length literals ≡
 unpacked-chunk run literals words len =
     let fits : literal_count run ≤ length (literals ++ words) = omega (arith, length-append literals words) in
     unpacked-cons run (literals ++ words)
-        ∙ rw (behind_whole run (literals ++ words) fits, take_at literals words (literal_count run) len,
-        drop_at literals words (literal_count run) len) refl
+    ∙ rw (
+      behind_whole run (literals ++ words) fits,
+      take_at literals words (literal_count run) len,
+      drop_at literals words (literal_count run) len,
+    ) refl
 
 unpacked-chunks : (chunks : List Chunk) (last : List ℕ) → All IsWhole chunks
     → unpacked (flat_map chunk_words chunks ++ last) ≡ flat_map chunk_bits chunks ++ unpacked last
@@ -120,7 +136,7 @@ unpacked-chunks (chunk ∷ chunks) last h =
     ap unpacked (append_assoc (chunk_words chunk) rest last)
     ∙ unpacked-chunk chunk.run chunk.literals (rest ++ last) (All-head IsWhole chunk chunks h)
     ∙ ap (λ (bits : List Bit). run_bits chunk.run ++ (literals ++ bits))
-        (unpacked-chunks chunks last (All-tail IsWhole chunk chunks h))
+    (unpacked-chunks chunks last (All-tail IsWhole chunk chunks h))
     ∙ sym (append_assoc (run_bits chunk.run) literals (behind ++ unpacked last))
     ∙ sym (append_assoc (chunk_bits chunk) behind (unpacked last))
 

@@ -1,7 +1,7 @@
 -- What the words of a compressed bitmap stand for (git's bitmap-format document, "Serialization format for an EWAH
 -- bitmap"): a concatenation of chunks, each of a run word and the literal words that it counts.
-use Rattle.std.specs.Prelude.{◌≡◌, ℕ, zero, suc, ◌+◌, ◌*◌, ◌/◌, ◌%◌, ◌^◌, ◌<◌, ◌==◌, nat_lt, if◌then◌else◌,
-    List, [], ◌∷◌, ◌++◌, All, length, replicate, Result, Ok, Err}
+use Rattle.std.specs.Prelude.{◌≡◌, ℕ, zero, suc, ◌+◌, ◌*◌, ◌/◌, ◌%◌, ◌^◌, ◌<◌, ◌==◌, nat_lt, if◌then◌else◌, List, []}
+use Rattle.std.specs.Prelude.{◌∷◌, ◌++◌, All, length, replicate, Result, Ok, Err}
 use Rattle.std.specs.List.{flat_map}
 use Rattle.index_bitmaps.specs.declared.ewah.iter.Malformed.{Malformed}
 

@@ -1,7 +1,7 @@
 -- What an iterator over a bitmap's words has left, as a function of its state (git's bitmap-format document,
 -- "Serialization format for an EWAH bitmap"). Of these, clauses that a user meets cite items_left alone.
-use Rattle.std.specs.Prelude.{◌≡◌, ℕ, zero, suc, ◌+◌, ◌^◌, ◌<◌, ◌≤◌, nat_le, false, if◌then◌else◌,
-    List, [], ◌∷◌, ◌++◌, length, take, drop, replicate, Option, Some, None, Result}
+use Rattle.std.specs.Prelude.{◌≡◌, ℕ, zero, suc, ◌+◌, ◌^◌, ◌<◌, ◌≤◌, nat_le, false, if◌then◌else◌, List, [], ◌∷◌, ◌++◌}
+use Rattle.std.specs.Prelude.{length, take, drop, replicate, Option, Some, None, Result}
 use Rattle.std.specs.List.{flat_map}
 use Rattle.index_bitmaps.specs.Bits.{Bit, set, broken, low_bits, word_bits, run_bits, literal_count, places}
 use Rattle.index_bitmaps.specs.declared.ewah.iter.Malformed.{Malformed}

@@ -18,12 +18,12 @@ returns-then-literals-self-clause-left c =
           let whole = sym (behind_whole run words fits) in
           let behind = ap (λ rest. places (next_place place) (replicate (64 * repetitions run) set ++ rest)) whole in
           rw w.self-is (rw (c.requires.1, c.requires.3)
-              (behind ∙ run_set (next_place place) run words w.if-run-eq1.true))
+          (behind ∙ run_set (next_place place) run words w.if-run-eq1.true))
       | else-run-eq1 w ↦
           let fits : literal_count run ≤ length words = rw w.self-is at c.if-literals-self.true in
           let behind = ap (λ rest. places (next_place w.skip-self.result) rest) (sym (behind_whole run words fits)) in
           rw w.self-is (rw (c.requires.0, c.requires.1, c.requires.3)
-              (behind ∙ run_clear place w.skip-self.result run words w.if-run-eq1.false w.skip-self.ensures))
+          (behind ∙ run_clear place w.skip-self.result run words w.if-run-eq1.false w.skip-self.ensures))
     ]
 
 pub returns-else-literals-self-clause-left : goal.returns-else-literals-self-clause-left
@@ -41,5 +41,5 @@ returns-else-literals-self-clause-left c =
           let few : length words < literal_count run = rw w.self-is at c.if-literals-self.false in
           let behind = ap (λ rest. places (next_place w.skip-self.result) rest) (sym (behind_broken run words few)) in
           rw w.self-is (rw (c.requires.0, c.requires.1)
-              (behind ∙ run_clear place w.skip-self.result run words w.if-run-eq1.false w.skip-self.ensures))
+          (behind ∙ run_clear place w.skip-self.result run words w.if-run-eq1.false w.skip-self.ensures))
     ]

@@ -13,8 +13,8 @@ returns-clause-left c =
     let small : s.word < 2 ^ 64 = search rules in
     let after : IsPlaceAfter s.place clear c.skip-self.result = rw c.from.ensures at c.skip-self.ensures in
     rw c.unbounded_shr-self.ensures
-        (step_clear s.ones s.bits 0 c.requires.behind_run clear s.word s.place c.skip-self.result (bits_behind s)
-            within zeros small after)
+    (step_clear s.ones s.bits 0 c.requires.behind_run clear s.word s.place c.skip-self.result (bits_behind s)
+    within zeros small after)
 
 pub returns-clause-fewer : goal.returns-clause-fewer
 returns-clause-fewer c =
