@@ -13,13 +13,14 @@ use Rattle.index_tool.specs.declared.command.Reading.{Reading}
 use Rattle.index_tool.specs.declared.command.Reading.TheVariants as readings
 use Rattle.index_tool.specs.declared.command.Writing.{Writing}
 use Rattle.index_tool.specs.declared.command.Writing.TheVariants as writings
+use Rattle.index_tool.specs.declared.failure.Failure.{Failure}
 use Rattle.index_tool.specs.Checking.{Checks, ChecksFront}
 use Rattle.index_tool.specs.Listing.{ListsIndex, ListsFront}
 use Rattle.index_tool.specs.Mapping.{Draws, DrawsDamaged, DrawsFront, Maps, MapsDamaged, MapsFront}
-use Rattle.index_tool.specs.Rewriting.{Rewrites}
-use Rattle.index_tool.specs.Salvaging.{Salvages}
+use Rattle.index_tool.specs.Rewriting.{FailsToRewrite, Rewrites}
+use Rattle.index_tool.specs.Salvaging.{FailsToSalvage, Salvages}
 use Rattle.index_tool.specs.Showing.{Shows, ShowsFront, ShowsJson, ShowsJsonFront}
-use Rattle.index_tool.specs.Trees.{Retrees, TreesFront, TreesIndex}
+use Rattle.index_tool.specs.Trees.{FailsToRetree, Retrees, TreesFront, TreesIndex}
 use Rattle.gix_index.specs.DecodeError.{Error}
 
 -- a command as a value: what is told of a file with ids of a kind, or what is written of it to another path
@@ -112,6 +113,12 @@ abbrev pub StoresIndex : Writing → Kind → List ℕ → Type 0
 StoresIndex (writings.Rewrite version) kind to = Rewrites version kind to
 StoresIndex writings.RewriteTrees kind to = Retrees kind to
 StoresIndex writings.Salvage kind to = Salvages kind to
+
+-- why none was written: the failure names the file that it concerns, or one of those that the words name
+abbrev pub FailsToStore : Writing → List ℕ → List ℕ → Failure → Type 0
+FailsToStore (writings.Rewrite version) file to failure = FailsToRewrite file to failure
+FailsToStore writings.RewriteTrees file to failure = FailsToRetree file to failure
+FailsToStore writings.Salvage file to failure = FailsToSalvage file to failure
 
 -- whether a line tells of what was done, where it was: that of what was saved
 abbrev pub reports : CommandValue → Bool

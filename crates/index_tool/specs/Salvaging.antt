@@ -1,11 +1,14 @@
 -- What the program saves of a damaged file, and of the shared index beside it (the program's own). No clause can name a
 -- file's bytes: it is what is saved of some.
-use Rattle.std.specs.Prelude.{◌≡◌, ℕ, false, List, length, Option, Some, None, IsSomeAnd, Ok}
+use Rattle.std.specs.Prelude.{◌≡◌, ℕ, false, List, length, Option, Some, None, IsSomeAnd, Ok, Err}
 use Rattle.std.specs.Option.{option_map}
 use Rattle.gix_index.specs.Checked.{IsFileAnswer}
 use Rattle.gix_index.specs.Contents.{Contents}
+use Rattle.gix_index.specs.DecodeError.TheVariants as decoding
 use Rattle.gix_index.specs.File.{state_of, path_of}
 use Rattle.gix_index.specs.FileTime.{FileTime}
+use Rattle.gix_index.specs.Header.{header_of}
+use Rattle.gix_index.specs.HeaderErrors.{header_fault}
 use Rattle.gix_index.specs.Kind.{Kind}
 use Rattle.gix_index.specs.Link.{link_of}
 use Rattle.gix_index.specs.Linked.{expecting}
@@ -14,6 +17,8 @@ use Rattle.gix_index.specs.State.{contents, records}
 use Rattle.gix_index.specs.VersionChoice.TheVariants.{Smallest}
 use Rattle.gix_index.specs.WrittenFile.{IsWritten}
 use Rattle.gix_index.specs.declared.file.File.{File}
+use Rattle.gix_index.specs.declared.file.init.Error.{Error as FileError}
+use Rattle.gix_index.specs.declared.file.init.Error.TheVariants as reading
 use Rattle.index_inspect.specs.Remains.{IsPlainIndex, Remain, wanted_id}
 use Rattle.index_inspect.specs.Salvage.{Saves}
 use Rattle.index_inspect.specs.declared.remains.Remains.{Remains}
@@ -71,6 +76,17 @@ pub record IsSalvaged (kind : Kind) (to : List ℕ) (rescue : Rescue) : Type 0 w
 -- an index was written so
 abbrev pub Salvages : Kind → List ℕ → Type 0
 Salvages kind to = (rescue : Rescue) × IsSalvaged kind to rescue
+
+-- the fault says why nothing is saved of these bytes: what keeps their header from being read, or that memory is short
+abbrev pub LosesHeader : Kind → List ℕ → FileError → Type 0
+LosesHeader kind bytes (reading.Decode (decoding.Header e)) = header_of kind bytes ≡ Err (header_fault e)
+LosesHeader kind bytes reading.Memory = Unit {0}
+LosesHeader kind bytes e = ⊥
+
+-- the same, with the file that has these bytes
+abbrev pub FailsToSave : Kind → List ℕ → List ℕ → Failure → Type 0
+FailsToSave kind path bytes (failures.Index file e) = (file.now ≡ path) × LosesHeader kind bytes e
+FailsToSave kind path bytes e = ⊥
 
 -- a failure of saving names the file that it concerns, or one of those that the words name
 abbrev pub FailsToSalvage : List ℕ → List ℕ → Failure → Type 0

@@ -16,7 +16,7 @@ pub mod trees;
 ghost use Rattle.std.specs.Prelude.{◌≡◌, ◌≤◌, ◌↔◌, false, map, IfErr, IfOk, OnOk, OnErr, IsSomeAnd, None, is_some, string_bytes};
 ghost use Rattle.std.specs.Io.KnownBytes.{Keeps};
 ghost use Rattle.std.specs.Option.{option_map};
-ghost use Rattle.index_tool.specs.Command.{command_named, command_value, kind_named, read_named, reading_named, reports, write_named, writing_named, GivesUp, Reads, StoresIndex, Succeeds, Prints, Writes};
+ghost use Rattle.index_tool.specs.Command.{command_named, command_value, kind_named, read_named, reading_named, reports, write_named, writing_named, FailsToStore, GivesUp, Reads, StoresIndex, Succeeds, Prints, Writes};
 
 use crate::failure::Failure;
 use check::check;
@@ -235,6 +235,7 @@ fn write<'a, R: Files>(
     to: &'a str,
 ) -> Result<Option<Report<'a>>, Failure<'a>>
     ensures written { OnOk result (StoresIndex what kind to.now) }
+    ensures fault { IfErr result (FailsToStore what path.now to.now) }
     ensures report { IfOk result
         (λ report. is_some report ≡ reports (Writes what kind path.now to.now)) }
 {

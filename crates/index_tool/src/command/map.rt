@@ -4,6 +4,8 @@ ghost use Rattle.std.specs.Prelude.{◌≡◌, IfErr, OnOk};
 ghost use Rattle.index_inspect.specs.Remains.{last_begin};
 ghost use Rattle.index_tool.specs.Listing.{FailsToRead};
 ghost use Rattle.index_tool.specs.Mapping.{FailsToMap, Maps};
+ghost use Rattle.index_tool.specs.declared.failure.Failure.TheVariants.{Index};
+ghost use Rattle.gix_index.specs.declared.file.init.Error.TheVariants.{Memory};
 
 use crate::failure::Failure;
 use gix_index::file;
@@ -28,7 +30,8 @@ pub fn read_whole<R: Files>(rt: &R, alloc: Global, path: Path<'_>) -> io::Result
 
 /// There is no memory for what a command needs of a file.
 pub fn out_of_memory(path: &str) -> Failure<'_>
-    ensures { FailsToRead path.now result }
+    ensures names { FailsToRead path.now result }
+    ensures is { result ≡ Index path.entry Memory }
 {
     let fault = file::init::Error::Memory;
     Failure::Index { path, fault }

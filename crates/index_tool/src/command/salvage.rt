@@ -5,7 +5,7 @@ ghost use Rattle.std.specs.Prelude.{◌≡◌, IfErr, IfOk, OnOk};
 ghost use Rattle.gix_index.specs.State.{contents};
 ghost use Rattle.index_inspect.specs.Remains.{IsPlainIndex, Remain};
 ghost use Rattle.index_tool.specs.Listing.{FailsToRead};
-ghost use Rattle.index_tool.specs.Salvaging.{FailsToSalvage, IsOfBytes, IsSalvaged, Salvages};
+ghost use Rattle.index_tool.specs.Salvaging.{FailsToSalvage, FailsToSave, IsOfBytes, IsSalvaged, Salvages};
 
 use crate::command::map::{bytes_at, out_of_memory};
 use crate::command::shared::shared_beside;
@@ -82,6 +82,7 @@ fn remains_in<'a>(
     ensures kind { IfOk result (λ r. (contents r.front).kind ≡ kind) }
     ensures plain { IfOk result (λ r. IsPlainIndex r.front) }
     ensures fault { IfErr result (FailsToRead path.now) }
+    ensures lost { IfErr result (FailsToSave kind path.now bytes.now) }
 {
     match remains_of(alloc, kind, bytes) {
         Ok(remains) => Ok(remains),
@@ -103,6 +104,7 @@ fn saved_of<'a, R: Files>(
 ) -> Result<Salvaged, Failure<'a>>
     ensures saved { IfOk result (IsOfBytes kind bytes.now) }
     ensures fault { IfErr result (FailsToRead path.now) }
+    ensures lost { IfErr result (FailsToSave kind path.now bytes.now) }
 {
     let remains = match remains_in(alloc, kind, path, bytes) {
         Ok(remains) => remains,
