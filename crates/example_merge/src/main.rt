@@ -10,10 +10,9 @@ ghost use Rattle.std.specs.Prelude.{IfOk};
 ghost use Rattle.gix_index.specs.State.{PathsInStorage};
 
 use conflict::{Side, put_in_conflict};
-use gix_index::bitflags::Flags as _;
 use gix_index::entry::{FileTime, Stage, Stat};
 use gix_index::hash::Kind;
-use gix_index::{State, decode};
+use gix_index::{BitFlags as _, State, decode};
 use std::alloc::Global;
 use std::io::{self, BufWriter, Write};
 use std::rt::Files;

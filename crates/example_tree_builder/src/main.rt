@@ -7,12 +7,11 @@
 
 mod listed;
 
-use gix_index::bitflags::Flags as _;
 use gix_index::entry::{Mode, Stat};
 use gix_index::hash::{Kind, ObjectId};
 use gix_index::init::ComponentCheck;
 use gix_index::write_trees::Discard;
-use gix_index::{File, write};
+use gix_index::{BitFlags as _, File, write};
 use listed::{Listed, index_of};
 use std::alloc::Global;
 use std::path::PathBuf;

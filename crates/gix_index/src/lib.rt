@@ -2,8 +2,8 @@
 //!
 //! All that is public stands here under the paths of the Rust crate `gix-index`, but for `laws`, which it lacks; a user
 //! names this crate alone. The operations of sets on [`entry::Flags`] and [`entry::Mode`] are those of the trait
-//! [`bitflags::Flags`]; the texts that errors and caches own are [`bstr::BString`], and a cached tree's name is a
-//! [`smallvec::SmallVec`]: those three crates are passed on.
+//! `Flags` of the crate bitflags, here [`BitFlags`]; the texts that errors and caches own are bstr's [`BString`], and a
+//! cached tree's name is a [`SmallVec`] of the crate of that name.
 #![tactic(auto)]
 
 pub mod decode;
@@ -12,8 +12,8 @@ pub mod file;
 pub mod init;
 pub mod write_trees;
 
-pub use bitflags;
-pub use bstr;
+pub use bitflags::Flags as BitFlags;
+pub use bstr::BString;
 pub use file::File;
 pub use index_bitmaps::ewah;
 pub use index_entries::{Entry, PathBacking, PathStorage, PathStorageRef, Version};
@@ -26,4 +26,4 @@ pub use index_metadata::{entry, fs};
 pub use index_objects::object;
 pub use index_parts::{hash, util};
 pub use index_state::{State, verify};
-pub use smallvec;
+pub use smallvec::SmallVec;

@@ -2,3 +2,4 @@
 #![tactic(auto)]
 
 pub mod ewah;
+pub mod ranges;

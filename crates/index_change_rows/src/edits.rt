@@ -2,11 +2,10 @@
 
 ghost use Rattle.gix_index.specs.State.{PathsInStorage};
 
-use gix_index::State;
-use gix_index::bitflags::Flags as _;
 use gix_index::entry::{Flags, Mode, Stage, Stat};
 use gix_index::hash::Kind;
 use gix_index::verify::entries::Error;
+use gix_index::{BitFlags as _, State};
 use index_row_kit::show::{Bytes, Fields, Listed, Text, entries};
 use index_row_kit::words::{id_of, number_of, text_of};
 use index_row_kit::{Fault, Lines, Words};

@@ -4,14 +4,13 @@ ghost use Rattle.std.specs.Prelude.{◌≡◌, IfOk};
 ghost use Rattle.gix_index.specs.State.{PathsInStorage};
 
 use crate::trees::tree_of;
-use gix_index::bitflags::Flags as _;
 use gix_index::entry::{FileTime, Flags};
 use gix_index::extension::tree::write::Error;
 use gix_index::extension::{Tree, end_of_index_entry, sparse};
 use gix_index::hash::Kind;
 use gix_index::hash::io::Plain;
 use gix_index::write::{Extensions, Options, VersionChoice};
-use gix_index::{File, State, decode};
+use gix_index::{BitFlags as _, File, State, decode};
 use index_row_kit::show::{Bytes, OrNone, version_of};
 use index_row_kit::{Fault, Lines, Words, refusal};
 use std::alloc::Global;

@@ -1,14 +1,13 @@
 //! The rows about cached trees that are verified, with objects or without, and about indexes of trees.
 
 use crate::objects::{check_of, store_of};
-use gix_index::State;
 use gix_index::entry::FileTime;
 use gix_index::extension::Tree;
 use gix_index::extension::tree::verify::Error;
 use gix_index::hash::Kind;
 use gix_index::init::from_tree::{self, Traversal};
 use gix_index::object::NoObjects;
-use gix_index::smallvec::SmallVec;
+use gix_index::{SmallVec, State};
 use index_row_kit::show::{Bytes, Text, entries};
 use index_row_kit::words::{id_of, items_of, number_of, text_of};
 use index_row_kit::{Fault, Lines, Words, refusal};

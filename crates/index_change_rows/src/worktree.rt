@@ -1,6 +1,6 @@
 //! The rows about entries beside files of the work tree: modes, stats and times.
 
-use gix_index::bitflags::Flags as _;
+use gix_index::BitFlags as _;
 use gix_index::entry::mode::Change;
 use gix_index::entry::stat::{Options, Time};
 use gix_index::entry::{FileTime, Mode, Stat};

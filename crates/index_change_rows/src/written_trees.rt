@@ -4,7 +4,7 @@ ghost use Rattle.std.specs.Prelude.{None, Some};
 
 use crate::objects::check_of;
 use crate::trees::tree_of;
-use gix_index::bitflags::Flags as _;
+use gix_index::BitFlags as _;
 use gix_index::extension::Tree;
 use gix_index::hash::{Kind, ObjectId};
 use gix_index::verify::tree_ids;

@@ -11,11 +11,11 @@ use Rattle.index_inspect.proofs.SpelledFronts.{bytes_spelled}
 use Rattle.gix_index.specs.DecodeError.{Error}
 use Rattle.index_inspect.specs.Division.{Divides, IsBehindEntries, IsDivided, IsFileEnd, lacks, crowded, short, walked}
 use Rattle.index_inspect.specs.Division.{faulty, left, broken, whole, headless, headed}
-use Rattle.index_inspect.specs.Piece.{LieBetween, Piece, bytes_of, item_pieces, laid, one_piece, some_piece}
+use Rattle.index_map.specs.Piece.{LieBetween, Piece, bytes_of, item_pieces, laid, one_piece, some_piece}
 use Rattle.index_inspect.specs.Spelling.{Spelling, entry_pieces}
-use Rattle.index_inspect.specs.declared.part.Part.{Part}
-use Rattle.index_inspect.specs.declared.part.What.{What}
-use Rattle.index_inspect.specs.declared.part.What.TheVariants as whats
+use Rattle.index_map.specs.declared.part.Part.{Part}
+use Rattle.index_map.specs.declared.part.What.{What}
+use Rattle.index_map.specs.declared.part.What.TheVariants as whats
 
 pub lie_laid : (n m : ℕ) (ps : List Piece) → m ≡ n + length (bytes_of ps) → LieBetween n (laid n ps) m
 lie_laid n m [] e = omega arith

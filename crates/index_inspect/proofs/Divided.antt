@@ -6,9 +6,9 @@ use Rattle.gix_index.specs.DecodeError.{Error}
 use Rattle.index_inspect.proofs.Laid.{grown_more}
 use Rattle.index_inspect.specs.Division.{TellsFault, fault_of}
 use Rattle.index_inspect.specs.DivisionSteps.{Grows}
-use Rattle.index_inspect.specs.Piece.{Piece, bytes_of, laid}
+use Rattle.index_map.specs.Piece.{Piece, bytes_of, laid}
 use Rattle.index_inspect.specs.declared.division.Ending.{Ending}
-use Rattle.index_inspect.specs.declared.part.Part.{Part}
+use Rattle.index_map.specs.declared.part.Part.{Part}
 
 pub if_ok_both : {A E : Type 0} (r : Result A E) (P Q R : A → Type 0) → IfOk r P → IfOk r Q
     → ((x : A) → P x → Q x → R x) → IfOk r R

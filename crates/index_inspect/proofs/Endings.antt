@@ -17,13 +17,13 @@ use Rattle.gix_index.specs.Version.{Version}
 use Rattle.index_inspect.specs.Division.{IsBehindEntries, IsFileEnd, NoEntryBehind, lacks, crowded, short, walked}
 use Rattle.index_inspect.specs.Division.{faulty, left, broken, whole, headed, unread_piece}
 use Rattle.index_inspect.specs.DivisionSteps.{EndsDivision, GoesOn}
-use Rattle.index_inspect.specs.Piece.{LieBetween, Piece, bytes_of, item_pieces, laid, one_piece, some_piece}
+use Rattle.index_map.specs.Piece.{LieBetween, Piece, bytes_of, item_pieces, laid, one_piece, some_piece}
 use Rattle.index_inspect.specs.Remains.{begin_or_zero, has_link, is_link_content, is_link_fault, is_link_head}
 use Rattle.index_inspect.specs.Remains.{last_begin, last_link}
 use Rattle.index_inspect.specs.Spelling.{Spelling, AreSpelled, entries_spelled, entry_pieces}
 use Rattle.index_inspect.specs.declared.division.Ending.{Ending}
-use Rattle.index_inspect.specs.declared.part.Part.{Part}
-use Rattle.index_inspect.specs.declared.part.What.TheVariants as whats
+use Rattle.index_map.specs.declared.part.Part.{Part}
+use Rattle.index_map.specs.declared.part.What.TheVariants as whats
 use Rattle.index_inspect.proofs.Covered.{behind_covered, lie_laid}
 use Rattle.index_inspect.proofs.Fronts.{header_long}
 use Rattle.index_inspect.proofs.Laid.{laid_more}

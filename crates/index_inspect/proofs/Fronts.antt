@@ -13,11 +13,11 @@ use Rattle.index_inspect.proofs.SpelledFronts.{front_len}
 use Rattle.index_inspect.specs.Division.{Divides, NoEntryBehind, headed}
 use Rattle.index_inspect.specs.DivisionSteps.{GoesOn}
 use Rattle.index_inspect.specs.FrontSteps.{IsFront}
-use Rattle.index_inspect.specs.Piece.{Piece, bytes_of, laid, one_piece}
+use Rattle.index_map.specs.Piece.{Piece, bytes_of, laid, one_piece}
 use Rattle.index_inspect.specs.Spelling.{Spelling, entry_pieces}
 use Rattle.index_inspect.specs.declared.division.Ending.{Ending}
-use Rattle.index_inspect.specs.declared.part.Part.{Part}
-use Rattle.index_inspect.specs.declared.part.What.TheVariants as whats
+use Rattle.index_map.specs.declared.part.Part.{Part}
+use Rattle.index_map.specs.declared.part.What.TheVariants as whats
 
 long_by : {A E : Type 0} (t : Bool) (n m : ℕ) (e : E) (r : Result A E) (v : A) → ltb n m ≡ t
     → cond t (Err e) r ≡ Ok v → m ≤ n

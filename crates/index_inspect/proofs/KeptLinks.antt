@@ -9,12 +9,12 @@ use Rattle.gix_index.specs.Kind.{Kind}
 use Rattle.gix_index.specs.Record.{Record}
 use Rattle.gix_index.specs.Walk.{Item}
 use Rattle.index_inspect.specs.Division.{Divides, IsFileEnd, faulty, left, broken, whole}
-use Rattle.index_inspect.specs.Piece.{Piece, bytes_of, item_pieces, laid, one_piece, some_piece}
+use Rattle.index_map.specs.Piece.{Piece, bytes_of, item_pieces, laid, one_piece, some_piece}
 use Rattle.index_inspect.specs.Remains.{is_link_content, last_link, link_content, part_bytes}
 use Rattle.index_inspect.specs.Spelling.{Spelling, entry_pieces}
-use Rattle.index_inspect.specs.declared.part.Part.{Part}
-use Rattle.index_inspect.specs.declared.part.What.{What}
-use Rattle.index_inspect.specs.declared.part.What.TheVariants as whats
+use Rattle.index_map.specs.declared.part.Part.{Part}
+use Rattle.index_map.specs.declared.part.What.{What}
+use Rattle.index_map.specs.declared.part.What.TheVariants as whats
 use Rattle.index_inspect.proofs.Covered.{all_covered}
 use Rattle.index_inspect.proofs.LastLinks.{or_else_assoc, or_else_none}
 use Rattle.gix_index.specs.DecodeError.{Error}

@@ -3,10 +3,10 @@ use Rattle.std.proofs.Common.{◌≡◌, ℕ, ◌+◌, List, [], ◌∷◌, ◌+
 use Rattle.std.proofs.Common.{append-nil, length-append, drop_at, arith}
 use Rattle.std.proofs.lemmas.Grind.{flat_map-append}
 use Rattle.gix_index.specs.Walk.{Item, AreItems}
-use Rattle.index_inspect.specs.Piece.{Piece, bytes_of, item_pieces, laid, one_piece, pieces_of_item, some_piece}
-use Rattle.index_inspect.specs.declared.part.Part.{Part}
-use Rattle.index_inspect.specs.declared.part.What.{What}
-use Rattle.index_inspect.specs.declared.part.What.TheVariants as whats
+use Rattle.index_map.specs.Piece.{Piece, bytes_of, item_pieces, laid, one_piece, pieces_of_item, some_piece}
+use Rattle.index_map.specs.declared.part.Part.{Part}
+use Rattle.index_map.specs.declared.part.What.{What}
+use Rattle.index_map.specs.declared.part.What.TheVariants as whats
 
 pub bytes_append : (ps qs : List Piece) → bytes_of (ps ++ qs) ≡ bytes_of ps ++ bytes_of qs
 bytes_append ps qs = flat_map-append (λ (p : Piece). p.bytes) ps qs

@@ -4,9 +4,9 @@ use Rattle.std.proofs.Common.{Option, Some, None, refl, sym, ap, subst, ◌∙�
 use Rattle.std.specs.Prelude.{if◌then◌else◌}
 use Rattle.std.proofs.lemmas.List.{take_more}
 use Rattle.gix_index.specs.ExtensionValue.{or_else}
-use Rattle.index_inspect.specs.Piece.{LieBetween}
+use Rattle.index_map.specs.Piece.{LieBetween}
 use Rattle.index_inspect.specs.Remains.{is_link_content, last_link}
-use Rattle.index_inspect.specs.declared.part.Part.{Part}
+use Rattle.index_map.specs.declared.part.Part.{Part}
 
 -- the part, where it is the content of a link
 abbrev own_link : Part → Option Part

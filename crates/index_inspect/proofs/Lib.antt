@@ -7,8 +7,6 @@ mod KeptLinks
 mod Laid
 mod LastLinks
 mod Links
-mod MarkContents
-pub mod Printed
 mod ReadFronts
 mod Readable
 mod Remaining

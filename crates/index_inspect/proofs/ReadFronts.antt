@@ -16,9 +16,9 @@ use Rattle.gix_index.specs.Storable.{IsStorable}
 use Rattle.gix_index.specs.Version.{Version}
 use Rattle.gix_index.specs.Version.TheVariants.{V2}
 use Rattle.index_inspect.specs.Division.{Divides, IsDivided, headless, headed}
-use Rattle.index_inspect.specs.Piece.{Piece}
+use Rattle.index_map.specs.Piece.{Piece}
 use Rattle.index_inspect.specs.Spelling.{entries_spelled}
-use Rattle.index_inspect.specs.declared.part.Part.{Part}
+use Rattle.index_map.specs.declared.part.Part.{Part}
 use Rattle.index_inspect.proofs.Readable.{entries_of}
 
 -- elements of a slice of bytes are bytes

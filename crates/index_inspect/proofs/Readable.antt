@@ -30,7 +30,7 @@ use Rattle.gix_index.specs.Walk.{Item, AreItems, NoItem, left_of}
 use Rattle.index_inspect.specs.Division.{IsBehindEntries, IsCrowded, IsDivided, IsFileEnd, lacks, crowded, short}
 use Rattle.index_inspect.specs.Division.{walked, faulty, left, broken, whole, headless, headed}
 use Rattle.index_inspect.specs.Laws.{IsReadAs}
-use Rattle.index_inspect.specs.Piece.{Piece}
+use Rattle.index_map.specs.Piece.{Piece}
 use Rattle.index_inspect.specs.Spelling.{Spelling, AreSpelled, IsSpelled, entries_spelled}
 
 entry_of : (version : Version) (kind : Kind) (previous : Option (List ℕ)) (bytes : List ℕ) (s : Spelling)

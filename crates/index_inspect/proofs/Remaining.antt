@@ -16,7 +16,7 @@ use Rattle.index_inspect.specs.Division.{Divides}
 use Rattle.index_inspect.specs.DivisionSteps.{EndsDivision}
 use Rattle.index_inspect.specs.Remains.{Remain, has_link, last_begin, link_content, part_bytes}
 use Rattle.index_inspect.specs.SalvageSteps.{IsIndexOf}
-use Rattle.index_inspect.specs.declared.part.Part.{Part}
+use Rattle.index_map.specs.declared.part.Part.{Part}
 use Rattle.index_inspect.specs.declared.remains.Remains.{Remains}
 use Rattle.index_inspect.proofs.ReadFronts.{divided_storable}
 

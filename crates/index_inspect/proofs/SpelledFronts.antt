@@ -8,10 +8,10 @@ use Rattle.gix_index.specs.Record.{Record}
 use Rattle.gix_index.specs.Version.{Version}
 use Rattle.index_inspect.proofs.Laid.{bytes_append, bytes_some, laid_more}
 use Rattle.index_inspect.proofs.Spelled.{spelled_parts}
-use Rattle.index_inspect.specs.Piece.{Piece, bytes_of, laid, one_piece, some_piece}
+use Rattle.index_map.specs.Piece.{Piece, bytes_of, laid, one_piece, some_piece}
 use Rattle.index_inspect.specs.Spelling.{Spelling, AreSpelled, IsSpelled, entries_spelled, entry_pieces}
-use Rattle.index_inspect.specs.declared.part.Part.{Part}
-use Rattle.index_inspect.specs.declared.part.What.TheVariants as whats
+use Rattle.index_map.specs.declared.part.Part.{Part}
+use Rattle.index_map.specs.declared.part.What.TheVariants as whats
 
 pub spelled_push : (version : Version) (kind : Kind) (previous : Option (List ℕ)) (bytes : List ℕ) (ss : List Spelling)
     (s : Spelling) (middle rest : List ℕ) → AreSpelled version kind previous bytes ss middle

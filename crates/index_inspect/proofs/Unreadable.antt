@@ -29,7 +29,7 @@ use Rattle.index_inspect.proofs.Readable.{IsAnswered, by_false, by_ok, entries_o
 use Rattle.index_inspect.specs.Division.{IsBehindEntries, IsCrowded, IsDivided, IsFileEnd, NoEntryBehind, lacks}
 use Rattle.index_inspect.specs.Division.{crowded, short, walked, faulty, left, broken, whole, headless, headed}
 use Rattle.index_inspect.specs.Laws.{IsNoIndex}
-use Rattle.index_inspect.specs.Piece.{Piece}
+use Rattle.index_map.specs.Piece.{Piece}
 use Rattle.index_inspect.specs.Spelling.{Spelling, AreSpelled, entries_spelled}
 
 by_true : (t : Bool) (P Q : Type 0) → t ≡ true → P → MatchBool t P Q

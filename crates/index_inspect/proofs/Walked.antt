@@ -10,10 +10,10 @@ use Rattle.index_inspect.proofs.Laid.{behind_items, grown_more, items_end, tail_
 use Rattle.index_inspect.specs.Division.{IsFileEnd, fault_of, unread_piece}
 use Rattle.index_inspect.specs.DivisionSteps.{EndsIn, WalksOn}
 use Rattle.index_inspect.specs.ItemSteps.{IsWalked}
-use Rattle.index_inspect.specs.Piece.{bytes_of, item_pieces, laid}
+use Rattle.index_map.specs.Piece.{bytes_of, item_pieces, laid}
 use Rattle.index_inspect.specs.declared.division.Ending.{Ending}
 use Rattle.index_inspect.specs.declared.items.Walked.{Walked}
-use Rattle.index_inspect.specs.declared.part.Part.{Part}
+use Rattle.index_map.specs.declared.part.Part.{Part}
 
 pub split_parts : (n : ℕ) (l a b : List ℕ) → a ≡ take n l → b ≡ drop n l → l ≡ a ++ b
 split_parts n l a b e f = rw (e, f) (sym (take-append-drop n l))

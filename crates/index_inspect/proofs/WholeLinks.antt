@@ -21,9 +21,9 @@ use Rattle.gix_index.specs.Version.{Version}
 use Rattle.gix_index.specs.Walk.{Item, AreItems}
 use Rattle.index_inspect.specs.Division.{IsBehindEntries, IsCrowded, IsDivided, IsFileEnd, lacks, crowded, short}
 use Rattle.index_inspect.specs.Division.{walked, faulty, left, broken, whole, headless, headed}
-use Rattle.index_inspect.specs.Piece.{Piece, one_piece}
+use Rattle.index_map.specs.Piece.{Piece, one_piece}
 use Rattle.index_inspect.specs.Spelling.{Spelling, AreSpelled, entries_spelled, entry_pieces}
-use Rattle.index_inspect.specs.declared.part.What.TheVariants as whats
+use Rattle.index_map.specs.declared.part.What.TheVariants as whats
 use Rattle.index_inspect.proofs.KeptLinks.{link_piece, walked_link}
 use Rattle.index_inspect.proofs.Readable.{IsAnswered, whole_answer}
 use Rattle.index_inspect.proofs.Unreadable.{crowded_refused, ending_refused, faulty_refused, headless_refused}

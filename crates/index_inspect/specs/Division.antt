@@ -19,10 +19,10 @@ use Rattle.gix_index.specs.Outcome.{AreSound, ExtensionFault, IsFault}
 use Rattle.gix_index.specs.Record.{Record}
 use Rattle.gix_index.specs.Version.{Version}
 use Rattle.gix_index.specs.Walk.{Item, AreItems, IsItem, NoItem, left_of}
-use Rattle.index_inspect.specs.Piece.{Piece, item_pieces, laid, one_piece, some_piece}
+use Rattle.index_map.specs.Piece.{Piece, item_pieces, laid, one_piece, some_piece}
 use Rattle.index_inspect.specs.Spelling.{Spelling, AreSpelled, entries_spelled, entry_pieces}
-use Rattle.index_inspect.specs.declared.part.Part.{Part}
-use Rattle.index_inspect.specs.declared.part.What.TheVariants as whats
+use Rattle.index_map.specs.declared.part.Part.{Part}
+use Rattle.index_map.specs.declared.part.What.TheVariants as whats
 
 -- what all the bytes from a fault on are
 abbrev pub unread_piece : List ℕ → List Piece

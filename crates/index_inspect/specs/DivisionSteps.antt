@@ -9,11 +9,11 @@ use Rattle.gix_index.specs.Walk.{Item, AreItems}
 use Rattle.gix_index.specs.DecodeError.{Error}
 use Rattle.gix_index.specs.Record.{Record}
 use Rattle.index_inspect.specs.Division.{Divides, IsBehindEntries, IsFileEnd, TellsFault}
-use Rattle.index_inspect.specs.Piece.{LieBetween, Piece, item_pieces, laid}
+use Rattle.index_map.specs.Piece.{LieBetween, Piece, item_pieces, laid}
 use Rattle.index_inspect.specs.Remains.{has_link, last_begin, last_link}
 use Rattle.index_inspect.specs.Spelling.{Spelling}
 use Rattle.index_inspect.specs.declared.division.Ending.{Ending}
-use Rattle.index_inspect.specs.declared.part.Part.{Part}
+use Rattle.index_map.specs.declared.part.Part.{Part}
 
 -- pieces came behind parts, from a place on, with an error for the fault
 pub record Grows (place : ℕ) (old : List Part) (e : Ending) (pieces : List Piece) (fault : Option Fault) : Type 0 where

@@ -9,10 +9,10 @@ use Rattle.gix_index.specs.Record.{Record}
 use Rattle.gix_index.specs.Version.{Version}
 use Rattle.gix_index.specs.Version.TheVariants.{V2, V3, V4}
 use Rattle.index_inspect.specs.Division.{NoEntryBehind}
-use Rattle.index_inspect.specs.Piece.{laid, one_piece}
+use Rattle.index_map.specs.Piece.{laid, one_piece}
 use Rattle.index_inspect.specs.Spelling.{Spelling, AreSpelled, entries_spelled, entry_pieces}
-use Rattle.index_inspect.specs.declared.part.Part.{Part}
-use Rattle.index_inspect.specs.declared.part.What.TheVariants as whats
+use Rattle.index_map.specs.declared.part.Part.{Part}
+use Rattle.index_map.specs.declared.part.What.TheVariants as whats
 
 -- the bytes before an entry's path: numbers and the first word, the id, and a second word where the flags ask for it
 abbrev pub head_len : Kind → ℕ → ℕ

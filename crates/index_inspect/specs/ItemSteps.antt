@@ -7,9 +7,9 @@ use Rattle.gix_index.specs.Kind.{Kind}
 use Rattle.gix_index.specs.Link.{LinkFault, IsLinkFault}
 use Rattle.gix_index.specs.Outcome.{AreSound, ExtensionFault, IsFault, Link}
 use Rattle.gix_index.specs.Walk.{Item, AreItems, IsItem, NoItem, left_of}
-use Rattle.index_inspect.specs.Piece.{item_pieces, laid}
+use Rattle.index_map.specs.Piece.{item_pieces, laid}
 use Rattle.index_inspect.specs.declared.items.Walked.{Walked}
-use Rattle.index_inspect.specs.declared.part.Part.{Part}
+use Rattle.index_map.specs.declared.part.Part.{Part}
 
 -- the content of a link has no fault
 abbrev pub IsSoundLink : Kind → List ℕ → Type 0

@@ -1,12 +1,8 @@
 pub mod Division
 pub mod DivisionSteps
-pub mod Escaped
 pub mod FrontSteps
 pub mod ItemSteps
 pub mod Laws
-pub mod Lines
-pub mod Marks
-pub mod Piece
 pub mod Remains
 pub mod Salvage
 pub mod SalvageSteps

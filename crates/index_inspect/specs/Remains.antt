@@ -20,9 +20,9 @@ use Rattle.gix_index.specs.State.{PathsInStorage, contents, records}
 use Rattle.gix_index.specs.StateType.{State}
 use Rattle.gix_index.specs.Storable.{IsStorable}
 use Rattle.index_inspect.specs.Division.{Divides}
-use Rattle.index_inspect.specs.declared.part.Part.{Part}
-use Rattle.index_inspect.specs.declared.part.What.{What}
-use Rattle.index_inspect.specs.declared.part.What.TheVariants as whats
+use Rattle.index_map.specs.declared.part.Part.{Part}
+use Rattle.index_map.specs.declared.part.What.{What}
+use Rattle.index_map.specs.declared.part.What.TheVariants as whats
 use Rattle.index_inspect.specs.declared.remains.Error.{Error as RemainsError}
 use Rattle.index_inspect.specs.declared.remains.Error.TheVariants as refusals
 use Rattle.index_inspect.specs.declared.remains.Remains.{Remains}

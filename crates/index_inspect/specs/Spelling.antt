@@ -5,8 +5,8 @@ use Rattle.gix_index.specs.Kind.{Kind}
 use Rattle.gix_index.specs.Record.{Record}
 use Rattle.gix_index.specs.Version.{Version}
 use Rattle.gix_index.specs.Version.TheVariants.{V2, V3, V4}
-use Rattle.index_inspect.specs.Piece.{Piece, some_piece}
-use Rattle.index_inspect.specs.declared.part.What.TheVariants as whats
+use Rattle.index_map.specs.Piece.{Piece, some_piece}
+use Rattle.index_map.specs.declared.part.What.TheVariants as whats
 
 -- an entry, its bytes up to the end of its path, and its padding
 pub record Spelling : Type 0 where

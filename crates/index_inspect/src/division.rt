@@ -8,12 +8,11 @@ ghost use Rattle.gix_index.specs.Kind.{Kind as KindType};
 ghost use Rattle.gix_index.specs.Walk.{NoItem, left_of};
 ghost use Rattle.index_inspect.specs.Division.{Divides, IsCrowded, NoEntryBehind, unread_piece};
 ghost use Rattle.index_inspect.specs.DivisionSteps.{EndsDivision, EndsIn, GoesOn, WalksOn};
-ghost use Rattle.index_inspect.specs.Piece.{LieBetween, laid};
+ghost use Rattle.index_map.specs.Piece.{LieBetween, laid};
 ghost use Rattle.index_inspect.specs.Spelling.{Spelling};
 
 use crate::front::{Front, HEADER_LEN, read_front};
 use crate::items::{Walked, walk_items};
-use crate::part::{Part, What, push_part, push_some};
 use gix_index::Version;
 use gix_index::decode::entries::{
     FirstEntries, entries_in, estimate_path_storage_requirements_in_bytes, max_entries_possible,
@@ -23,6 +22,7 @@ use gix_index::decode::{Error, header};
 use gix_index::extension::end_of_index_entry;
 use gix_index::file::init::check;
 use gix_index::hash::Kind;
+use index_map::part::{Part, What, push_part, push_some};
 use std::alloc::{AllocError, Global};
 
 /// The parts of a file, the entries that were read, and the first fault.

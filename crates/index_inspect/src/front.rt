@@ -3,14 +3,13 @@
 ghost use Rattle.std.specs.Prelude.{◌≡◌, ◌≤◌, ◌+◌, ℕ, List, length, drop, take, min, IfOk, OnOk, [], ◌++◌};
 ghost use Rattle.gix_index.specs.Header.{header_len};
 ghost use Rattle.index_inspect.specs.FrontSteps.{IsFront, own_len, head_len};
-ghost use Rattle.index_inspect.specs.Piece.{laid, some_piece, one_piece};
+ghost use Rattle.index_map.specs.Piece.{laid, some_piece, one_piece};
 
-use crate::part::{Part, What, push_part, push_some};
-use gix_index::Version;
-use gix_index::bitflags::Flags as _;
 use gix_index::decode::entry::{EntryList, Lent, entry_of};
 use gix_index::entry::Flags;
 use gix_index::hash::Kind;
+use gix_index::{BitFlags as _, Version};
+use index_map::part::{Part, What, push_part, push_some};
 use std::alloc::{AllocError, Global};
 
 /// The bytes of a header.

@@ -5,11 +5,11 @@ ghost use Rattle.gix_index.specs.Kind.{Kind as KindType};
 ghost use Rattle.gix_index.specs.Link.{SaysLink};
 ghost use Rattle.index_inspect.specs.ItemSteps.{IsWalked, IsSoundItem, IsSoundLink, TellsItem, TellsLink};
 
-use crate::part::{Part, What, push_part};
 use gix_index::decode::Error;
 use gix_index::extension::decode::Error as ExtensionError;
 use gix_index::extension::{Iter, MIN_SIZE, Signature, is_understood, link};
 use gix_index::hash::Kind;
+use index_map::part::{Part, What, push_part};
 use std::alloc::{AllocError, Global};
 
 /// The parts of a file up to the end of its extensions, or to the first at fault.

@@ -13,7 +13,7 @@ ghost use Rattle.gix_index.specs.Record.{Record};
 ghost use Rattle.gix_index.specs.State.{records};
 ghost use Rattle.index_inspect.specs.Division.{IsDivided};
 ghost use Rattle.index_inspect.specs.Laws.{AreWhole, IsAlone, IsReadAndSaved, IsReadAs, IsNoIndex};
-ghost use Rattle.index_inspect.specs.Piece.{Piece};
+ghost use Rattle.index_map.specs.Piece.{Piece};
 ghost use Rattle.index_inspect.specs.Salvage.{IsSavedOf};
 ghost use Rattle.index_inspect.specs.declared.remains.Remains.{Remains};
 ghost use Rattle.index_inspect.specs.declared.salvage.Salvaged.{Salvaged};

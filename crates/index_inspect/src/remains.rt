@@ -7,13 +7,12 @@ ghost use Rattle.gix_index.specs.Kind.{Kind as KindType};
 ghost use Rattle.gix_index.specs.Link.{IsLink, link_of};
 ghost use Rattle.gix_index.specs.Record.{Record};
 ghost use Rattle.gix_index.specs.State.{contents, records};
-ghost use Rattle.index_inspect.specs.Piece.{LieBetween};
+ghost use Rattle.index_map.specs.Piece.{LieBetween};
 ghost use Rattle.index_inspect.specs.Remains.{IsPlainIndex, Remain, SaysLost, has_link, is_link_content, is_link_fault, is_link_head, last_begin, last_link, link_content, wanted_id};
 ghost use Rattle.index_inspect.specs.SalvageSteps.{IsHeld, IsIndexOf};
 ghost use Rattle.index_inspect.specs.declared.remains.Error.TheVariants.{Memory};
 
 use crate::division::{Division, divide_ending};
-use crate::part::{Part, What};
 use gix_index::decode::entry::EntrySlice;
 use gix_index::decode::header;
 use gix_index::entry::FileTime;
@@ -22,6 +21,7 @@ use gix_index::extension::{Link, link};
 use gix_index::hash::{Kind, ObjectId};
 use gix_index::init::from_entries;
 use gix_index::{State, decode};
+use index_map::part::{Part, What};
 use std::alloc::{AllocError, Global};
 use thiserror::Error;
 

@@ -3,8 +3,8 @@ use Rattle.std.proofs.Common.{◌≡◌, ℕ, ◌+◌, ◌<◌, ◌≤◌, List,
 use Rattle.std.proofs.Common.{◌∙◌}
 use Rattle.std.specs.List.{enumerate_from, flat_map}
 use Rattle.index_json.specs.Values.{listed, separator}
-use Rattle.index_show.proofs.Appended.{four_more, two_more}
-use Rattle.index_show.proofs.Placed.{placed_all, placed_more}
+use Rattle.index_text.proofs.Appended.{four_more, two_more}
+use Rattle.index_text.proofs.Placed.{placed_all, placed_more}
 
 -- the values that items stand for, with commas between them
 abbrev pub listed_as : {X Y : Type 0} → (Y → List ℕ) → (X → Y) → List X → List ℕ

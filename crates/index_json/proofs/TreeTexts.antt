@@ -2,13 +2,13 @@
 use Rattle.std.proofs.Common.{◌≡◌, ℕ, ◌+◌, List, [], ◌∷◌, ◌++◌, codes, map, refl, sym, ap, ◌∙◌}
 use Rattle.std.specs.List.{enumerate_from, flat_map}
 use Rattle.std.proofs.lemmas.List.Concat.{flat_map-cons}
-use Rattle.gix_index.specs.Tree.{Node, node_of, node_step, nodes_from}
-use Rattle.gix_index.specs.TreeType.{Tree}
-use Rattle.gix_index.specs.TreeType.TheFolds.{fold_out-Tree}
-use Rattle.gix_index.specs.TreeType.TheViews.{out-Tree}
+use Rattle.index_cached_tree.specs.Tree.{Node, node_of, node_step, nodes_from}
+use Rattle.index_cached_tree.specs.declared.Tree.{Tree}
+use Rattle.index_cached_tree.specs.declared.Tree.TheFolds.{fold_out-Tree}
+use Rattle.index_cached_tree.specs.declared.Tree.TheViews.{out-Tree}
 use Rattle.index_json.specs.TreeValues.{directory_members, tree_value, tree_values}
 use Rattle.index_json.specs.Values.{listed, separator}
-use Rattle.index_show.proofs.Appended.{four_more}
+use Rattle.index_text.proofs.Appended.{four_more}
 
 all_listed : (k : ℕ) (ts : List Tree)
     → tree_values k (nodes_from (map node_of ts))

@@ -1,11 +1,11 @@
 -- The values of a bitmap, and of what has one: a link and a file system monitor (the library's own; the parts are those
 -- of gitformat-index, "Split index" and "File System Monitor cache").
 use Rattle.std.specs.Prelude.{ℕ, ◌-◌, Bool, List, ◌++◌, codes, decimal, Option, Some, None}
-use Rattle.gix_index.specs.Bitmap.{Bitmap}
-use Rattle.gix_index.specs.FsMonitor.{Monitor, TokenValue, nanoseconds, opaque}
-use Rattle.gix_index.specs.Link.{BitmapPair, LinkValue}
-use Rattle.index_show.specs.Ranges.{breaks_below, set_places, set_ranges}
-use Rattle.index_show.specs.declared.ranges.Range.{Range}
+use Rattle.index_bitmaps.specs.Bitmap.{Bitmap}
+use Rattle.index_small_extensions.specs.FsMonitor.{Monitor, TokenValue, nanoseconds, opaque}
+use Rattle.index_split.specs.Link.{BitmapPair, LinkValue}
+use Rattle.index_bitmaps.specs.Ranges.{breaks_below, set_places, set_ranges}
+use Rattle.index_bitmaps.specs.declared.ranges.Range.{Range}
 use Rattle.index_json.specs.Values.{array, id_member, json_bool, member, number_member, text_member}
 
 -- a range's first place, and how many places it has

@@ -1,9 +1,9 @@
 -- The value of an entry (the library's own; the parts of an entry are those of gitformat-index, "Index entry").
 use Rattle.std.specs.Prelude.{List, ℕ, ◌++◌, codes}
-use Rattle.gix_index.specs.Flags.{stage_number}
-use Rattle.gix_index.specs.Record.{Record}
-use Rattle.gix_index.specs.StatType.{Stat}
-use Rattle.gix_index.specs.Time.{Time}
+use Rattle.index_metadata.specs.Flags.{stage_number}
+use Rattle.index_entries.specs.Record.{Record}
+use Rattle.index_metadata.specs.declared.entry.stat.Stat.{Stat}
+use Rattle.index_metadata.specs.declared.entry.stat.Time.{Time}
 use Rattle.index_json.specs.Values.{id_member, member, number_member, text_member}
 
 abbrev pub time_value : Time → List ℕ

@@ -1,11 +1,11 @@
 -- All that an index file holds, as one JSON text on one line (the library's own; the text is that of RFC 8259).
 use Rattle.std.specs.Prelude.{List, ℕ, ◌++◌, codes, Option}
-use Rattle.gix_index.specs.Contents.{Contents}
-use Rattle.gix_index.specs.EntryImage.{version_code}
-use Rattle.gix_index.specs.Outcome.{Outcome}
-use Rattle.gix_index.specs.ObjectId.{ObjectId}
-use Rattle.gix_index.specs.Record.{Record}
-use Rattle.index_inspect.specs.declared.marks.Marks.{Marks}
+use Rattle.index_format.specs.Contents.{Contents}
+use Rattle.index_entries.specs.EntryImage.{version_code}
+use Rattle.index_format.specs.Outcome.{Outcome}
+use Rattle.index_parts.specs.declared.hash.ObjectId.{ObjectId}
+use Rattle.index_entries.specs.Record.{Record}
+use Rattle.index_marks.specs.declared.Marks.{Marks}
 use Rattle.index_json.specs.BitmapValues.{link_or_null, monitor_or_null}
 use Rattle.index_json.specs.EntryValues.{entry_value}
 use Rattle.index_json.specs.MarkValues.{mark_members}

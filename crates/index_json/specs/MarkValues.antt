@@ -2,9 +2,9 @@
 -- Entry Offset Table" and "End of Index Entry").
 use Rattle.std.specs.Prelude.{ℕ, Bool, List, ◌++◌, codes, Option, Some, None}
 use Rattle.std.specs.Option.{option_map}
-use Rattle.gix_index.specs.OffsetType.{Offset}
-use Rattle.index_inspect.specs.declared.marks.EndMark.{EndMark}
-use Rattle.index_inspect.specs.declared.marks.Marks.{Marks}
+use Rattle.index_small_extensions.specs.declared.index_entry_offset_table.Offset.{Offset}
+use Rattle.index_marks.specs.declared.EndMark.{EndMark}
+use Rattle.index_marks.specs.declared.Marks.{Marks}
 use Rattle.index_json.specs.Values.{array, id_member, json_bool, member, number_member}
 
 -- where a block of entries begins, and how many it has

@@ -1,7 +1,7 @@
 -- The value of a cached tree (the library's own; the parts of a directory are those of gitformat-index, "Cache tree").
 use Rattle.std.specs.Prelude.{ℕ, ◌+◌, List, [], ◌++◌, codes, Option, Some, None}
-use Rattle.gix_index.specs.ObjectId.{ObjectId}
-use Rattle.gix_index.specs.Tree.{Node, Nodes, node, none, more}
+use Rattle.index_parts.specs.declared.hash.ObjectId.{ObjectId}
+use Rattle.index_cached_tree.specs.Tree.{Node, Nodes, node, none, more}
 use Rattle.index_json.specs.Values.{id_member, member, number_or_null, separator, text_member}
 
 -- a directory's name, its id, and the number of entries below it where that is known

@@ -1,8 +1,8 @@
 -- The values of conflicts that were resolved (the library's own; the parts are those of gitformat-index,
 -- "Resolve undo").
 use Rattle.std.specs.Prelude.{ℕ, List, ◌++◌, codes, Option, Some, None, slice_index_or}
-use Rattle.gix_index.specs.ResolveStage.{Stage}
-use Rattle.gix_index.specs.ResolveUndo.{PathStages}
+use Rattle.index_small_extensions.specs.declared.resolve_undo.Stage.{Stage}
+use Rattle.index_small_extensions.specs.ResolveUndo.{PathStages}
 use Rattle.index_json.specs.Values.{array, id_member, member, number_member, text_member}
 
 -- the mode and the id of a side, or null

@@ -1,9 +1,9 @@
 -- The value of an untracked cache (the library's own; the parts are those of gitformat-index, "Untracked cache").
 use Rattle.std.specs.Prelude.{ℕ, List, ◌++◌, codes, decimal, Option, Some, None}
-use Rattle.gix_index.specs.Blocks.{DirectoryValue}
-use Rattle.gix_index.specs.OidStat.{OidStat}
-use Rattle.gix_index.specs.StatType.{Stat}
-use Rattle.gix_index.specs.Untracked.{Cache, Preamble}
+use Rattle.index_untracked.specs.Blocks.{DirectoryValue}
+use Rattle.index_untracked.specs.declared.OidStat.{OidStat}
+use Rattle.index_metadata.specs.declared.entry.stat.Stat.{Stat}
+use Rattle.index_untracked.specs.Untracked.{Cache, Preamble}
 use Rattle.index_json.specs.EntryValues.{stat_value}
 use Rattle.index_json.specs.Values.{array, id_member, id_or_null, json_bool, member, number_member, text_member}
 

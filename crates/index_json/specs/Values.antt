@@ -6,8 +6,8 @@ use Rattle.std.specs.List.{enumerate_from, flat_map}
 use Rattle.std.specs.Str.{is_utf8}
 use Rattle.hex.specs.Hex.{encode_lower}
 use Rattle.json.specs.Print.{quoted}
-use Rattle.gix_index.specs.Id.{id_bytes}
-use Rattle.gix_index.specs.ObjectId.{ObjectId}
+use Rattle.index_parts.specs.Id.{id_bytes}
+use Rattle.index_parts.specs.declared.hash.ObjectId.{ObjectId}
 
 -- a string of these bytes, which are UTF-8
 abbrev pub json_string : List ℕ → List ℕ

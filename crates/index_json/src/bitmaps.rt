@@ -2,22 +2,24 @@
 
 ghost use Rattle.std.specs.Prelude.{◌≡◌, ◌-◌, ◌++◌, OnOk, codes, decimal};
 ghost use Rattle.std.specs.Option.{option_map};
-ghost use Rattle.gix_index.specs.Bitmap.{bitmap};
-ghost use Rattle.gix_index.specs.FsMonitor.{monitor_of, token_value};
-ghost use Rattle.gix_index.specs.Link.{link_of, pair_of};
-ghost use Rattle.gix_index.specs.State.{contents};
+ghost use Rattle.index_bitmaps.specs.Bitmap.{bitmap};
+ghost use Rattle.index_small_extensions.specs.FsMonitor.{monitor_of, token_value};
+ghost use Rattle.index_split.specs.Link.{link_of, pair_of};
+ghost use Rattle.index_state.specs.State.{contents};
 ghost use Rattle.index_json.specs.BitmapValues.{bitmap_value, bits_value, link_or_null, monitor_or_null, pair_or_null, range_value, token_member, watch_value};
 ghost use Rattle.index_json.specs.Values.{array, listed, member};
 
 use crate::values::{
-    append_bool_member, append_id_member, append_name, append_number, append_number_member,
-    append_separator, append_text_member,
+    append_bool_member, append_id_member, append_name, append_number_member, append_separator,
+    append_text_member,
 };
-use gix_index::extension::fs_monitor::Token;
-use gix_index::extension::link::Bitmaps;
-use gix_index::extension::{FsMonitor, Link};
-use gix_index::{State, ewah};
-use index_show::ranges::{Range, SetBits, set_bits};
+use index_bitmaps::ewah;
+use index_bitmaps::ranges::{Range, SetBits, set_bits};
+use index_small_extensions::FsMonitor;
+use index_small_extensions::fs_monitor::Token;
+use index_split::link::{Bitmaps, Link};
+use index_state::State;
+use index_text::append::append_decimal;
 use std::alloc::{AllocError, Global};
 
 /// Appends a range.
@@ -26,9 +28,9 @@ fn append_range(text: &mut Vec<u8>, range: Range) -> Result<(), AllocError>
     ensures { OnOk result (text.new.items ≡ text.old.items ++ range_value range) }
 {
     text.extend_from_slice(b"[")?;
-    append_number(text, range.first)?;
+    append_decimal(text, range.first)?;
     text.extend_from_slice(b",")?;
-    append_number(text, range.end.saturating_sub(range.first))?;
+    append_decimal(text, range.end.saturating_sub(range.first))?;
     text.extend_from_slice(b"]")
 }
 

@@ -2,10 +2,9 @@
 
 ghost use Rattle.std.specs.Prelude.{◌≡◌, ◌++◌, OnOk, OnErr, codes};
 ghost use Rattle.std.specs.Io.KnownBytes.{Appends};
-ghost use Rattle.gix_index.specs.EntryImage.{version_code};
-ghost use Rattle.gix_index.specs.File.{checksum_of, state_of};
-ghost use Rattle.gix_index.specs.State.{PathsInStorage, contents};
-ghost use Rattle.gix_index.specs.Taking.{AppendsPrefix};
+ghost use Rattle.index_entries.specs.EntryImage.{version_code};
+ghost use Rattle.index_state.specs.State.{PathsInStorage, contents};
+ghost use Rattle.index_parts.specs.Taking.{AppendsPrefix};
 ghost use Rattle.index_json.specs.Json.{extension_members, head_members, json_text, tail_members};
 ghost use Rattle.index_json.specs.Values.{id_or_null, member};
 
@@ -16,10 +15,11 @@ use crate::trees::append_tree;
 use crate::undo::append_undo;
 use crate::untracked::append_untracked;
 use crate::values::{append_bool_member, append_id_or_null, append_name, append_number_member};
-use gix_index::hash::ObjectId;
-use gix_index::hash::io::put_all;
-use gix_index::{File, State, Version};
-use index_inspect::marks::Marks;
+use index_entries::Version;
+use index_marks::Marks;
+use index_parts::hash::ObjectId;
+use index_parts::hash::io::put_all;
+use index_state::State;
 use std::alloc::{AllocError, Global};
 use std::io;
 
@@ -120,8 +120,14 @@ fn append_begin(
     text.extend_from_slice(b",\"entries\":[")
 }
 
-/// Writes all that an index holds, and the id at the end of its file.
-fn write_state<W: io::Write>(
+/// Writes what a file holds, its index and the id at its end, as one JSON object (RFC 8259) on one line, with the names
+/// of fields that the library has.
+/// A text that isn't UTF-8 is told by the digits of its bytes in base 16, and `_bytes` stands behind its member's name.
+/// What its offset table and its end marker say is given beside it, as [`marks_of`](index_marks::marks_of) reads them.
+///
+/// The text of entries waits in one buffer, which goes out past 64 KiB; that behind them waits in it all. An error is
+/// the writer's, or want of memory for that buffer; what was written by then is a prefix of the text.
+pub fn write_json<W: io::Write>(
     alloc: Global,
     state: &State,
     checksum: Option<ObjectId>,
@@ -139,26 +145,4 @@ fn write_state<W: io::Write>(
     write_entries(&mut text, alloc, state, out)?;
     append_end(&mut text, alloc, state, marks)?;
     put_all(out, text.as_slice())
-}
-
-/// Writes what the file holds as one JSON object (RFC 8259) on one line, with the names of fields that the library has.
-/// A text that isn't UTF-8 is told by the digits of its bytes in base 16, and `_bytes` stands behind its member's name.
-/// What its offset table and its end marker say is given beside it, as [`marks_of`](index_inspect::marks::marks_of)
-/// reads them.
-///
-/// The text of entries waits in one buffer, which goes out past 64 KiB; that behind them waits in it all. An error is
-/// the writer's, or want of memory for that buffer; what was written by then is a prefix of the text.
-pub fn write_json<W: io::Write>(
-    alloc: Global,
-    file: &File,
-    marks: &Marks,
-    out: &mut W,
-) -> io::Result<()>
-    requires { PathsInStorage (state_of file.now) }
-    ensures ok { OnOk result (Appends (W.contents out.old) (W.contents out.new)
-        (json_text (contents (state_of file.now)) (checksum_of file.now) marks.now)) }
-    ensures err { OnErr result (AppendsPrefix (W.contents out.old) (W.contents out.new)
-        (json_text (contents (state_of file.now)) (checksum_of file.now) marks.now)) }
-{
-    write_state(alloc, file, file.checksum(), marks, out)
 }

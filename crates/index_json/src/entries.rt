@@ -1,21 +1,22 @@
 //! The values of entries.
 
 ghost use Rattle.std.specs.Prelude.{◌≡◌, ◌++◌, OnErr, OnOk, codes, length};
-ghost use Rattle.gix_index.specs.Record.{IsPlaced, record_in};
-ghost use Rattle.gix_index.specs.State.{PathsInStorage, contents, storage_of};
-ghost use Rattle.gix_index.specs.Taking.{AppendsPrefix};
-ghost use Rattle.index_show.specs.Blocks.{Passes};
+ghost use Rattle.index_entries.specs.Record.{IsPlaced, record_in};
+ghost use Rattle.index_state.specs.State.{PathsInStorage, contents, storage_of};
+ghost use Rattle.index_parts.specs.Taking.{AppendsPrefix};
+ghost use Rattle.index_text.specs.Blocks.{Passes};
 ghost use Rattle.index_json.specs.EntryValues.{entry_members, entry_value, file_members, stat_value, time_members, time_value};
 ghost use Rattle.index_json.specs.Values.{listed, member, separator};
 
 use crate::values::{
     append_id_member, append_name, append_number_member, append_separator, append_text_member,
 };
-use gix_index::bitflags::Flags as _;
-use gix_index::entry::Stat;
-use gix_index::entry::stat::Time;
-use gix_index::{Entry, State};
-use index_show::block::put_block;
+use bitflags::Flags as _;
+use index_entries::Entry;
+use index_metadata::entry::Stat;
+use index_metadata::entry::stat::Time;
+use index_state::State;
+use index_text::block::put_block;
 use std::alloc::{AllocError, Global};
 use std::io;
 

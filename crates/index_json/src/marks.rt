@@ -8,8 +8,8 @@ ghost use Rattle.index_json.specs.Values.{array, listed, member};
 use crate::values::{
     append_bool_member, append_id_member, append_name, append_number_member, append_separator,
 };
-use gix_index::extension::index_entry_offset_table::Offset;
-use index_inspect::marks::{EndMark, Marks};
+use index_marks::{EndMark, Marks};
+use index_small_extensions::index_entry_offset_table::Offset;
 use std::alloc::AllocError;
 
 /// Appends a block of entries.

@@ -2,18 +2,18 @@
 
 ghost use Rattle.std.specs.Prelude.{◌≡◌, ◌++◌, OnOk, codes};
 ghost use Rattle.std.specs.Option.{option_map};
-ghost use Rattle.gix_index.specs.State.{contents};
-ghost use Rattle.gix_index.specs.Tree.{node_of};
-ghost use Rattle.gix_index.specs.TreeType.TheViews.{out-Tree};
+ghost use Rattle.index_state.specs.State.{contents};
+ghost use Rattle.index_cached_tree.specs.Tree.{node_of};
+ghost use Rattle.index_cached_tree.specs.declared.Tree.TheViews.{out-Tree};
 ghost use Rattle.index_json.specs.TreeValues.{directory_members, tree_or_null, tree_value};
 ghost use Rattle.index_json.specs.Values.{listed, member, number_or_null};
 
 use crate::values::{
     append_id_member, append_name, append_number_or_null, append_separator, append_text_member,
 };
-use gix_index::State;
-use gix_index::extension::Tree;
-use gix_index::hash::ObjectId;
+use index_cached_tree::Tree;
+use index_parts::hash::ObjectId;
+use index_state::State;
 use std::alloc::{AllocError, Global};
 
 /// Appends the number of entries below a directory.

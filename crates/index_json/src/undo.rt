@@ -1,16 +1,16 @@
 //! The values of conflicts that were resolved.
 
 ghost use Rattle.std.specs.Prelude.{◌≡◌, ◌++◌, OnOk, codes, map};
-ghost use Rattle.gix_index.specs.ResolveUndo.{path_stages};
-ghost use Rattle.gix_index.specs.State.{contents};
+ghost use Rattle.index_small_extensions.specs.ResolveUndo.{path_stages};
+ghost use Rattle.index_state.specs.State.{contents};
 ghost use Rattle.index_json.specs.UndoValues.{path_value, side_or_null, sides_value, undo_or_null};
 ghost use Rattle.index_json.specs.Values.{array, listed, member};
 
 use crate::values::{
     append_id_member, append_name, append_number_member, append_separator, append_text_member,
 };
-use gix_index::State;
-use gix_index::extension::resolve_undo::{ResolvePath, Stage};
+use index_small_extensions::resolve_undo::{ResolvePath, Stage};
+use index_state::State;
 use std::alloc::{AllocError, Global};
 
 /// Appends the mode and the id of a side, or `null`.

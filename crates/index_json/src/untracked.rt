@@ -2,25 +2,25 @@
 
 ghost use Rattle.std.specs.Prelude.{◌≡◌, ◌++◌, OnOk, codes, decimal, map};
 ghost use Rattle.std.specs.Option.{option_map};
-ghost use Rattle.gix_index.specs.Owned.{bstring_bytes};
-ghost use Rattle.gix_index.specs.Blocks.{directory_value};
-ghost use Rattle.gix_index.specs.State.{contents};
-ghost use Rattle.gix_index.specs.Untracked.{cache_of};
+ghost use Rattle.bstr.specs.Owned.{bstring_bytes};
+ghost use Rattle.index_untracked.specs.Blocks.{directory_value};
+ghost use Rattle.index_state.specs.State.{contents};
+ghost use Rattle.index_untracked.specs.Untracked.{cache_of};
 ghost use Rattle.index_json.specs.EntryValues.{stat_value};
 ghost use Rattle.index_json.specs.UntrackedValues.{cached_directory, exclude_members, exclude_or_null, name_value, naming_members, own_members, preamble_members, stat_or_null, untracked_or_null};
 ghost use Rattle.index_json.specs.Values.{array, id_or_null, json_bool, listed, member};
 
 use crate::entries::{append_stat, append_stat_member};
 use crate::values::{
-    append_bool_member, append_id_member, append_id_or_null, append_name, append_number,
-    append_number_member, append_separator, append_text_member,
+    append_bool_member, append_id_member, append_id_or_null, append_name, append_number_member,
+    append_separator, append_text_member,
 };
-use gix_index::State;
-use gix_index::bstr::BString;
-use gix_index::entry::Stat;
-use gix_index::extension::UntrackedCache;
-use gix_index::extension::untracked_cache::{Directory, OidStat};
-use gix_index::hash::ObjectId;
+use bstr::BString;
+use index_metadata::entry::Stat;
+use index_parts::hash::ObjectId;
+use index_state::State;
+use index_text::append::append_decimal;
+use index_untracked::{Directory, OidStat, UntrackedCache};
 use std::alloc::{AllocError, Global};
 
 /// Appends the stat and the id of a file of exclude patterns, or `null`.
@@ -172,7 +172,7 @@ fn append_places(text: &mut Vec<u8>, places: &[usize]) -> Result<(), AllocError>
 {
     for (index, place) in places.iter().enumerate() {
         append_separator(text, index)?;
-        append_number(text, *place as u64)?;
+        append_decimal(text, *place as u64)?;
     }
     Ok(())
 }

@@ -1,13 +1,12 @@
 //! Values of a JSON text, and members of an object.
 
-ghost use Rattle.std.specs.Prelude.{◌≡◌, ◌++◌, OnOk, codes, decimal, string_bytes};
-ghost use Rattle.gix_index.specs.Id.{id_bytes};
+ghost use Rattle.std.specs.Prelude.{◌≡◌, ◌++◌, OnOk, codes, string_bytes};
+ghost use Rattle.index_parts.specs.Id.{id_bytes};
 ghost use Rattle.json.specs.Print.{quoted};
 ghost use Rattle.index_json.specs.Values.{hex_string, id_member, id_or_null, json_bool, json_string, member, number_member, number_or_null, separator, text_member};
 
-use gix_index::hash::ObjectId;
-use index_show::fields::append_hex;
-use itoa::Buffer;
+use index_parts::hash::ObjectId;
+use index_text::append::{append_decimal, append_hex};
 use json::Writer;
 use std::alloc::{AllocError, Global};
 use std::{mem, str};
@@ -23,29 +22,6 @@ pub fn append_name(text: &mut Vec<u8>, before: &[u8], name: &[u8]) -> Result<(),
     text.extend_from_slice(b"\":")
 }
 
-/// Appends a member with the value as it is.
-#[tactic(auto, unfolding(crate::specs::Values::member))]
-pub fn append_member(
-    text: &mut Vec<u8>,
-    before: &[u8],
-    name: &[u8],
-    value: &[u8],
-) -> Result<(), AllocError>
-    ensures { OnOk result
-        (text.new.items ≡ text.old.items ++ member before.now name.now value.now) }
-{
-    append_name(text, before, name)?;
-    text.extend_from_slice(value)
-}
-
-/// Appends a number.
-pub fn append_number(text: &mut Vec<u8>, n: u64) -> Result<(), AllocError>
-    ensures { OnOk result (text.new.items ≡ text.old.items ++ decimal n) }
-{
-    let mut buffer = Buffer::new();
-    text.extend_from_slice(buffer.format(n).as_bytes())
-}
-
 /// Appends a member that is a number.
 #[tactic(auto, unfolding(crate::specs::Values::member))]
 pub fn append_number_member(
@@ -58,7 +34,7 @@ pub fn append_number_member(
         (text.new.items ≡ text.old.items ++ number_member before.now name.now n) }
 {
     append_name(text, before, name)?;
-    append_number(text, n)
+    append_decimal(text, n)
 }
 
 /// Appends a number, or `null`.
@@ -66,7 +42,7 @@ pub fn append_number_or_null(text: &mut Vec<u8>, n: Option<u32>) -> Result<(), A
     ensures { OnOk result (text.new.items ≡ text.old.items ++ number_or_null n) }
 {
     match n {
-        Some(n) => append_number(text, u64::from(n)),
+        Some(n) => append_decimal(text, u64::from(n)),
         None => text.extend_from_slice(b"null"),
     }
 }

@@ -7,12 +7,12 @@ use Rattle.std.specs.List.{flat_map}
 use Rattle.std.specs.Io.KnownBytes.{Appends}
 use Rattle.std.proofs.lemmas.List.{flat_map_more, take_all, take_more}
 use Rattle.std.proofs.lemmas.List.Concat.{flat_map-cons}
-use Rattle.gix_index.proofs.Taking.{Appends-nil, Appends-trans, flat_map_at, prefix_after, prefix_before}
-use Rattle.gix_index.specs.Taking.{AppendsPrefix}
-use Rattle.gix_index.specs.Tree.{Node, node_of, node_step, nodes_from}
-use Rattle.gix_index.specs.TreeType.{Tree}
-use Rattle.gix_index.specs.TreeType.TheFolds.{fold_out-Tree}
-use Rattle.gix_index.specs.TreeType.TheViews.{out-Tree}
+use Rattle.index_parts.proofs.Taking.{Appends-nil, Appends-trans, flat_map_at, prefix_after, prefix_before}
+use Rattle.index_parts.specs.Taking.{AppendsPrefix}
+use Rattle.index_cached_tree.specs.Tree.{Node, node_of, node_step, nodes_from}
+use Rattle.index_cached_tree.specs.declared.Tree.{Tree}
+use Rattle.index_cached_tree.specs.declared.Tree.TheFolds.{fold_out-Tree}
+use Rattle.index_cached_tree.specs.declared.Tree.TheViews.{out-Tree}
 use Rattle.index_lines.specs.Directories.{all_subtree_lines, directory_line, subtree_lines, front_of}
 use Rattle.index_lines.specs.DirectorySteps.{LetsOut}
 

@@ -1,10 +1,10 @@
 -- The lines of a cached tree, one for each directory (the library's own).
 use Rattle.std.specs.Prelude.{ℕ, ◌==◌, List, [], ◌∷◌, ◌++◌, length, Option, if◌then◌else◌}
 use Rattle.hex.specs.Hex.{encode_lower}
-use Rattle.gix_index.specs.Id.{id_bytes}
-use Rattle.gix_index.specs.ObjectId.{ObjectId}
-use Rattle.gix_index.specs.Tree.{Node, Nodes, node, none, more}
-use Rattle.gix_index.specs.TreeImage.{count_bytes}
+use Rattle.index_parts.specs.Id.{id_bytes}
+use Rattle.index_parts.specs.declared.hash.ObjectId.{ObjectId}
+use Rattle.index_cached_tree.specs.Tree.{Node, Nodes, node, none, more}
+use Rattle.index_cached_tree.specs.TreeImage.{count_bytes}
 use Rattle.index_lines.specs.Line.{newline, space, tab}
 
 abbrev pub slash : ℕ

@@ -3,22 +3,23 @@
 ghost use Rattle.std.specs.Prelude.{◌≡◌, ◌++◌, [], OnOk, OnErr};
 ghost use Rattle.std.specs.List.{flat_map};
 ghost use Rattle.std.specs.Io.KnownBytes.{Appends};
-ghost use Rattle.gix_index.specs.Taking.{AppendsPrefix};
-ghost use Rattle.gix_index.specs.Tree.{node_of};
-ghost use Rattle.gix_index.specs.TreeImage.{count_bytes};
-ghost use Rattle.gix_index.specs.TreeType.TheViews.{out-Tree};
+ghost use Rattle.index_parts.specs.Taking.{AppendsPrefix};
+ghost use Rattle.index_cached_tree.specs.Tree.{node_of};
+ghost use Rattle.index_cached_tree.specs.TreeImage.{count_bytes};
+ghost use Rattle.index_cached_tree.specs.declared.Tree.TheViews.{out-Tree};
 ghost use Rattle.index_lines.specs.Directories.{directory_line, subtree_lines, front_of};
 ghost use Rattle.index_lines.specs.DirectorySteps.{LetsOut};
 
-use crate::listing::{append_hex, put_block};
-use gix_index::extension::Tree;
-use gix_index::hash::io::put_all;
+use index_cached_tree::Tree;
+use index_parts::hash::io::put_all;
+use index_text::append::{Appended, append_hex};
+use index_text::block::put_block;
 use itoa::Buffer;
-use std::alloc::{AllocError, Global};
+use std::alloc::Global;
 use std::io;
 
 /// Appends the number of entries, or -1 where it isn't known.
-fn append_count(lines: &mut Vec<u8>, count: Option<u32>) -> Result<(), AllocError>
+fn append_count(lines: &mut Vec<u8>, count: Option<u32>) -> Appended
     ensures { OnOk result (lines.new.items ≡ lines.old.items ++ count_bytes count) }
 {
     let mut buffer = Buffer::new();
@@ -29,7 +30,7 @@ fn append_count(lines: &mut Vec<u8>, count: Option<u32>) -> Result<(), AllocErro
 }
 
 /// Appends the line of a directory alone.
-fn append_line(lines: &mut Vec<u8>, path: &[u8], tree: &Tree) -> Result<(), AllocError>
+fn append_line(lines: &mut Vec<u8>, path: &[u8], tree: &Tree) -> Appended
     ensures { OnOk result (lines.new.items ≡ lines.old.items
         ++ directory_line path.now (out-Tree tree.now).id (out-Tree tree.now).num_entries) }
 {
@@ -42,7 +43,7 @@ fn append_line(lines: &mut Vec<u8>, path: &[u8], tree: &Tree) -> Result<(), Allo
 }
 
 /// Makes of a directory's path what stands before the names in it.
-fn go_in(path: &mut Vec<u8>) -> Result<(), AllocError>
+fn go_in(path: &mut Vec<u8>) -> Appended
     ensures { OnOk result (path.new.items ≡ front_of path.old.items) }
 {
     if !path.is_empty() {

@@ -3,8 +3,8 @@ use Rattle.std.proofs.Common.{◌≡◌, ℕ, ◌+◌, ◌-◌, ◌*◌, ◌^◌
 use Rattle.std.proofs.Common.{ap, ◌∙◌, subst, arith}
 use Rattle.std.proofs.Math.Nat.{mul-div_right, zero-div}
 use Rattle.std.specs.Prelude.{min, slice_get}
-use Rattle.index_inspect.specs.Piece.{LieBetween}
-use Rattle.index_inspect.specs.declared.part.Part.{Part}
+use Rattle.index_map.specs.Piece.{LieBetween}
+use Rattle.index_map.specs.declared.part.Part.{Part}
 use Rattle.index_picture.specs.Cover.{FillBar, TouchBetween, boxes_of}
 use Rattle.index_picture.specs.Groups.{go_together, group_before, grouped}
 use Rattle.index_picture.specs.Scale.{bar_width, box_width, drawn_len, end_or_zero, scaled}

@@ -4,9 +4,9 @@ use Rattle.std.proofs.Common.{sym, ap, ◌∙◌, append_assoc, arith}
 use Rattle.std.proofs.lemmas.List.{take_all, take_more}
 use Rattle.std.proofs.lemmas.Bool.{false≢true}
 use Rattle.std.specs.Prelude.{min}
-use Rattle.index_inspect.specs.declared.part.Part.{Part}
-use Rattle.index_inspect.specs.declared.part.What.{What}
-use Rattle.index_inspect.specs.declared.part.What.TheVariants as whats
+use Rattle.index_map.specs.declared.part.Part.{Part}
+use Rattle.index_map.specs.declared.part.What.{What}
+use Rattle.index_map.specs.declared.part.What.TheVariants as whats
 use Rattle.index_picture.specs.Groups.{go_together, group_before, group_shade, grouped, stretched, reaches_over}
 use Rattle.index_picture.specs.GroupSteps.{grown}
 use Rattle.index_picture.specs.declared.shade.Shade.{Shade}

@@ -1,6 +1,6 @@
 -- The boxes of a bar side by side (the library's own).
 use Rattle.std.specs.Prelude.{◌≡◌, ℕ, ◌+◌, List, [], ◌∷◌, map}
-use Rattle.index_inspect.specs.declared.part.Part.{Part}
+use Rattle.index_map.specs.declared.part.Part.{Part}
 use Rattle.index_picture.specs.Scale.{bar_width, box_begin, box_width}
 
 -- boxes without gap or overlap, from a place to an end: where each begins, and how wide it is

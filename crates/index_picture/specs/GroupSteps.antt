@@ -1,6 +1,6 @@
 -- Groups of parts, one part more behind them (the library's own). Public clauses cite none of these.
 use Rattle.std.specs.Prelude.{List, [], ◌∷◌, if◌then◌else◌}
-use Rattle.index_inspect.specs.declared.part.Part.{Part}
+use Rattle.index_map.specs.declared.part.Part.{Part}
 use Rattle.index_picture.specs.Groups.{go_together, stretched}
 
 -- the last group with the part, or the part as a group behind the others

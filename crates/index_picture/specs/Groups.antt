@@ -1,8 +1,8 @@
 -- Parts that are drawn as one, as those of all entries (the library's own).
 use Rattle.std.specs.Prelude.{◌+◌, min, Bool, true, false, List, [], ◌∷◌, if◌then◌else◌}
-use Rattle.index_inspect.specs.declared.part.Part.{Part}
-use Rattle.index_inspect.specs.declared.part.What.{What}
-use Rattle.index_inspect.specs.declared.part.What.TheVariants as whats
+use Rattle.index_map.specs.declared.part.Part.{Part}
+use Rattle.index_map.specs.declared.part.What.{What}
+use Rattle.index_map.specs.declared.part.What.TheVariants as whats
 use Rattle.index_picture.specs.declared.shade.Shade.{Shade}
 use Rattle.index_picture.specs.declared.shade.Shade.TheVariants as shades
 use Rattle.index_picture.specs.Shade.{shade_of}

@@ -3,12 +3,12 @@
 use Rattle.std.specs.Prelude.{ℕ, ◌+◌, ◌*◌, nat_le, Bool, true, false, List, ◌++◌, codes, decimal, length}
 use Rattle.std.specs.Prelude.{if◌then◌else◌}
 use Rattle.std.specs.List.{flat_map}
-use Rattle.gix_index.specs.Record.{Record}
-use Rattle.index_inspect.specs.Escaped.{escaped}
-use Rattle.index_inspect.specs.Lines.{what_text}
-use Rattle.index_inspect.specs.declared.part.Part.{Part}
-use Rattle.index_inspect.specs.declared.part.What.{What}
-use Rattle.index_inspect.specs.declared.part.What.TheVariants as whats
+use Rattle.index_entries.specs.Record.{Record}
+use Rattle.index_text.specs.Escaped.{escaped}
+use Rattle.index_map.specs.Lines.{what_text}
+use Rattle.index_map.specs.declared.part.Part.{Part}
+use Rattle.index_map.specs.declared.part.What.{What}
+use Rattle.index_map.specs.declared.part.What.TheVariants as whats
 use Rattle.index_picture.specs.Groups.{grouped}
 use Rattle.index_picture.specs.Legend.{legend}
 use Rattle.index_picture.specs.Scale.{box_begin, box_width, drawn_len}

@@ -1,6 +1,6 @@
 -- The parts of a file as boxes of a bar, to scale (the library's own).
 use Rattle.std.specs.Prelude.{ℕ, ◌+◌, ◌-◌, ◌*◌, ◌/◌, min, List, length, slice_get, Option, Some, None}
-use Rattle.index_inspect.specs.declared.part.Part.{Part}
+use Rattle.index_map.specs.declared.part.Part.{Part}
 
 -- how wide the bar is, in tenths of a pixel
 abbrev pub bar_width : ℕ

@@ -1,7 +1,7 @@
 -- What a picture of a file tells apart by colour (the library's own).
 use Rattle.std.specs.Prelude.{ℕ, List, codes}
-use Rattle.index_inspect.specs.declared.part.What.{What}
-use Rattle.index_inspect.specs.declared.part.What.TheVariants as whats
+use Rattle.index_map.specs.declared.part.What.{What}
+use Rattle.index_map.specs.declared.part.What.TheVariants as whats
 use Rattle.index_picture.specs.declared.shade.Shade.{Shade}
 use Rattle.index_picture.specs.declared.shade.Shade.TheVariants as shades
 

@@ -5,7 +5,7 @@ ghost use Rattle.index_picture.specs.Groups.{go_together, group_shade, grouped, 
 ghost use Rattle.index_picture.specs.GroupSteps.{grown};
 
 use crate::shade::{Shade, shade_of};
-use index_inspect::{Part, What};
+use index_map::{Part, What};
 use std::alloc::{AllocError, Global};
 
 /// The kind of group that a part begins or belongs to.

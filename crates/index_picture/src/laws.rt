@@ -1,8 +1,8 @@
 //! Laws of the definitions that the contract of `write_svg` cites. A law computes nothing.
 
 ghost use Rattle.std.specs.Prelude.{◌≡◌, ◌<◌, ◌^◌, ℕ, List};
-ghost use Rattle.index_inspect.specs.Piece.{LieBetween};
-ghost use Rattle.index_inspect.specs.declared.part.Part.{Part};
+ghost use Rattle.index_map.specs.Piece.{LieBetween};
+ghost use Rattle.index_map.specs.declared.part.Part.{Part};
 ghost use Rattle.index_picture.specs.Cover.{FillBar};
 ghost use Rattle.index_picture.specs.Groups.{grouped};
 ghost use Rattle.index_picture.specs.Scale.{drawn_len};

@@ -3,7 +3,7 @@
 ghost use Rattle.std.specs.Prelude.{◌≡◌, ◌++◌, ◌≤◌, OnErr, OnOk, length};
 ghost use Rattle.std.specs.List.{flat_map};
 ghost use Rattle.std.specs.Io.KnownBytes.{Appends};
-ghost use Rattle.gix_index.specs.Taking.{AppendsPrefix};
+ghost use Rattle.index_parts.specs.Taking.{AppendsPrefix};
 ghost use Rattle.index_picture.specs.Picture.{bar_end, box, box_shape, box_title, drawing, front_text, title_text, height, list_begin, middle_text, picture_text, row, row_begin, row_rest, svg_begin, svg_end, totals};
 ghost use Rattle.index_picture.specs.Scale.{drawn_len};
 
@@ -12,10 +12,11 @@ use crate::legend::append_legend;
 use crate::scale::{box_begin, box_width, drawn_len};
 use crate::shade::{ink, shade_of};
 use crate::text::{append_number, append_piece, append_words};
-use gix_index::decode::entry::{EntryList, EntrySlice};
-use gix_index::hash::io::put_all;
-use index_inspect::Part;
-use index_inspect::map::put_block;
+use index_entries::list::EntryList;
+use index_entries::slice::EntrySlice;
+use index_map::Part;
+use index_parts::hash::io::put_all;
+use index_text::block::put_block;
 use std::alloc::{AllocError, Global};
 use std::io;
 
@@ -355,7 +356,7 @@ fn write_drawing<W: io::Write>(
 
 /// Writes a picture of the parts of a file, as a document of SVG: a bar in which each box is as wide as its part is
 /// long, to scale; a legend of the colours; and a list of offsets, lengths, and what the parts are, in the words of
-/// [`write_map`](index_inspect::write_map). More than 64 parts are drawn by kind: all entries with their padding as
+/// [`write_map`](index_map::write_map). More than 64 parts are drawn by kind: all entries with their padding as
 /// one, and an extension's head with its content.
 ///
 /// The text waits in one buffer, which goes out past 64 KiB. An error is the writer's, or want of memory; what was

@@ -3,7 +3,7 @@
 ghost use Rattle.std.specs.Prelude.{◌≡◌, ◌≤◌, min};
 ghost use Rattle.index_picture.specs.Scale.{bar_width, box_begin, box_width, drawn_len, part_end, scaled};
 
-use index_inspect::Part;
+use index_map::Part;
 
 /// How wide the bar is, in tenths of a pixel.
 const BAR_WIDTH: u128 = 8800;

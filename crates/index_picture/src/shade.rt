@@ -3,7 +3,7 @@
 ghost use Rattle.std.specs.Prelude.{◌≡◌};
 ghost use Rattle.index_picture.specs.Shade.{ink, shade_of};
 
-use index_inspect::What;
+use index_map::What;
 
 /// A kind of parts, which its colour tells.
 #[derive(Clone, Copy, Debug, PartialEq, Eq)]

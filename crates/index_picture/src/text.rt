@@ -4,9 +4,10 @@ ghost use Rattle.std.specs.Prelude.{◌≡◌, ◌++◌, OnOk, decimal};
 ghost use Rattle.index_picture.specs.Picture.{group_text, plain_words, words};
 ghost use Rattle.index_picture.specs.Xml.{xml_byte, xml_text};
 
-use gix_index::decode::entry::EntrySlice;
-use index_inspect::What;
-use index_inspect::map::{append_escaped, append_what};
+use index_entries::slice::EntrySlice;
+use index_map::What;
+use index_map::map::append_what;
+use index_text::escape::append_escaped;
 use itoa::Buffer;
 use std::alloc::{AllocError, Global};
 

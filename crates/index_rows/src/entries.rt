@@ -1,8 +1,7 @@
 //! The rows about the values of an entry: flags, stages, modes, times and paths.
 
-use gix_index::Entry;
-use gix_index::bitflags::Flags as _;
 use gix_index::entry::{FileTime, Flags, Mode, at_rest};
+use gix_index::{BitFlags as _, Entry};
 use index_row_kit::show::{FileSeconds, OrNone, sign_of, stage_of, yes};
 use index_row_kit::{Fault, Lines, Words};
 

@@ -2,13 +2,13 @@
 use Rattle.std.proofs.Common.{◌≡◌, ℕ, List, [], ◌∷◌, ◌++◌, codes, map, refl, sym, ap, ◌∙◌}
 use Rattle.std.specs.List.{flat_map}
 use Rattle.std.proofs.lemmas.List.Concat.{flat_map-cons}
-use Rattle.gix_index.specs.Tree.{Node, node_of, node_step, nodes_from}
-use Rattle.gix_index.specs.TreeType.{Tree}
-use Rattle.gix_index.specs.TreeType.TheFolds.{fold_out-Tree}
-use Rattle.gix_index.specs.TreeType.TheViews.{out-Tree}
+use Rattle.index_cached_tree.specs.Tree.{Node, node_of, node_step, nodes_from}
+use Rattle.index_cached_tree.specs.declared.Tree.{Tree}
+use Rattle.index_cached_tree.specs.declared.Tree.TheFolds.{fold_out-Tree}
+use Rattle.index_cached_tree.specs.declared.Tree.TheViews.{out-Tree}
 use Rattle.index_show.specs.Fields.{text_field}
 use Rattle.index_show.specs.Trees.{all_tree_lines, node_lines, tree_lines, within}
-use Rattle.index_show.proofs.Appended.{two_more}
+use Rattle.index_text.proofs.Appended.{two_more}
 
 all_shown : (indent : List ℕ) (ts : List Tree)
     → all_tree_lines indent (nodes_from (map node_of ts)) ≡ flat_map (λ t. tree_lines indent (node_of t)) ts

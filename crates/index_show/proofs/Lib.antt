@@ -1,7 +1,1 @@
-pub mod Appended
-pub mod Directed
-pub mod Placed
-mod Prepended
-mod RangeLoops
-mod RunLoops
-pub mod Written
+mod Directed

@@ -3,12 +3,12 @@
 use Rattle.std.specs.Prelude.{ℕ, ◌-◌, ◌==◌, Bool, List, [], ◌++◌, codes, decimal, length, Option, Some, None}
 use Rattle.std.specs.Prelude.{if◌then◌else◌}
 use Rattle.std.specs.List.{flat_map}
-use Rattle.gix_index.specs.Bitmap.{Bitmap}
-use Rattle.gix_index.specs.FsMonitor.{Monitor, TokenValue, nanoseconds, opaque}
-use Rattle.gix_index.specs.Link.{BitmapPair, LinkValue}
+use Rattle.index_bitmaps.specs.Bitmap.{Bitmap}
+use Rattle.index_small_extensions.specs.FsMonitor.{Monitor, TokenValue, nanoseconds, opaque}
+use Rattle.index_split.specs.Link.{BitmapPair, LinkValue}
 use Rattle.index_show.specs.Fields.{answer_field, field, id_field, number_field, text_field}
-use Rattle.index_show.specs.Ranges.{breaks_below, set_places, set_ranges}
-use Rattle.index_show.specs.declared.ranges.Range.{Range}
+use Rattle.index_bitmaps.specs.Ranges.{breaks_below, set_places, set_ranges}
+use Rattle.index_bitmaps.specs.declared.ranges.Range.{Range}
 
 unfoldable pub heading : List ℕ → List ℕ
 heading name = codes "  " ++ name ++ codes ":\n"

@@ -1,13 +1,14 @@
 -- The lines of entries (the library's own; the parts of an entry are those of gitformat-index, "Index entry").
 use Rattle.std.specs.Prelude.{ℕ, ◌==◌, List, [], ◌++◌, bit_and, codes, decimal, length, if◌then◌else◌}
 use Rattle.std.specs.List.{enumerate_from, flat_map}
-use Rattle.gix_index.specs.Flags.{stage_number}
-use Rattle.gix_index.specs.Mode.{commit_mode, directory_mode, executable_mode, file_mode, link_mode}
-use Rattle.gix_index.specs.ObjectId.{ObjectId}
-use Rattle.gix_index.specs.Record.{Record}
-use Rattle.gix_index.specs.StatType.{Stat}
-use Rattle.gix_index.specs.Time.{Time}
-use Rattle.index_show.specs.Fields.{field, id_field, nanoseconds, number_field, octal, text_field}
+use Rattle.index_metadata.specs.Flags.{stage_number}
+use Rattle.index_objects.specs.Mode.{commit_mode, directory_mode, executable_mode, file_mode, link_mode}
+use Rattle.index_parts.specs.declared.hash.ObjectId.{ObjectId}
+use Rattle.index_entries.specs.Record.{Record}
+use Rattle.index_metadata.specs.declared.entry.stat.Stat.{Stat}
+use Rattle.index_metadata.specs.declared.entry.stat.Time.{Time}
+use Rattle.index_show.specs.Fields.{field, id_field, nanoseconds, number_field, text_field}
+use Rattle.index_text.specs.Digits.{octal}
 
 -- what a mode says
 unfoldable pub mode_word : ℕ → List ℕ

@@ -1,10 +1,10 @@
 -- Lines of a name and a value, as people read them (the library's own).
-use Rattle.std.specs.Prelude.{ℕ, ◌+◌, ◌/◌, ◌%◌, ◌^◌, nat_lt, Bool, List, [], ◌∷◌, ◌++◌, codes, decimal, drop, length}
+use Rattle.std.specs.Prelude.{ℕ, Bool, List, ◌++◌, codes, decimal, drop, length}
 use Rattle.std.specs.Prelude.{Option, Some, None, if◌then◌else◌}
 use Rattle.hex.specs.Hex.{encode_lower}
-use Rattle.gix_index.specs.Id.{id_bytes}
-use Rattle.gix_index.specs.ObjectId.{ObjectId}
-use Rattle.index_inspect.specs.Escaped.{escaped}
+use Rattle.index_parts.specs.Id.{id_bytes}
+use Rattle.index_parts.specs.declared.hash.ObjectId.{ObjectId}
+use Rattle.index_text.specs.Escaped.{escaped}
 
 -- what stands before the name, the name, a colon and a space, the value, and a newline
 unfoldable pub field : List ℕ → List ℕ → List ℕ → List ℕ
@@ -33,24 +33,6 @@ id_or_none None = codes "none"
 id_or_none (Some id) = encode_lower (id_bytes id)
 
 -- ---- numbers
-
--- the character of a digit
-abbrev pub octal_digit : ℕ → ℕ
-octal_digit n = 48 + n
-
--- the six last octal digits of a number
-abbrev pub low_octal : ℕ → List ℕ
-low_octal n = octal_digit (n / 8 ^ 5 % 8) ∷ octal_digit (n / 8 ^ 4 % 8) ∷ octal_digit (n / 8 ^ 3 % 8)
-    ∷ octal_digit (n / 8 ^ 2 % 8) ∷ octal_digit (n / 8 % 8) ∷ octal_digit (n % 8) ∷ []
-
--- the five digits before them, which are all that a number of 32 bits has more
-abbrev pub high_octal : ℕ → List ℕ
-high_octal n = octal_digit (n / 8 ^ 10 % 8) ∷ octal_digit (n / 8 ^ 9 % 8) ∷ octal_digit (n / 8 ^ 8 % 8)
-    ∷ octal_digit (n / 8 ^ 7 % 8) ∷ octal_digit (n / 8 ^ 6 % 8) ∷ []
-
--- six octal digits where they hold the number, else eleven
-unfoldable pub octal : ℕ → List ℕ
-octal n = if nat_lt n (8 ^ 6) then low_octal n else high_octal n ++ low_octal n
 
 -- nanoseconds in nine digits, or more where a file has more
 abbrev pub nanoseconds : ℕ → List ℕ

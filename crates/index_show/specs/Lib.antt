@@ -1,11 +1,7 @@
 pub mod Bitmaps
-pub mod Blocks
 pub mod Entries
 pub mod Fields
 pub mod MarkLines
-pub mod Prepending
-pub mod RangeSteps
-pub mod Ranges
 pub mod Show
 pub mod Trees
 pub mod Undo

@@ -3,11 +3,11 @@
 use Rattle.std.specs.Prelude.{ℕ, Bool, List, [], ◌++◌, codes, decimal, length, Option, Some, None, if◌then◌else◌}
 use Rattle.std.specs.List.{flat_map}
 use Rattle.std.specs.Option.{option_map}
-use Rattle.gix_index.specs.ObjectId.{ObjectId}
-use Rattle.gix_index.specs.OffsetType.{Offset}
+use Rattle.index_parts.specs.declared.hash.ObjectId.{ObjectId}
+use Rattle.index_small_extensions.specs.declared.index_entry_offset_table.Offset.{Offset}
 use Rattle.index_show.specs.Fields.{field, id_field, number_field}
-use Rattle.index_inspect.specs.declared.marks.EndMark.{EndMark}
-use Rattle.index_inspect.specs.declared.marks.Marks.{Marks}
+use Rattle.index_marks.specs.declared.EndMark.{EndMark}
+use Rattle.index_marks.specs.declared.Marks.{Marks}
 
 -- where a block of entries begins, and how many it has
 unfoldable pub block_line : ℕ → ℕ → List ℕ

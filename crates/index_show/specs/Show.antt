@@ -1,9 +1,9 @@
 -- All that is told of an index file (the library's own).
 use Rattle.std.specs.Prelude.{List, ℕ, [], ◌++◌, codes, decimal, Option}
-use Rattle.gix_index.specs.Contents.{Contents}
-use Rattle.gix_index.specs.EntryImage.{version_code}
-use Rattle.gix_index.specs.Outcome.{Outcome}
-use Rattle.gix_index.specs.ObjectId.{ObjectId}
+use Rattle.index_format.specs.Contents.{Contents}
+use Rattle.index_entries.specs.EntryImage.{version_code}
+use Rattle.index_format.specs.Outcome.{Outcome}
+use Rattle.index_parts.specs.declared.hash.ObjectId.{ObjectId}
 use Rattle.index_show.specs.Bitmaps.{link_lines, monitor_lines}
 use Rattle.index_show.specs.Entries.{entries_lines}
 use Rattle.index_show.specs.Fields.{answer_field, field, id_or_none}
@@ -11,7 +11,7 @@ use Rattle.index_show.specs.MarkLines.{mark_lines}
 use Rattle.index_show.specs.Trees.{cached_tree_lines}
 use Rattle.index_show.specs.Undo.{undo_lines}
 use Rattle.index_show.specs.Untracked.{untracked_lines}
-use Rattle.index_inspect.specs.declared.marks.Marks.{Marks}
+use Rattle.index_marks.specs.declared.Marks.{Marks}
 
 -- what stands before the entries: the version, the id at the end of the file, and whether the index is sparse
 unfoldable pub head_lines : Contents → Option ObjectId → List ℕ

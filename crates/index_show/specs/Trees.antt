@@ -1,8 +1,8 @@
 -- The lines of a cached tree (the library's own; the parts of a directory are those of gitformat-index, "Cache tree").
 use Rattle.std.specs.Prelude.{ℕ, List, [], ◌++◌, codes, Option, Some, None}
-use Rattle.gix_index.specs.ObjectId.{ObjectId}
-use Rattle.gix_index.specs.Tree.{Node, Nodes, node, none, more}
-use Rattle.gix_index.specs.TreeImage.{count_bytes}
+use Rattle.index_parts.specs.declared.hash.ObjectId.{ObjectId}
+use Rattle.index_cached_tree.specs.Tree.{Node, Nodes, node, none, more}
+use Rattle.index_cached_tree.specs.TreeImage.{count_bytes}
 use Rattle.index_show.specs.Fields.{field, id_field, text_field}
 
 -- what stands before the lines that are a level further in

@@ -3,10 +3,11 @@
 use Rattle.std.specs.Prelude.{ℕ, List, [], ◌++◌, codes, length, Option, Some, None, slice_index_or}
 use Rattle.std.specs.List.{flat_map}
 use Rattle.hex.specs.Hex.{encode_lower}
-use Rattle.gix_index.specs.Id.{id_bytes}
-use Rattle.gix_index.specs.ResolveStage.{Stage}
-use Rattle.gix_index.specs.ResolveUndo.{PathStages}
-use Rattle.index_show.specs.Fields.{field, number_field, octal, text_field}
+use Rattle.index_parts.specs.Id.{id_bytes}
+use Rattle.index_small_extensions.specs.declared.resolve_undo.Stage.{Stage}
+use Rattle.index_small_extensions.specs.ResolveUndo.{PathStages}
+use Rattle.index_show.specs.Fields.{field, number_field, text_field}
+use Rattle.index_text.specs.Digits.{octal}
 
 -- the mode and the id of a side, or `none`
 abbrev pub side_text : Option Stage → List ℕ

@@ -1,10 +1,10 @@
 -- The lines of an untracked cache (the library's own; the parts are those of gitformat-index, "Untracked cache").
 use Rattle.std.specs.Prelude.{ℕ, List, [], ◌++◌, codes, length, Option, Some, None}
 use Rattle.std.specs.List.{enumerate_from, flat_map}
-use Rattle.gix_index.specs.Blocks.{DirectoryValue}
-use Rattle.gix_index.specs.OidStat.{OidStat}
-use Rattle.gix_index.specs.StatType.{Stat}
-use Rattle.gix_index.specs.Untracked.{Cache, Preamble}
+use Rattle.index_untracked.specs.Blocks.{DirectoryValue}
+use Rattle.index_untracked.specs.declared.OidStat.{OidStat}
+use Rattle.index_metadata.specs.declared.entry.stat.Stat.{Stat}
+use Rattle.index_untracked.specs.Untracked.{Cache, Preamble}
 use Rattle.index_show.specs.Entries.{stat_lines}
 use Rattle.index_show.specs.Fields.{answer_field, field, id_field, id_or_none, number_field, text_field}
 

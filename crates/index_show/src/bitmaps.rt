@@ -3,20 +3,20 @@
 ghost use Rattle.std.specs.Prelude.{◌≡◌, ◌++◌, OnOk, codes};
 ghost use Rattle.std.specs.List.{flat_map};
 ghost use Rattle.std.specs.Option.{option_map};
-ghost use Rattle.gix_index.specs.Bitmap.{bitmap};
-ghost use Rattle.gix_index.specs.FsMonitor.{monitor_of, token_value};
-ghost use Rattle.gix_index.specs.Link.{link_of, pair_of};
-ghost use Rattle.gix_index.specs.State.{contents};
+ghost use Rattle.index_bitmaps.specs.Bitmap.{bitmap};
+ghost use Rattle.index_small_extensions.specs.FsMonitor.{monitor_of, token_value};
+ghost use Rattle.index_split.specs.Link.{link_of, pair_of};
+ghost use Rattle.index_state.specs.State.{contents};
 ghost use Rattle.index_show.specs.Bitmaps.{bitmap_lines, bits_lines, heading, link_lines, monitor_heading, monitor_lines, pair_lines, range_text, ranges_text, set_line, token_field};
 
-use crate::fields::{
-    Appended, append_answer, append_decimal, append_field, append_id, append_number, append_text,
-};
-use crate::ranges::{Range, SetBits, set_bits};
-use gix_index::extension::fs_monitor::Token;
-use gix_index::extension::link::Bitmaps;
-use gix_index::extension::{FsMonitor, Link};
-use gix_index::{State, ewah};
+use crate::fields::{append_answer, append_field, append_id, append_number, append_text};
+use index_bitmaps::ewah;
+use index_bitmaps::ranges::{Range, SetBits, set_bits};
+use index_small_extensions::FsMonitor;
+use index_small_extensions::fs_monitor::Token;
+use index_split::link::{Bitmaps, Link};
+use index_state::State;
+use index_text::append::{Appended, append_decimal};
 use std::alloc::Global;
 
 /// Appends the name of what is told further in.

@@ -2,25 +2,25 @@
 
 ghost use Rattle.std.specs.Prelude.{◌≡◌, ◌++◌, ◌+◌, ◌<◌, ◌≤◌, OnErr, OnOk, codes, length};
 ghost use Rattle.std.specs.List.{enumerate_from, flat_map};
-ghost use Rattle.gix_index.specs.Taking.{AppendsPrefix};
-ghost use Rattle.gix_index.specs.Record.{IsPlaced, record_in};
-ghost use Rattle.gix_index.specs.State.{PathsInStorage, contents, entries_of, records, storage_of};
-ghost use Rattle.index_show.specs.Blocks.{Passes};
+ghost use Rattle.index_parts.specs.Taking.{AppendsPrefix};
+ghost use Rattle.index_entries.specs.Record.{IsPlaced, record_in};
+ghost use Rattle.index_state.specs.State.{PathsInStorage, contents, entries_of, records, storage_of};
+ghost use Rattle.index_text.specs.Blocks.{Passes};
 ghost use Rattle.index_show.specs.Entries.{entries_lines, entry_lines, flag_word, flag_words, flags_line, flags_text, object_lines, shown_mode, mode_word, record_lines, stat_lines, time_field};
 ghost use Rattle.index_show.specs.Fields.{field, number_field, text_field};
-ghost use Rattle.index_show.specs.Prepending.{HasRoom, Prepends};
+ghost use Rattle.index_text.specs.Prepending.{HasRoom, Prepends};
 
-use crate::block::put_block;
-use crate::fields::{Appended, append_number};
-use crate::prepend::{
-    prepend, prepend_decimal, prepend_id, prepend_name, prepend_nanoseconds, prepend_number,
-    prepend_octal,
-};
-use gix_index::bitflags::Flags as _;
-use gix_index::entry::stat::Time;
-use gix_index::entry::{Flags, Mode, Stat};
-use gix_index::{Entry, State};
-use index_inspect::map::append_escaped;
+use crate::fields::append_number;
+use crate::prepend::{prepend_id, prepend_name, prepend_nanoseconds, prepend_number};
+use bitflags::Flags as _;
+use index_entries::Entry;
+use index_metadata::entry::stat::Time;
+use index_metadata::entry::{Flags, Mode, Stat};
+use index_state::State;
+use index_text::append::Appended;
+use index_text::block::put_block;
+use index_text::escape::append_escaped;
+use index_text::prepend::{prepend, prepend_decimal, prepend_octal};
 use std::io;
 
 /// How many bytes the lines of a stat take at most, with six spaces of indent.

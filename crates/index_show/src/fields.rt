@@ -1,19 +1,14 @@
 //! Lines of a name and a value.
 
-ghost use Rattle.std.specs.Prelude.{◌≡◌, ◌++◌, OnOk, codes, decimal};
-ghost use Rattle.hex.specs.Hex.{encode_lower};
-ghost use Rattle.gix_index.specs.Id.{id_bytes};
-ghost use Rattle.index_show.specs.Fields.{answer_field, field, id_field, id_or_none, nanoseconds, number_field, octal, text_field, yes_or_no};
+ghost use Rattle.std.specs.Prelude.{◌≡◌, ◌++◌, OnOk, codes};
+ghost use Rattle.index_show.specs.Fields.{answer_field, field, id_field, id_or_none, number_field, text_field, yes_or_no};
+ghost use Rattle.index_text.specs.Digits.{octal};
 
-use crate::digits::{hex_forty, hex_sixty_four};
-use crate::prepend::{prepend_nanoseconds, prepend_octal};
-use gix_index::hash::ObjectId;
-use index_inspect::map::append_escaped;
+use index_parts::hash::ObjectId;
+use index_text::append::{Appended, append_hex};
+use index_text::escape::append_escaped;
+use index_text::prepend::prepend_octal;
 use itoa::Buffer;
-use std::alloc::AllocError;
-
-/// Nothing, or that there is no memory for all that was to be appended.
-pub type Appended = Result<(), AllocError>;
 
 /// Appends what stands before a value: the indent, the name, a colon and a space.
 pub fn append_name(lines: &mut Vec<u8>, indent: &[u8], name: &[u8]) -> Appended
@@ -36,14 +31,6 @@ pub fn append_field(lines: &mut Vec<u8>, indent: &[u8], name: &[u8], value: &[u8
     lines.extend_from_slice(b"\n")
 }
 
-/// Appends a number.
-pub fn append_decimal(lines: &mut Vec<u8>, n: u64) -> Appended
-    ensures { OnOk result (lines.new.items ≡ lines.old.items ++ decimal n) }
-{
-    let mut buffer = Buffer::new();
-    lines.extend_from_slice(buffer.format(n).as_bytes())
-}
-
 /// Appends a line with a number.
 pub fn append_number(lines: &mut Vec<u8>, indent: &[u8], name: &[u8], n: u64) -> Appended
     ensures { OnOk result
@@ -62,16 +49,6 @@ pub fn append_text(lines: &mut Vec<u8>, indent: &[u8], name: &[u8], bytes: &[u8]
     append_name(lines, indent, name)?;
     append_escaped(lines, bytes)?;
     lines.extend_from_slice(b"\n")
-}
-
-/// Appends an id in base 16.
-pub fn append_hex(lines: &mut Vec<u8>, id: &ObjectId) -> Appended
-    ensures { OnOk result (lines.new.items ≡ lines.old.items ++ encode_lower (id_bytes id.now)) }
-{
-    match id {
-        ObjectId::Sha1(bytes) => lines.extend_from_slice(&hex_forty(bytes)),
-        ObjectId::Sha256(bytes) => lines.extend_from_slice(&hex_sixty_four(bytes)),
-    }
 }
 
 /// Appends a line with an id.
@@ -122,14 +99,5 @@ pub fn append_octal(lines: &mut Vec<u8>, n: u32) -> Appended
 {
     let mut room = [0; 11];
     let start = prepend_octal(&mut room, 11, n);
-    lines.extend_from_slice(&room[start..])
-}
-
-/// Appends nanoseconds in nine digits or more.
-pub fn append_nanoseconds(lines: &mut Vec<u8>, n: u32) -> Appended
-    ensures { OnOk result (lines.new.items ≡ lines.old.items ++ nanoseconds n) }
-{
-    let mut room = [0; 20];
-    let start = prepend_nanoseconds(&mut room, 20, n);
     lines.extend_from_slice(&room[start..])
 }

@@ -2,13 +2,10 @@
 #![tactic(auto)]
 
 mod bitmaps;
-pub mod block;
-mod digits;
 mod entries;
 pub mod fields;
 mod mark_lines;
 mod prepend;
-pub mod ranges;
 pub mod show;
 mod trees;
 mod undo;

@@ -6,10 +6,11 @@ ghost use Rattle.std.specs.Option.{option_map};
 ghost use Rattle.index_show.specs.Fields.{number_field};
 ghost use Rattle.index_show.specs.MarkLines.{block_line, blocks_lines, end_lines, end_mark_lines, entry_block, lines_or_none, mark_lines};
 
-use crate::fields::{Appended, append_decimal, append_field, append_id, append_number};
-use gix_index::extension::index_entry_offset_table::Offset;
-use gix_index::hash::ObjectId;
-use index_inspect::marks::{EndMark, Marks};
+use crate::fields::{append_field, append_id, append_number};
+use index_marks::{EndMark, Marks};
+use index_parts::hash::ObjectId;
+use index_small_extensions::index_entry_offset_table::Offset;
+use index_text::append::{Appended, append_decimal};
 
 /// Appends the line of a block that begins at an offset and has so many entries.
 #[tactic(auto, unfolding(crate::specs::MarkLines::block_line))]

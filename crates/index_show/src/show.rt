@@ -2,23 +2,24 @@
 
 ghost use Rattle.std.specs.Prelude.{◌≡◌, ◌++◌, OnOk, OnErr, codes, decimal};
 ghost use Rattle.std.specs.Io.KnownBytes.{Appends};
-ghost use Rattle.gix_index.specs.Taking.{AppendsPrefix};
-ghost use Rattle.gix_index.specs.EntryImage.{version_code};
-ghost use Rattle.gix_index.specs.File.{checksum_of, state_of};
-ghost use Rattle.gix_index.specs.State.{PathsInStorage, contents};
+ghost use Rattle.index_parts.specs.Taking.{AppendsPrefix};
+ghost use Rattle.index_entries.specs.EntryImage.{version_code};
+ghost use Rattle.index_state.specs.State.{PathsInStorage, contents};
 ghost use Rattle.index_show.specs.Show.{behind_lines, head_lines, show_lines};
 
 use crate::bitmaps::{append_link, append_monitor};
 use crate::entries::write_entries;
-use crate::fields::{Appended, append_answer, append_id_or_none, append_number};
+use crate::fields::{append_answer, append_id_or_none, append_number};
 use crate::mark_lines::append_marks;
 use crate::trees::append_tree;
 use crate::undo::append_undo;
 use crate::untracked::append_untracked;
-use gix_index::hash::ObjectId;
-use gix_index::hash::io::put_all;
-use gix_index::{File, State, Version};
-use index_inspect::marks::Marks;
+use index_entries::Version;
+use index_marks::Marks;
+use index_parts::hash::ObjectId;
+use index_parts::hash::io::put_all;
+use index_state::State;
+use index_text::append::Appended;
 use std::alloc::Global;
 use std::io;
 
@@ -62,8 +63,13 @@ fn append_behind(lines: &mut Vec<u8>, alloc: Global, state: &State, marks: &Mark
     )
 }
 
-/// Writes all that an index holds, and the id at the end of its file.
-fn write_state<W: io::Write>(
+/// Writes what a file holds, line by line, for people: its index, the id at its end, and what its offset table and its
+/// end marker say, as [`marks_of`](index_marks::marks_of) reads them in its bytes. Nothing is told of extensions that the
+/// library doesn't read.
+///
+/// The lines of entries wait in one buffer, which goes out past 64 KiB; those behind them wait in it all. An error is
+/// the writer's, or want of memory for that buffer; what was written by then is a prefix of the lines.
+pub fn write_show<W: io::Write>(
     alloc: Global,
     state: &State,
     checksum: Option<ObjectId>,
@@ -81,25 +87,4 @@ fn write_state<W: io::Write>(
     write_entries(&mut lines, state, out)?;
     append_behind(&mut lines, alloc, state, marks)?;
     put_all(out, lines.as_slice())
-}
-
-/// Writes what the file holds, line by line, for people. What its offset table and its end marker say is given beside
-/// it, as [`marks_of`](index_inspect::marks::marks_of) reads them in its bytes. Nothing is told of extensions that the
-/// library doesn't read.
-///
-/// The lines of entries wait in one buffer, which goes out past 64 KiB; those behind them wait in it all. An error is
-/// the writer's, or want of memory for that buffer; what was written by then is a prefix of the lines.
-pub fn write_show<W: io::Write>(
-    alloc: Global,
-    file: &File,
-    marks: &Marks,
-    out: &mut W,
-) -> io::Result<()>
-    requires { PathsInStorage (state_of file.now) }
-    ensures ok { OnOk result (Appends (W.contents out.old) (W.contents out.new)
-        (show_lines (contents (state_of file.now)) (checksum_of file.now) marks.now)) }
-    ensures err { OnErr result (AppendsPrefix (W.contents out.old) (W.contents out.new)
-        (show_lines (contents (state_of file.now)) (checksum_of file.now) marks.now)) }
-{
-    write_state(alloc, file, file.checksum(), marks, out)
 }

@@ -2,16 +2,17 @@
 
 ghost use Rattle.std.specs.Prelude.{◌≡◌, ◌++◌, OnOk, codes};
 ghost use Rattle.std.specs.List.{flat_map};
-ghost use Rattle.gix_index.specs.Tree.{node_of};
-ghost use Rattle.gix_index.specs.TreeImage.{count_bytes};
-ghost use Rattle.gix_index.specs.TreeType.TheViews.{out-Tree};
-ghost use Rattle.gix_index.specs.State.{contents};
+ghost use Rattle.index_cached_tree.specs.Tree.{node_of};
+ghost use Rattle.index_cached_tree.specs.TreeImage.{count_bytes};
+ghost use Rattle.index_cached_tree.specs.declared.Tree.TheViews.{out-Tree};
+ghost use Rattle.index_state.specs.State.{contents};
 ghost use Rattle.index_show.specs.Fields.{field};
 ghost use Rattle.index_show.specs.Trees.{cached_tree_lines, node_lines, tree_lines};
 
-use crate::fields::{Appended, append_field, append_id, append_text};
-use gix_index::State;
-use gix_index::extension::Tree;
+use crate::fields::{append_field, append_id, append_text};
+use index_cached_tree::Tree;
+use index_state::State;
+use index_text::append::Appended;
 use itoa::Buffer;
 use std::alloc::Global;
 

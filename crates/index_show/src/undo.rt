@@ -2,16 +2,15 @@
 
 ghost use Rattle.std.specs.Prelude.{◌≡◌, ◌++◌, [], OnOk, codes, length, map};
 ghost use Rattle.std.specs.List.{flat_map};
-ghost use Rattle.gix_index.specs.ResolveUndo.{path_stages};
-ghost use Rattle.gix_index.specs.State.{contents};
+ghost use Rattle.index_small_extensions.specs.ResolveUndo.{path_stages};
+ghost use Rattle.index_state.specs.State.{contents};
 ghost use Rattle.index_show.specs.Fields.{number_field};
 ghost use Rattle.index_show.specs.Undo.{path_lines, side_field, side_text, sides_lines, undo_lines};
 
-use crate::fields::{
-    Appended, append_field, append_hex, append_name, append_number, append_octal, append_text,
-};
-use gix_index::State;
-use gix_index::extension::resolve_undo::{ResolvePath, Stage};
+use crate::fields::{append_field, append_name, append_number, append_octal, append_text};
+use index_small_extensions::resolve_undo::{ResolvePath, Stage};
+use index_state::State;
+use index_text::append::{Appended, append_hex};
 
 /// Appends the mode and the id of a side, or `none`.
 fn append_side_text(lines: &mut Vec<u8>, side: Option<Stage>) -> Appended

@@ -3,19 +3,19 @@
 ghost use Rattle.std.specs.Prelude.{◌≡◌, ◌++◌, [], OnOk, codes, length, map};
 ghost use Rattle.std.specs.List.{enumerate_from, flat_map};
 ghost use Rattle.std.specs.Option.{option_map};
-ghost use Rattle.gix_index.specs.Blocks.{directory_value};
-ghost use Rattle.gix_index.specs.State.{contents};
-ghost use Rattle.gix_index.specs.Untracked.{cache_of};
+ghost use Rattle.index_untracked.specs.Blocks.{directory_value};
+ghost use Rattle.index_state.specs.State.{contents};
+ghost use Rattle.index_untracked.specs.Untracked.{cache_of};
 ghost use Rattle.index_show.specs.Untracked.{cache_lines, directory_lines, exclude_files, exclude_lines, own_lines, naming_lines, placed_directory, preamble_lines, stat_or_none, subdirectory, untracked_lines, untracked_name};
 
 use crate::entries::append_stat;
 use crate::fields::{
-    Appended, append_answer, append_field, append_id, append_id_or_none, append_number, append_text,
+    append_answer, append_field, append_id, append_id_or_none, append_number, append_text,
 };
-use gix_index::State;
-use gix_index::entry::Stat;
-use gix_index::extension::UntrackedCache;
-use gix_index::extension::untracked_cache::{Directory, OidStat};
+use index_metadata::entry::Stat;
+use index_state::State;
+use index_text::append::Appended;
+use index_untracked::{Directory, OidStat, UntrackedCache};
 
 /// Appends the id and the stat of a file of exclude patterns, or `none`.
 #[tactic(auto, unfolding(crate::specs::Untracked::exclude_lines))]

@@ -33,7 +33,8 @@ use std::alloc::AllocError;
 impl State {
     /// The place of the entry at the path and the stage, counted from 0, or None.
     ///
-    /// Over strictly increasing entries it is the one place; over others a place still has that path and stage.
+    /// Over entries that strictly increase by path, then stage, it is the one place, and None says that there is none.
+    /// Over other entries a place still has that path and stage, and None says nothing.
     pub fn entry_index_by_path_and_stage(&self, path: &[u8], stage: Stage) -> Option<usize>
         requires { PathsInStorage self.now }
         ensures found { IfSome result (IsKeyAt path.now (stage_code stage) (records self.now)) }
@@ -61,7 +62,8 @@ impl State {
     /// A place of an entry at the path, whatever its stage, or, as an error, the place where the path would be put in:
     /// the number of paths below it.
     ///
-    /// It is promised over entries whose paths never fall; over others a place still has that path.
+    /// It is promised over entries whose paths never fall. Over other entries a place still has that path, and an error
+    /// is at most the number of entries and says no more.
     pub fn entry_index_by_path(&self, path: &[u8]) -> Result<usize, usize>
         requires { PathsInStorage self.now }
         ensures found { IfOk result (IsPathAt path.now (records self.now)) }
@@ -91,7 +93,8 @@ impl State {
     /// of entries that are below it by path, then stage. Beside it how many times the path was compared with that of an
     /// entry, as [`search_path`](State::search_path) bounds it.
     ///
-    /// It is promised over strictly increasing entries; over others a place still has that path and stage.
+    /// It is promised over entries that strictly increase by path, then stage. Over other entries a place still has
+    /// that path and stage, and an error is at most the number of entries and says no more.
     pub fn search_path_and_stage(&self, path: &[u8], stage: Stage) -> (Result<usize, usize>, usize)
         requires { PathsInStorage self.now }
         ensures found { IfOk result.0 (IsKeyAt path.now (stage_code stage) (records self.now)) }
@@ -107,7 +110,8 @@ impl State {
 }
 
 impl State {
-    /// The entries, lent for writing: the state has then what was last written through the slice. All else stays.
+    /// The entries, lent for writing; what was last written through the slice is what the state has then. All else
+    /// stays.
     ///
     /// An entry from another state brings a range of that state's storage:
     /// [`paths_in_storage`](State::paths_in_storage) tells whether all ranges still lie inside this one's.
@@ -120,10 +124,10 @@ impl State {
 
     /// Puts an entry at the end, and its path behind the others in the storage. All else stays.
     ///
-    /// It's dangerous because nothing is looked at: the entry stands at the end wherever it belongs, and searches by
-    /// path promise less until the entries are in order again. Room for path and entry is asked for first, so after an
-    /// error the state is as it was. A state that can be written still can be where the id is of its kind, and the path
-    /// has fewer than 4095 bytes or no NUL.
+    /// It's dangerous because nothing is looked at: the entry stands at the end wherever it belongs, also beside
+    /// another with its path and stage, and searches by path promise less until the entries are in order again. Room
+    /// for path and entry is asked for first, so after an error the state is as it was. A state that can be written
+    /// still can be where the id is of its kind, and the path has fewer than 4095 bytes or no NUL.
     pub fn dangerously_push_entry(
         &mut self,
         stat: Stat,

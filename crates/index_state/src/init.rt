@@ -23,7 +23,7 @@ use std::alloc::Global;
 impl State {
     /// An index with no entry and no extension, of version 2, for ids of this kind. Its timestamp is `now`.
     ///
-    /// It takes no memory.
+    /// It takes no memory: `alloc` serves the entries and paths that are added later.
     pub fn new(alloc: Global, object_hash: Kind, now: FileTime) -> State
         ensures empty { contents result ≡ empty_contents object_hash now }
         ensures storage { storage_of result ≡ [] }
@@ -51,7 +51,8 @@ impl State {
     /// before what it stands for is listed or read, a link's also as such. The first fault is the error, and leaves
     /// nothing.
     ///
-    /// Where trees have their entries in git's order, and no name has a slash, the entries strictly increase.
+    /// Where each tree that is read has its entries in git's order, and no name has a slash, the entries strictly
+    /// increase.
     pub fn from_tree<F: Find, C: ComponentCheck>(
         alloc: Global,
         tree: &ObjectId,

@@ -26,7 +26,8 @@ pub struct State {
     parts: Parts,
 }
 
-/// The clone has the same value and storage of paths, and takes as much memory. An error is want of it.
+/// The clone has equal entries in the same order, the same storage of paths, and all else the same. It takes as much
+/// memory as its source, and an error is want of it.
 impl Clone for State {
     ghost use Rattle.index_state.specs.Edits.{IsUnchanged};
 
@@ -86,7 +87,7 @@ impl State {
         &self.parts.entries[idx]
     }
 
-    /// The storage of the entries' paths, as [`Entry::path_in`] asks for it.
+    /// The storage in which the entries' paths lie, as [`Entry::path_in`] asks for it.
     pub fn path_backing(&self) -> PathStorageRef<'_>
         ensures { result.now ≡ storage_of self.now }
     {

@@ -7,9 +7,8 @@ ghost use Rattle.gix_index.specs.State.{PathsInStorage, entries_of, records, sto
 ghost use Rattle.index_table.specs.Table.{HoldsRecords, IsForward, kind_number, padded_id, row_of, row_path};
 
 use crate::status::{SHA1, SHA256};
-use gix_index::bitflags::Flags as _;
 use gix_index::hash::{Kind, ObjectId};
-use gix_index::{Entry, State};
+use gix_index::{BitFlags as _, Entry, State};
 
 /// An entry (gitformat-index, "Index entry").
 #[repr(C)]

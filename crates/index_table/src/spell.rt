@@ -11,11 +11,10 @@ ghost use Rattle.index_table.specs.Writing.{CanStand, IsFirstUnfit, IsSpelledBy}
 
 use crate::row::{Row, number_of_kind, path_of, stage_of};
 use crate::status::SHA256;
-use gix_index::State;
-use gix_index::bitflags::Flags as _;
 use gix_index::entry::stat::Time;
 use gix_index::entry::{FileTime, Flags, Mode, Stat};
 use gix_index::hash::{Kind, ObjectId};
+use gix_index::{BitFlags as _, State};
 use std::alloc::{AllocError, Global};
 use std::cmp::Ordering;
 

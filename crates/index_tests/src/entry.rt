@@ -1,6 +1,6 @@
 //! The sets of all flags, and what stats are compared by where nothing is said.
 
-use gix_index::bitflags::Flags as _;
+use gix_index::BitFlags as _;
 use gix_index::entry::{FileTime, Flags, Stat, at_rest, stat};
 
 #[test]

@@ -8,8 +8,8 @@ use Rattle.gix_index.specs.FileTime.{FileTime}
 use Rattle.gix_index.specs.Kind.{Kind}
 use Rattle.gix_index.specs.Linked.{IsOnDisk}
 use Rattle.gix_index.specs.ObjectId.{ObjectId}
-use Rattle.index_inspect.specs.Marks.{AreMarks}
-use Rattle.index_inspect.specs.declared.marks.Marks.{Marks}
+use Rattle.index_marks.specs.Marks.{AreMarks}
+use Rattle.index_marks.specs.declared.Marks.{Marks}
 use Rattle.index_tool.specs.Listing.{unlimited_options, IsBeginOf1970, IsInFile}
 use Rattle.index_tool.specs.Showing.{IsInSomeBytes}
 

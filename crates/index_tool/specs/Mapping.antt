@@ -7,9 +7,9 @@ use Rattle.gix_index.specs.Kind.{Kind}
 use Rattle.gix_index.specs.Record.{Record}
 use Rattle.gix_index.specs.Taking.{AppendsPrefix}
 use Rattle.index_inspect.specs.Division.{Divides}
-use Rattle.index_inspect.specs.Lines.{map_lines}
+use Rattle.index_map.specs.Lines.{map_lines}
 use Rattle.index_inspect.specs.Remains.{last_begin}
-use Rattle.index_inspect.specs.declared.part.Part.{Part}
+use Rattle.index_map.specs.declared.part.Part.{Part}
 use Rattle.index_picture.specs.Picture.{picture_text}
 use Rattle.index_tool.specs.declared.failure.Failure.{Failure}
 use Rattle.index_tool.specs.Listing.{FailsToRead}

@@ -10,9 +10,9 @@ use Rattle.gix_index.specs.Kind.{Kind}
 use Rattle.gix_index.specs.ObjectId.{ObjectId}
 use Rattle.gix_index.specs.Taking.{AppendsPrefix}
 use Rattle.index_json.specs.Json.{json_text}
-use Rattle.index_inspect.specs.Marks.{AreMarks}
+use Rattle.index_marks.specs.Marks.{AreMarks}
 use Rattle.index_show.specs.Show.{show_lines}
-use Rattle.index_inspect.specs.declared.marks.Marks.{Marks}
+use Rattle.index_marks.specs.declared.Marks.{Marks}
 use Rattle.index_tool.specs.declared.failure.Failure.{Failure}
 use Rattle.index_tool.specs.Listing.{unlimited_options, FailsToRead, IsBeginOf1970}
 use Rattle.index_tool.specs.Telling.{FailsTelling}

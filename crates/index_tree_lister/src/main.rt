@@ -14,12 +14,11 @@ ghost use Rattle.gix_index.specs.ObjectIdOrd.TheImpl as id_order;
 ghost use Rattle.gix_index.specs.ObjectKind.TheVariants.{Tree};
 ghost use Rattle.gix_index.specs.State.{PathsInStorage};
 
-use gix_index::State;
-use gix_index::bitflags::Flags as _;
 use gix_index::entry::FileTime;
 use gix_index::hash::ObjectId;
 use gix_index::init::{ComponentCheck, from_tree};
 use gix_index::object::{self, Find, find};
+use gix_index::{BitFlags as _, State};
 use std::alloc::{AllocError, AllocFailed, Global};
 use std::collections::BTreeMap;
 use std::io::{self, BufWriter, Write};

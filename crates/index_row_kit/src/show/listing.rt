@@ -5,11 +5,10 @@ ghost use Rattle.gix_index.specs.State.{PathsInStorage};
 
 use super::Text;
 use crate::Lines;
-use gix_index::bitflags::Flags as _;
 use gix_index::entry::stat::Time;
 use gix_index::entry::{FileTime, Flags, Stat};
 use gix_index::hash::ObjectId;
-use gix_index::{Entry, State};
+use gix_index::{BitFlags as _, Entry, State};
 use std::fmt::{self, Display};
 
 /// An id by all its digits, or by two where all of its bytes are equal.

@@ -3,11 +3,10 @@
 use super::text::text_of;
 use super::{byte_of, digits_of, hex_of, items_of, number_of, octal_of};
 use crate::fault::Fault;
-use gix_index::State;
-use gix_index::bitflags::Flags as _;
 use gix_index::entry::stat::Time;
 use gix_index::entry::{FileTime, Flags, Mode, Stage, Stat};
 use gix_index::hash::{Kind, ObjectId};
+use gix_index::{BitFlags as _, State};
 use std::alloc::Global;
 
 /// A new state with the entries of a list pushed in their order.

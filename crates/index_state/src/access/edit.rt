@@ -24,7 +24,8 @@ impl State {
         self.parts.timestamp = timestamp;
     }
 
-    /// Sets the version, as a file that was just written has it. All else stays, and a later write takes its own.
+    /// Sets the version, as a file that was just written has it. All else stays: which version a later write takes is
+    /// told by the entries alone.
     pub fn set_version(&mut self, version: Version)
         ensures version { contents self.new ≡ with_version (contents self.old) version }
         ensures entries { entries_of self.new ≡ entries_of self.old }
@@ -56,7 +57,7 @@ impl State {
 
     /// The entry at the path and the stage, lent for writing, or None, as
     /// [`entry_by_path_and_stage`](State::entry_by_path_and_stage) finds it. What was last written through it stands in
-    /// its place.
+    /// its place then; all else stays.
     pub fn entry_mut_by_path_and_stage(&mut self, path: &[u8], stage: Stage) -> Option<&mut Entry>
         requires { PathsInStorage self.old }
         ensures* writes_back { sem 𝓛 (LendsEntryAt path.now (stage_code stage) self.entry result) }

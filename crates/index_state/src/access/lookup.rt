@@ -43,7 +43,8 @@ impl State {
 
     /// The place of the entry at the path and the stage among the first `upper_bound` entries, counted from 0, or None.
     ///
-    /// Where these strictly increase it is the one place; else a place still has that path and stage.
+    /// Where these strictly increase by path, then stage, it is the one place, and None says that there is none. Else a
+    /// place still has that path and stage, and None says nothing.
     pub fn entry_index_by_path_and_stage_bounded(
         &self,
         path: &[u8],
@@ -62,7 +63,8 @@ impl State {
 
     /// The entry at the path: that at stage 0, or else that at stage 2, our side of a merge, or else None.
     ///
-    /// It is promised over strictly increasing entries; over others an entry still has the path and one of both stages.
+    /// It is promised over entries that strictly increase by path, then stage. Over other entries an entry that is
+    /// given still has that path and one of both stages, and None says nothing.
     pub fn entry_by_path(&self, path: &[u8]) -> Option<&Entry>
         requires { PathsInStorage self.now }
         ensures found { IfSome result (λ e. Contains (entries_of self.now) e.now) }
@@ -78,7 +80,8 @@ impl State {
 
     /// The places of the entries at the path, counted from 0, or None where there are none.
     ///
-    /// Over entries whose paths never fall they are all such places, and over others places of the list.
+    /// Over entries whose paths never fall they are all such places, and None says that there are none. Over other
+    /// entries they are places of the list, and no more is said.
     pub fn entry_range(&self, path: &[u8]) -> Option<Range<usize>>
         requires { PathsInStorage self.now }
         ensures in_range { IfSome result (IsPart (records self.now)) }
@@ -139,7 +142,8 @@ impl State {
     /// Where entries stand at the directory, the first that stands for a directory itself, a sparse one or a submodule,
     /// or None. Else the first entry below the directory: its path goes on behind the directory and a slash.
     ///
-    /// It is promised over entries whose paths never fall; over others an entry still is or lies below the directory.
+    /// It is promised over entries whose paths never fall. Over other entries an entry that is given still is the
+    /// directory or stands below it, and None says nothing.
     pub fn entry_closest_to_directory_or_directory(&self, directory: &[u8]) -> Option<&Entry>
         requires { PathsInStorage self.now }
         ensures found { IfSome result (λ e. Contains (entries_of self.now) e.now) }
@@ -155,7 +159,8 @@ impl State {
 
     /// Whether the path is a directory: one that an entry stands for, or one that entries are below.
     ///
-    /// It is promised over entries whose paths never fall; over others true still says that there is such an entry.
+    /// It is promised over entries whose paths never fall. Over other entries the answer true still says that there is
+    /// such an entry, and false says nothing.
     pub fn path_is_directory(&self, path: &[u8]) -> bool
         requires { PathsInStorage self.now }
         ensures found { OnTrue result (list_any (stands_in path.now) (records self.now) ≡ true) }
@@ -165,8 +170,8 @@ impl State {
         directory::path_is_directory(&self.slice(), path)
     }
 
-    /// The table by which the folded lookups find entries of this state. It borrows the state and asks for memory; the
-    /// lookups by it ask for none.
+    /// The table by which the folded lookups find entries of this state. It borrows the state, asks for memory, and
+    /// nothing is left of it after a refusal; the lookups by it ask for none.
     pub fn prepare_icase_backing(&self, alloc: Global) -> Result<AccelerateLookup<'_>, AllocError>
         requires { PathsInStorage self.now }
         ensures { IfOk result (λ lookup. lookup ≡ records self.now) }
@@ -261,8 +266,8 @@ impl State {
         tables::is_ordered_by_path(&self.slice())
     }
 
-    /// The table of the directories that entries stand below, for searches by way of them. It borrows the state and
-    /// asks for memory; searches by it ask for none.
+    /// The table of the directories that entries stand below, for searches by way of them. It borrows the state, asks
+    /// for memory, and nothing is left of it after a refusal; searches by it ask for none.
     ///
     /// [`is_ordered_by_path`](State::is_ordered_by_path) tells whether it may be made.
     pub fn prepare_directory_table(&self, alloc: Global) -> Result<DirectoryTable<'_>, AllocError>

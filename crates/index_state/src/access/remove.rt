@@ -45,7 +45,8 @@ impl State {
         );
     }
 
-    /// Takes the entry at a place out, counted from 0. The others keep their order, and the storage of paths stays.
+    /// Takes the entry at a place out, counted from 0. The others keep their order; the storage of paths, its own among
+    /// them, and all else stay.
     pub fn remove_entry_at_index(&mut self, index: usize) -> Entry
         requires { index < length (entries_of self.old) }
         ensures given { slice_get (entries_of self.old) index ≡ Some result }

@@ -17,7 +17,8 @@ impl State {
     /// Puts the entries in order by path, then by stage, as a file has them and as searches ask. Those that agree in
     /// both keep their order. The storage of paths and all else stay.
     ///
-    /// Where they are in order already no memory is asked for. After a refusal of memory the state is as it was.
+    /// Where they are in order already, they are read once, nothing moves, and no memory is asked for. After a refusal
+    /// of memory the state is as it was.
     pub fn sort_entries(&mut self) -> Result<(), AllocError>
         requires { PathsInStorage self.old }
         ensures placed { PathsInStorage self.new }

@@ -8,7 +8,8 @@ use crate::State;
 use index_entries::PathStorage;
 
 impl State {
-    /// Takes the storage of paths out and leaves an empty one, without asking for memory. The entries stay.
+    /// Takes the storage of paths out, and leaves an empty one, without asking for memory. The entries stay as they
+    /// are.
     ///
     /// Until a storage that has their paths is put in by [`return_path_backing`](State::return_path_backing), calls
     /// that read paths may not be made where there are entries.

@@ -13,7 +13,7 @@ use gix_index::entry::FileTime;
 use gix_index::file::Unfollowed;
 use gix_index::hash::Kind;
 use gix_index::{File, decode};
-use index_inspect::marks::{Marks, marks_of};
+use index_marks::{Marks, marks_of};
 use index_show::write_show;
 use std::alloc::Global;
 use std::io;
@@ -74,7 +74,7 @@ pub fn show<'a, R: Files, W: io::Write>(
         Ok(told) => told,
         Err(failure) => return Err(failure),
     };
-    match write_show(alloc, &index, &marks, out) {
+    match write_show(alloc, &index, index.checksum(), &marks, out) {
         Ok(()) => Ok(()),
         Err(e) => Err(Failure::Output(e)),
     }

@@ -31,7 +31,7 @@ pub fn show_json<'a, R: Files, W: io::Write>(
         Ok(told) => told,
         Err(failure) => return Err(failure),
     };
-    match write_json(alloc, &index, &marks, out) {
+    match write_json(alloc, &index, index.checksum(), &marks, out) {
         Ok(()) => Ok(()),
         Err(e) => Err(Failure::Output(e)),
     }

@@ -5,7 +5,7 @@ use Rattle.gix_index.specs.Header.{Corrupt, count_of}
 use Rattle.gix_index.specs.Id.{id_len}
 use Rattle.index_inspect.proofs.Divided.{if_ok_both, if_ok_then, tells}
 use Rattle.index_inspect.specs.Division.{crowded, lacks, short, unread_piece, walked}
-use Rattle.index_inspect.specs.Piece.{item_pieces}
+use Rattle.index_map.specs.Piece.{item_pieces}
 use Rattle.index_inspect.proofs.division.behind_entries.Goals as goal
 
 pub returns-then-read-declared : goal.returns-then-read-declared

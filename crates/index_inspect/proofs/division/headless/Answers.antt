@@ -4,8 +4,8 @@ use Rattle.gix_index.specs.Held.{Held}
 use Rattle.gix_index.specs.HeaderErrors.{header_fault}
 use Rattle.index_inspect.proofs.Divided.{tells}
 use Rattle.index_inspect.specs.Division.{headless, unread_piece}
-use Rattle.index_inspect.specs.Piece.{laid}
-use Rattle.index_inspect.specs.declared.part.Part.{Part}
+use Rattle.index_map.specs.Piece.{laid}
+use Rattle.index_map.specs.declared.part.Part.{Part}
 use Rattle.index_inspect.proofs.division.headless.Goals as goal
 
 pub returns : goal.returns

@@ -4,8 +4,8 @@ use Rattle.gix_index.specs.Intact.{digest_id, trailer_id}
 use Rattle.index_inspect.proofs.Divided.{if_ok_both, refused_grows}
 use Rattle.index_inspect.proofs.Laid.{bytes_some, grown_more}
 use Rattle.index_inspect.specs.Division.{broken, fault_of, unread_piece, whole}
-use Rattle.index_inspect.specs.Piece.{one_piece, some_piece}
-use Rattle.index_inspect.specs.declared.part.What.TheVariants as whats
+use Rattle.index_map.specs.Piece.{one_piece, some_piece}
+use Rattle.index_map.specs.declared.part.What.TheVariants as whats
 use Rattle.index_inspect.proofs.division.sealed.Goals as goal
 
 pub returns-in-Err : goal.returns-in-Err

@@ -8,10 +8,10 @@ use Rattle.gix_index.specs.Record.{Record}
 use Rattle.index_inspect.proofs.Spelled.{spelling_of}
 use Rattle.index_inspect.proofs.SpelledFronts.{entries_push, front_grown, front_len, path_len, spelled_push}
 use Rattle.index_inspect.specs.FrontSteps.{own_len}
-use Rattle.index_inspect.specs.Piece.{laid, one_piece}
+use Rattle.index_map.specs.Piece.{laid, one_piece}
 use Rattle.index_inspect.specs.Spelling.{Spelling, IsSpelled}
-use Rattle.index_inspect.specs.declared.part.Part.{Part}
-use Rattle.index_inspect.specs.declared.part.What.TheVariants as whats
+use Rattle.index_map.specs.declared.part.Part.{Part}
+use Rattle.index_map.specs.declared.part.What.TheVariants as whats
 use Rattle.index_inspect.proofs.front.read_front.Goals as goal
 
 pub loop-number-init : goal.loop-number-init

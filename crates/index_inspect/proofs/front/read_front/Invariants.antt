@@ -1,8 +1,8 @@
 use Rattle.std.proofs.Common.{◌≡◌, List, ◌++◌, length, take, drop, None}
 use Rattle.gix_index.specs.Header.{header_len}
-use Rattle.index_inspect.specs.Piece.{laid, one_piece}
+use Rattle.index_map.specs.Piece.{laid, one_piece}
 use Rattle.index_inspect.specs.Spelling.{Spelling, AreSpelled, entries_spelled, entry_pieces}
-use Rattle.index_inspect.specs.declared.part.What.TheVariants as whats
+use Rattle.index_map.specs.declared.part.What.TheVariants as whats
 use Rattle.index_inspect.proofs.front.read_front.Given as goal
 
 -- so many entries were read, with their parts

@@ -1,7 +1,7 @@
 use Rattle.std.proofs.Common.{◌≡◌, ◌+◌, List, ◌++◌, length}
 use Rattle.gix_index.specs.Outcome.{AreSound}
 use Rattle.gix_index.specs.Walk.{Item, AreItems, unread}
-use Rattle.index_inspect.specs.Piece.{item_pieces, laid}
+use Rattle.index_map.specs.Piece.{item_pieces, laid}
 use Rattle.index_inspect.proofs.items.walk_items.Given as goal
 
 -- so many extensions, without a fault, have their parts, and the bytes before those that are left are counted

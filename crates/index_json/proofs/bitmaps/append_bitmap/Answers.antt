@@ -1,9 +1,9 @@
 use Rattle.std.proofs.Common.{ℕ, Bool, List, ◌++◌, ◌∙◌, ap}
 use Rattle.std.proofs.lemmas.Result.{on_ok_weaker}
-use Rattle.gix_index.specs.Bitmap.{bitmap}
+use Rattle.index_bitmaps.specs.Bitmap.{bitmap}
 use Rattle.index_json.specs.BitmapValues.{bits_value}
-use Rattle.index_show.specs.Ranges.{set_ranges}
-use Rattle.index_show.specs.declared.ranges.Range.{Range}
+use Rattle.index_bitmaps.specs.Ranges.{set_ranges}
+use Rattle.index_bitmaps.specs.declared.ranges.Range.{Range}
 use Rattle.index_json.proofs.bitmaps.append_bitmap.Goals as goal
 
 pub returns : goal.returns

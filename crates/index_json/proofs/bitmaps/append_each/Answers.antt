@@ -1,6 +1,6 @@
 use Rattle.std.proofs.Common.{arith}
 use Rattle.index_json.specs.BitmapValues.{range_value}
-use Rattle.index_show.specs.declared.ranges.Range.{Range}
+use Rattle.index_bitmaps.specs.declared.ranges.Range.{Range}
 use Rattle.index_json.proofs.Listed.{listed_more}
 use Rattle.index_json.proofs.bitmaps.append_each.Goals as goal
 

@@ -1,14 +1,14 @@
 use Rattle.std.proofs.Common.{◌≡◌, ℕ, List, ◌∙◌, ◌++◌, ap, arith}
 use Rattle.std.proofs.lemmas.Result.{err_from_is_err_and}
-use Rattle.gix_index.specs.EntryType.{Entry}
-use Rattle.gix_index.specs.Record.{Record, record_in, records_in}
-use Rattle.gix_index.specs.State.{entries_of, storage_of}
-use Rattle.gix_index.specs.StateType.{State}
+use Rattle.index_entries.specs.declared.Entry.{Entry}
+use Rattle.index_entries.specs.Record.{Record, record_in, records_in}
+use Rattle.index_state.specs.State.{entries_of, storage_of}
+use Rattle.index_state.specs.declared.State.{State}
 use Rattle.index_json.specs.EntryValues.{entry_value}
 use Rattle.index_json.specs.Values.{listed, separator}
 use Rattle.index_json.proofs.Listed.{listed_as}
-use Rattle.index_show.proofs.Placed.{placed_map}
-use Rattle.index_show.proofs.Written.{front_before_entry, front_of_block, written_all, written_more}
+use Rattle.index_text.proofs.Placed.{placed_map}
+use Rattle.index_text.proofs.Written.{front_before_entry, front_of_block, written_all, written_more}
 use Rattle.index_json.proofs.entries.write_entries.Goals as goal
 
 placed : State → ℕ × Entry → List ℕ
@@ -28,7 +28,7 @@ unfolding placed
 loop-place-preserved g c =
     written_more (placed c.args.state.now) (g.W.Write.contents c.args.out.now) (g.W.Write.contents c.loop-place.out)
     (g.W.Write.contents c.put_block.new.out) c.args.text.now.items c.entries-entry-items.result.now c.loop-place.place _
-    c.loop-place.text.items c.append_placed.new.text.items c.put_block.new.lines.items
+    c.loop-place.text.items c.append_placed.new.text.items c.put_block.new.text.items
     (omega (arith, c.loop-place-test.true)) c.loop-place.invariant c.in_ok-append_placed.ensures
     c.in_ok-put_block.ensures.ok
 

@@ -1,7 +1,7 @@
 use Rattle.std.proofs.Common.{◌++◌, take}
-use Rattle.gix_index.specs.Record.{record_in}
-use Rattle.gix_index.specs.State.{storage_of}
-use Rattle.index_show.specs.Blocks.{Passes}
+use Rattle.index_entries.specs.Record.{record_in}
+use Rattle.index_state.specs.State.{storage_of}
+use Rattle.index_text.specs.Blocks.{Passes}
 use Rattle.index_json.specs.EntryValues.{entry_value}
 use Rattle.index_json.proofs.Listed.{listed_as}
 use Rattle.index_json.proofs.entries.write_entries.Given as goal

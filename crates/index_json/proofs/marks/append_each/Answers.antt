@@ -1,5 +1,5 @@
 use Rattle.std.proofs.Common.{arith}
-use Rattle.gix_index.specs.OffsetType.{Offset}
+use Rattle.index_small_extensions.specs.declared.index_entry_offset_table.Offset.{Offset}
 use Rattle.index_json.specs.MarkValues.{block_value}
 use Rattle.index_json.proofs.Listed.{listed_more}
 use Rattle.index_json.proofs.marks.append_each.Goals as goal

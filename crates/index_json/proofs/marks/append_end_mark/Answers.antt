@@ -2,7 +2,7 @@ use Rattle.std.proofs.Common.{ℕ, ◌++◌, ◌∙◌, ap, codes}
 use Rattle.std.proofs.lemmas.Result.{on_ok_weaker}
 use Rattle.index_json.specs.MarkValues.{end_or_null}
 use Rattle.index_json.specs.Values.{number_member}
-use Rattle.index_show.proofs.Appended.{on_ok_items, two_more}
+use Rattle.index_text.proofs.Appended.{on_ok_items, two_more}
 use Rattle.index_json.proofs.marks.append_end_mark.Goals as goal
 
 pub returns-in_ok-append_id_member-in-Some : goal.returns-in_ok-append_id_member-in-Some

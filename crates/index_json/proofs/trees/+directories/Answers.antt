@@ -1,11 +1,11 @@
 use Rattle.std.proofs.Common.{◌∙◌, ap, arith, ◌++◌}
 use Rattle.std.proofs.lemmas.Result.{on_ok_weaker}
-use Rattle.gix_index.specs.Tree.{node_of}
-use Rattle.gix_index.specs.TreeType.{Tree}
+use Rattle.index_cached_tree.specs.Tree.{node_of}
+use Rattle.index_cached_tree.specs.declared.Tree.{Tree}
 use Rattle.index_json.specs.TreeValues.{tree_value}
 use Rattle.index_json.proofs.Listed.{listed_more}
 use Rattle.index_json.proofs.TreeTexts.{tree_step}
-use Rattle.index_show.proofs.Appended.{on_ok_items}
+use Rattle.index_text.proofs.Appended.{on_ok_items}
 use Rattle.index_json.proofs.trees.+directories.Goals as goal
 
 pub append_directories-loop-place-preserved : goal.append_directories-loop-place-preserved

@@ -1,5 +1,5 @@
 use Rattle.std.proofs.Common.{◌≡◌, ◌++◌, take}
-use Rattle.gix_index.specs.Tree.{node_of}
+use Rattle.index_cached_tree.specs.Tree.{node_of}
 use Rattle.index_json.specs.TreeValues.{tree_value}
 use Rattle.index_json.specs.Values.{listed}
 use Rattle.index_json.proofs.trees.+directories.Given as goal

@@ -1,5 +1,5 @@
 use Rattle.std.proofs.Common.{◌∙◌, ◌++◌, ap, arith}
-use Rattle.gix_index.specs.ResolveUndo.{path_stages}
+use Rattle.index_small_extensions.specs.ResolveUndo.{path_stages}
 use Rattle.index_json.specs.UndoValues.{path_value}
 use Rattle.index_json.proofs.Listed.{listed_all, listed_more}
 use Rattle.index_json.proofs.undo.append_each.Goals as goal

@@ -1,5 +1,5 @@
 use Rattle.std.proofs.Common.{◌∙◌, ◌++◌, ap, arith}
-use Rattle.gix_index.specs.Blocks.{directory_value}
+use Rattle.index_untracked.specs.Blocks.{directory_value}
 use Rattle.index_json.specs.UntrackedValues.{cached_directory}
 use Rattle.index_json.proofs.Listed.{listed_all, listed_more}
 use Rattle.index_json.proofs.untracked.append_directories.Goals as goal

@@ -1,6 +1,6 @@
 use Rattle.std.proofs.lemmas.Result.{on_ok_weaker}
 use Rattle.index_json.specs.UntrackedValues.{exclude_members}
-use Rattle.index_show.proofs.Appended.{two_more}
+use Rattle.index_text.proofs.Appended.{two_more}
 use Rattle.index_json.proofs.untracked.append_exclude_files.Goals as goal
 
 pub returns : goal.returns

@@ -1,5 +1,5 @@
 use Rattle.std.proofs.Common.{◌≡◌, ◌++◌, take}
-use Rattle.gix_index.specs.Owned.{bstring_bytes}
+use Rattle.bstr.specs.Owned.{bstring_bytes}
 use Rattle.index_json.specs.UntrackedValues.{name_value}
 use Rattle.index_json.proofs.Listed.{listed_as}
 use Rattle.index_json.proofs.untracked.append_names.Given as goal

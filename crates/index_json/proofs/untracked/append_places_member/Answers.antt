@@ -1,7 +1,7 @@
 use Rattle.std.proofs.lemmas.Result.{on_ok_weaker}
 use Rattle.index_json.specs.Values.{member}
 use Rattle.index_json.proofs.Listed.{array_more}
-use Rattle.index_show.proofs.Appended.{on_ok_items}
+use Rattle.index_text.proofs.Appended.{on_ok_items}
 use Rattle.index_json.proofs.untracked.append_places_member.Goals as goal
 
 pub returns : goal.returns

@@ -2,7 +2,7 @@ use Rattle.std.proofs.Common.{◌++◌, ◌∙◌, ap}
 use Rattle.std.proofs.lemmas.Result.{on_ok_weaker}
 use Rattle.index_json.specs.UntrackedValues.{untracked_or_null}
 use Rattle.index_json.specs.Values.{member}
-use Rattle.index_show.proofs.Appended.{two_more}
+use Rattle.index_text.proofs.Appended.{two_more}
 use Rattle.index_json.proofs.untracked.append_untracked.Goals as goal
 
 pub returns : goal.returns

@@ -3,13 +3,13 @@ use Rattle.std.specs.Prelude.{flat_map}
 use Rattle.std.specs.Io.KnownBytes.{Appends}
 use Rattle.std.proofs.lemmas.List.Folds.{flat_map-map}
 use Rattle.std.proofs.lemmas.Result.{err_from_is_err_and, on_err_weaker, on_ok_weaker}
-use Rattle.gix_index.specs.Taking.{AppendsPrefix}
-use Rattle.gix_index.specs.Record.{record_in, records_in}
-use Rattle.gix_index.specs.State.{storage_of, entries_of}
-use Rattle.gix_index.specs.EntryType.{Entry}
-use Rattle.gix_index.specs.StateType.{State}
+use Rattle.index_parts.specs.Taking.{AppendsPrefix}
+use Rattle.index_entries.specs.Record.{record_in, records_in}
+use Rattle.index_state.specs.State.{storage_of, entries_of}
+use Rattle.index_entries.specs.declared.Entry.{Entry}
+use Rattle.index_state.specs.declared.State.{State}
 use Rattle.index_lines.specs.Line.{line_of}
-use Rattle.index_inspect.proofs.Printed.{listed_more, listed_all, front_before_line, front_of_block, front_of_rest}
+use Rattle.index_text.proofs.Printed.{listed_more, listed_all, front_before_line, front_of_block, front_of_rest}
 use Rattle.index_lines.proofs.listing.write_listing.Goals as goal
 
 -- the lines of the entries are those of the records

@@ -2,8 +2,8 @@ use Rattle.std.proofs.Common.{◌≡◌, ℕ, List, ◌++◌, take}
 use Rattle.std.specs.Prelude.{flat_map}
 use Rattle.std.specs.Io.KnownBytes.{Appends}
 use Rattle.index_lines.specs.Line.{line_of}
-use Rattle.gix_index.specs.Record.{record_in}
-use Rattle.gix_index.specs.State.{storage_of}
+use Rattle.index_entries.specs.Record.{record_in}
+use Rattle.index_state.specs.State.{storage_of}
 use Rattle.index_lines.proofs.listing.write_listing.Given as goal
 
 abbrev pub invariant-loop-entry : goal.invariant-loop-entry

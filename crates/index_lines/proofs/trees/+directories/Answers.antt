@@ -1,9 +1,9 @@
 use Rattle.std.proofs.Common.{◌∙◌, ◌++◌, ℕ, List, ap, refl, subst}
 use Rattle.std.specs.List.{flat_map}
 use Rattle.std.proofs.lemmas.Result.{err_from_is_err_and}
-use Rattle.gix_index.specs.Taking.{AppendsPrefix}
-use Rattle.gix_index.specs.Tree.{node_of}
-use Rattle.gix_index.specs.TreeType.TheViews.{out-Tree}
+use Rattle.index_parts.specs.Taking.{AppendsPrefix}
+use Rattle.index_cached_tree.specs.Tree.{node_of}
+use Rattle.index_cached_tree.specs.declared.Tree.TheViews.{out-Tree}
 use Rattle.index_lines.specs.Directories.{subtree_lines, front_of}
 use Rattle.index_lines.specs.DirectorySteps.{LetsOut}
 use Rattle.index_lines.proofs.Directed.{children_all, children_more, front_let_out, front_of_children, front_of_line}

@@ -1,6 +1,6 @@
 use Rattle.std.proofs.Common.{◌≡◌, take}
 use Rattle.std.specs.List.{flat_map}
-use Rattle.gix_index.specs.Tree.{node_of}
+use Rattle.index_cached_tree.specs.Tree.{node_of}
 use Rattle.index_lines.specs.Directories.{subtree_lines}
 use Rattle.index_lines.specs.DirectorySteps.{LetsOut}
 use Rattle.index_lines.proofs.trees.+directories.Given as goal

@@ -1,7 +1,7 @@
 use Rattle.std.proofs.Common.{List, ℕ, subst}
 use Rattle.std.proofs.lemmas.Result.{on_err_weaker}
-use Rattle.gix_index.specs.Taking.{AppendsPrefix}
-use Rattle.gix_index.specs.Tree.{node_of}
+use Rattle.index_parts.specs.Taking.{AppendsPrefix}
+use Rattle.index_cached_tree.specs.Tree.{node_of}
 use Rattle.index_lines.proofs.Directed.{front_of_last}
 use Rattle.index_lines.proofs.trees.write_trees.Goals as goal
 

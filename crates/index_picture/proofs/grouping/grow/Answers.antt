@@ -1,5 +1,5 @@
 use Rattle.std.proofs.Common.{List, [], ◌∷◌, ◌++◌, ◌∙◌, ap, sym}
-use Rattle.index_inspect.specs.declared.part.Part.{Part}
+use Rattle.index_map.specs.declared.part.Part.{Part}
 use Rattle.index_picture.proofs.Grouped.{last_apart, last_stretched}
 use Rattle.index_picture.proofs.grouping.grow.Goals as goal
 

@@ -2,8 +2,8 @@ use Rattle.std.proofs.Common.{ℕ, List, ◌++◌, subst}
 use Rattle.std.specs.Prelude.{flat_map}
 use Rattle.std.specs.Io.KnownBytes.{Appends}
 use Rattle.std.proofs.lemmas.Result.{err_from_is_err_and, on_err_weaker, on_ok_weaker}
-use Rattle.gix_index.proofs.Taking.{Appends-trans, prefix_after, prefix_before}
-use Rattle.gix_index.specs.Taking.{AppendsPrefix}
+use Rattle.index_parts.proofs.Taking.{Appends-trans, prefix_after, prefix_before}
+use Rattle.index_parts.specs.Taking.{AppendsPrefix}
 use Rattle.index_picture.specs.Picture.{box, front_text, middle_text, row, svg_end}
 use Rattle.index_picture.specs.Scale.{drawn_len}
 use Rattle.index_picture.proofs.picture.write_drawing.Goals as goal

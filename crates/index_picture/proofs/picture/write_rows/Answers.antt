@@ -1,9 +1,9 @@
 use Rattle.std.proofs.Common.{ℕ, List, subst}
 use Rattle.std.specs.Io.KnownBytes.{Appends}
 use Rattle.std.proofs.lemmas.Result.{err_from_is_err_and, on_err_weaker, on_ok_weaker}
-use Rattle.gix_index.specs.Taking.{AppendsPrefix}
-use Rattle.index_inspect.specs.declared.part.Part.{Part}
-use Rattle.index_inspect.proofs.Printed.{front_before_line, front_of_block, front_of_rest, listed_all, listed_more}
+use Rattle.index_parts.specs.Taking.{AppendsPrefix}
+use Rattle.index_map.specs.declared.part.Part.{Part}
+use Rattle.index_text.proofs.Printed.{front_before_line, front_of_block, front_of_rest, listed_all, listed_more}
 use Rattle.index_picture.specs.Picture.{row}
 use Rattle.index_picture.proofs.picture.write_rows.Goals as goal
 

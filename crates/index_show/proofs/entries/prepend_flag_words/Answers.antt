@@ -1,6 +1,6 @@
 use Rattle.std.proofs.Common.{drop, arith}
 use Rattle.index_show.specs.Entries.{flag_words}
-use Rattle.index_show.proofs.Prepended.{four_before, length_four}
+use Rattle.index_text.proofs.Prepended.{four_before, length_four}
 use Rattle.index_show.proofs.entries.prepend_flag_words.Goals as goal
 
 pub returns-clause-prepends : goal.returns-clause-prepends

@@ -1,13 +1,13 @@
 use Rattle.std.proofs.Common.{◌≡◌, ℕ, List, [], ◌∙◌, ◌++◌, ap, arith, codes, length}
 use Rattle.std.proofs.lemmas.Result.{err_from_is_err_and}
 use Rattle.std.specs.List.{enumerate_from, flat_map}
-use Rattle.gix_index.specs.EntryType.{Entry}
-use Rattle.gix_index.specs.Record.{record_in, records_in}
-use Rattle.gix_index.specs.State.{entries_of, storage_of}
-use Rattle.gix_index.specs.StateType.{State}
+use Rattle.index_entries.specs.declared.Entry.{Entry}
+use Rattle.index_entries.specs.Record.{record_in, records_in}
+use Rattle.index_state.specs.State.{entries_of, storage_of}
+use Rattle.index_state.specs.declared.State.{State}
 use Rattle.index_show.specs.Entries.{entries_lines, entry_lines, placed_lines}
 use Rattle.index_show.specs.Fields.{number_field}
-use Rattle.index_show.proofs.Written.{all_lines, front_before_entry, front_of_block, written_all, written_more}
+use Rattle.index_text.proofs.Written.{all_lines, front_before_entry, front_of_block, written_all, written_more}
 use Rattle.index_show.proofs.entries.write_entries.Goals as goal
 
 -- the lines of the entries are those of the records
@@ -27,7 +27,7 @@ loop-place-preserved g c =
     let base = c.args.lines.now.items ++ number_field [] (codes "entries") (length (entries_of c.args.state.now)) in
     written_more f (g.W.Write.contents c.args.out.now) (g.W.Write.contents c.loop-place.out)
     (g.W.Write.contents c.put_block.new.out) base c.entries-entry-items.result.now c.loop-place.place _
-    c.loop-place.lines.items c.append_entry.new.lines.items c.put_block.new.lines.items
+    c.loop-place.lines.items c.append_entry.new.lines.items c.put_block.new.text.items
     (omega (arith, c.loop-place-test.true)) c.loop-place.invariant c.in_ok-append_entry.ensures
     c.in_ok-put_block.ensures.ok
 

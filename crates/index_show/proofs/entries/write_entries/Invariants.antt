@@ -1,9 +1,9 @@
 use Rattle.std.proofs.Common.{ℕ, [], ◌++◌, codes, length, take}
 use Rattle.std.specs.List.{enumerate_from, flat_map}
-use Rattle.gix_index.specs.EntryType.{Entry}
-use Rattle.gix_index.specs.Record.{record_in}
-use Rattle.gix_index.specs.State.{entries_of, storage_of}
-use Rattle.index_show.specs.Blocks.{Passes}
+use Rattle.index_entries.specs.declared.Entry.{Entry}
+use Rattle.index_entries.specs.Record.{record_in}
+use Rattle.index_state.specs.State.{entries_of, storage_of}
+use Rattle.index_text.specs.Blocks.{Passes}
 use Rattle.index_show.specs.Entries.{entry_lines}
 use Rattle.index_show.specs.Fields.{number_field}
 use Rattle.index_show.proofs.entries.write_entries.Given as goal

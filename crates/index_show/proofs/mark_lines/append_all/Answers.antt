@@ -1,5 +1,5 @@
 use Rattle.std.proofs.lemmas.Result.{on_ok_weaker}
-use Rattle.index_show.proofs.Appended.{two_more}
+use Rattle.index_text.proofs.Appended.{two_more}
 use Rattle.index_show.proofs.mark_lines.append_all.Goals as goal
 
 pub returns : goal.returns

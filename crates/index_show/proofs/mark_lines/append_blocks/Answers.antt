@@ -1,7 +1,7 @@
 use Rattle.std.proofs.Common.{◌++◌, ◌∙◌, List, [], ap, codes, length}
 use Rattle.std.specs.List.{flat_map}
 use Rattle.std.proofs.lemmas.Result.{on_ok_weaker}
-use Rattle.gix_index.specs.OffsetType.{Offset}
+use Rattle.index_small_extensions.specs.declared.index_entry_offset_table.Offset.{Offset}
 use Rattle.index_show.specs.Fields.{number_field}
 use Rattle.index_show.specs.MarkLines.{blocks_lines, entry_block}
 use Rattle.index_show.proofs.mark_lines.append_blocks.Goals as goal

@@ -2,7 +2,7 @@ use Rattle.std.proofs.Common.{◌∙◌, Bool, ◌++◌, ap}
 use Rattle.std.proofs.lemmas.Result.{on_ok_weaker}
 use Rattle.index_show.specs.MarkLines.{mark_lines}
 use Rattle.index_show.specs.Show.{behind_lines}
-use Rattle.index_show.proofs.Appended.{two_more}
+use Rattle.index_text.proofs.Appended.{two_more}
 use Rattle.index_show.proofs.show.append_behind.Goals as goal
 
 pub returns : goal.returns

@@ -1,8 +1,8 @@
 use Rattle.std.proofs.Common.{◌∙◌, ℕ, List, ◌++◌, ap, codes}
 use Rattle.std.proofs.lemmas.Result.{on_ok_weaker}
-use Rattle.gix_index.specs.Tree.{node_of}
+use Rattle.index_cached_tree.specs.Tree.{node_of}
 use Rattle.index_show.specs.Trees.{tree_lines}
-use Rattle.index_show.proofs.Appended.{two_more}
+use Rattle.index_text.proofs.Appended.{two_more}
 use Rattle.index_show.proofs.trees.append_root.Goals as goal
 
 pub returns : goal.returns

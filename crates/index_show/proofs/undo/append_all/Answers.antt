@@ -2,10 +2,10 @@ use Rattle.std.proofs.Common.{ℕ, List, [], ◌∙◌, ◌++◌, ap, codes, sym
 use Rattle.std.proofs.lemmas.List.{length-map}
 use Rattle.std.proofs.lemmas.List.Folds.{flat_map-map}
 use Rattle.std.proofs.lemmas.Result.{on_ok_weaker}
-use Rattle.gix_index.specs.ResolveUndo.{path_stages}
+use Rattle.index_small_extensions.specs.ResolveUndo.{path_stages}
 use Rattle.index_show.specs.Fields.{number_field}
 use Rattle.index_show.specs.Undo.{path_lines}
-use Rattle.index_show.proofs.Appended.{two_more}
+use Rattle.index_text.proofs.Appended.{two_more}
 use Rattle.index_show.proofs.undo.append_all.Goals as goal
 
 pub returns : goal.returns

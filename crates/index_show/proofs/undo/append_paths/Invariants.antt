@@ -1,6 +1,6 @@
 use Rattle.std.proofs.Common.{◌≡◌, ◌++◌, take}
 use Rattle.std.specs.List.{flat_map}
-use Rattle.gix_index.specs.ResolveUndo.{path_stages}
+use Rattle.index_small_extensions.specs.ResolveUndo.{path_stages}
 use Rattle.index_show.specs.Undo.{path_lines}
 use Rattle.index_show.proofs.undo.append_paths.Given as goal
 

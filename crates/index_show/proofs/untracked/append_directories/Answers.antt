@@ -1,8 +1,8 @@
 use Rattle.std.proofs.Common.{ℕ, List, ◌++◌, ◌∙◌, ap, arith}
-use Rattle.gix_index.specs.Blocks.{directory_value}
-use Rattle.gix_index.specs.Directory.{Directory}
+use Rattle.index_untracked.specs.Blocks.{directory_value}
+use Rattle.index_untracked.specs.declared.Directory.{Directory}
 use Rattle.index_show.specs.Untracked.{placed_directory}
-use Rattle.index_show.proofs.Placed.{placed_all, placed_more}
+use Rattle.index_text.proofs.Placed.{placed_all, placed_more}
 use Rattle.index_show.proofs.untracked.append_directories.Goals as goal
 
 pub loop-place-preserved : goal.loop-place-preserved

@@ -1,7 +1,7 @@
 use Rattle.std.proofs.Common.{◌≡◌, ℕ, ◌++◌, take}
 use Rattle.std.specs.List.{enumerate_from, flat_map}
-use Rattle.gix_index.specs.Blocks.{directory_value}
-use Rattle.gix_index.specs.Directory.{Directory}
+use Rattle.index_untracked.specs.Blocks.{directory_value}
+use Rattle.index_untracked.specs.declared.Directory.{Directory}
 use Rattle.index_show.specs.Untracked.{placed_directory}
 use Rattle.index_show.proofs.untracked.append_directories.Given as goal
 

@@ -1,7 +1,7 @@
 use Rattle.std.proofs.Common.{arith}
 use Rattle.bstr.specs.Owned.{bstring_bytes}
 use Rattle.index_show.specs.Untracked.{untracked_name}
-use Rattle.index_show.proofs.Appended.{mapped_all}
+use Rattle.index_text.proofs.Appended.{mapped_all}
 use Rattle.index_show.proofs.untracked.append_names.Goals as goal
 
 pub returns : goal.returns

@@ -1,0 +1,8 @@
+//! The map of a file: which of its bytes are what, part by part, and a line for each part.
+#![tactic(auto)]
+
+pub mod map;
+pub mod part;
+
+pub use map::write_map;
+pub use part::{Part, What};

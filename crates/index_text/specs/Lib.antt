@@ -1,0 +1,4 @@
+pub mod Blocks
+pub mod Digits
+pub mod Escaped
+pub mod Prepending

@@ -1,0 +1,8 @@
+//! Text that waits in a buffer and goes out block by block, and what is appended to it: digits, ids, escaped bytes.
+#![tactic(auto)]
+
+pub mod append;
+pub mod block;
+pub mod digits;
+pub mod escape;
+pub mod prepend;
