@@ -13,14 +13,14 @@ use Rattle.index_tool.specs.declared.command.Reading.{Reading}
 use Rattle.index_tool.specs.declared.command.Reading.TheVariants as readings
 use Rattle.index_tool.specs.declared.command.Writing.{Writing}
 use Rattle.index_tool.specs.declared.command.Writing.TheVariants as writings
-use Rattle.index_tool.specs.declared.failure.Failure.{Failure}
-use Rattle.index_tool.specs.Checking.{Checks, ChecksFront}
-use Rattle.index_tool.specs.Listing.{ListsIndex, ListsFront}
-use Rattle.index_tool.specs.Mapping.{Draws, DrawsDamaged, DrawsFront, Maps, MapsDamaged, MapsFront}
-use Rattle.index_tool.specs.Rewriting.{FailsToRewrite, Rewrites}
-use Rattle.index_tool.specs.Salvaging.{FailsToSalvage, Salvages}
-use Rattle.index_tool.specs.Showing.{Shows, ShowsFront, ShowsJson, ShowsJsonFront}
-use Rattle.index_tool.specs.Trees.{FailsToRetree, Retrees, TreesFront, TreesIndex}
+use Rattle.index_failures.specs.declared.failure.Failure.{Failure}
+use Rattle.index_commands.specs.Checking.{Checks, ChecksFront}
+use Rattle.index_commands.specs.Listing.{ListsIndex, ListsFront}
+use Rattle.index_telling.specs.Mapping.{Draws, DrawsDamaged, DrawsFront, Maps, MapsDamaged, MapsFront}
+use Rattle.index_commands.specs.Rewriting.{FailsToRewrite, Rewrites}
+use Rattle.index_telling.specs.Salvaging.{FailsToSalvage, Salvages}
+use Rattle.index_telling.specs.Showing.{Shows, ShowsFront, ShowsJson, ShowsJsonFront}
+use Rattle.index_commands.specs.Trees.{FailsToRetree, Retrees, TreesFront, TreesIndex}
 use Rattle.gix_index.specs.DecodeError.{Error}
 
 -- a command as a value: what is told of a file with ids of a kind, or what is written of it to another path

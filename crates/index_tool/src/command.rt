@@ -1,40 +1,27 @@
 //! The commands, from words to a status.
 
-pub mod check;
-mod index;
-pub mod list;
-pub mod map;
-pub mod map_svg;
-pub mod rewrite;
-pub mod rewrite_trees;
-pub mod salvage;
-mod shared;
-pub mod show;
-pub mod show_json;
-pub mod trees;
-
 ghost use Rattle.std.specs.Prelude.{◌≡◌, ◌≤◌, ◌↔◌, false, map, IfErr, IfOk, OnOk, OnErr, IsSomeAnd, None, is_some, string_bytes};
 ghost use Rattle.std.specs.Io.KnownBytes.{Keeps};
 ghost use Rattle.std.specs.Option.{option_map};
 ghost use Rattle.index_tool.specs.Command.{command_named, command_value, kind_named, read_named, reading_named, reports, write_named, writing_named, FailsToStore, GivesUp, Reads, StoresIndex, Succeeds, Prints, Writes};
 
-use crate::failure::Failure;
-use check::check;
 use gix_index::hash::Kind;
 use gix_index::write::VersionChoice;
-use list::list;
-use map::map;
-use map_svg::map_svg;
-use rewrite::rewrite;
-use rewrite_trees::rewrite_trees;
-use salvage::{Report, save};
-use show::show;
-use show_json::show_json;
+use index_commands::check::check;
+use index_commands::list::list;
+use index_commands::rewrite::rewrite;
+use index_commands::rewrite_trees::rewrite_trees;
+use index_commands::trees::trees;
+use index_failures::failure::Failure;
+use index_telling::map::map;
+use index_telling::map_svg::map_svg;
+use index_telling::salvage::{Report, save};
+use index_telling::show::show;
+use index_telling::show_json::show_json;
 use std::alloc::Global;
 use std::io;
 use std::io::Write;
 use std::rt::Files;
-use trees::trees;
 
 /// The status of a command that succeeded.
 pub const DONE: u8 = 0;

@@ -2,7 +2,6 @@
 #![tactic(auto)]
 
 pub mod command;
-pub mod failure;
 pub mod words;
 
 pub use command::run;

@@ -1,4 +1,4 @@
-use Rattle.index_tool.proofs.Rewritings.{stored_done}
+use Rattle.index_tool.proofs.Endings.{stored_done}
 use Rattle.index_tool.proofs.command.run_command.Goals as goal
 
 pub returns-in-Write-clause-done : goal.returns-in-Write-clause-done

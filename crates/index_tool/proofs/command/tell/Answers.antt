@@ -1,10 +1,11 @@
 use Rattle.std.proofs.Common.{false, refl, true}
-use Rattle.index_tool.specs.Checking.{ChecksFront, FailsToPass}
+use Rattle.index_commands.specs.Checking.{ChecksFront, FailsToPass}
 use Rattle.index_tool.specs.Command.{damaged_map, damaged_picture}
-use Rattle.index_tool.specs.Listing.{FailsToRead, ListsFront}
-use Rattle.index_tool.specs.Mapping.{DrawsDamaged, DrawsFront, MapsDamaged, MapsFront}
-use Rattle.index_tool.specs.Showing.{ShowsFront, ShowsJsonFront}
-use Rattle.index_tool.specs.Trees.{FailsToTree, TreesFront}
+use Rattle.index_failures.specs.Reading.{FailsToRead}
+use Rattle.index_commands.specs.Listing.{ListsFront}
+use Rattle.index_telling.specs.Mapping.{DrawsDamaged, DrawsFront, MapsDamaged, MapsFront}
+use Rattle.index_telling.specs.Showing.{ShowsFront, ShowsJsonFront}
+use Rattle.index_commands.specs.Trees.{FailsToTree, TreesFront}
 use Rattle.index_tool.specs.declared.command.Reading.TheVariants as readings
 use Rattle.index_tool.proofs.Endings.{dividing_refused, telling_refused}
 use Rattle.index_tool.proofs.command.tell.Goals as goal

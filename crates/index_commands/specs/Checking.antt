@@ -1,0 +1,64 @@
+-- What the program checks of an index, and what it prints then (the program's own).
+use Rattle.std.specs.Prelude.{◌≡◌, ℕ, Bool, true, List, length, Option, IfSome, codes}
+use Rattle.std.specs.Io.KnownBytes.{Appends}
+use Rattle.gix_index.specs.Taking.{AppendsPrefix}
+use Rattle.gix_index.specs.Kind.{Kind}
+use Rattle.gix_index.specs.ObjectId.{ObjectId}
+use Rattle.gix_index.specs.Order.{IsStrictlyOrdered}
+use Rattle.gix_index.specs.Contents.{Contents}
+use Rattle.gix_index.specs.SoundState.{AreSoundExtensions}
+use Rattle.gix_index.specs.Staged.{staged_in}
+use Rattle.gix_index.specs.TreeIds.{AreRight}
+use Rattle.gix_index.specs.VerifiedFile.{FitsSomeBytes}
+use Rattle.index_failures.specs.declared.failure.Failure.{Failure}
+use Rattle.index_failures.specs.declared.failure.Failure.TheVariants as failures
+use Rattle.index_failures.specs.Reading.{IsInFile, FailsToRead}
+use Rattle.index_failures.specs.Telling.{FailsTelling}
+
+abbrev pub ok_line : List ℕ
+ok_line = codes "ok\n"
+
+-- the cached tree, if there is one, tells of each directory what the entries give
+abbrev pub HasRightTrees : Contents → Type 0
+HasRightTrees value = IfSome value.extensions.tree (AreRight value.kind (staged_in value.records))
+
+-- An index in a file, whose entries strictly increase by path, then stage, and whose cached tree, if it has one, is
+-- sound and counts no more than these entries; where it is compared with them, it tells what they give. The checksum,
+-- unless it is null, fits some bytes: those that the file has when it is read again.
+pub record IsSoundInFile (ids : Bool) (kind : Kind) (value : Contents) (checksum : Option ObjectId) : Type 0 where
+  pub read : IsInFile kind value checksum
+  pub ordered : IsStrictlyOrdered value.records
+  pub tree : AreSoundExtensions (length value.records) value.extensions.tree
+  pub trees : ids ≡ true → HasRightTrees value
+  pub intact : IfSome checksum FitsSomeBytes
+
+-- known bytes grew by the line of an index that passed all checks
+pub record Checks (ids : Bool) (kind : Kind) (old new : Option (List ℕ)) : Type 0 where
+  pub value : Contents
+  pub checksum : Option ObjectId
+  pub sound : IsSoundInFile ids kind value checksum
+  pub grew : Appends old new ok_line
+
+-- known bytes grew by a prefix of that line, and all checks had passed
+pub record ChecksFront (ids : Bool) (kind : Kind) (old new : Option (List ℕ)) : Type 0 where
+  pub value : Contents
+  pub checksum : Option ObjectId
+  pub sound : IsSoundInFile ids kind value checksum
+  pub grew : AppendsPrefix old new ok_line
+
+-- a failure of an index in a file that doesn't pass the checks names that file
+abbrev pub FailsToPass : List ℕ → Failure → Type 0
+FailsToPass path (failures.Entries file e) = file.now ≡ path
+FailsToPass path (failures.CachedTree file e) = file.now ≡ path
+FailsToPass path (failures.TreeIds file e) = file.now ≡ path
+FailsToPass path (failures.Changed file e) = file.now ≡ path
+FailsToPass path failure = FailsToRead path failure
+
+-- a failure of a check
+abbrev pub FailsToCheck : Bool → Kind → List ℕ → Failure → Option (List ℕ) → Option (List ℕ) → Type 0
+FailsToCheck ids kind path failure old new = FailsTelling (ChecksFront ids kind) (FailsToPass path) failure old new
+
+-- a failure of comparing the cached tree with the entries
+abbrev pub FailsToCompare : List ℕ → Failure → Type 0
+FailsToCompare path (failures.TreeIds file e) = file.now ≡ path
+FailsToCompare path failure = ⊥

@@ -1,0 +1,80 @@
+-- The trees of an index in a file: their lines, and the index that is written with them (the program's own).
+use Rattle.std.specs.Prelude.{◌≡◌, ℕ, List, [], Option}
+use Rattle.std.specs.Io.KnownBytes.{Appends}
+use Rattle.gix_index.specs.Cached.{IsCached}
+use Rattle.gix_index.specs.Contents.{Contents}
+use Rattle.gix_index.specs.Edits.{with_cached_tree}
+use Rattle.gix_index.specs.File.{state_of, path_of}
+use Rattle.gix_index.specs.Kind.{Kind}
+use Rattle.gix_index.specs.ObjectId.{ObjectId}
+use Rattle.gix_index.specs.Order.{IsStrictlyOrdered}
+use Rattle.gix_index.specs.Staged.{staged_in}
+use Rattle.gix_index.specs.State.{contents}
+use Rattle.gix_index.specs.Taking.{AppendsPrefix}
+use Rattle.gix_index.specs.Tree.{Node}
+use Rattle.gix_index.specs.TreeDirectory.{Items, IsTreeOf}
+use Rattle.gix_index.specs.VersionChoice.TheVariants.{Smallest}
+use Rattle.gix_index.specs.WrittenFile.{IsWritten}
+use Rattle.gix_index.specs.declared.file.File.{File}
+use Rattle.index_lines.specs.Directories.{subtree_lines}
+use Rattle.index_failures.specs.declared.failure.Failure.{Failure}
+use Rattle.index_failures.specs.declared.failure.Failure.TheVariants as failures
+use Rattle.index_failures.specs.Reading.{IsInFile, FailsToRead}
+use Rattle.index_failures.specs.Options.{rewrite_options}
+use Rattle.index_failures.specs.Telling.{FailsTelling}
+
+-- the entries of an index are in order, and this is the cached tree of what they stage
+pub record IsTreeOfIndex (value : Contents) (tree : Node) : Type 0 where
+  pub ordered : IsStrictlyOrdered value.records
+  pub items : Items
+  pub is_tree : IsTreeOf value.kind (staged_in value.records) items
+  pub is_cached : IsCached value.kind [] items tree
+
+-- an index in a file, and the cached tree of what it stages
+pub record IsTreeInFile (kind : Kind) (value : Contents) (tree : Node) : Type 0 where
+  pub checksum : Option ObjectId
+  pub read : IsInFile kind value checksum
+  pub is_tree : IsTreeOfIndex value tree
+
+-- known bytes grew by the lines of the trees of an index in a file
+pub record TreesIndex (kind : Kind) (old new : Option (List ℕ)) : Type 0 where
+  pub value : Contents
+  pub tree : Node
+  pub is : IsTreeInFile kind value tree
+  pub grew : Appends old new (subtree_lines [] tree)
+
+-- known bytes grew by a prefix of them
+pub record TreesFront (kind : Kind) (old new : Option (List ℕ)) : Type 0 where
+  pub value : Contents
+  pub tree : Node
+  pub is : IsTreeInFile kind value tree
+  pub grew : AppendsPrefix old new (subtree_lines [] tree)
+
+-- a failure of an index in a file that has no trees names that file
+abbrev pub FailsToTree : List ℕ → Failure → Type 0
+FailsToTree path (failures.Entries file e) = file.now ≡ path
+FailsToTree path (failures.Trees file e) = file.now ≡ path
+FailsToTree path failure = FailsToRead path failure
+
+-- a failure of telling trees
+abbrev pub FailsToTellTrees : Kind → List ℕ → Failure → Option (List ℕ) → Option (List ℕ) → Type 0
+FailsToTellTrees kind path failure old new = FailsTelling (TreesFront kind) (FailsToTree path) failure old new
+
+-- An index in a file, once it was written to a path with a cached tree made anew.
+pub record IsRetreed (kind : Kind) (to : List ℕ) (written : File) : Type 0 where
+  pub value : Contents
+  pub tree : Node
+  pub is : IsTreeInFile kind value tree
+  pub index : File
+  pub set : contents (state_of index) ≡ with_cached_tree value tree
+  pub path : path_of index ≡ to
+  pub is_written : IsWritten index written (rewrite_options Smallest)
+
+-- an index was written so
+abbrev pub Retrees : Kind → List ℕ → Type 0
+Retrees kind to = (written : File) × IsRetreed kind to written
+
+-- a failure of writing it so names the file that it concerns, or one of those that the words name
+abbrev pub FailsToRetree : List ℕ → List ℕ → Failure → Type 0
+FailsToRetree path to (failures.Rewrite file e) = file.now ≡ to
+FailsToRetree path to failure = FailsToTree path failure

@@ -1,0 +1,83 @@
+//! The commands `check` and `check-trees`.
+
+ghost use Rattle.std.specs.Prelude.{◌≡◌, true, IfErr, OnOk};
+ghost use Rattle.gix_index.specs.File.{state_of};
+ghost use Rattle.gix_index.specs.Order.{IsStrictlyOrdered};
+ghost use Rattle.gix_index.specs.State.{PathsInStorage, contents};
+ghost use Rattle.index_commands.specs.Checking.{Checks, FailsToCheck, FailsToCompare, HasRightTrees};
+
+use gix_index::File;
+use gix_index::hash::Kind;
+use gix_index::hash::io::put_all;
+use gix_index::object::NoObjects;
+use index_failures::failure::Failure;
+use index_failures::index::index_at;
+use std::alloc::Global;
+use std::io;
+use std::rt::Files;
+
+/// What `out` gets of an index that passed all checks.
+const OK_LINE: &[u8] = b"ok\n";
+
+/// Fails where the cached tree is to be compared with the entries, and tells something else than they give.
+fn compare_trees<'a>(
+    alloc: Global,
+    ids: bool,
+    index: &File,
+    path: &'a str,
+) -> Result<(), Failure<'a>>
+    requires placed { PathsInStorage (state_of index.now) }
+    requires ordered { IsStrictlyOrdered (contents (state_of index.now)).records }
+    ensures right { OnOk result (ids ≡ true → HasRightTrees (contents (state_of index.now))) }
+    ensures fault { IfErr result (FailsToCompare path.now) }
+{
+    if !ids {
+        return Ok(());
+    }
+    match index.verify_tree_ids(alloc) {
+        Ok(()) => Ok(()),
+        Err(fault) => Err(Failure::TreeIds { path, fault }),
+    }
+}
+
+/// Checks the index in a file, with the shared index that it links to, and writes `ok` and a newline to `out`.
+///
+/// Its entries have to increase strictly by path, then stage. Its cached tree has to hold together, and no node of it
+/// counts more entries than there are; objects aren't looked at. With `ids`, each node that has a count has to have the
+/// id and the count that the entries give, as `git write-tree` would make them. The file's bytes have to have the
+/// digest still that their trailer gave. Nothing goes to `out` before the last check has passed. Ok: `out` took the
+/// whole line. [`Failure::Output`]: it took a front. Any other failure: it took nothing.
+pub fn check<'a, R: Files, W: io::Write>(
+    rt: &R,
+    alloc: Global,
+    ids: bool,
+    kind: Kind,
+    path: &'a str,
+    out: &mut W,
+) -> Result<(), Failure<'a>>
+    ensures checked { OnOk result (Checks ids kind (W.contents out.old) (W.contents out.new)) }
+    ensures refused { IfErr result
+        (λ failure. FailsToCheck ids kind path.now failure (W.contents out.old)
+        (W.contents out.new)) }
+{
+    let index = match index_at(rt, alloc, kind, path) {
+        Ok(index) => index,
+        Err(failure) => return Err(failure),
+    };
+    if let Err(fault) = index.verify_entries() {
+        return Err(Failure::Entries { path, fault });
+    }
+    if let Err(fault) = index.verify_extensions(alloc, false, &NoObjects) {
+        return Err(Failure::CachedTree { path, fault });
+    }
+    if let Err(failure) = compare_trees(alloc, ids, &index, path) {
+        return Err(failure);
+    }
+    if let Err(fault) = index.verify_integrity(rt, alloc) {
+        return Err(Failure::Changed { path, fault });
+    }
+    match put_all(out, OK_LINE) {
+        Ok(()) => Ok(()),
+        Err(e) => Err(Failure::Output(e)),
+    }
+}

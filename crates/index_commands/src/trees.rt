@@ -1,0 +1,78 @@
+//! The command `trees`, and the trees of an index.
+
+ghost use Rattle.std.specs.Prelude.{◌≡◌, IfErr, IfOk, None, OnOk};
+ghost use Rattle.gix_index.specs.File.{state_of};
+ghost use Rattle.gix_index.specs.State.{PathsInStorage, contents};
+ghost use Rattle.gix_index.specs.Tree.{node_of};
+ghost use Rattle.index_commands.specs.Trees.{FailsToTellTrees, FailsToTree, IsTreeOfIndex, TreesIndex};
+
+use gix_index::File;
+use gix_index::extension::Tree;
+use gix_index::hash::Kind;
+use gix_index::init::ComponentCheck;
+use gix_index::write_trees::Discard;
+use index_failures::failure::Failure;
+use index_failures::index::index_at;
+use index_lines::write_trees;
+use std::alloc::Global;
+use std::io;
+use std::rt::Files;
+
+/// Lets all names pass: git has looked at those of an index.
+#[derive(Clone, Copy)]
+struct AnyName;
+
+impl ComponentCheck for AnyName {
+    ghost refusal = { λ _ _ _. None };
+
+    fn check(&self, _name: &[u8], _symlink: bool) -> Result<(), u32> {
+        Ok(())
+    }
+}
+
+/// The cached tree of the entries of an index, made anew.
+pub fn tree_of<'a>(alloc: Global, index: &File, path: &'a str) -> Result<Tree, Failure<'a>>
+    requires { PathsInStorage (state_of index.now) }
+    ensures made { IfOk result
+        (λ tree. IsTreeOfIndex (contents (state_of index.now)) (node_of tree)) }
+    ensures fault { IfErr result (FailsToTree path.now) }
+{
+    if let Err(fault) = index.verify_entries() {
+        return Err(Failure::Entries { path, fault });
+    }
+    match index.write_trees(alloc, &AnyName, &mut Discard) {
+        Ok(tree) => Ok(tree),
+        Err(fault) => Err(Failure::Trees { path, fault }),
+    }
+}
+
+/// Writes a line to `out` for each directory of the trees that the entries of the index in a file make, as `git
+/// write-tree` would make them.
+///
+/// Nothing goes to `out` before all are made. Ok: `out` took all lines. [`Failure::Output`]: it took a front. Any other
+/// failure: it took nothing.
+pub fn trees<'a, R: Files, W: io::Write>(
+    rt: &R,
+    alloc: Global,
+    kind: Kind,
+    path: &'a str,
+    out: &mut W,
+) -> Result<(), Failure<'a>>
+    ensures told { OnOk result (TreesIndex kind (W.contents out.old) (W.contents out.new)) }
+    ensures refused { IfErr result
+        (λ failure. FailsToTellTrees kind path.now failure (W.contents out.old)
+        (W.contents out.new)) }
+{
+    let index = match index_at(rt, alloc, kind, path) {
+        Ok(index) => index,
+        Err(failure) => return Err(failure),
+    };
+    let tree = match tree_of(alloc, &index, path) {
+        Ok(tree) => tree,
+        Err(failure) => return Err(failure),
+    };
+    match write_trees(alloc, &tree, out) {
+        Ok(()) => Ok(()),
+        Err(e) => Err(Failure::Output(e)),
+    }
+}

@@ -1,0 +1,61 @@
+//! The index in a file that a command's words name.
+
+ghost use Rattle.std.specs.Prelude.{◌≡◌, IfErr, IfOk};
+ghost use Rattle.gix_index.specs.File.{checksum_of, state_of};
+ghost use Rattle.gix_index.specs.State.{PathsInStorage, contents};
+ghost use Rattle.gix_index.specs.declared.file.init.Error.TheVariants.{Memory};
+ghost use Rattle.index_failures.specs.Reading.{FailsToRead, IsInFile};
+ghost use Rattle.index_failures.specs.declared.failure.Failure.TheVariants.{Index};
+
+use crate::failure::Failure;
+use gix_index::entry::FileTime;
+use gix_index::hash::Kind;
+use gix_index::{File, decode, file};
+use std::alloc::Global;
+use std::path::PathBuf;
+use std::rt::Files;
+
+/// Why there is no index to be had of a file.
+pub fn failure_of(path: &str, fault: file::init::Error) -> Failure<'_>
+    ensures { FailsToRead path.now result }
+{
+    match fault {
+        file::init::Error::Io(fault) => Failure::Read(fault),
+        fault => Failure::Index { path, fault },
+    }
+}
+
+/// There is no memory for what a command needs of a file.
+pub fn out_of_memory(path: &str) -> Failure<'_>
+    ensures names { FailsToRead path.now result }
+    ensures is { result ≡ Index path.entry Memory }
+{
+    let fault = file::init::Error::Memory;
+    Failure::Index { path, fault }
+}
+
+/// The index in a file, with the shared index that it links to.
+///
+/// The digest of the bytes is compared with their trailer, unless that is null. [`Failure::Read`] names the file that
+/// can't be read, this one or the shared one; [`Failure::Index`] comes for any other fault of either.
+pub fn index_at<'a, R: Files>(
+    rt: &R,
+    alloc: Global,
+    kind: Kind,
+    path: &'a str,
+) -> Result<File, Failure<'a>>
+    ensures read { IfOk result
+        (λ index. IsInFile kind (contents (state_of index)) (checksum_of index)) }
+    ensures placed { IfOk result (λ index. PathsInStorage (state_of index)) }
+    ensures fault { IfErr result (FailsToRead path.now) }
+{
+    let Ok(file) = PathBuf::from_str(alloc, path) else {
+        return Err(out_of_memory(path));
+    };
+    let time = FileTime::EPOCH;
+    let options = decode::Options::default();
+    match File::at(rt, alloc, file, kind, false, time, options) {
+        Ok(index) => Ok(index),
+        Err(fault) => Err(failure_of(path, fault)),
+    }
+}

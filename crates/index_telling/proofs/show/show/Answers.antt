@@ -1,0 +1,21 @@
+use Rattle.gix_index.specs.File.{checksum_of, state_of}
+use Rattle.gix_index.specs.State.{contents}
+use Rattle.index_telling.proofs.show.show.Goals as goal
+
+pub returns-in-Ok-write_show-clause-shown : goal.returns-in-Ok-write_show-clause-shown
+returns-in-Ok-write_show-clause-shown g c = record {
+  value = contents (state_of c.in-Ok.told.index);
+  checksum = checksum_of c.in-Ok.told.index;
+  marks = c.in-Ok.told.marks;
+  told = c.in-Ok.ensures.told;
+  grew = c.in-Ok-write_show.ensures.ok;
+}
+
+pub returns-clause-refused : goal.returns-clause-refused
+returns-clause-refused g c = record {
+  value = contents (state_of c.in-Ok.told.index);
+  checksum = checksum_of c.in-Ok.told.index;
+  marks = c.in-Ok.told.marks;
+  told = c.in-Ok.ensures.told;
+  grew = c.in-Err-write_show.ensures.err;
+}

@@ -1,0 +1,12 @@
+use Rattle.std.proofs.Common.{refl}
+use Rattle.index_telling.proofs.Readings.{in_bytes}
+use Rattle.index_failures.proofs.Readings.{options_are}
+use Rattle.index_telling.proofs.show.told_at.Goals as goal
+
+pub returns-in-Ok-marks_of-clause-told : goal.returns-in-Ok-marks_of-clause-told
+returns-in-Ok-marks_of-clause-told g c =
+    let default = c.default-options.ensures in
+    let is = c.in-Ok-unfollowed_at.ensures.read in
+    in_bytes c.args.kind is.0 _ _ _ _ _ _ (refl, refl)
+    (options_are _ default.0 default.1.0 default.1.1.0 default.1.1.1) is.1.read is.1.ending
+    (rw c.deref.ensures.value at c.in-Ok-marks_of.ensures)

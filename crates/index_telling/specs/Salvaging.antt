@@ -1,0 +1,95 @@
+-- What the program saves of a damaged file, and of the shared index beside it (the program's own). No clause can name a
+-- file's bytes: it is what is saved of some.
+use Rattle.std.specs.Prelude.{◌≡◌, ℕ, false, List, length, Option, Some, None, IsSomeAnd, Ok, Err}
+use Rattle.std.specs.Option.{option_map}
+use Rattle.gix_index.specs.Checked.{IsFileAnswer}
+use Rattle.gix_index.specs.Contents.{Contents}
+use Rattle.gix_index.specs.DecodeError.TheVariants as decoding
+use Rattle.gix_index.specs.File.{state_of, path_of}
+use Rattle.gix_index.specs.FileTime.{FileTime}
+use Rattle.gix_index.specs.Header.{header_of}
+use Rattle.gix_index.specs.HeaderErrors.{header_fault}
+use Rattle.gix_index.specs.Kind.{Kind}
+use Rattle.gix_index.specs.Link.{link_of}
+use Rattle.gix_index.specs.Linked.{expecting}
+use Rattle.gix_index.specs.ObjectId.{ObjectId}
+use Rattle.gix_index.specs.State.{contents, records}
+use Rattle.gix_index.specs.VersionChoice.TheVariants.{Smallest}
+use Rattle.gix_index.specs.WrittenFile.{IsWritten}
+use Rattle.gix_index.specs.declared.file.File.{File}
+use Rattle.gix_index.specs.declared.file.init.Error.{Error as FileError}
+use Rattle.gix_index.specs.declared.file.init.Error.TheVariants as reading
+use Rattle.index_inspect.specs.Remains.{IsPlainIndex, Remain, wanted_id}
+use Rattle.index_inspect.specs.Salvage.{Saves}
+use Rattle.index_inspect.specs.declared.remains.Remains.{Remains}
+use Rattle.index_inspect.specs.declared.salvage.Salvaged.{Salvaged}
+use Rattle.index_telling.specs.declared.salvage.Report.{Report}
+use Rattle.index_telling.specs.declared.salvage.Rescue.{Rescue}
+use Rattle.index_failures.specs.declared.failure.Failure.{Failure}
+use Rattle.index_failures.specs.declared.failure.Failure.TheVariants as failures
+use Rattle.index_failures.specs.Reading.{FailsToRead}
+use Rattle.index_failures.specs.Options.{IsBeginOf1970, unlimited_options}
+use Rattle.index_failures.specs.Options.{rewrite_options}
+
+-- Some bytes are read as the value, with a trailer that has to be this id unless it is null: their digest is compared,
+-- and the time is the begin of 1970.
+pub record IsSharedIn (kind : Kind) (id : ObjectId) (value : Contents) : Type 0 where
+  pub bytes : List ℕ
+  pub checksum : Option ObjectId
+  pub time : FileTime
+  pub begin : IsBeginOf1970 time
+  pub is : IsFileAnswer false kind time (expecting unlimited_options id) bytes (Ok (value, checksum))
+
+-- the shared index that is wanted, or none
+abbrev pub IsBeside : Kind → Option ObjectId → Option Contents → Type 0
+IsBeside kind wanted None = Unit {0}
+IsBeside kind wanted (Some value) = IsSomeAnd wanted (λ id. IsSharedIn kind id value)
+
+-- what is saved of these bytes, completed with the shared index that their link wants if there is one, and with nothing
+-- but its entries, so that a file can hold it
+pub record IsOfBytes (kind : Kind) (bytes : List ℕ) (saved : Salvaged) : Type 0 where
+  pub remains : Remains
+  pub remain : Remain kind bytes remains
+  pub shared : Option Contents
+  pub beside : IsBeside kind (wanted_id (option_map link_of remains.link)) shared
+  pub is : Saves remains shared saved
+  pub plain : IsPlainIndex saved.state
+
+-- the numbers of what is saved
+pub record Reports (report : Report) (saved : Salvaged) : Type 0 where
+  pub declared : report.declared ≡ saved.declared
+  pub read : report.read ≡ saved.read
+  pub kept : report.kept ≡ length (records saved.state)
+  pub fault : report.fault ≡ saved.fault
+  pub shared : report.shared ≡ saved.shared
+
+-- what is saved of some bytes, once it was written to this path, and what is told of it
+pub record IsSalvaged (kind : Kind) (to : List ℕ) (rescue : Rescue) : Type 0 where
+  pub bytes : List ℕ
+  pub saved : Salvaged
+  pub of_bytes : IsOfBytes kind bytes saved
+  pub index : File
+  pub holds : contents (state_of index) ≡ contents saved.state
+  pub path : path_of index ≡ to
+  pub is_written : IsWritten index rescue.index (rewrite_options Smallest)
+  pub reports : Reports rescue.report saved
+
+-- an index was written so
+abbrev pub Salvages : Kind → List ℕ → Type 0
+Salvages kind to = (rescue : Rescue) × IsSalvaged kind to rescue
+
+-- the fault says why nothing is saved of these bytes: what keeps their header from being read, or that memory is short
+abbrev pub LosesHeader : Kind → List ℕ → FileError → Type 0
+LosesHeader kind bytes (reading.Decode (decoding.Header e)) = header_of kind bytes ≡ Err (header_fault e)
+LosesHeader kind bytes reading.Memory = Unit {0}
+LosesHeader kind bytes e = ⊥
+
+-- the same, with the file that has these bytes
+abbrev pub FailsToSave : Kind → List ℕ → List ℕ → Failure → Type 0
+FailsToSave kind path bytes (failures.Index file e) = (file.now ≡ path) × LosesHeader kind bytes e
+FailsToSave kind path bytes e = ⊥
+
+-- a failure of saving names the file that it concerns, or one of those that the words name
+abbrev pub FailsToSalvage : List ℕ → List ℕ → Failure → Type 0
+FailsToSalvage path to (failures.Rewrite file e) = file.now ≡ to
+FailsToSalvage path to failure = FailsToRead path failure

@@ -1,0 +1,9 @@
+//! The commands of `index-tool` that tell what a file holds by itself, or save what can be read of it.
+#![tactic(auto)]
+
+pub mod map;
+pub mod map_svg;
+pub mod salvage;
+mod shared;
+pub mod show;
+pub mod show_json;

@@ -1,0 +1,93 @@
+//! The command `map`.
+
+ghost use Rattle.std.specs.Prelude.{◌≡◌, IfErr, OnOk};
+ghost use Rattle.index_inspect.specs.Remains.{last_begin};
+ghost use Rattle.index_failures.specs.Reading.{FailsToRead};
+ghost use Rattle.index_telling.specs.Mapping.{FailsToMap, Maps};
+
+use gix_index::file::PathError;
+use gix_index::hash::Kind;
+use index_failures::failure::Failure;
+use index_failures::index::out_of_memory;
+use index_inspect::divide;
+use index_map::{Part, write_map};
+use std::alloc::Global;
+use std::fs::OpenFile;
+use std::io::{ErrorKind, Read};
+use std::path::{Path, PathBuf};
+use std::rt::Files;
+use std::{fs, io};
+
+/// All bytes of a file, read into room for as many as its metadata says.
+pub fn read_whole<R: Files>(rt: &R, alloc: Global, path: Path<'_>) -> io::Result<Vec<u8>> {
+    let mut file = fs::open(rt, path)?;
+    let len = file.metadata()?.len() as usize;
+    let mut bytes = Vec::with_capacity(alloc, len.saturating_add(1))?;
+    file.read_to_end(&mut bytes)?;
+    Ok(bytes)
+}
+
+/// All bytes of the file at a path. [`Failure::Read`] names the file that can't be opened or read.
+pub fn bytes_at<'a, R: Files>(rt: &R, alloc: Global, path: &'a str) -> Result<Vec<u8>, Failure<'a>>
+    ensures { IfErr result (FailsToRead path.now) }
+{
+    let Ok(file) = PathBuf::from_str(alloc, path) else {
+        return Err(out_of_memory(path));
+    };
+    match read_whole(rt, alloc, file.as_path()) {
+        Ok(bytes) => Ok(bytes),
+        Err(error) => {
+            if error.kind() == ErrorKind::OutOfMemory {
+                return Err(out_of_memory(path));
+            }
+            Err(Failure::Read(PathError { path: file, error }))
+        }
+    }
+}
+
+/// Where the last part begins, or 0 where there is none.
+pub fn last_offset(parts: &[Part]) -> usize
+    ensures { result ≡ last_begin parts.now }
+{
+    match parts.last() {
+        Some(part) => part.offset,
+        None => 0,
+    }
+}
+
+/// Writes a line to `out` for each part of a file, which may be damaged.
+///
+/// Ok: the file can be read as an index, but for a link that isn't followed, and `out` took the whole map.
+/// [`Failure::Damaged`]: `out` took the whole map too, in which the last part is all from the first fault on, which is
+/// named with its offset. [`Failure::Output`]: it took a front. Any other failure: it took nothing.
+pub fn map<'a, R: Files, W: io::Write>(
+    rt: &R,
+    alloc: Global,
+    kind: Kind,
+    path: &'a str,
+    out: &mut W,
+) -> Result<(), Failure<'a>>
+    ensures mapped { OnOk result (Maps kind (W.contents out.old) (W.contents out.new)) }
+    ensures refused { IfErr result
+        (λ failure. FailsToMap kind path.now failure (W.contents out.old) (W.contents out.new)) }
+{
+    let bytes = match bytes_at(rt, alloc, path) {
+        Ok(bytes) => bytes,
+        Err(failure) => return Err(failure),
+    };
+    let Ok(division) = divide(alloc, kind, &bytes) else {
+        return Err(out_of_memory(path));
+    };
+    if let Err(e) = write_map(alloc, &division.entries, &division.parts, out) {
+        return Err(Failure::Output(e));
+    }
+    let offset = last_offset(&division.parts);
+    match division.fault {
+        None => Ok(()),
+        Some(fault) => Err(Failure::Damaged {
+            path,
+            offset,
+            fault,
+        }),
+    }
+}

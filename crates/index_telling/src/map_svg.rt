@@ -1,0 +1,51 @@
+//! The command `map-svg`.
+
+ghost use Rattle.std.specs.Prelude.{◌≡◌, IfErr, OnOk};
+ghost use Rattle.index_telling.specs.Mapping.{Draws, FailsToDraw};
+
+use crate::map::{bytes_at, last_offset};
+use gix_index::hash::Kind;
+use index_failures::failure::Failure;
+use index_failures::index::out_of_memory;
+use index_inspect::divide;
+use index_picture::write_svg;
+use std::alloc::Global;
+use std::io;
+use std::rt::Files;
+
+/// Writes a picture of the parts of a file, which may be damaged, to `out`.
+///
+/// Ok: the file can be read as an index, but for a link that isn't followed, and `out` took the whole picture.
+/// [`Failure::Damaged`]: `out` took the whole picture too, in which the last part is all from the first fault on, which
+/// is named with its offset. [`Failure::Output`]: it took a front. Any other failure: it took nothing.
+pub fn map_svg<'a, R: Files, W: io::Write>(
+    rt: &R,
+    alloc: Global,
+    kind: Kind,
+    path: &'a str,
+    out: &mut W,
+) -> Result<(), Failure<'a>>
+    ensures drawn { OnOk result (Draws kind (W.contents out.old) (W.contents out.new)) }
+    ensures refused { IfErr result
+        (λ failure. FailsToDraw kind path.now failure (W.contents out.old) (W.contents out.new)) }
+{
+    let bytes = match bytes_at(rt, alloc, path) {
+        Ok(bytes) => bytes,
+        Err(failure) => return Err(failure),
+    };
+    let Ok(division) = divide(alloc, kind, &bytes) else {
+        return Err(out_of_memory(path));
+    };
+    if let Err(e) = write_svg(alloc, &division.entries, &division.parts, out) {
+        return Err(Failure::Output(e));
+    }
+    let offset = last_offset(&division.parts);
+    match division.fault {
+        None => Ok(()),
+        Some(fault) => Err(Failure::Damaged {
+            path,
+            offset,
+            fault,
+        }),
+    }
+}

@@ -1,0 +1,193 @@
+//! The command `salvage`.
+
+ghost use Rattle.std.specs.Option.{option_map};
+ghost use Rattle.std.specs.Prelude.{◌≡◌, IfErr, IfOk, OnOk};
+ghost use Rattle.gix_index.specs.State.{contents};
+ghost use Rattle.index_inspect.specs.Remains.{IsPlainIndex, Remain};
+ghost use Rattle.index_failures.specs.Reading.{FailsToRead};
+ghost use Rattle.index_telling.specs.Salvaging.{FailsToSalvage, FailsToSave, IsOfBytes, IsSalvaged, Salvages};
+
+use crate::map::bytes_at;
+use crate::shared::shared_beside;
+use gix_index::file::write;
+use gix_index::hash::Kind;
+use gix_index::write::Options;
+use gix_index::{File, decode, file};
+use index_failures::failure::{Failure, Name};
+use index_failures::index::out_of_memory;
+use index_inspect::remains::{Error, FirstFault};
+use index_inspect::{Remains, Salvaged, SharedEntries, remains_of};
+use std::alloc::Global;
+use std::fmt;
+use std::fmt::Write as _;
+use std::path::PathBuf;
+use std::rt::Files;
+
+/// What was saved of a file, for its line of faults.
+#[derive(Debug, Drop)]
+pub struct Report<'a> {
+    /// The file, as the command's words name it.
+    pub path: &'a str,
+    /// How many entries it declares.
+    pub declared: u32,
+    /// How many of them were read, from the first on.
+    pub read: usize,
+    /// How many of these were kept: those that have a path, of each path and stage the first.
+    pub kept: usize,
+    /// The first fault, if it has one.
+    pub fault: Option<FirstFault>,
+    /// Whether the entries of the shared index that it links to are there too.
+    pub shared: SharedEntries,
+}
+
+impl fmt::Display for Report<'_> {
+    fn fmt<W: fmt::Write>(&self, f: &mut fmt::Formatter<W>) -> fmt::Result {
+        write!(
+            f,
+            "{}: {} declared, {} read, {} kept",
+            Name(self.path),
+            self.declared,
+            self.read,
+            self.kept
+        )?;
+        if let Some(fault) = &self.fault {
+            write!(f, "; first fault at {}: {}", fault.offset, fault.error)?;
+        }
+        match self.shared {
+            SharedEntries::Unlinked => Ok(()),
+            SharedEntries::Merged => f.write_str("; merged with the shared index"),
+            SharedEntries::Missing => {
+                f.write_str("; the entries of the shared index are missing")
+            }
+        }
+    }
+}
+
+/// What was saved of a file, as it was written, and what is told of it.
+#[derive(Drop)]
+pub struct Rescue<'a> {
+    /// The index that was written.
+    pub index: File,
+    /// What is told.
+    pub report: Report<'a>,
+}
+
+/// What remains of a file with these bytes.
+fn remains_in<'a>(
+    alloc: Global,
+    kind: Kind,
+    path: &'a str,
+    bytes: &[u8],
+) -> Result<Remains, Failure<'a>>
+    ensures remains { IfOk result (Remain kind bytes.now) }
+    ensures kind { IfOk result (λ r. (contents r.front).kind ≡ kind) }
+    ensures plain { IfOk result (λ r. IsPlainIndex r.front) }
+    ensures fault { IfErr result (FailsToRead path.now) }
+    ensures lost { IfErr result (FailsToSave kind path.now bytes.now) }
+{
+    match remains_of(alloc, kind, bytes) {
+        Ok(remains) => Ok(remains),
+        Err(Error::Header(e)) => {
+            let fault = file::init::Error::Decode(decode::Error::Header(e));
+            Err(Failure::Index { path, fault })
+        }
+        Err(Error::Memory) => Err(out_of_memory(path)),
+    }
+}
+
+/// What can be saved of a file with these bytes, and of the shared index beside it.
+fn saved_of<'a, R: Files>(
+    rt: &R,
+    alloc: Global,
+    kind: Kind,
+    path: &'a str,
+    bytes: &[u8],
+) -> Result<Salvaged, Failure<'a>>
+    ensures saved { IfOk result (IsOfBytes kind bytes.now) }
+    ensures fault { IfErr result (FailsToRead path.now) }
+    ensures lost { IfErr result (FailsToSave kind path.now bytes.now) }
+{
+    let remains = match remains_in(alloc, kind, path, bytes) {
+        Ok(remains) => remains,
+        Err(failure) => return Err(failure),
+    };
+    let Ok(shared) = shared_beside(rt, alloc, kind, path, remains.shared_index()) else {
+        return Err(out_of_memory(path));
+    };
+    match remains.save(alloc, shared) {
+        Ok(saved) => Ok(saved),
+        Err(_) => Err(out_of_memory(path)),
+    }
+}
+
+/// Writes what can be saved of a file to another path, or to the same, and gives it as it is there.
+///
+/// What is saved is told by [`remains_of`] and [`Remains::save`]; it is written as an index without extensions. Where a
+/// link to a shared index is read, that is looked for beside the file, and used where it can be read as an index with
+/// the link's id and fits the file. A file whose header can't be read gives nothing. [`Failure::Rewrite`]: it can't be
+/// written, and what was at the path is there as before. Any other failure concerns the file that is read.
+pub fn salvaged<'a, R: Files>(
+    rt: &R,
+    alloc: Global,
+    kind: Kind,
+    path: &'a str,
+    to: &'a str,
+) -> Result<Rescue<'a>, Failure<'a>>
+    ensures written { IfOk result (IsSalvaged kind to.now) }
+    ensures fault { IfErr result (FailsToSalvage path.now to.now) }
+{
+    let bytes = match bytes_at(rt, alloc, path) {
+        Ok(bytes) => bytes,
+        Err(failure) => return Err(failure),
+    };
+    let saved = match saved_of(rt, alloc, kind, path, &bytes) {
+        Ok(saved) => saved,
+        Err(failure) => return Err(failure),
+    };
+    drop(bytes);
+    let Ok(target) = PathBuf::from_str(alloc, to) else {
+        let fault = write::Error::Memory;
+        return Err(Failure::Rewrite { path: to, fault });
+    };
+    let kept = saved.kept();
+    let Salvaged {
+        state,
+        declared,
+        read,
+        fault,
+        shared,
+    } = saved;
+    let report = Report {
+        path,
+        declared,
+        read,
+        kept,
+        fault,
+        shared,
+    };
+    let mut index = File::from_state(state, target);
+    match index.write(rt, alloc, Options::default()) {
+        Ok(()) => Ok(Rescue { index, report }),
+        Err(fault) => Err(Failure::Rewrite { path: to, fault }),
+    }
+}
+
+/// The command: [`salvaged`], of which the report is kept.
+pub fn save<'a, R: Files>(
+    rt: &R,
+    alloc: Global,
+    kind: Kind,
+    path: &'a str,
+    to: &'a str,
+) -> Result<Report<'a>, Failure<'a>>
+    ensures written { OnOk result (Salvages kind to.now) }
+    ensures fault { IfErr result (FailsToSalvage path.now to.now) }
+{
+    match salvaged(rt, alloc, kind, path, to) {
+        Ok(Rescue { index, report }) => {
+            drop(index);
+            Ok(report)
+        }
+        Err(failure) => Err(failure),
+    }
+}

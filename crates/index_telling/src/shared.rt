@@ -1,0 +1,94 @@
+//! The shared index beside a split one.
+
+ghost use Rattle.std.specs.Option.{option_map};
+ghost use Rattle.std.specs.Path.{path_buf_bytes};
+ghost use Rattle.std.specs.Prelude.{◌≡◌, IfOk, IfSome};
+ghost use Rattle.gix_index.specs.Linked.{shared_path};
+ghost use Rattle.gix_index.specs.State.{PathsInStorage, contents};
+ghost use Rattle.gix_index.specs.Storable.{IsStorable};
+ghost use Rattle.index_telling.specs.Salvaging.{IsBeside, IsSharedIn};
+
+use crate::map::read_whole;
+use gix_index::entry::FileTime;
+use gix_index::hash::{Kind, ObjectId};
+use gix_index::{File, State, decode, file};
+use std::alloc::{AllocError, Global};
+use std::io::ErrorKind;
+use std::path::{Path, PathBuf};
+use std::rt::Files;
+
+/// The path of the shared index with this id: beside the file at a path.
+fn shared_path(alloc: Global, path: &str, id: ObjectId) -> Result<PathBuf, AllocError>
+    ensures { IfOk result (λ shared. path_buf_bytes shared ≡ shared_path path.now id) }
+{
+    let file = PathBuf::from_str(alloc, path)?;
+    let name = format!(in alloc; "sharedindex.{id}")?;
+    file.as_path().with_file_name(alloc, name.as_str())
+}
+
+/// All bytes of the file at a path, if it can be read.
+fn readable<R: Files>(
+    rt: &R,
+    alloc: Global,
+    path: Path<'_>,
+) -> Result<Option<Vec<u8>>, AllocError> {
+    match read_whole(rt, alloc, path) {
+        Ok(bytes) => Ok(Some(bytes)),
+        Err(e) => {
+            if e.kind() == ErrorKind::OutOfMemory {
+                return Err(AllocError);
+            }
+            Ok(None)
+        }
+    }
+}
+
+/// The index with this id as its trailer, or with a null one, that the bytes of a file at a path hold, if they do.
+fn shared_in(
+    alloc: Global,
+    kind: Kind,
+    bytes: &[u8],
+    path: PathBuf,
+    id: ObjectId,
+) -> Result<Option<State>, AllocError>
+    ensures read { IfOk result
+        (λ found. IfSome found (λ state. IsSharedIn kind id (contents state))) }
+    ensures placed { IfOk result (λ found. IfSome found PathsInStorage) }
+    ensures storable { IfOk result
+        (λ found. IfSome found (λ state. IsStorable (contents state))) }
+{
+    let options = decode::Options {
+        expected_checksum: Some(id),
+        ..decode::Options::default()
+    };
+    let time = FileTime::EPOCH;
+    match File::decode(alloc, bytes, path, kind, false, time, options) {
+        Ok(file) => Ok(Some(file.into_parts().0)),
+        Err(file::init::Error::Memory) => Err(AllocError),
+        Err(_) => Ok(None),
+    }
+}
+
+/// The shared index that is wanted, from the folder of the file at a path, where it is named `sharedindex.` with the id
+/// in base 16. None where it can't be read as an index with that id.
+pub fn shared_beside<R: Files>(
+    rt: &R,
+    alloc: Global,
+    kind: Kind,
+    path: &str,
+    wanted: Option<ObjectId>,
+) -> Result<Option<State>, AllocError>
+    ensures read { IfOk result (λ found. IsBeside kind wanted (option_map contents found)) }
+    ensures placed { IfOk result (λ found. IfSome found PathsInStorage) }
+    ensures storable { IfOk result
+        (λ found. IfSome found (λ state. IsStorable (contents state))) }
+{
+    let Some(id) = wanted else {
+        return Ok(None);
+    };
+    let shared = shared_path(alloc, path, id)?;
+    let Some(bytes) = readable(rt, alloc, shared.as_path())? else {
+        return Ok(None);
+    };
+    shared_in(alloc, kind, &bytes, shared, id)
+}
