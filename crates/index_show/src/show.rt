@@ -64,8 +64,8 @@ fn append_behind(lines: &mut Vec<u8>, alloc: Global, state: &State, marks: &Mark
 }
 
 /// Writes what a file holds, line by line, for people: its index, the id at its end, and what its offset table and its
-/// end marker say, as [`marks_of`](index_marks::marks_of) reads them in its bytes. Nothing is told of extensions that the
-/// library doesn't read.
+/// end marker say, as [`marks_of`](index_marks::marks_of) reads them in its bytes. Nothing is told of extensions that
+/// the library doesn't read.
 ///
 /// The lines of entries wait in one buffer, which goes out past 64 KiB; those behind them wait in it all. An error is
 /// the writer's, or want of memory for that buffer; what was written by then is a prefix of the lines.
