@@ -1,2 +1,2 @@
 mod Readings
-mod Shared
+mod SharedIndex

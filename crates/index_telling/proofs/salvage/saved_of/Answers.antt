@@ -2,7 +2,7 @@ use Rattle.std.proofs.Common.{Option, option_map, subst}
 use Rattle.gix_index.specs.ObjectId.{ObjectId}
 use Rattle.gix_index.specs.State.{contents}
 use Rattle.index_telling.specs.Salvaging.{IsBeside}
-use Rattle.index_telling.proofs.Shared.{can_be_shared}
+use Rattle.index_telling.proofs.SharedIndex.{can_be_shared}
 use Rattle.index_telling.proofs.salvage.saved_of.Goals as goal
 
 pub save-requires-clause-shared : goal.save-requires-clause-shared

@@ -1,6 +1,6 @@
 use Rattle.std.proofs.Common.{refl}
 use Rattle.gix_index.specs.File.{checksum_of, state_of}
-use Rattle.index_telling.proofs.Shared.{shared_read}
+use Rattle.index_telling.proofs.SharedIndex.{shared_read}
 use Rattle.index_telling.proofs.shared.shared_in.Goals as goal
 
 pub returns-in-Ok-clause-read : goal.returns-in-Ok-clause-read

@@ -8,7 +8,7 @@ returns-in-Ok-write_show-clause-shown g c = record {
   checksum = checksum_of c.in-Ok.told.index;
   marks = c.in-Ok.told.marks;
   told = c.in-Ok.ensures.told;
-  grew = c.in-Ok-write_show.ensures.ok;
+  grew = rw (c.deref.ensures, c.checksum.ensures) at c.in-Ok-write_show.ensures.ok;
 }
 
 pub returns-clause-refused : goal.returns-clause-refused
@@ -17,5 +17,5 @@ returns-clause-refused g c = record {
   checksum = checksum_of c.in-Ok.told.index;
   marks = c.in-Ok.told.marks;
   told = c.in-Ok.ensures.told;
-  grew = c.in-Err-write_show.ensures.err;
+  grew = rw (c.deref.ensures, c.checksum.ensures) at c.in-Err-write_show.ensures.err;
 }
