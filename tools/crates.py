@@ -1,4 +1,4 @@
-"""The crates of this repository as crates.txt lists them, and the programs among them."""
+"""The crates of this repository as crates.txt lists them, and what is built of them."""
 import os
 import pathlib
 import sys
@@ -17,19 +17,20 @@ def listed():
     return {crate: line.partition(":")[2].split() for crate, line in lines().items()}
 
 
-def needed(crate):
-    """The crate and those that it stands on, each behind those that it uses."""
-    uses, found = listed(), []
+def needed(*crates):
+    """The crates and those that they stand on, each behind those that it uses."""
+    uses, found = listed(), {}
 
     def visit(name):
-        for below in uses[name]:
-            if below in uses:
-                visit(below)
         if name not in found:
-            found.append(name)
+            for below in uses[name]:
+                if below in uses:
+                    visit(below)
+            found[name] = True
 
-    visit(crate)
-    return found
+    for crate in crates:
+        visit(crate)
+    return [*found]
 
 
 def made_of(crates):
@@ -41,8 +42,25 @@ def made_of(crates):
                 yield from (pathlib.Path(folder, name) for name in sorted(names) if name.endswith(ending))
 
 
+def is_program(crate):
+    return (TOP / "crates" / crate / "src" / "main.rt").is_file()
+
+
+def is_static(crate):
+    """Whether the crate is a static library, for callers in C."""
+    return "staticlib" in lines()[crate].partition(":")[0].split()[1:]
+
+
+def product_of(crate):
+    """What tools/build makes of the crate: a program, or else a static library.
+
+    It lies outside of crates/, where `rt ci` takes away what isn't its own.
+    """
+    return TOP / "out" / crate / (crate if is_program(crate) else f"lib{crate}.a")
+
+
 def program_of(crate):
-    """The crate's program, which is there once it is built."""
+    """The program that `rt ci` or `rt run` left of the crate, if they ran there."""
     return TOP / "crates" / crate / "out" / crate
 
 
@@ -53,4 +71,4 @@ def built(crate):
     done = subprocess.run([TOP / "tools" / "build", crate], stdin=subprocess.DEVNULL, stdout=subprocess.DEVNULL)
     if done.returncode != 0:
         sys.exit(f"{crate} can't be built")
-    return program_of(crate)
+    return product_of(crate)

@@ -1,27 +1,27 @@
-"""Proves the crates that a program stands on, side by side, and builds the program."""
+"""Proves the crates that programs and static libraries stand on, side by side, and builds these."""
 import concurrent.futures
 import contextlib
 import fcntl
 import os
 import pathlib
-import re
 import shutil
 import signal
 import subprocess
 import sys
 import tempfile
 import threading
-import time
 
-from crates import TOP, lines, listed, made_of, needed
+from crates import TOP, is_program, is_static, lines, needed, product_of
+from plan import Plan
+from report import Report
 
+RT = TOP / "tools" / "rt"
 PARTS = ("src", "specs", "proofs")
-KEPT = ("rlib", "incremental")
-# What a proof may take in bytes, and what each further process that works on it may take.
-MEMORY_OF_A_PROOF, MEMORY_OF_A_JOB = 3_000_000_000, 1_500_000_000
-MOST_JOBS = 4
-# What limits the memory of a control group, and how much it uses.
-GROUPS = (("memory.max", "memory.current"), ("memory/memory.limit_in_bytes", "memory/memory.usage_in_bytes"))
+# What a program is run on, beside its source.
+GIVEN = ("args", "stdin", "data")
+LIBRARY, WORK = "rlib", "incremental"
+# A line comes at least so often.
+SECONDS = 55
 
 
 class Unbuilt(Exception):
@@ -42,13 +42,14 @@ class Runs:
     def __init__(self):
         self.lock, self.running, self.is_over = threading.Lock(), set(), False
 
-    def call(self, words, folder, given=subprocess.DEVNULL):
+    def call(self, words, folder, env, given=subprocess.DEVNULL):
         """The status of a command, and what it printed."""
         with tempfile.TemporaryFile("w+", errors="replace") as said:
             with self.lock:
                 if self.is_over:
                     raise Stopped
-                child = subprocess.Popen(words, cwd=folder, stdin=given, stdout=said, stderr=subprocess.STDOUT)
+                how = {"cwd": folder, "env": env, "stdin": given, "stdout": said, "stderr": subprocess.STDOUT}
+                child = subprocess.Popen([str(word) for word in words], **how)
                 self.running.add(child)
             status = child.wait()
             with self.lock:
@@ -64,27 +65,6 @@ class Runs:
                 child.kill()
 
 
-class Report:
-    """The log of a build, and what is told of it."""
-
-    def __init__(self, program, log):
-        self.name, self.log, self.count = program.replace("_", "-"), log, len(needed(program))
-        self.done, self.begin = 0, time.monotonic()
-
-    def say(self, line):
-        print(f"{self.name}: {line}", file=sys.stderr, flush=True)
-
-    def keep(self, crate, text):
-        self.log.write(f"== {crate}\n{text}")
-        self.log.flush()
-
-    def tell(self, crate, verb, others):
-        self.done += 1
-        minutes, seconds = divmod(int(time.monotonic() - self.begin), 60)
-        still = f"; now {', '.join(others)}" if others else ""
-        self.say(f"{verb} {self.done} of {self.count}: {crate}, {minutes}:{seconds:02d} so far{still}")
-
-
 @contextlib.contextmanager
 def held(folder):
     """Keeps the folder from others that hold it so, as rt does a crate that it works in."""
@@ -96,149 +76,134 @@ def held(folder):
         os.close(handle)
 
 
-def copy(crate, room, kept):
-    """Copies the crate's text and what was kept of its proof, or links them where one file system has both."""
-    how = "--link" if os.stat(TOP).st_dev == os.stat(room).st_dev else "--reflink=auto"
-    here, there = TOP / "crates" / crate, room / "crates" / crate
-    (there / "out").mkdir(parents=True)
-    for part in (*PARTS, *(f"out/{each}" for each in kept)):
-        if (here / part).is_dir():
-            subprocess.run(["cp", "-a", how, here / part, (there / part).parent], check=True)
+def link_all(here, there, names):
+    """Gives those of the files and folders that are there the same names in another folder. rt makes each anew."""
+    found = [here / name for name in names if (here / name).exists()]
+    there.mkdir(parents=True, exist_ok=True)
+    if found:
+        subprocess.run(["cp", "-a", "--link", *found, there], check=True)
 
 
-def stamp_of(folder):
-    """What rt wrote of the library that was built in the crate's folder, or nothing where none was."""
-    stamp = folder / "out" / "rlib" / "stamp"
-    return stamp.read_text() if stamp.is_file() else ""
+def made_of_proof(crate):
+    """What a proof makes in out/ of the crate, and the folder where it is kept."""
+    if is_program(crate):
+        return (crate, f"{crate}.stamp"), product_of(crate).parent
+    if is_static(crate):
+        return (product_of(crate).name,), product_of(crate).parent
+    return (LIBRARY,), TOP / "crates" / crate / "out"
+
+
+def room_place():
+    """Where the rooms stand: in the folder for what is temporary, if links lead there, and else below out/."""
+    place = pathlib.Path(tempfile.gettempdir())
+    if os.stat(place).st_dev != os.stat(TOP).st_dev:
+        place = TOP / "out"
+        place.mkdir(exist_ok=True)
+    return place
+
+
+def furnish(room, crate):
+    """Puts into the room what the crate's proof reads: its text, with that and the libraries of all that it needs."""
+    below = needed(crate)
+    for each in below:
+        here, there = TOP / "crates" / each, room / "crates" / each
+        link_all(here, there, (*PARTS, *(GIVEN if each == crate else ())))
+        names, kept = made_of_proof(each)
+        link_all(kept, there / "out", names)
+    link_all(here / "out", there / "out", (WORK,))
+    shutil.copy(TOP / "HANDLES", room)
+    (room / "crates.txt").write_text("".join(f"{line}\n" for each, line in lines().items() if each in below))
+
+
+def command_of(crate, jobs, room):
+    """What has the crate proved and built, and what it reads."""
+    folder = room / "crates" / crate
+    if not is_program(crate):
+        return [RT, "lib", "--jobs", jobs], os.devnull
+    words = (folder / "args").read_text().splitlines() if (folder / "args").exists() else []
+    words = [f"data/{word}" if (folder / "data" / word).exists() else word for word in words]
+    # (a table may name files of data/, which isn't the folder that the program runs in here)
+    is_table = (folder / "stdin").exists() and not (folder / "data").exists()
+    return [RT, "run", "--jobs", jobs, "--", *words], folder / "stdin" if is_table else os.devnull
 
 
 def put_back(there, here, parts):
     for part in parts:
-        if (there / "out" / part).is_dir():
-            (here / "out").mkdir(exist_ok=True)
-            shutil.rmtree(here / "out" / part, ignore_errors=True)
-            shutil.move(there / "out" / part, here / "out" / part)
+        if (there / part).exists():
+            here.mkdir(parents=True, exist_ok=True)
+            if (here / part).is_dir():
+                shutil.rmtree(here / part)
+            shutil.move(there / part, here / part)
 
 
-def proved(crate, jobs, runs):
-    """Proves a library and builds it, and gives what that printed, or None where it was built before.
+def proved(crate, jobs, env, runs):
+    """Proves and builds a crate, and gives what that printed.
 
     rt lets one call at a time work in a crate and in all that it stands on. So that crates over the same one are proved
     side by side, each is proved in a room of its own.
     """
-    here, below = TOP / "crates" / crate, needed(crate)
-    with held(here), tempfile.TemporaryDirectory(prefix="proof-") as name:
+    here = TOP / "crates" / crate
+    with held(here), tempfile.TemporaryDirectory(prefix="proof-", dir=room_place()) as name:
         room = pathlib.Path(name)
-        for each in below:
-            copy(each, room, KEPT if each == crate else KEPT[:1])
-        shutil.copy(TOP / "HANDLES", room)
-        (room / "crates.txt").write_text("".join(f"{line}\n" for each, line in lines().items() if each in below))
+        furnish(room, crate)
+        words, given = command_of(crate, jobs, room)
         there = room / "crates" / crate
-        status, text = runs.call(["rt", "lib", "--jobs", str(jobs)], there)
-        is_new = stamp_of(there) != stamp_of(here)
-        put_back(there, here, KEPT if status == 0 and is_new else KEPT[1:] if status > 0 else ())
+        with open(given, "rb") as it:
+            status, text = runs.call(words, there, env, it)
+        names, kept = made_of_proof(crate)
+        put_back(there / "out", kept, names if status == 0 else ())
+        put_back(there / "out", here / "out", (WORK,) if status >= 0 else ())
     if status:
         raise Unbuilt(crate, text)
-    return text if is_new else None
+    return text
 
 
-def chains(crates, uses):
-    """How many lines the longest chain of crates has that begins with each and goes up."""
-    lengths = {}
-    for crate in reversed(crates):
-        own = sum(file.read_bytes().count(b"\n") for file in made_of([crate]))
-        lengths[crate] = own + max((lengths[each] for each in lengths if crate in uses[each]), default=0)
-    return lengths
+def unbuilt(crates):
+    """Those of the crates that have to be proved, or built: none that is a library of the files that lie here."""
+    done = subprocess.run([RT, "look", *crates], cwd=TOP, stdin=subprocess.DEVNULL, stdout=subprocess.PIPE, text=True)
+    found = {name for name, said, _ in map(str.split, done.stdout.splitlines()) if said == "built"}
+    return [crate for crate in crates if crate not in found]
 
 
-def processors():
-    return len(os.sched_getaffinity(0))
-
-
-def free_memory():
-    """The bytes that are free, under the limits of a control group too."""
-    with open("/proc/meminfo", encoding="utf-8") as text:
-        free = 1024 * int(re.search(r"MemAvailable:\s+(\d+)", text.read())[1])
-    for limit, used in GROUPS:
-        with contextlib.suppress(OSError, ValueError):
-            numbers = [int(open(f"/sys/fs/cgroup/{each}", encoding="utf-8").read()) for each in (limit, used)]
-            free = min(free, numbers[0] - numbers[1])
-    return free
-
-
-def memory_of(jobs):
-    return MEMORY_OF_A_PROOF + (jobs - 1) * MEMORY_OF_A_JOB
-
-
-def jobs_for(idle, room, others):
-    """How many processes work on the next proof, or 0 for none: with so many more wanted, so much memory free for
-    them, and so many other proofs ready."""
-    jobs = min(MOST_JOBS, processors(), idle, max(idle - others, 1))
-    while jobs > 1 and memory_of(jobs) + others * MEMORY_OF_A_PROOF > room:
-        jobs -= 1
-    return jobs if jobs > 0 and memory_of(jobs) <= room else 0
-
-
-def prove_all(crates, runs, report):
-    """Proves the libraries, which stand in the order of needed()."""
-    uses, memory = listed(), 0.85 * free_memory()
-    left, running = sorted(crates, key=lambda crate, above=chains(crates, uses): -above[crate]), {}
-    with concurrent.futures.ThreadPoolExecutor(len(crates)) as pool:
+def prove_all(plan, runs, report):
+    """Proves and builds the crates of a plan."""
+    env = {**os.environ, "KEEP_NO_WORK": "1"} if plan.has_room() else None
+    running = {}
+    with concurrent.futures.ThreadPoolExecutor(max(len(plan.left), 1)) as pool:
         try:
-            while left or running:
-                waiting = {*left, *(crate for crate, _ in running.values())}
-                ready = [crate for crate in left if not waiting & {*uses[crate]}]
-                for place, crate in enumerate(ready):
-                    # (twice as many as there are processors: a proof's first and last steps are one process, and it
-                    # gets no more of them later; the one with the most above it gets all but one for each other)
-                    idle = processors() * 2 - sum(jobs for _, jobs in running.values())
-                    room = memory - sum(memory_of(jobs) for _, jobs in running.values())
-                    jobs = jobs_for(idle, room, len(ready) - place - 1) or (0 if running else 1)
-                    if jobs:
-                        left.remove(crate)
-                        running[pool.submit(proved, crate, jobs, runs)] = crate, jobs
-                for ended in concurrent.futures.wait(running, return_when=concurrent.futures.FIRST_COMPLETED).done:
-                    crate, _ = running.pop(ended)
-                    text = ended.result()
-                    report.keep(crate, text or "")
-                    report.tell(crate, "proved" if text else "kept", [name for name, _ in running.values()])
+            while plan.left or plan.running:
+                for crate, jobs in plan.begin():
+                    running[pool.submit(proved, crate, jobs, env, runs)] = crate
+                how = {"timeout": report.silence(SECONDS), "return_when": concurrent.futures.FIRST_COMPLETED}
+                ended = concurrent.futures.wait(running, **how).done
+                for each in ended:
+                    crate, text = running.pop(each), each.result()
+                    plan.end(crate)
+                    report.keep(crate, text)
+                    report.tell(crate, "built" if is_program(crate) or is_static(crate) else "proved")
+                if not ended:
+                    report.tell_still()
         except BaseException:
             runs.stop()
             raise
-
-
-def prove_and_run(program, runs, report):
-    """Proves the libraries that the program stands on, then the program, and runs it once."""
-    prove_all(needed(program)[:-1], runs, report)
-    crate = TOP / "crates" / program
-    words = (crate / "args").read_text().splitlines() if (crate / "args").exists() else []
-    words = [f"data/{word}" if (crate / "data" / word).exists() else word for word in words]
-    # (a table may name files of data/, which isn't the folder that the program runs in here)
-    is_table = (crate / "stdin").exists() and not (crate / "data").exists()
-    with open(crate / "stdin" if is_table else os.devnull, "rb") as given:
-        status, text = runs.call(["rt", "run", "--", *words], crate, given)
-    if status:
-        raise Unbuilt(program, text)
-    report.keep(program, text)
-    report.tell(program, "built", [])
 
 
 def end_on(number, _):
     sys.exit(128 + number)
 
 
-def build(program, log):
-    """Proves and builds the program, with a log into that file, and says whether it is there now."""
-    runs = Runs()
+def build(crates, log):
+    """Proves and builds programs and static libraries, with a log into that file, and says whether they are there."""
+    runs, plan = Runs(), Plan(unbuilt(needed(*crates)))
     for number in (signal.SIGINT, signal.SIGTERM, signal.SIGHUP):
-        signal.signal(number, end_on)
+        if signal.getsignal(number) != signal.SIG_IGN:
+            signal.signal(number, end_on)
     with open(log, "w", encoding="utf-8") as text:
-        report = Report(program, text)
-        report.say(f"proving {report.count - 1} libraries and the program, which takes minutes the first time")
+        report = Report(crates, plan, text)
         try:
-            prove_and_run(program, runs, report)
-        except (Unbuilt, OSError) as why:
-            crate, said = (why.crate, why.said) if isinstance(why, Unbuilt) else (program, f"{why}\n")
+            prove_all(plan, runs, report)
+        except (Unbuilt, OSError, subprocess.CalledProcessError) as why:
+            crate, said = (why.crate, why.said) if isinstance(why, Unbuilt) else (crates[0], f"{why}\n")
             report.keep(crate, said)
             print(said[-3000:], end="", file=sys.stderr)
             report.say(f"{crate} isn't proved and built: {log.relative_to(TOP)} has the whole log")
