@@ -11,13 +11,26 @@ CONSTANT = re.compile(r"\bconst (\w+)\b")
 
 # What a check prints: an open goal, a fault of a proof file, a function's verdict, and a fault of the text itself.
 GOAL = re.compile(r"note: (src/\S+?):(\d+):\d+: .*?\(`([^`]+)`\)(.*)")
-PROOF_FAULT = re.compile(r"(?:\./)?proofs/(\S+)/\w+\.antt:\d+:\d+: error: (?:`([^`]*)`: )?(.*)")
+PROOF_FAULT = re.compile(r"(?:\./)?(proofs/\S+/\w+\.antt):(\d+):\d+: error: (?:`([^`]*)`: )?(.*)")
 VERDICT = re.compile(r"fn (\S+): (.*)")
 TEXT_FAULT = re.compile(r"(src/\S+?):(\d+):\d+: error\S*: (.*)")
 MISSING_NAME = re.compile(r"can be named from here|is not in scope|has no field|has no `|is no name|was not admitted")
+RENAMED_GOAL = re.compile(r"(?:Goals|Given)` has no `")
+NOT_CHECKED = re.compile(r"declarations? that depends? on .* not checked")
+
+# What the lines of a proof file begin with: an item of some name, one that goes on, and what is no item.
+ITEM = re.compile(r"(?:(?:pub|abbrev|unfoldable|private|module) )*([^\s:]+)")
+GOES_ON = re.compile(r"\s|[)}\]]|unfolding ")
+NO_ITEM = re.compile(r"use |--|\Z")
 
 Function = collections.namedtuple("Function", "file first last name block")
 Edit = collections.namedtuple("Edit", "label crate is_right at pairs")
+Item = collections.namedtuple("Item", "name first last")
+Goal = collections.namedtuple("Goal", "file line name why")
+Fault = collections.namedtuple("Fault", "path item name why")
+# Whether an edit is refused (or proved, where it is right), what to say, and the faults of answers that may be taken
+# out for a closer look.
+Answer = collections.namedtuple("Answer", "well why stale")
 
 
 class Unusable(Exception):
@@ -71,14 +84,20 @@ def functions_in(file, text):
     return found
 
 
+def texts_of(folder, pattern):
+    """The texts of the files in a folder, by their paths there."""
+    found = {}
+    for path in glob.glob(f"{folder}/{pattern}", recursive=True):
+        with open(path, encoding="utf-8") as text:
+            found[os.path.relpath(path, folder)] = text.read()
+    return found
+
+
 class Sources:
     """The files of a crate below src/, and where its functions stand."""
 
     def __init__(self, folder):
-        self.texts = {}
-        for path in glob.glob(f"{folder}/src/**/*.rt", recursive=True):
-            with open(path, encoding="utf-8") as text:
-                self.texts[os.path.relpath(path, folder)] = text.read()
+        self.texts = texts_of(folder, "src/**/*.rt")
         self.functions = [it for file, text in sorted(self.texts.items()) for it in functions_in(file, text)]
 
     def applied(self, edit, texts):
@@ -127,26 +146,108 @@ def block_name(head):
     return name + trait.strip().split("::")[-1] + "".join(it[:1].upper() + it[1:] for it in words)
 
 
+def items_in(text):
+    """The items of a proof file, each from its first line to its last."""
+    found, is_within = [], False
+    for number, line in enumerate(text.split("\n"), 1):
+        if NO_ITEM.match(line):
+            is_within = is_within and not line
+        elif not GOES_ON.match(line):
+            name, is_within = ITEM.match(line)[1], True
+            if not found or found[-1].name != name:
+                found.append(Item(name, number, number))
+        if line and is_within:
+            found[-1] = found[-1]._replace(last=number)
+    return found
+
+
+def goals_in(text):
+    """The goals that a proof file answers."""
+    return set(re.findall(r"^pub (\S+)\s+: goal\.", text, re.M))
+
+
+def uses_in(text):
+    """The names that each item of a proof file uses."""
+    lines, found = text.split("\n"), {}
+    for it in items_in(text):
+        words = re.findall(r"[^\s(){}\[\],;]+", " ".join(lines[it.first - 1 : it.last]))
+        found[it.name] = {word.partition(".")[0] for word in words} - {it.name}
+    return found
+
+
+def with_users(text, names):
+    """The names, and those of the items that use them."""
+    found, uses = set(names), uses_in(text)
+    while any(used & found and name not in found for name, used in uses.items()):
+        found |= {name for name, used in uses.items() if used & found}
+    return found
+
+
+def without(text, names):
+    """A proof file's text with the items of these names taken out, and what its other goals don't use."""
+    uses, left, used = uses_in(text), set(), set()
+    more = goals_in(text) - names
+    while more:
+        left |= more
+        used = set().union(*(uses[it] for it in left))
+        more = (used & uses.keys()) - left - names
+    lines = text.split("\n")
+    for it in reversed(items_in(text)):
+        if it.name not in left:
+            del lines[it.first - 1 : it.last]
+
+    def places(line):
+        found = [it for it in re.split(r",\s*", line[2]) if it in used]
+        return f"{line[1]}.{{{', '.join(found)}}}\n" if found else ""
+
+    # (a place that no answer uses may have no name)
+    return re.sub(r"^(use \S+\.Goals)\.\{(.*)\}\n", places, "\n".join(lines), flags=re.M)
+
+
+class Try:
+    """An edit, and what is taken out of proof files for it: answers that didn't fit any more."""
+
+    def __init__(self, edit):
+        self.edit, self.rounds, self.faults = edit, 0, []
+        # by file: the items, and those of them that name what is gone with the edit, or with another answer
+        self.gone, self.lost = collections.defaultdict(set), collections.defaultdict(set)
+
+    def take_out(self, faults, proofs):
+        self.rounds += 1
+        self.faults += faults
+        for path in {it.path for it in faults}:
+            here, text = [it for it in faults if it.path == path], proofs[path]
+            misfits = {it.item for it in here if not MISSING_NAME.search(it.why) and not NOT_CHECKED.search(it.why)}
+            misfits |= with_users(text, misfits - goals_in(text))
+            gone = with_users(text, {it.item for it in here})
+            self.gone[path] |= gone
+            self.lost[path] |= gone - misfits
+
+
 class Said:
     """What a check printed, read: the verdict of each function, its open goals, and the faults of its proof files."""
 
-    def __init__(self, crate, status, text):
-        self.crate, self.status, self.text = crate, status, text
-        self.verdicts, self.goals, self.faults = {}, collections.defaultdict(list), collections.defaultdict(list)
-        open_goals = []
+    def __init__(self, crate, status, text, proofs):
+        """The proofs are the texts of proof files, as the check read them."""
+        self.crate, self.status, self.text, self.proofs = crate, status, text, proofs
+        self.verdicts, self.goals, self.faults, open_goals = {}, {}, [], []
         for line in text.split("\n"):
             goal, fault, verdict = GOAL.match(line), PROOF_FAULT.match(line), VERDICT.match(line)
             if goal:
-                open_goals.append((goal[1], int(goal[2]), goal[3], goal[4]))
+                open_goals.append(Goal(goal[1], int(goal[2]), goal[3], goal[4]))
             elif fault:
-                # (the proofs of a function that calls itself lie in a folder +NAME)
-                self.faults[f"{crate}::{fault[1].replace('/+', '/').replace('/', '::')}"].append(
-                    (fault[2] or "", fault[3])
-                )
+                item = self.item_at(fault[1], int(fault[2]))
+                self.faults.append(Fault(fault[1], item, fault[3] or item or "", fault[4]))
             elif verdict:
                 self.verdicts[verdict[1]] = verdict[2]
-                self.goals[verdict[1]] += open_goals
+                self.goals[verdict[1]] = open_goals
                 open_goals = []
+
+    def item_at(self, path, line):
+        """The item that may be taken out of a proof file, to which the line belongs."""
+        if not path.endswith("/Answers.antt"):
+            return None
+        return next((it.name for it in items_in(self.proofs.get(path, "")) if it.first <= line <= it.last), None)
 
     def is_judged(self):
         return self.status == 0 or self.status == 1 and re.search(r"^logic=not-proved", self.text, re.M)
@@ -170,35 +271,56 @@ class Said:
     def names_at(self, path):
         return [it for it in self.verdicts if it == f"{self.crate}::{path}"]
 
-    def evidence(self, name, place=None):
-        """Whether a function is refused at a goal of its own, and what to say.
+    def is_proof_of(self, path, item, name):
+        """Whether an item of a proof file is of the function's proof.
 
-        It has to be unproved, and a goal has to be open for its value.
+        The proof of a function that calls itself lies in a folder +NAME, and that of functions that call each other in
+        one with another name, where each name of a goal begins with that of its function.
         """
-        if not re.match(r"not proved|no proof", self.verdicts.get(name, "")):
-            return False, self.verdicts.get(name, "")
-        goals = [
-            it for it in self.goals[name] if not place or it[0] == place.file and place.first <= it[1] <= place.last
-        ]
-        lost = [it for it in self.faults[name] if MISSING_NAME.search(it[1])]
-        misfits = [goal for goal, why in self.faults[name] if (goal, why) not in lost]
-        false = [goal for _, _, goal, why in goals if "this goal is false" in why]
+        words = path.split("/")[1:-1]
+        own = "::".join([self.crate, *words[:-1], words[-1].removeprefix("+")])
+        above, _, last = name.rpartition("::")
+        is_cycle = words[-1].startswith("+") and own not in self.verdicts and above == own.rpartition("::")[0]
+        return own == name or is_cycle and re.match(rf"(?:invariant-|decreases-)?{last}-", item)
+
+    def evidence(self, name, place, tried):
+        """Whether a function is refused at a goal of its own.
+
+        It has to be unproved, and a goal has to be open for its value. What is open for its proof file alone doesn't
+        count: where an invariant or names are gone, a right change of the same shape would leave the same goals open.
+        """
+        verdict = self.verdicts.get(name, "")
+        if not re.match(r"not proved|no proof", verdict):
+            return Answer(False, verdict, [])
+        goals = [it for its in self.goals.values() for it in its] if place else self.goals[name]
+        goals = [it for it in goals if not place or it.file == place.file and place.first <= it.line <= place.last]
+        false = [it for it in goals if "this goal is false" in it.why]
         if false:
-            return True, f"`{false[0]}` is false for some values"
-        if misfits:
-            return True, f"the proof of `{misfits[0]}` doesn't fit"
-        # (where goals have other names now, those of a right change of the same shape would be open too)
-        if goals and not any("Goals` has no `" in why for _, why in lost):
-            return True, f"`{goals[0][2]}` has no proof"
-        if lost:
-            said = "its proof names what the edit took away, which says little: change a value and keep the shape"
-            return False, said
-        return False, self.verdicts[name]
+            return Answer(True, f"`{false[0].name}` is false for some values", [])
+        faults = [it for it in self.faults if self.is_proof_of(it.path, it.name, name)]
+        held = [it for it in faults if not it.path.endswith("/Answers.antt")]
+        before = [it for it in tried.faults if self.is_proof_of(it.path, it.name, name)]
+        is_renamed = any(RENAMED_GOAL.search(it.why) for it in faults + before)
+        gone, lost = (
+            {item for path, items in found.items() for item in items if self.is_proof_of(path, item, name)}
+            for found in (tried.gone, tried.lost)
+        )
+        counted = [it for it in goals if it.name not in lost and not held and not is_renamed]
+        if counted:
+            best = next((it for it in counted if it.name not in gone), counted[0])
+            suffix = ", as its answer doesn't fit" if best.name in gone else ""
+            return Answer(True, f"`{best.name}` has no proof{suffix}", [])
+        if held and not any(MISSING_NAME.search(it.why) for it in held):
+            said = f"`{held[0].name}` in {os.path.basename(held[0].path)} doesn't fit"
+            return Answer(False, f"{said}, and nothing is tried without it: keep the shape", [])
+        if lost or is_renamed or any(MISSING_NAME.search(it.why) for it in faults):
+            verdict = "its proof names what the edit took away, which says little: change a value and keep the shape"
+        return Answer(False, verdict, [it for it in faults if it.item and not held])
 
 
-def judged(said, edit, places, is_alone):
-    """Whether the edit counts as refused, or a right edit as proved, and what to say."""
-    names = {place: said.names_of(place) for place in places}
+def judged(said, tried, places, is_alone):
+    """Whether the edit counts as refused, or a right edit as proved."""
+    edit, names = tried.edit, {place: said.names_of(place) for place in places}
     if edit.at:
         names = {None: said.names_at(edit.at)}
     for place, found in names.items():
@@ -206,17 +328,21 @@ def judged(said, edit, places, is_alone):
             what = f"no function {edit.at}"
             if place is not None:
                 what = f"no function {place.name} at {place.file}:{place.first}"
-            return False, f"the check lists {what}"
+            return Answer(False, f"the check lists {what}", [])
     listed = [(name, place) for place, found in names.items() for name in found]
     if edit.is_right:
-        unproved = [name for name, _ in listed if said.verdicts[name] != "proved"]
-        return not unproved, f"{unproved[0]}: {said.verdicts[unproved[0]]}" if unproved else "as it is right"
+        unproved = [f"{name}: {said.verdicts[name]}" for name, _ in listed if said.verdicts[name] != "proved"]
+        return Answer(not unproved, unproved[0] if unproved else "as it is right", [])
     if is_alone:
         # (a caller that relies on what the edit changed)
         listed += [(name, None) for name in said.verdicts if said.verdicts[name] != "proved"]
-    answers = [(name, *said.evidence(name, place)) for name, place in listed]
-    refused = [(True, f"{name.partition('::')[2]}: {why}") for name, well, why in answers if well]
-    if refused:
-        return refused[0]
-    name, _, why = answers[0]
-    return False, f"{name.partition('::')[2]}: {why}" if said.status else "the crate is still proved"
+    answers = [(name.partition("::")[2], said.evidence(name, place, tried)) for name, place in listed]
+    for name, answer in answers:
+        if answer.well:
+            return answer._replace(why=f"{name}: {answer.why}")
+    name, answer = answers[0]
+    why = f"{name}: {answer.why}" if said.status else "the crate is still proved"
+    gone = sorted({item for items in tried.gone.values() for item in items})
+    if gone and (answer.why == "proved" or not said.status):
+        why += f" without {', '.join(f'`{it}`' for it in gone)} of its proof"
+    return Answer(False, why, [it for _, answer in answers for it in answer.stale])
