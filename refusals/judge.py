@@ -227,9 +227,9 @@ class Try:
 class Said:
     """What a check printed, read: the verdict of each function, its open goals, and the faults of its proof files."""
 
-    def __init__(self, crate, status, text, proofs):
-        """The proofs are the texts of proof files, as the check read them."""
-        self.crate, self.status, self.text, self.proofs = crate, status, text, proofs
+    def __init__(self, crate, status, text, proofs, is_close):
+        """The proofs are the texts of proof files, as the check read them, and whether to look closely at them."""
+        self.crate, self.status, self.text, self.proofs, self.is_close = crate, status, text, proofs, is_close
         self.verdicts, self.goals, self.faults, open_goals = {}, {}, [], []
         for line in text.split("\n"):
             goal, fault, verdict = GOAL.match(line), PROOF_FAULT.match(line), VERDICT.match(line)
@@ -301,6 +301,8 @@ class Said:
         held = [it for it in faults if not it.path.endswith("/Answers.antt")]
         before = [it for it in tried.faults if self.is_proof_of(it.path, it.name, name)]
         is_renamed = any(RENAMED_GOAL.search(it.why) for it in faults + before)
+        if not self.is_close:
+            return self.evidence_at_once(goals, faults, verdict)
         gone, lost = (
             {item for path, items in found.items() for item in items if self.is_proof_of(path, item, name)}
             for found in (tried.gone, tried.lost)
@@ -316,6 +318,17 @@ class Said:
         if lost or is_renamed or any(MISSING_NAME.search(it.why) for it in faults):
             verdict = "its proof names what the edit took away, which says little: change a value and keep the shape"
         return Answer(False, verdict, [it for it in faults if it.item and not held])
+
+    def evidence_at_once(self, goals, faults, verdict):
+        """The same where a proof that doesn't fit counts by itself."""
+        misfits = [it for it in faults if not MISSING_NAME.search(it.why)]
+        if misfits:
+            return Answer(True, f"the proof of `{misfits[0].name}` doesn't fit", [])
+        if goals and not any(RENAMED_GOAL.search(it.why) for it in faults):
+            return Answer(True, f"`{goals[0].name}` has no proof", [])
+        if faults:
+            verdict = "its proof names what the edit took away, which says little: change a value and keep the shape"
+        return Answer(False, verdict, [])
 
 
 def judged(said, tried, places, is_alone):
