@@ -161,7 +161,7 @@ def proved(crate, jobs, env, runs):
 def unbuilt(crates):
     """Those of the crates that have to be proved, or built: none that is a library of the files that lie here."""
     done = subprocess.run([RT, "look", *crates], cwd=TOP, stdin=subprocess.DEVNULL, stdout=subprocess.PIPE, text=True)
-    found = {name for name, said, _ in map(str.split, done.stdout.splitlines()) if said == "built"}
+    found = {line.split()[0] for line in done.stdout.splitlines() if line.split()[1:2] == ["built"]}
     return [crate for crate in crates if crate not in found]
 
 
