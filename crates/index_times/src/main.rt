@@ -16,11 +16,16 @@
 //! the index that it shares; `sort`, `remove` (each second entry), `verify` and `copy` work on an index that was read
 //! before.
 //!
+//! `list-tree ROOT FILE` makes an index of a tree, which is no measurement. FILE has trees as `git cat-file --batch`
+//! prints them: the one with the id ROOT, and all below it. For each entry are printed its mode in six octal digits, a
+//! space, its id, a tab, its path and a NUL; and in a line at the end, whether the entries are in order.
+//!
 //! INDEX is an index of SHA-1, and NAMES has a name a line. All is done in memory.
 #![tactic(auto)]
 
 mod clock;
 mod lookups;
+mod tree;
 mod whole;
 mod writing;
 
@@ -132,15 +137,17 @@ fn on_whole(rt: &HostRuntime, alloc: Global, call: &str, index: &str) -> io::Res
     println!(rt; "{nanoseconds} {count}")
 }
 
-fn main(rt: HostRuntime) -> io::Result<()> {
+fn main(rt: HostRuntime) -> anyhow::Result<()> {
     let alloc = rt.alloc();
     let args: Vec<String> = env::args(&rt)?.skip(1).collect(alloc)?;
     let words: Vec<&str> = args.iter().map(|word| word.as_str()).collect(alloc)?;
     match words.as_slice() {
-        ["check", index, names] => check(&rt, alloc, index, names),
-        ["lookup", call, index, names] => lookup(&rt, alloc, call, index, names),
-        ["whole", call, index] => on_whole(&rt, alloc, call, index),
-        ["write", index] => write(&rt, alloc, index),
-        _ => Err(io::Error::from(io::ErrorKind::InvalidInput)),
+        ["check", index, names] => check(&rt, alloc, index, names)?,
+        ["list-tree", root, file] => tree::list(&rt, alloc, root, file)?,
+        ["lookup", call, index, names] => lookup(&rt, alloc, call, index, names)?,
+        ["whole", call, index] => on_whole(&rt, alloc, call, index)?,
+        ["write", index] => write(&rt, alloc, index)?,
+        _ => return Err(anyhow::Error::from(io::Error::from(io::ErrorKind::InvalidInput))),
     }
+    Ok(())
 }

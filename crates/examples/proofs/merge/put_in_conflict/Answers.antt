@@ -1,0 +1,32 @@
+-- The closure tells by the path which entries go, and changes none. The three stages stand behind what is left, and the
+-- sort moves them.
+use Rattle.std.proofs.Common.{◌≡◌, rules, List, subst, sym, IsPermutation}
+use Rattle.std.proofs.lemmas.Fn.{always_returns_same}
+use Rattle.gix_index.specs.Range.{is_at}
+use Rattle.gix_index.specs.Record.{Record}
+use Rattle.gix_index.specs.State.{records}
+use Rattle.examples.specs.Conflict.{elsewhere, stage_of}
+use Rattle.examples.proofs.Stages.{on_ok, three_pushed}
+use Rattle.examples.proofs.merge.put_in_conflict.Goals as goal
+
+others : (c : goal.After-sort_entries)
+    → records c.remove_entries.new.self ≡ elsewhere c.args.path.now (records c.args.state.now)
+others c = c.remove_entries.ensures.filtered (is_at c.args.path.now)
+    (always_returns_same _ _ _ (λ a r f called. search rules))
+
+pub push_side-requires : goal.push_side-requires
+push_side-requires c = c.remove_entries.ensures.placed (always_returns_same _ _ _ (λ a r f called. search rules))
+
+pub returns-clause-exactly : goal.returns-clause-exactly
+returns-clause-exactly c =
+    let path = c.args.path.now in
+    let pushed = three_pushed (records c.remove_entries.new.self) (records c.push_side.new.state)
+    (records c.push_side-2.new.state) (records c.push_side-3.new.state)
+    (stage_of path 1 c.args.base) (stage_of path 2 c.args.ours) (stage_of path 3 c.args.theirs)
+    c.in_ok-push_side.ensures.pushed c.in_ok-push_side-2.ensures.pushed c.in_ok-push_side-3.ensures.pushed in
+    let P : List Record → Type 0 = λ l. IsPermutation l (records c.sort_entries.new.self) in
+    on_ok c.sort_entries.result
+    (subst P (rw (sym (others c)) pushed) c.sort_entries.ensures.permutation)
+
+pub returns-clause-placed : goal.returns-clause-placed
+returns-clause-placed c = on_ok c.sort_entries.result c.sort_entries.ensures.placed

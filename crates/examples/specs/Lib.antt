@@ -1,0 +1,4 @@
+pub mod Changed
+pub mod Conflict
+pub mod Listed
+pub mod Repaired

@@ -1,0 +1,31 @@
+//! `examples NAME WORDS`: users of the library, each a module with what it needs and a contract of its own.
+//!
+//! NAME is that of a module, with `tree-builder` for `tree_builder`. Each module says what its words are, and what it
+//! prints.
+#![tactic(auto)]
+
+mod checkout;
+mod merge;
+mod repair;
+mod sample;
+mod status;
+mod tree_builder;
+
+use std::env;
+
+fn main(rt: HostRuntime) -> anyhow::Result<()> {
+    let alloc = rt.alloc();
+    let args: Vec<String> = env::args(&rt)?.skip(1).collect(alloc)?;
+    let words: Vec<&str> = args.iter().map(|word| word.as_str()).collect(alloc)?;
+    match words.as_slice() {
+        ["checkout", rest @ ..] => checkout::run(&rt, rest),
+        ["merge", rest @ ..] => merge::run(&rt, rest),
+        ["repair", rest @ ..] => repair::run(&rt, rest),
+        ["sample", rest @ ..] => sample::run(&rt, rest),
+        ["status", rest @ ..] => status::run(&rt, rest),
+        ["tree-builder", rest @ ..] => tree_builder::run(&rt, rest),
+        _ => Err(anyhow::Error::msg(
+            "usage: examples NAME WORDS, with checkout, merge, repair, sample, status or tree-builder as NAME",
+        )),
+    }
+}

@@ -1,0 +1,103 @@
+//! `examples repair INDEX OUT`: what is wrong with an index, or the index written again.
+//!
+//! INDEX is an index of SHA-1. Where its bytes are none, the name of their first fault is printed, and what it says.
+//! Else the index is written to OUT, with its cached tree and a digest that fits, also where that of INDEX doesn't, and
+//! the number of bytes of both is printed.
+
+ghost use Rattle.std.specs.Prelude.{◌≡◌, IfOk};
+ghost use Rattle.examples.specs.Repaired.{IsRepaired, name_of};
+
+use gix_index::entry::FileTime;
+use gix_index::extension::decode::Error as ExtensionError;
+use gix_index::extension::end_of_index_entry;
+use gix_index::hash::Kind;
+use gix_index::hash::io::Plain;
+use gix_index::write::{Extensions, Options, VersionChoice};
+use gix_index::{File, State, decode, laws, write};
+use std::alloc::Global;
+use std::fs;
+use std::path::PathBuf;
+use thiserror::Error;
+
+/// All extensions that are written but the end marker.
+const OPTIONS: Options = Options {
+    extensions: Extensions::Given {
+        tree_cache: true,
+        end_of_index_entry: false,
+    },
+    version: VersionChoice::Smallest,
+    skip_hash: false,
+};
+
+/// Why an index isn't written again.
+#[derive(Debug, Drop, Error)]
+enum Fault {
+    #[error("{0}")]
+    Write(#[from] write::Error),
+    #[error("the bytes would end as if they had an end marker")]
+    Mistakable,
+}
+
+/// What the bytes of an index come to.
+enum Repaired {
+    /// They are none: the name of their first fault, and that fault.
+    Faulty(&'static str, decode::Error),
+    /// The bytes of the index that was written again.
+    Again(Vec<u8>),
+}
+
+/// The name of what is wrong with bytes that are no index.
+fn name(fault: &decode::Error) -> &'static str
+    ensures { result.now ≡ name_of fault.now }
+{
+    match fault {
+        decode::Error::Header(decode::header::Error::Corrupt(_)) => "header",
+        decode::Error::Header(decode::header::Error::UnsupportedVersion(_)) => "version",
+        decode::Error::Hasher => "hasher",
+        decode::Error::OutOfMemory => "limit",
+        decode::Error::Entry { .. } => "entry",
+        decode::Error::Extension(ExtensionError::MandatoryUnimplemented { .. }) => "extension",
+        decode::Error::Extension(ExtensionError::Link(_)) => "link",
+        decode::Error::UnexpectedTrailerLength { .. } => "length",
+        decode::Error::Verify { .. } => "digest",
+        decode::Error::Memory => "memory",
+    }
+}
+
+/// The first fault of an index's bytes, by its name, or else the bytes of the index written again, by options that ask
+/// for no end marker: read again they give what a file keeps of it, and nothing else.
+fn repair(alloc: Global, bytes: &[u8], kind: Kind, options: Options) -> Result<Repaired, Fault>
+    ensures { IfOk result (IsRepaired kind options bytes.now) }
+{
+    laws::written_reads_back();
+    laws::one_answer();
+    let reading = decode::Options::default();
+    let state = match State::from_bytes(alloc, bytes, FileTime::EPOCH, kind, reading) {
+        Ok((state, _)) => state,
+        Err(fault) => return Ok(Repaired::Faulty(name(&fault), fault)),
+    };
+    let own_kind = state.object_hash();
+    let mut out = Plain::new(Vec::new(alloc));
+    File::from_state(state, PathBuf::new(alloc)).write_to(&mut out, options)?;
+    let again = out.inner;
+    match end_of_index_entry::decode(&again, own_kind) {
+        Some(_) => Err(Fault::Mistakable),
+        None => Ok(Repaired::Again(again)),
+    }
+}
+
+/// Runs the example.
+pub fn run(rt: &HostRuntime, words: &[&str]) -> anyhow::Result<()> {
+    let &[index, out] = words else {
+        return Err(anyhow::Error::msg("usage: examples repair INDEX OUT"));
+    };
+    let bytes = fs::read(rt, index)?;
+    match repair(rt.alloc(), &bytes, Kind::Sha1, OPTIONS)? {
+        Repaired::Faulty(name, fault) => println!(rt; "{name}: {fault}")?,
+        Repaired::Again(again) => {
+            fs::write(rt, out, &again)?;
+            println!(rt; "{} bytes, and again {}", bytes.len(), again.len())?;
+        }
+    }
+    Ok(())
+}
