@@ -18,6 +18,9 @@ MISSING_NAME = re.compile(r"can be named from here|is not in scope|has no field|
 RENAMED_GOAL = re.compile(r"(?:Goals|Given)` has no `")
 NOT_CHECKED = re.compile(r"declarations? that depends? on .* not checked")
 
+# Where in a function a goal stands, as its name says it: behind a call, a case or a condition.
+PLACE_OF_GOAL = re.compile(r"-(?:in|in_err|in_ok|in_default|then|else)(?:-.*?)??(?=-clause-|\Z)")
+
 # What the lines of a proof file begin with: an item of some name, one that goes on, and what is no item.
 ITEM = re.compile(r"(?:(?:pub|abbrev|unfoldable|private|module) )*([^\s:]+)")
 GOES_ON = re.compile(r"\s|[)}\]]|unfolding ")
@@ -161,6 +164,11 @@ def items_in(text):
     return found
 
 
+def kind_of(goal):
+    """The clause or loop that a goal is of, wherever it stands in its function."""
+    return PLACE_OF_GOAL.sub("", goal)
+
+
 def goals_in(text):
     """The goals that a proof file answers."""
     return set(re.findall(r"^pub (\S+)\s+: goal\.", text, re.M))
@@ -208,13 +216,12 @@ class Try:
     """An edit, and what is taken out of proof files for it: answers that didn't fit any more."""
 
     def __init__(self, edit):
-        self.edit, self.rounds, self.faults = edit, 0, []
+        self.edit, self.rounds = edit, 0
         # by file: the items, and those of them that name what is gone with the edit, or with another answer
         self.gone, self.lost = collections.defaultdict(set), collections.defaultdict(set)
 
     def take_out(self, faults, proofs):
         self.rounds += 1
-        self.faults += faults
         for path in {it.path for it in faults}:
             here, text = [it for it in faults if it.path == path], proofs[path]
             misfits = {it.item for it in here if not MISSING_NAME.search(it.why) and not NOT_CHECKED.search(it.why)}
@@ -236,18 +243,21 @@ class Said:
             if goal:
                 open_goals.append(Goal(goal[1], int(goal[2]), goal[3], goal[4]))
             elif fault:
-                item = self.item_at(fault[1], int(fault[2]))
-                self.faults.append(Fault(fault[1], item, fault[3] or item or "", fault[4]))
+                for item in self.items_at(fault[1], int(fault[2]), fault[4]):
+                    self.faults.append(Fault(fault[1], item, fault[3] or item or "", fault[4]))
             elif verdict:
                 self.verdicts[verdict[1]] = verdict[2]
                 self.goals[verdict[1]] = open_goals
                 open_goals = []
 
-    def item_at(self, path, line):
-        """The item that may be taken out of a proof file, to which the line belongs."""
+    def items_at(self, path, line, why):
+        """The items at a fault that may be taken out of a proof file: one, or those that use a name that is gone."""
         if not path.endswith("/Answers.antt"):
-            return None
-        return next((it.name for it in items_in(self.proofs.get(path, "")) if it.first <= line <= it.last), None)
+            return [None]
+        text = self.proofs.get(path, "")
+        gone = set(re.findall(r"has no `(.*?)`", why))
+        users = [name for name, used in uses_in(text).items() if used & gone]
+        return [it.name for it in items_in(text) if it.first <= line <= it.last] or users or [None]
 
     def is_judged(self):
         return self.status == 0 or self.status == 1 and re.search(r"^logic=not-proved", self.text, re.M)
@@ -287,7 +297,8 @@ class Said:
         """Whether a function is refused at a goal of its own.
 
         It has to be unproved, and a goal has to be open for its value. What is open for its proof file alone doesn't
-        count: where an invariant or names are gone, a right change of the same shape would leave the same goals open.
+        count: where an invariant doesn't fit, or answers name what is gone, a right change of the same shape would
+        leave the same clauses open, maybe at other places. An answer that doesn't fit counts unless one looks closely.
         """
         verdict = self.verdicts.get(name, "")
         if not re.match(r"not proved|no proof", verdict):
@@ -299,15 +310,15 @@ class Said:
             return Answer(True, f"`{false[0].name}` is false for some values", [])
         faults = [it for it in self.faults if self.is_proof_of(it.path, it.name, name)]
         held = [it for it in faults if not it.path.endswith("/Answers.antt")]
-        before = [it for it in tried.faults if self.is_proof_of(it.path, it.name, name)]
-        is_renamed = any(RENAMED_GOAL.search(it.why) for it in faults + before)
         if not self.is_close:
             return self.evidence_at_once(goals, faults, verdict)
         gone, lost = (
             {item for path, items in found.items() for item in items if self.is_proof_of(path, item, name)}
             for found in (tried.gone, tried.lost)
         )
-        counted = [it for it in goals if it.name not in lost and not held and not is_renamed]
+        lost |= {it.item for it in faults if it.item and MISSING_NAME.search(it.why)}
+        lost_kinds = {kind_of(it) for it in lost}
+        counted = [it for it in goals if kind_of(it.name) not in lost_kinds and not held]
         if counted:
             best = next((it for it in counted if it.name not in gone), counted[0])
             suffix = ", as its answer doesn't fit" if best.name in gone else ""
@@ -315,7 +326,7 @@ class Said:
         if held and not any(MISSING_NAME.search(it.why) for it in held):
             said = f"`{held[0].name}` in {os.path.basename(held[0].path)} doesn't fit"
             return Answer(False, f"{said}, and nothing is tried without it: keep the shape", [])
-        if lost or is_renamed or any(MISSING_NAME.search(it.why) for it in faults):
+        if lost or any(MISSING_NAME.search(it.why) for it in faults):
             verdict = "its proof names what the edit took away, which says little: change a value and keep the shape"
         return Answer(False, verdict, [it for it in faults if it.item and not held])
 
