@@ -1,8 +1,6 @@
 -- Why an index isn't read from a file or written to one (gitformat-index, "Split index"; the library's own). No clause
 -- can name a file's bytes: a fault that was read is one of some bytes.
-use Rattle.std.specs.Prelude.{◌≡◌, ◌≢◌, ◌⊎◌, ℕ, Bool, List, Option, Some, Ok, Err}
-use Rattle.std.specs.IoError.{error_kind}
-use Rattle.std.specs.declared.io.ErrorKind.TheVariants.{OutOfMemory}
+use Rattle.std.specs.Prelude.{◌≡◌, ◌⊎◌, ℕ, Bool, List, Option, Some, Ok, Err}
 use Rattle.index_parts.specs.declared.hash.Kind.{Kind}
 use Rattle.index_parts.specs.declared.hash.ObjectId.{ObjectId}
 use Rattle.index_metadata.specs.declared.entry.stat.FileTime.{FileTime}
@@ -19,15 +17,13 @@ use Rattle.index_state.specs.Dissolve.{IsDissolveFault}
 use Rattle.index_state.specs.Edits.{without_link}
 use Rattle.gix_index.specs.Checked.{IsFileAnswer, SaysFile}
 use Rattle.gix_index.specs.Linked.{IsSplit, expecting}
-use Rattle.index_window.specs.declared.disk.PathError.{PathError}
+use Rattle.index_folder.specs.Locks.{IsOfDisk, SaysOfLock}
+use Rattle.gix_index.specs.declared.file.lock.Error.{Error as LockingError}
+use Rattle.gix_index.specs.declared.file.lock.Error.TheVariants as locks
 use Rattle.gix_index.specs.declared.file.init.Error.{Error as ReadError}
 use Rattle.gix_index.specs.declared.file.init.Error.TheVariants as reads
 use Rattle.gix_index.specs.declared.file.write.Error.{Error as WriteError}
 use Rattle.gix_index.specs.declared.file.write.Error.TheVariants as writes
-
--- a fault of the disk, and no want of memory
-abbrev pub IsOfDisk : PathError → Type 0
-IsOfDisk fault = error_kind fault.error ≢ OutOfMemory
 
 -- ---- reading
 
@@ -75,6 +71,11 @@ SaysOfFiles skip kind time options (reads.Decode e) =
     RefusesBytes skip kind time options e ⊎ RefusesShared skip kind time options e
 SaysOfFiles skip kind time options (reads.LinkExtension e) = RefusesLink skip kind time options e
 SaysOfFiles skip kind time options reads.Memory = Unit {0}
+
+-- what it says that an index isn't locked and read
+abbrev pub SaysOfLocking : Bool → Kind → ReadOptions → LockingError → Type 0
+SaysOfLocking skip kind options (locks.Lock fault) = SaysOfLock fault
+SaysOfLocking skip kind options (locks.Read e) = (time : FileTime) × SaysOfFiles skip kind time options e
 
 -- ---- writing
 

@@ -67,6 +67,10 @@ pub data IsOnDisk (skip : Bool) (kind : Kind) (time : FileTime) (options : Optio
   own : IsOwn skip kind time options v checksum → IsOnDisk skip kind time options v checksum
   joined : IsJoined skip kind time options v checksum → IsOnDisk skip kind time options v checksum
 
+-- the same with the time that the value has, which the opened file's metadata gave
+abbrev pub IsOnDiskSince : Bool → Kind → Options → Contents → Option ObjectId → Type 0
+IsOnDiskSince skip kind options v checksum = IsOnDisk skip kind v.time options v checksum
+
 -- these bytes are read so by themselves, and those behind their entries are told
 pub record IsReadAloneIn (skip : Bool) (kind : Kind) (time : FileTime) (options : Options) (bytes : List ℕ)
     (u : Unfollowed) : Type 0 where

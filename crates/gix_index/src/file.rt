@@ -3,6 +3,7 @@
 mod at;
 mod image;
 pub mod init;
+pub mod lock;
 mod outline;
 mod unfollowed;
 pub mod verify;
@@ -16,7 +17,8 @@ ghost use Rattle.gix_index.specs.File.{state_of, path_of, checksum_of, IsSameFil
 use index_entries::{PathBacking, PathStorageRef};
 use index_parts::hash::ObjectId;
 use index_state::State;
-pub use index_window::disk::PathError;
+pub use index_folder::fault::{OneLine, PathError};
+pub use index_folder::whole::bytes_at;
 pub use outline::Outline;
 use std::alloc::AllocError;
 use std::fmt;

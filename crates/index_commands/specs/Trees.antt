@@ -4,7 +4,7 @@ use Rattle.std.specs.Io.KnownBytes.{Appends}
 use Rattle.gix_index.specs.Cached.{IsCached}
 use Rattle.gix_index.specs.Contents.{Contents}
 use Rattle.gix_index.specs.Edits.{with_cached_tree}
-use Rattle.gix_index.specs.File.{state_of, path_of}
+use Rattle.gix_index.specs.File.{state_of}
 use Rattle.gix_index.specs.Kind.{Kind}
 use Rattle.gix_index.specs.ObjectId.{ObjectId}
 use Rattle.gix_index.specs.Order.{IsStrictlyOrdered}
@@ -13,15 +13,17 @@ use Rattle.gix_index.specs.State.{contents}
 use Rattle.gix_index.specs.Taking.{AppendsPrefix}
 use Rattle.gix_index.specs.Tree.{Node}
 use Rattle.gix_index.specs.TreeDirectory.{Items, IsTreeOf}
-use Rattle.gix_index.specs.VersionChoice.TheVariants.{Smallest}
-use Rattle.gix_index.specs.WrittenFile.{IsWritten}
+use Rattle.gix_index.specs.WrittenFile.{IsWrittenTo}
 use Rattle.gix_index.specs.declared.file.File.{File}
 use Rattle.index_lines.specs.Directories.{subtree_lines}
 use Rattle.index_failures.specs.declared.failure.Failure.{Failure}
 use Rattle.index_failures.specs.declared.failure.Failure.TheVariants as failures
-use Rattle.index_failures.specs.Reading.{IsInFile, FailsToRead}
+use Rattle.index_failures.specs.Reading.{IsInFile, IsInFileSince, FailsToRead}
 use Rattle.index_failures.specs.Options.{rewrite_options}
+use Rattle.index_failures.specs.Storing.{FailsStoring}
 use Rattle.index_failures.specs.Telling.{FailsTelling}
+use Rattle.index_commands.specs.Rewriting.{chosen}
+use Rattle.index_commands.specs.declared.rewrite.Form.TheVariants.{AsRead}
 
 -- the entries of an index are in order, and this is the cached tree of what they stage
 pub record IsTreeOfIndex (value : Contents) (tree : Node) : Type 0 where
@@ -60,15 +62,20 @@ FailsToTree path failure = FailsToRead path failure
 abbrev pub FailsToTellTrees : Kind → List ℕ → Failure → Option (List ℕ) → Option (List ℕ) → Type 0
 FailsToTellTrees kind path failure old new = FailsTelling (TreesFront kind) (FailsToTree path) failure old new
 
--- An index in a file, once it was written to a path with a cached tree made anew.
-pub record IsRetreed (kind : Kind) (to : List ℕ) (written : File) : Type 0 where
-  pub value : Contents
+-- an index in a file, with the cached tree of what it stages
+pub record IsMadeInFile (kind : Kind) (value : Contents) : Type 0 where
+  pub read : Contents
+  pub checksum : Option ObjectId
+  pub in_file : IsInFileSince kind read checksum
   pub tree : Node
-  pub is : IsTreeInFile kind value tree
+  pub is_tree : IsTreeOfIndex read tree
+  pub set : value ≡ with_cached_tree read tree
+
+-- the same, once it was written to a path
+pub record IsRetreed (kind : Kind) (to : List ℕ) (written : File) : Type 0 where
   pub index : File
-  pub set : contents (state_of index) ≡ with_cached_tree value tree
-  pub path : path_of index ≡ to
-  pub is_written : IsWritten index written (rewrite_options Smallest)
+  pub made : IsMadeInFile kind (contents (state_of index))
+  pub is : IsWrittenTo to index written (rewrite_options (chosen AsRead (contents (state_of index)).version))
 
 -- an index was written so
 abbrev pub Retrees : Kind → List ℕ → Type 0
@@ -76,5 +83,4 @@ Retrees kind to = (written : File) × IsRetreed kind to written
 
 -- a failure of writing it so names the file that it concerns, or one of those that the words name
 abbrev pub FailsToRetree : List ℕ → List ℕ → Failure → Type 0
-FailsToRetree path to (failures.Rewrite file e) = file.now ≡ to
-FailsToRetree path to failure = FailsToTree path failure
+FailsToRetree path to failure = FailsStoring (FailsToTree path) to failure

@@ -1,53 +1,69 @@
 //! The commands `rewrite` and `rewrite4`.
 
-ghost use Rattle.std.specs.Prelude.{IfErr, IfOk, IsSome, OnOk};
+ghost use Rattle.std.specs.Prelude.{◌≡◌, IfErr, IfOk, IsSome, OnOk};
 ghost use Rattle.gix_index.specs.File.{checksum_of};
-ghost use Rattle.index_commands.specs.Rewriting.{FailsToRewrite, IsRewritten, Rewrites};
+ghost use Rattle.index_commands.specs.Rewriting.{FailsToRewrite, IsRewritten, Rewrites, chosen};
 
-use gix_index::File;
-use gix_index::file::write::Error;
 use gix_index::hash::Kind;
-use gix_index::write::{Options, VersionChoice};
+use gix_index::write::VersionChoice;
+use gix_index::{File, Version};
 use index_failures::failure::Failure;
-use index_failures::index::index_at;
+use index_failures::index::opened_at;
+use index_failures::storing::{commit_at, lock_at};
 use std::alloc::Global;
-use std::path::PathBuf;
 use std::rt::Files;
+
+/// In which version an index is written again.
+#[derive(Clone, Copy)]
+pub enum Form {
+    /// 4 where it has that, and else the smaller of 2 and 3 that holds its flags.
+    AsRead,
+    /// 4.
+    V4,
+}
+
+/// The version for an index that was read in this one.
+pub(crate) fn choice(form: Form, version: Version) -> VersionChoice
+    ensures { result ≡ chosen form version }
+{
+    match (form, version) {
+        (Form::V4, _) | (_, Version::V4) => VersionChoice::V4,
+        _ => VersionChoice::Smallest,
+    }
+}
 
 /// Writes the index in a file, with the shared index that it links to, to another path, or to the same, and gives it
 /// as it is there.
 ///
-/// It is written by [`File::write`] in the version that is chosen, and else with the default options: all extensions,
-/// and the digest at the end. [`Failure::Rewrite`]: it can't be written, and what was at the path is there as before.
-/// Any other failure concerns the file that is read.
+/// The file at the other path is locked, as git locks an index, before the first is opened. What is written gets the
+/// time at which the first was changed last, and else what [`commit_at`] says, in the version of the form.
+/// [`Failure::Lock`], [`Failure::Rewrite`]: it can't be written, and what was at the path is there as before. Any other
+/// failure concerns the file that is read.
 pub fn rewritten<'a, R: Files>(
     rt: &R,
     alloc: Global,
-    version: VersionChoice,
+    form: Form,
     kind: Kind,
     path: &'a str,
     to: &'a str,
 ) -> Result<File, Failure<'a>>
-    ensures written { IfOk result (IsRewritten version kind to.now) }
+    ensures written { IfOk result (IsRewritten form kind to.now) }
     ensures checksum { IfOk result (λ written. IsSome (checksum_of written)) }
     ensures fault { IfErr result (FailsToRewrite path.now to.now) }
 {
-    let mut index = match index_at(rt, alloc, kind, path) {
-        Ok(index) => index,
+    let lock = match lock_at(rt, alloc, to) {
+        Ok(lock) => lock,
         Err(failure) => return Err(failure),
     };
-    let Ok(target) = PathBuf::from_str(alloc, to) else {
-        let fault = Error::Memory;
-        return Err(Failure::Rewrite { path: to, fault });
-    };
-    index.set_path(target);
-    let options = Options {
-        version,
-        ..Options::default()
-    };
-    match index.write(rt, alloc, options) {
-        Ok(()) => Ok(index),
-        Err(fault) => Err(Failure::Rewrite { path: to, fault }),
+    match opened_at(rt, alloc, kind, path) {
+        Ok(index) => {
+            let version = choice(form, index.version());
+            commit_at(rt, alloc, index, lock, version, to)
+        }
+        Err(failure) => {
+            lock.release(rt);
+            Err(failure)
+        }
     }
 }
 
@@ -55,15 +71,15 @@ pub fn rewritten<'a, R: Files>(
 pub fn rewrite<'a, R: Files>(
     rt: &R,
     alloc: Global,
-    version: VersionChoice,
+    form: Form,
     kind: Kind,
     path: &'a str,
     to: &'a str,
 ) -> Result<(), Failure<'a>>
-    ensures written { OnOk result (Rewrites version kind to.now) }
+    ensures written { OnOk result (Rewrites form kind to.now) }
     ensures fault { IfErr result (FailsToRewrite path.now to.now) }
 {
-    match rewritten(rt, alloc, version, kind, path, to) {
+    match rewritten(rt, alloc, form, kind, path, to) {
         Ok(_) => Ok(()),
         Err(failure) => Err(failure),
     }

@@ -1,24 +1,51 @@
 //! The command `rewrite-trees`.
 
 ghost use Rattle.std.specs.Prelude.{IfErr, IfOk, OnOk};
-ghost use Rattle.index_commands.specs.Trees.{FailsToRetree, IsRetreed, Retrees};
+ghost use Rattle.gix_index.specs.File.{state_of};
+ghost use Rattle.gix_index.specs.State.{PathsInStorage, contents};
+ghost use Rattle.index_commands.specs.Trees.{FailsToRetree, FailsToTree, IsMadeInFile, IsRetreed, Retrees};
 
+use crate::rewrite::{Form, choice};
 use crate::trees::tree_of;
 use gix_index::File;
-use gix_index::file::write::Error;
 use gix_index::hash::Kind;
-use gix_index::write::Options;
 use index_failures::failure::Failure;
-use index_failures::index::index_at;
+use index_failures::index::opened_at;
+use index_failures::storing::{commit_at, lock_at};
 use std::alloc::Global;
-use std::path::PathBuf;
 use std::rt::Files;
+
+/// The index in a file, with the shared index that it links to, and with a cached tree that is made of its entries.
+fn made<'a, R: Files>(
+    rt: &R,
+    alloc: Global,
+    kind: Kind,
+    path: &'a str,
+) -> Result<File, Failure<'a>>
+    ensures made { IfOk result (λ index. IsMadeInFile kind (contents (state_of index))) }
+    ensures placed { IfOk result (λ index. PathsInStorage (state_of index)) }
+    ensures fault { IfErr result (FailsToTree path.now) }
+{
+    let index = match opened_at(rt, alloc, kind, path) {
+        Ok(index) => index,
+        Err(failure) => return Err(failure),
+    };
+    let tree = match tree_of(alloc, &index, path) {
+        Ok(tree) => tree,
+        Err(failure) => return Err(failure),
+    };
+    let (mut state, path) = index.into_parts();
+    state.set_tree(tree);
+    Ok(File::from_state(state, path))
+}
 
 /// Writes the index in a file, with the shared index that it links to, to another path, or to the same, with a cached
 /// tree that is made of its entries, and gives it as it is there.
 ///
-/// Nothing is written before the tree is made. [`Failure::Rewrite`]: it can't be written, and what was at the path is
-/// there as before. Any other failure concerns the file that is read.
+/// The file at the other path is locked, as git locks an index, before the first is opened; what is written gets the
+/// time at which the first was changed last, and else what [`commit_at`] says. Nothing is written before the tree is
+/// made. [`Failure::Lock`], [`Failure::Rewrite`]: it can't be written, and what was at the path is there as before. Any
+/// other failure concerns the file that is read.
 pub fn retreed<'a, R: Files>(
     rt: &R,
     alloc: Global,
@@ -29,24 +56,19 @@ pub fn retreed<'a, R: Files>(
     ensures written { IfOk result (IsRetreed kind to.now) }
     ensures fault { IfErr result (FailsToRetree path.now to.now) }
 {
-    let index = match index_at(rt, alloc, kind, path) {
-        Ok(index) => index,
+    let lock = match lock_at(rt, alloc, to) {
+        Ok(lock) => lock,
         Err(failure) => return Err(failure),
     };
-    let tree = match tree_of(alloc, &index, path) {
-        Ok(tree) => tree,
-        Err(failure) => return Err(failure),
-    };
-    let Ok(target) = PathBuf::from_str(alloc, to) else {
-        let fault = Error::Memory;
-        return Err(Failure::Rewrite { path: to, fault });
-    };
-    let (mut state, _) = index.into_parts();
-    state.set_tree(tree);
-    let mut index = File::from_state(state, target);
-    match index.write(rt, alloc, Options::default()) {
-        Ok(()) => Ok(index),
-        Err(fault) => Err(Failure::Rewrite { path: to, fault }),
+    match made(rt, alloc, kind, path) {
+        Ok(index) => {
+            let version = choice(Form::AsRead, index.version());
+            commit_at(rt, alloc, index, lock, version, to)
+        }
+        Err(failure) => {
+            lock.release(rt);
+            Err(failure)
+        }
     }
 }
 

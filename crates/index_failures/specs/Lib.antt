@@ -1,3 +1,4 @@
 pub mod Options
 pub mod Reading
+pub mod Storing
 pub mod Telling

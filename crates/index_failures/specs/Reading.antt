@@ -4,7 +4,7 @@ use Rattle.gix_index.specs.FileTime.{FileTime}
 use Rattle.gix_index.specs.Kind.{Kind}
 use Rattle.gix_index.specs.ObjectId.{ObjectId}
 use Rattle.gix_index.specs.Contents.{Contents}
-use Rattle.gix_index.specs.Linked.{IsOnDisk}
+use Rattle.gix_index.specs.Linked.{IsOnDisk, IsOnDiskSince}
 use Rattle.index_failures.specs.declared.failure.Failure.{Failure}
 use Rattle.index_failures.specs.declared.failure.Failure.TheVariants as failures
 use Rattle.index_failures.specs.Options.{unlimited_options, IsBeginOf1970}
@@ -15,6 +15,10 @@ pub record IsInFile (kind : Kind) (value : Contents) (checksum : Option ObjectId
   pub time : FileTime
   pub begin : IsBeginOf1970 time
   pub is : IsOnDisk false kind time unlimited_options value checksum
+
+-- the same with the time that the value has: that at which the file was changed last
+abbrev pub IsInFileSince : Kind → Contents → Option ObjectId → Type 0
+IsInFileSince kind value checksum = IsOnDiskSince false kind unlimited_options value checksum
 
 -- a failure of reading, which names the file that it concerns, or the one that the words name
 abbrev pub FailsToRead : List ℕ → Failure → Type 0

@@ -4,7 +4,7 @@ ghost use Rattle.std.specs.Prelude.{◌≡◌, IfErr, IfOk};
 ghost use Rattle.gix_index.specs.File.{checksum_of, state_of};
 ghost use Rattle.gix_index.specs.State.{PathsInStorage, contents};
 ghost use Rattle.gix_index.specs.declared.file.init.Error.TheVariants.{Memory};
-ghost use Rattle.index_failures.specs.Reading.{FailsToRead, IsInFile};
+ghost use Rattle.index_failures.specs.Reading.{FailsToRead, IsInFile, IsInFileSince};
 ghost use Rattle.index_failures.specs.declared.failure.Failure.TheVariants.{Index};
 
 use crate::failure::Failure;
@@ -55,6 +55,27 @@ pub fn index_at<'a, R: Files>(
     let time = FileTime::EPOCH;
     let options = decode::Options::default();
     match File::at(rt, alloc, file, kind, false, time, options) {
+        Ok(index) => Ok(index),
+        Err(fault) => Err(failure_of(path, fault)),
+    }
+}
+
+/// The same, with the time at which the file was changed last.
+pub fn opened_at<'a, R: Files>(
+    rt: &R,
+    alloc: Global,
+    kind: Kind,
+    path: &'a str,
+) -> Result<File, Failure<'a>>
+    ensures read { IfOk result
+        (λ index. IsInFileSince kind (contents (state_of index)) (checksum_of index)) }
+    ensures placed { IfOk result (λ index. PathsInStorage (state_of index)) }
+    ensures fault { IfErr result (FailsToRead path.now) }
+{
+    let Ok(file) = PathBuf::from_str(alloc, path) else {
+        return Err(out_of_memory(path));
+    };
+    match File::open(rt, alloc, file, kind, false, decode::Options::default()) {
         Ok(index) => Ok(index),
         Err(fault) => Err(failure_of(path, fault)),
     }

@@ -1,5 +1,7 @@
-//! What the commands of `index-tool` share: why one ended without its result, and the index in a file.
+//! What the commands of `index-tool` share: why one ended without its result, the index in a file, and
+//! the writing of one.
 #![tactic(auto)]
 
 pub mod failure;
 pub mod index;
+pub mod storing;

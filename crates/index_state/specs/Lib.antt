@@ -1,4 +1,5 @@
 pub mod Dissolve
 pub mod Edits
+pub mod Racy
 pub mod SoundState
 pub mod State

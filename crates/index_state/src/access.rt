@@ -4,6 +4,7 @@ mod edit;
 mod extensions;
 mod lookup;
 mod remove;
+mod smudge;
 mod sort;
 mod storable;
 mod storage;

@@ -5,7 +5,8 @@ use Rattle.std.specs.Option.{option_map}
 use Rattle.gix_index.specs.Checked.{IsFileAnswer}
 use Rattle.gix_index.specs.Contents.{Contents}
 use Rattle.gix_index.specs.DecodeError.TheVariants as decoding
-use Rattle.gix_index.specs.File.{state_of, path_of}
+use Rattle.gix_index.specs.Edits.{with_time}
+use Rattle.gix_index.specs.File.{state_of}
 use Rattle.gix_index.specs.FileTime.{FileTime}
 use Rattle.gix_index.specs.Header.{header_of}
 use Rattle.gix_index.specs.HeaderErrors.{header_fault}
@@ -15,7 +16,7 @@ use Rattle.gix_index.specs.Linked.{expecting}
 use Rattle.gix_index.specs.ObjectId.{ObjectId}
 use Rattle.gix_index.specs.State.{contents, records}
 use Rattle.gix_index.specs.VersionChoice.TheVariants.{Smallest}
-use Rattle.gix_index.specs.WrittenFile.{IsWritten}
+use Rattle.gix_index.specs.WrittenFile.{IsWrittenTo}
 use Rattle.gix_index.specs.declared.file.File.{File}
 use Rattle.gix_index.specs.declared.file.init.Error.{Error as FileError}
 use Rattle.gix_index.specs.declared.file.init.Error.TheVariants as reading
@@ -30,6 +31,7 @@ use Rattle.index_failures.specs.declared.failure.Failure.TheVariants as failures
 use Rattle.index_failures.specs.Reading.{FailsToRead}
 use Rattle.index_failures.specs.Options.{IsBeginOf1970, unlimited_options}
 use Rattle.index_failures.specs.Options.{rewrite_options}
+use Rattle.index_failures.specs.Storing.{FailsStoring}
 
 -- Some bytes are read as the value, with a trailer that has to be this id unless it is null: their digest is compared,
 -- and the time is the begin of 1970.
@@ -68,10 +70,10 @@ pub record IsSalvaged (kind : Kind) (to : List ℕ) (rescue : Rescue) : Type 0 w
   pub bytes : List ℕ
   pub saved : Salvaged
   pub of_bytes : IsOfBytes kind bytes saved
+  pub time : FileTime
   pub index : File
-  pub holds : contents (state_of index) ≡ contents saved.state
-  pub path : path_of index ≡ to
-  pub is_written : IsWritten index rescue.index (rewrite_options Smallest)
+  pub holds : contents (state_of index) ≡ with_time (contents saved.state) time
+  pub is_written : IsWrittenTo to index rescue.index (rewrite_options Smallest)
   pub reports : Reports rescue.report saved
 
 -- an index was written so
@@ -91,5 +93,4 @@ FailsToSave kind path bytes e = ⊥
 
 -- a failure of saving names the file that it concerns, or one of those that the words name
 abbrev pub FailsToSalvage : List ℕ → List ℕ → Failure → Type 0
-FailsToSalvage path to (failures.Rewrite file e) = file.now ≡ to
-FailsToSalvage path to failure = FailsToRead path failure
+FailsToSalvage path to failure = FailsStoring (FailsToRead path) to failure

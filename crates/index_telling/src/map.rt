@@ -5,6 +5,8 @@ ghost use Rattle.index_inspect.specs.Remains.{last_begin};
 ghost use Rattle.index_failures.specs.Reading.{FailsToRead};
 ghost use Rattle.index_telling.specs.Mapping.{FailsToMap, Maps};
 
+use gix_index::entry::FileTime;
+use gix_index::file;
 use gix_index::file::PathError;
 use gix_index::hash::Kind;
 use index_failures::failure::Failure;
@@ -12,30 +14,25 @@ use index_failures::index::out_of_memory;
 use index_inspect::divide;
 use index_map::{Part, write_map};
 use std::alloc::Global;
-use std::fs::OpenFile;
-use std::io::{ErrorKind, Read};
-use std::path::{Path, PathBuf};
+use std::io;
+use std::io::ErrorKind;
+use std::path::PathBuf;
 use std::rt::Files;
-use std::{fs, io};
 
-/// All bytes of a file, read into room for as many as its metadata says.
-pub fn read_whole<R: Files>(rt: &R, alloc: Global, path: Path<'_>) -> io::Result<Vec<u8>> {
-    let mut file = fs::open(rt, path)?;
-    let len = file.metadata()?.len() as usize;
-    let mut bytes = Vec::with_capacity(alloc, len.saturating_add(1))?;
-    file.read_to_end(&mut bytes)?;
-    Ok(bytes)
-}
-
-/// All bytes of the file at a path. [`Failure::Read`] names the file that can't be opened or read.
-pub fn bytes_at<'a, R: Files>(rt: &R, alloc: Global, path: &'a str) -> Result<Vec<u8>, Failure<'a>>
+/// All bytes of the file at a path, and when it was changed last. [`Failure::Read`] names the file that can't be opened
+/// or read.
+pub fn bytes_at<'a, R: Files>(
+    rt: &R,
+    alloc: Global,
+    path: &'a str,
+) -> Result<(Vec<u8>, FileTime), Failure<'a>>
     ensures { IfErr result (FailsToRead path.now) }
 {
     let Ok(file) = PathBuf::from_str(alloc, path) else {
         return Err(out_of_memory(path));
     };
-    match read_whole(rt, alloc, file.as_path()) {
-        Ok(bytes) => Ok(bytes),
+    match file::bytes_at(rt, alloc, file.as_path()) {
+        Ok(read) => Ok(read),
         Err(error) => {
             if error.kind() == ErrorKind::OutOfMemory {
                 return Err(out_of_memory(path));
@@ -71,8 +68,8 @@ pub fn map<'a, R: Files, W: io::Write>(
     ensures refused { IfErr result
         (λ failure. FailsToMap kind path.now failure (W.contents out.old) (W.contents out.new)) }
 {
-    let bytes = match bytes_at(rt, alloc, path) {
-        Ok(bytes) => bytes,
+    let (bytes, _) = match bytes_at(rt, alloc, path) {
+        Ok(read) => read,
         Err(failure) => return Err(failure),
     };
     let Ok(division) = divide(alloc, kind, &bytes) else {

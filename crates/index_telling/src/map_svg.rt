@@ -29,8 +29,8 @@ pub fn map_svg<'a, R: Files, W: io::Write>(
     ensures refused { IfErr result
         (λ failure. FailsToDraw kind path.now failure (W.contents out.old) (W.contents out.new)) }
 {
-    let bytes = match bytes_at(rt, alloc, path) {
-        Ok(bytes) => bytes,
+    let (bytes, _) = match bytes_at(rt, alloc, path) {
+        Ok(read) => read,
         Err(failure) => return Err(failure),
     };
     let Ok(division) = divide(alloc, kind, &bytes) else {

@@ -1,7 +1,7 @@
 //! The command `salvage`.
 
 ghost use Rattle.std.specs.Option.{option_map};
-ghost use Rattle.std.specs.Prelude.{◌≡◌, IfErr, IfOk, OnOk};
+ghost use Rattle.std.specs.Prelude.{◌≡◌, ◌×◌, ℕ, List, IfErr, IfOk, OnOk};
 ghost use Rattle.gix_index.specs.State.{contents};
 ghost use Rattle.index_inspect.specs.Remains.{IsPlainIndex, Remain};
 ghost use Rattle.index_failures.specs.Reading.{FailsToRead};
@@ -9,12 +9,14 @@ ghost use Rattle.index_telling.specs.Salvaging.{FailsToSalvage, FailsToSave, IsO
 
 use crate::map::bytes_at;
 use crate::shared::shared_beside;
-use gix_index::file::write;
+use gix_index::entry::FileTime;
+use gix_index::file::OneLine;
 use gix_index::hash::Kind;
-use gix_index::write::Options;
+use gix_index::write::VersionChoice;
 use gix_index::{File, decode, file};
-use index_failures::failure::{Failure, Name};
+use index_failures::failure::Failure;
 use index_failures::index::out_of_memory;
+use index_failures::storing::{commit_at, lock_at};
 use index_inspect::remains::{Error, FirstFault};
 use index_inspect::{Remains, Salvaged, SharedEntries, remains_of};
 use std::alloc::Global;
@@ -45,7 +47,7 @@ impl fmt::Display for Report<'_> {
         write!(
             f,
             "{}: {} declared, {} read, {} kept",
-            Name(self.path),
+            OneLine(self.path),
             self.declared,
             self.read,
             self.kept
@@ -120,12 +122,34 @@ fn saved_of<'a, R: Files>(
     }
 }
 
+/// What can be saved of a file, and of the shared index beside it; and when the file was changed last.
+fn saved_at<'a, R: Files>(
+    rt: &R,
+    alloc: Global,
+    kind: Kind,
+    path: &'a str,
+) -> Result<(Salvaged, FileTime), Failure<'a>>
+    ensures saved { IfOk result (λ x. (bytes : List ℕ) × IsOfBytes kind bytes x.0) }
+    ensures fault { IfErr result (FailsToRead path.now) }
+{
+    let (bytes, time) = match bytes_at(rt, alloc, path) {
+        Ok(read) => read,
+        Err(failure) => return Err(failure),
+    };
+    match saved_of(rt, alloc, kind, path, &bytes) {
+        Ok(saved) => Ok((saved, time)),
+        Err(failure) => Err(failure),
+    }
+}
+
 /// Writes what can be saved of a file to another path, or to the same, and gives it as it is there.
 ///
-/// What is saved is told by [`remains_of`] and [`Remains::save`]; it is written as an index without extensions. Where a
-/// link to a shared index is read, that is looked for beside the file, and used where it can be read as an index with
-/// the link's id and fits the file. A file whose header can't be read gives nothing. [`Failure::Rewrite`]: it can't be
-/// written, and what was at the path is there as before. Any other failure concerns the file that is read.
+/// The file at the other path is locked, as git locks an index, before the first is opened. What is saved is told by
+/// [`remains_of`] and [`Remains::save`]; it is written as an index without extensions, with the time at which the first
+/// was changed last, and else as [`commit_at`] says. Where a link to a shared index is read, that is looked for beside
+/// the file, and used where it can be read as an index with the link's id and fits the file. A file whose header can't be
+/// read gives nothing. [`Failure::Lock`], [`Failure::Rewrite`]: it can't be written, and what was at the path is there as
+/// before. Any other failure concerns the file that is read.
 pub fn salvaged<'a, R: Files>(
     rt: &R,
     alloc: Global,
@@ -136,22 +160,20 @@ pub fn salvaged<'a, R: Files>(
     ensures written { IfOk result (IsSalvaged kind to.now) }
     ensures fault { IfErr result (FailsToSalvage path.now to.now) }
 {
-    let bytes = match bytes_at(rt, alloc, path) {
-        Ok(bytes) => bytes,
+    let lock = match lock_at(rt, alloc, to) {
+        Ok(lock) => lock,
         Err(failure) => return Err(failure),
     };
-    let saved = match saved_of(rt, alloc, kind, path, &bytes) {
-        Ok(saved) => saved,
-        Err(failure) => return Err(failure),
-    };
-    drop(bytes);
-    let Ok(target) = PathBuf::from_str(alloc, to) else {
-        let fault = write::Error::Memory;
-        return Err(Failure::Rewrite { path: to, fault });
+    let (saved, time) = match saved_at(rt, alloc, kind, path) {
+        Ok(found) => found,
+        Err(failure) => {
+            lock.release(rt);
+            return Err(failure);
+        }
     };
     let kept = saved.kept();
     let Salvaged {
-        state,
+        mut state,
         declared,
         read,
         fault,
@@ -165,10 +187,11 @@ pub fn salvaged<'a, R: Files>(
         fault,
         shared,
     };
-    let mut index = File::from_state(state, target);
-    match index.write(rt, alloc, Options::default()) {
-        Ok(()) => Ok(Rescue { index, report }),
-        Err(fault) => Err(Failure::Rewrite { path: to, fault }),
+    state.set_timestamp(time);
+    let index = File::from_state(state, PathBuf::new(alloc));
+    match commit_at(rt, alloc, index, lock, VersionChoice::Smallest, to) {
+        Ok(index) => Ok(Rescue { index, report }),
+        Err(failure) => Err(failure),
     }
 }
 

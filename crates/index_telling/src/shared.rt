@@ -8,7 +8,6 @@ ghost use Rattle.gix_index.specs.State.{PathsInStorage, contents};
 ghost use Rattle.gix_index.specs.Storable.{IsStorable};
 ghost use Rattle.index_telling.specs.Salvaging.{IsBeside, IsSharedIn};
 
-use crate::map::read_whole;
 use gix_index::entry::FileTime;
 use gix_index::hash::{Kind, ObjectId};
 use gix_index::{File, State, decode, file};
@@ -32,8 +31,8 @@ fn readable<R: Files>(
     alloc: Global,
     path: Path<'_>,
 ) -> Result<Option<Vec<u8>>, AllocError> {
-    match read_whole(rt, alloc, path) {
-        Ok(bytes) => Ok(Some(bytes)),
+    match file::bytes_at(rt, alloc, path) {
+        Ok((bytes, _)) => Ok(Some(bytes)),
         Err(e) => {
             if e.kind() == ErrorKind::OutOfMemory {
                 return Err(AllocError);

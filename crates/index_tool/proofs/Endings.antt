@@ -22,6 +22,7 @@ module _ (Front : Option (List ℕ) → Option (List ℕ) → Type 0) (Fault : F
   telling_gives_up (failures.Changed file e) h = nothing h.1
   telling_gives_up (failures.Damaged file offset e) h = nothing h.1
   telling_gives_up (failures.Trees file e) h = nothing h.1
+  telling_gives_up (failures.Lock file e) h = nothing h.1
   telling_gives_up (failures.Rewrite file e) h = nothing h.1
   telling_gives_up (failures.Output e) h = some_of what kind path refl (some h)
 
@@ -43,6 +44,7 @@ module _ (Front : Option (List ℕ) → Option (List ℕ) → Type 0) (Fault : F
     dividing_gives_up (failures.Changed file e) h = nothing h.1
     dividing_gives_up (failures.Damaged file offset e) h = all offset e h.1
     dividing_gives_up (failures.Trees file e) h = nothing h.1
+    dividing_gives_up (failures.Lock file e) h = nothing h.1
     dividing_gives_up (failures.Rewrite file e) h = nothing h.1
     dividing_gives_up (failures.Output e) h = some_of what kind path refl (some h)
 
@@ -59,8 +61,3 @@ pub stored_done : {A : Type 0} (r : Result A Failure) (what : Writing) (kind : K
     → OnOk r (Succeeds (Writes what kind path to) known known)
 stored_done (Ok x) what kind path to known h = (h, Keeps-refl known)
 stored_done (Err f) what kind path to known h = tt
-
-pub stored_not : {A : Type 0} (r : Result A Failure) (what : Writing) (kind : Kind) (path to : List ℕ)
-    (known : Option (List ℕ)) → OnErr r (GivesUp (Writes what kind path to) known known)
-stored_not (Ok x) what kind path to known = tt
-stored_not (Err f) what kind path to known = nothing (Keeps-refl known)

@@ -6,7 +6,7 @@ use Rattle.std.specs.Io.KnownBytes.{Keeps}
 use Rattle.std.specs.Option.{option_map}
 use Rattle.gix_index.specs.Kind.{Kind}
 use Rattle.gix_index.specs.Kind.TheVariants.{Sha1, Sha256}
-use Rattle.gix_index.specs.VersionChoice.TheVariants.{Smallest, V4}
+use Rattle.index_commands.specs.declared.rewrite.Form.TheVariants.{AsRead, V4}
 use Rattle.index_tool.specs.declared.command.Command.{Command}
 use Rattle.index_tool.specs.declared.command.Command.TheVariants as commands
 use Rattle.index_tool.specs.declared.command.Reading.{Reading}
@@ -58,7 +58,7 @@ reading_named name =
 -- what the command with this name writes
 abbrev pub writing_named : List ℕ → Option Writing
 writing_named name =
-    if is_word name (codes "rewrite") then Some (writings.Rewrite Smallest)
+    if is_word name (codes "rewrite") then Some (writings.Rewrite AsRead)
     else (if is_word name (codes "rewrite4") then Some (writings.Rewrite V4)
     else (if is_word name (codes "rewrite-trees") then Some writings.RewriteTrees
     else (if is_word name (codes "salvage") then Some writings.Salvage
@@ -110,13 +110,13 @@ PrintsFront readings.Trees kind old new = TreesFront kind old new
 
 -- an index was written to a path: the one in a file, that one with a cached tree made anew, or what is saved of a file
 abbrev pub StoresIndex : Writing → Kind → List ℕ → Type 0
-StoresIndex (writings.Rewrite version) kind to = Rewrites version kind to
+StoresIndex (writings.Rewrite form) kind to = Rewrites form kind to
 StoresIndex writings.RewriteTrees kind to = Retrees kind to
 StoresIndex writings.Salvage kind to = Salvages kind to
 
 -- why none was written: the failure names the file that it concerns, or one of those that the words name
 abbrev pub FailsToStore : Writing → List ℕ → List ℕ → Failure → Type 0
-FailsToStore (writings.Rewrite version) file to failure = FailsToRewrite file to failure
+FailsToStore (writings.Rewrite form) file to failure = FailsToRewrite file to failure
 FailsToStore writings.RewriteTrees file to failure = FailsToRetree file to failure
 FailsToStore writings.Salvage file to failure = FailsToSalvage file to failure
 

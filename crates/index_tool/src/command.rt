@@ -6,10 +6,9 @@ ghost use Rattle.std.specs.Option.{option_map};
 ghost use Rattle.index_tool.specs.Command.{command_named, command_value, kind_named, read_named, reading_named, reports, write_named, writing_named, FailsToStore, GivesUp, Reads, StoresIndex, Succeeds, Prints, Writes};
 
 use gix_index::hash::Kind;
-use gix_index::write::VersionChoice;
 use index_commands::check::check;
 use index_commands::list::list;
-use index_commands::rewrite::rewrite;
+use index_commands::rewrite::{Form, rewrite};
 use index_commands::rewrite_trees::rewrite_trees;
 use index_commands::trees::trees;
 use index_failures::failure::Failure;
@@ -55,7 +54,7 @@ pub enum Reading {
 #[derive(Clone, Copy)]
 pub enum Writing {
     /// The index again.
-    Rewrite(VersionChoice),
+    Rewrite(Form),
     /// The index with a cached tree made anew.
     RewriteTrees,
     /// What can be saved of it, where it is damaged.
@@ -128,10 +127,10 @@ fn writing_of(name: &str) -> Option<Writing>
     ensures { result ≡ writing_named name.now }
 {
     if name == "rewrite" {
-        return Some(Writing::Rewrite(VersionChoice::Smallest));
+        return Some(Writing::Rewrite(Form::AsRead));
     }
     if name == "rewrite4" {
-        return Some(Writing::Rewrite(VersionChoice::V4));
+        return Some(Writing::Rewrite(Form::V4));
     }
     if name == "rewrite-trees" {
         return Some(Writing::RewriteTrees);
@@ -227,7 +226,7 @@ fn write<'a, R: Files>(
         (λ report. is_some report ≡ reports (Writes what kind path.now to.now)) }
 {
     match what {
-        Writing::Rewrite(version) => rewrite(rt, alloc, version, kind, path, to)?,
+        Writing::Rewrite(form) => rewrite(rt, alloc, form, kind, path, to)?,
         Writing::RewriteTrees => rewrite_trees(rt, alloc, kind, path, to)?,
         Writing::Salvage => return Ok(Some(save(rt, alloc, kind, path, to)?)),
     }
@@ -270,9 +269,9 @@ fn run_command<'a, R: Files, W: io::Write>(
 /// too. `trees KIND FILE` writes a line to `out` for each directory of the trees that the entries make. Of FILE by
 /// itself, without its shared index, `map KIND FILE` writes a line to `out` for each part, up to the first fault, where
 /// it has one, `map-svg KIND FILE` a picture of these parts, `show KIND FILE` lines of what it holds, and `show-json
-/// KIND FILE` the same as JSON. `rewrite KIND FILE OUT` writes the index to the path OUT, by way of the lock file
-/// OUT.lock, and nothing to `out`. `rewrite4 KIND FILE OUT` does so in version 4, and `rewrite-trees KIND FILE OUT`
-/// with a cached tree made anew. `salvage KIND FILE OUT` writes what can be saved of FILE there, with the entries of
+/// KIND FILE` the same as JSON. `rewrite KIND FILE OUT` writes the index to the path OUT, and nothing to `out`: OUT is
+/// locked, as git locks an index, before FILE is opened, and gets the time of FILE. `rewrite4 KIND FILE OUT` does so in
+/// version 4, and `rewrite-trees KIND FILE OUT` with a cached tree made anew. `salvage KIND FILE OUT` writes what can be saved of FILE there, with the entries of
 /// its shared index where that can be read, and says on one line on `faults` how many entries were declared, read and
 /// kept, where the first fault is, and whether the entries of a shared index are there or missing.
 ///

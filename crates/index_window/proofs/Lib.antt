@@ -2,6 +2,5 @@ mod Endings
 pub mod EntrySkips
 mod Fronts
 mod PassedSums
-pub mod Readers
 mod Steps
 mod Wholes

@@ -1,50 +1,18 @@
-//! Files on the disk: what went wrong with one, and all bytes of one with their digest.
+//! All bytes of a file on the disk, with their digest.
 
 ghost use Rattle.std.specs.Prelude.{◌≡◌, [], IfOk, IfSome, IsTrue, OnOk};
 ghost use Rattle.index_window.specs.Intact.{digest_id};
 
-use crate::pieces::append_piece;
+use index_folder::pieces::append_piece;
+use index_folder::whole::{MAX_LEN, read_to_end, room_for, too_long};
 use index_parts::hash::{Hasher, Kind, ObjectId};
 use index_reading::trailer;
 use std::alloc::Global;
-use std::fmt::Write as _;
 use std::fs::OpenFile;
 use std::io::{Read, Seek, SeekFrom};
-use std::path::{Path, PathBuf};
+use std::path::Path;
 use std::rt::Files;
-use std::{fmt, fs, io};
-
-/// What went wrong with a file. It is shown as one line: the path's control characters are escaped.
-#[derive(Debug, Drop)]
-pub struct PathError {
-    /// The file.
-    pub path: PathBuf,
-    /// What went wrong.
-    pub error: io::Error,
-}
-
-impl fmt::Display for PathError {
-    fn fmt<W: fmt::Write>(&self, f: &mut fmt::Formatter<W>) -> fmt::Result {
-        for c in self.path.as_path().as_str().chars() {
-            if c.is_control() {
-                write!(f, "{}", c.escape_debug())?;
-            } else {
-                f.write_char(c)?;
-            }
-        }
-        write!(f, ": {}", self.error)
-    }
-}
-
-impl std::error::Error for PathError {}
-
-/// Room for as many bytes as a file's metadata says.
-fn room_for<F: OpenFile>(alloc: Global, file: &F) -> io::Result<Vec<u8>>
-    ensures { IfOk result (λ room. room.items ≡ []) }
-{
-    let len = file.metadata()?.len() as usize;
-    Ok(Vec::with_capacity(alloc, len.saturating_add(1))?)
-}
+use std::{fs, io};
 
 /// Whether a file's last bytes, of which an id has as many, are all zero. It says no of what is no plain file, as a
 /// pipe, which can be read only in order. The file then stands at its start, and the room is empty.
@@ -87,6 +55,9 @@ fn read_hashed<R: Read>(reader: &mut R, kind: Kind, bytes: &mut Vec<u8>) -> io::
         if count == 0 {
             return Ok(hasher.finalize());
         }
+        if bytes.len() as u64 > MAX_LEN {
+            return Err(too_long());
+        }
     }
 }
 
@@ -105,7 +76,7 @@ fn read_whole<R: Read>(
     if is_hashed {
         return Ok(Some(read_hashed(reader, kind, bytes)?));
     }
-    reader.read_to_end(bytes)?;
+    read_to_end(reader, bytes)?;
     Ok(None)
 }
 
@@ -120,7 +91,7 @@ pub fn hashed_at<R: Files>(
     ensures { IfOk result (λ read. read.1 ≡ digest_id kind read.0.items) }
 {
     let mut file = fs::open(rt, path)?;
-    let mut bytes = room_for(alloc, &file)?;
+    let mut bytes = room_for(alloc, &file.metadata()?)?;
     let digest = read_hashed(&mut file, kind, &mut bytes)?;
     Ok((bytes, digest))
 }
@@ -138,7 +109,7 @@ pub fn bytes_of<F: OpenFile + Read + Seek + Drop>(
     ensures whole { IsTrue skip_hash
         → IfOk result (λ read. IfSome (F.remaining file) (λ left. read.0.items ≡ left)) }
 {
-    let mut bytes = room_for(alloc, &file)?;
+    let mut bytes = room_for(alloc, &file.metadata()?)?;
     let is_hashed = !skip_hash && !ends_in_null(&mut file, kind, &mut bytes)?;
     let digest = read_whole(&mut file, kind, is_hashed, &mut bytes)?;
     Ok((bytes, digest))

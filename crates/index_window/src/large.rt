@@ -10,6 +10,7 @@ ghost use Rattle.index_window.specs.Intact.{IsIntact};
 
 use crate::ReadOptions;
 use crate::windows::{KEPT_LEN, WindowedIndex, lacks_marker, offset_in, windowed};
+use index_folder::whole::{MAX_LEN, too_long};
 use index_parts::hash::Kind;
 use index_reading::trailer;
 use std::alloc::Global;
@@ -60,6 +61,9 @@ pub fn in_windows<F: OpenFile + Read + Seek>(
     let len = metadata.len();
     if !metadata.is_file() || len < SMALL_LEN {
         return Ok(None);
+    }
+    if len > MAX_LEN {
+        return Err(too_long());
     }
     let end = end_of(alloc, file, len)?;
     // (whether a marker that stands there fits is seen once the entries are read)

@@ -9,7 +9,6 @@ use index_parts::hash::Kind;
 pub mod disk;
 pub mod large;
 pub mod passed;
-pub mod pieces;
 pub mod windows;
 
 /// How an index file is read.

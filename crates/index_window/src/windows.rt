@@ -15,12 +15,12 @@ ghost use Rattle.index_window.specs.Intact.{IsIntact};
 ghost use Rattle.index_window.specs.Windowed.{IsReadOn};
 
 use crate::ReadOptions;
-use crate::pieces::{fill, remove_front};
 use index_entries::Version;
 use index_entries::list::EntryList;
 use index_entries::sizes::HEADER_LEN;
 use index_entry_reading::entries::{FirstEntries, Read as ReadEntries, entries_in};
 use index_extensions::end_of_index_entry;
+use index_folder::pieces::{fill, remove_front};
 use index_format::Parts;
 use index_parts::hash::{Hasher, Kind, ObjectId};
 use index_parts::util::from_be_u32;

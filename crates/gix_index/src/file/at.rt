@@ -13,16 +13,18 @@ ghost use Rattle.index_format.specs.Storable.{IsStorable};
 ghost use Rattle.gix_index.specs.Checked.{IsFileAnswer};
 ghost use Rattle.gix_index.specs.File.{IsEmptyFile, checksum_of, path_of, state_of};
 ghost use Rattle.gix_index.specs.FileFaults.{SaysOfFile, SaysOfFiles};
-ghost use Rattle.gix_index.specs.Linked.{IsOnDisk, expecting, shared_path};
+ghost use Rattle.gix_index.specs.Linked.{IsOnDisk, IsOnDiskSince, expecting, shared_path};
 
 use super::File;
 use super::init::{Error, decoded};
+use index_folder::fault::PathError;
+use index_folder::time::modified_of;
 use index_format::decode;
 use index_metadata::entry::FileTime;
 use index_parts::hash::{Kind, ObjectId};
 use index_state::State;
 use index_window::ReadOptions;
-use index_window::disk::{PathError, bytes_of};
+use index_window::disk::bytes_of;
 use index_window::large::in_windows;
 use std::alloc::{AllocError, Global};
 use std::fs::OpenFile;
@@ -187,6 +189,38 @@ fn read_opened<R: Files>(
     follow(rt, alloc, index, reading)
 }
 
+/// The same of the file at a path, with the time at which it was changed last; with the given one where there is none.
+pub(super) fn read_since<R: Files>(
+    rt: &R,
+    alloc: Global,
+    path: PathBuf,
+    reading: ReadOptions,
+    or_default: bool,
+) -> Result<File, Error>
+    ensures read { IfOk result
+        (λ file. IsOnDiskSince reading.skip_hash reading.object_hash reading.options
+        (contents (state_of file)) (checksum_of file)
+        ⊎ (IsTrue or_default × IsEmptyFile reading.object_hash reading.timestamp file)) }
+    ensures path { IfOk result (λ file. path_of file ≡ path_buf_bytes path) }
+    ensures placed { IfOk result (λ file. PathsInStorage (state_of file)) }
+    ensures ids { IfOk result (λ file. IdsAreOf reading.object_hash (entries_of (state_of file))) }
+    ensures storable { IfOk result (λ file. IsStorable (contents (state_of file))) }
+    ensures unlinked { IfOk result (λ file. (contents (state_of file)).extensions.link ≡ None) }
+    ensures fault { IfErr result (λ e. (time : Timestamp)
+        × SaysOfFiles reading.skip_hash reading.object_hash time reading.options e) }
+{
+    let opened = fs::open(rt, path.as_path());
+    let timestamp = match &opened {
+        Ok(file) => match file.metadata() {
+            Ok(metadata) => modified_of(&metadata),
+            Err(e) => return Err(read_fault(path, e)),
+        },
+        Err(_) => reading.timestamp,
+    };
+    let reading = ReadOptions { timestamp, ..reading };
+    read_opened(rt, alloc, opened, path, reading, or_default)
+}
+
 impl File {
     /// Reads the index in the file at a path, with the shared index that it links to.
     ///
@@ -258,5 +292,35 @@ impl File {
         };
         let opened = fs::open(rt, path.as_path());
         read_opened(rt, alloc, opened, path, reading, true)
+    }
+
+    /// The same as [`File::at`], with the time at which the file was changed last as its timestamp, as the metadata of
+    /// the opened file say it: a time that git holds against those of its entries (racy-git, "Racy Git"). It is the
+    /// begin of 1970 where they say none.
+    pub fn open<R: Files>(
+        rt: &R,
+        alloc: Global,
+        path: PathBuf,
+        object_hash: Kind,
+        skip_hash: bool,
+        options: decode::Options,
+    ) -> Result<File, Error>
+        ensures read { IfOk result (λ file. IsOnDiskSince skip_hash object_hash options
+            (contents (state_of file)) (checksum_of file)) }
+        ensures path { IfOk result (λ file. path_of file ≡ path_buf_bytes path) }
+        ensures placed { IfOk result (λ file. PathsInStorage (state_of file)) }
+        ensures ids { IfOk result (λ file. IdsAreOf object_hash (entries_of (state_of file))) }
+        ensures storable { IfOk result (λ file. IsStorable (contents (state_of file))) }
+        ensures unlinked { IfOk result (λ file. (contents (state_of file)).extensions.link ≡ None) }
+        ensures fault { IfErr result (λ e. (time : Timestamp)
+            × SaysOfFiles skip_hash object_hash time options e) }
+    {
+        let reading = ReadOptions {
+            object_hash,
+            skip_hash,
+            timestamp: FileTime::EPOCH,
+            options,
+        };
+        read_since(rt, alloc, path, reading, false)
     }
 }

@@ -12,6 +12,7 @@ ghost use Rattle.gix_index.specs.declared.file.init.Error.TheVariants.{Memory};
 ghost use Rattle.gix_index.specs.File.{state_of, path_of};
 
 use super::File;
+use index_folder::fault::PathError;
 use index_format::decode;
 use index_metadata::entry::FileTime;
 use index_parts::hash::{Kind, ObjectId, digest};
@@ -19,7 +20,6 @@ use index_reading::trailer;
 use index_split::link;
 use index_state::State;
 use index_window::ReadOptions;
-use index_window::disk::PathError;
 use std::alloc::{AllocError, Global};
 use std::path::PathBuf;
 use thiserror::Error;

@@ -9,8 +9,9 @@ ghost use Rattle.gix_index.specs.VerifiedFile.{FitsSomeBytes, SaysOfBytes, SaysO
 ghost use Rattle.gix_index.specs.declared.file.verify.Error.TheVariants.{Memory, Verify};
 
 use super::File;
+use index_folder::fault::PathError;
 use index_parts::hash::{self, ObjectId, digest};
-use index_window::disk::{PathError, hashed_at};
+use index_window::disk::hashed_at;
 use std::alloc::{AllocError, Global};
 use std::io::ErrorKind;
 use std::rt::Files;

@@ -2,6 +2,7 @@
 
 ghost use Rattle.std.specs.Path.{path_buf_bytes};
 ghost use Rattle.std.specs.Prelude.{◌≡◌, ◌++◌, codes, IfErr, IfOk, OnErr, OnOk};
+ghost use Rattle.index_folder.specs.Locks.{asked_of};
 ghost use Rattle.index_parts.specs.Id.{make_id};
 ghost use Rattle.index_format.specs.Contents.{Contents};
 ghost use Rattle.index_format.specs.Image.{image_version, trailer};
@@ -15,11 +16,12 @@ ghost use Rattle.gix_index.specs.declared.file.write.Error.TheVariants.{Memory};
 
 use super::File;
 use index_entries::Version;
+use index_folder::fault::PathError;
+use index_folder::lock::{CommitError, Lock};
 use index_format::write;
 use index_format::write::Options;
 use index_parts::hash::ObjectId;
 use index_parts::hash::io::{Plain, Retrying};
-use index_window::disk::PathError;
 use std::alloc::{AllocError, Global};
 use std::io::{BufWriter, ErrorKind, Write};
 use std::path::PathBuf;
@@ -108,6 +110,39 @@ fn put_fault(lock: PathBuf, error: write::Error) -> Error
     }
 }
 
+/// Writes all bytes of an index to a lock, and lets that take the place of the file that was locked. Gives the path
+/// that was asked for there, and the version and the id that were written. After a failure it was tried to remove the
+/// lock.
+pub(super) fn committed<R: Files>(
+    index: &File,
+    rt: &R,
+    alloc: Global,
+    mut lock: Lock<R>,
+    options: Options,
+    is_synced: bool,
+) -> Result<(PathBuf, Version, ObjectId), Error>
+    requires { PathsInStorage (state_of index.now) }
+    ensures path { IfOk result (λ x. path_buf_bytes x.0 ≡ asked_of lock) }
+    ensures version { IfOk result
+        (λ x. x.1 ≡ image_version (contents (state_of index.now)) options) }
+    ensures id { IfOk result (λ x. x.2 ≡ make_id (contents (state_of index.now)).kind
+        (trailer (contents (state_of index.now)) options)) }
+    ensures writable { OnOk result (IsWritable (contents (state_of index.now)) options) }
+    ensures fault { IfErr result (SaysOfWrite (contents (state_of index.now)) options) }
+{
+    let (version, id) = match index.fill(alloc, lock.file(), options) {
+        Ok(answer) => answer,
+        Err(e) => return Err(put_fault(lock.release(rt), e)),
+    };
+    match lock.commit(rt, index.state.timestamp(), is_synced) {
+        Ok(path) => Ok((path, version, id)),
+        Err(CommitError::Lock(PathError { path, error })) => Err(fault_of(Step::Put, path, error)),
+        Err(CommitError::Rename(PathError { path, error })) => {
+            Err(fault_of(Step::Commit, path, error))
+        }
+    }
+}
+
 impl File {
     /// Writes all bytes to a writer through a buffer, and drops it.
     fn fill<W: io::Write + Drop>(
@@ -169,7 +204,8 @@ impl File {
         }
     }
 
-    /// Writes the index to its path, by way of the lock file `<path>.lock`, which keeps other writers out.
+    /// Writes the index to its path, by way of the lock file `<path>.lock`, which keeps other writers out while it is
+    /// written, and not since it was read: beside git, [`File::lock`] is what loses nothing.
     ///
     /// The lock file is made new; where there is one already, nothing is written. What [`File::write_to`] writes goes
     /// to it through a buffer of 64 KiB, and then it is renamed to the path. Version and checksum become those that

@@ -5,7 +5,7 @@ use Rattle.std.proofs.KnownBytes.{Consumes-nil, Consumes-whole}
 use Rattle.index_parts.specs.Digest.{Holds}
 use Rattle.index_parts.specs.Id.{id_len}
 use Rattle.index_window.proofs.Fronts.{front_grown}
-use Rattle.index_window.proofs.Readers.{read_more}
+use Rattle.index_folder.proofs.Readers.{read_more}
 use Rattle.index_window.proofs.disk.read_hashed.Goals as goal
 
 pub pieces-init : goal.pieces-init

@@ -1,7 +1,7 @@
 use Rattle.std.proofs.Common.{rules}
 use Rattle.std.proofs.KnownBytes.{Consumes-more}
-use Rattle.index_window.proofs.Readers.{starts_trans}
-use Rattle.index_window.proofs.pieces.fill.Goals as goal
+use Rattle.index_folder.proofs.Readers.{starts_trans}
+use Rattle.index_folder.proofs.pieces.fill.Goals as goal
 
 pub returns-then-count-eq0-clause-consumes : goal.returns-then-count-eq0-clause-consumes
 returns-then-count-eq0-clause-consumes g c =

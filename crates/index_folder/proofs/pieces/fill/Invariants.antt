@@ -1,7 +1,7 @@
 use Rattle.std.proofs.Common.{◌≤◌, ◌-◌, ◌^◌, length}
 use Rattle.std.specs.Io.{StartsWith, appended_bytes}
 use Rattle.std.specs.Io.KnownBytes.{Consumes}
-use Rattle.index_window.proofs.pieces.fill.Given as goal
+use Rattle.index_folder.proofs.pieces.fill.Given as goal
 
 abbrev pub invariant-pieces : goal.invariant-pieces
 invariant-pieces g l =

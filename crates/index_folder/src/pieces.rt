@@ -1,6 +1,6 @@
 //! Bytes of a reader, piece by piece, into room that is used again.
 
-ghost use Rattle.std.specs.Prelude.{◌≡◌, ◌≤◌, ◌+◌, drop, vec_len, IfOk, OnOk};
+ghost use Rattle.std.specs.Prelude.{◌≡◌, ◌≤◌, ◌<◌, ◌+◌, drop, vec_len, IfOk, OnOk};
 ghost use Rattle.std.specs.Io.{ReadsAtMost, StartsWith, appended_bytes};
 ghost use Rattle.std.specs.Io.KnownBytes.{Consumes, IsAtEnd, ReadConsumes};
 
@@ -59,6 +59,7 @@ pub fn fill<R: Read>(reader: &mut R, bytes: &mut Vec<u8>, len: usize) -> io::Res
     ensures len { IfOk result (λ count. vec_len bytes.new ≡ vec_len bytes.old + count) }
     ensures consumes { OnOk result (Consumes (R.remaining reader.old) (R.remaining reader.new)
         (appended_bytes bytes.old.items bytes.new.items)) }
+    ensures end { OnOk result (vec_len bytes.new < len → IsAtEnd (R.remaining reader.new)) }
 {
     let start = bytes.len();
     'pieces: loop {

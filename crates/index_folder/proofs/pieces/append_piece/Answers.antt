@@ -3,8 +3,8 @@ use Rattle.std.specs.Io.{appended_bytes}
 use Rattle.std.specs.Io.KnownBytes.{Consumes}
 use Rattle.std.proofs.lemmas.List.{with_items_is, places}
 use borrow.Rule.Slice.PartMut.{post_of, put_mid}
-use Rattle.index_window.proofs.Readers.{piece_read}
-use Rattle.index_window.proofs.pieces.append_piece.Goals as goal
+use Rattle.index_folder.proofs.Readers.{piece_read}
+use Rattle.index_folder.proofs.pieces.append_piece.Goals as goal
 
 pub returns-clause-consumes : goal.returns-clause-consumes
 returns-clause-consumes g c =

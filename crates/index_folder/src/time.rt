@@ -1,0 +1,38 @@
+//! The time at which a file was changed last, as the system gives it and as it takes it.
+
+ghost use Rattle.std.specs.Prelude.{◌≡◌, ◌*◌, ◌+◌, pos, IfSome, ℕ};
+ghost use Rattle.std.specs.Time.{system_time_nanos};
+ghost use Rattle.index_metadata.specs.Stat.{nanoseconds_of, seconds_of};
+ghost use Rattle.index_folder.specs.Times.{IsTimeOf};
+
+use index_metadata::entry::FileTime;
+use std::fs::Metadata;
+use std::time::{Duration, SystemTime};
+
+/// A time of the system's in its two parts; None where its seconds have more than 63 bits.
+fn file_time(time: SystemTime) -> Option<FileTime>
+    ensures { IfSome result (λ parts. IsTimeOf parts time) }
+{
+    let since = time.duration_since(SystemTime::UNIX_EPOCH).ok()?;
+    FileTime::new(i64::try_from(since.as_secs()).ok()?, since.subsec_nanos())
+}
+
+/// A time as the system takes it; None of the begin of 1970 and of each time before.
+pub fn system_time(time: FileTime) -> Option<SystemTime>
+    ensures { IfSome result (IsTimeOf time) }
+{
+    let seconds = u64::try_from(time.unix_seconds()).ok()?;
+    let since = Duration::new(seconds, time.nanoseconds());
+    if since.is_zero() {
+        return None;
+    }
+    SystemTime::UNIX_EPOCH.checked_add(since)
+}
+
+/// When a file was changed last, as its metadata say; the begin of 1970 where they say nothing or a time before.
+pub fn modified_of(metadata: &Metadata) -> FileTime {
+    let Ok(time) = metadata.modified() else {
+        return FileTime::EPOCH;
+    };
+    file_time(time).unwrap_or(FileTime::EPOCH)
+}

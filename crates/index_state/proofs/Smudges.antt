@@ -1,0 +1,92 @@
+-- What stays of entries whose size is set to 0.
+use Rattle.std.proofs.Common.{◌≡◌, ◌≤◌, ◌<◌, ◌^◌, ℕ, Bool, true, false, List, [], ◌∷◌, All, length, map, refl, inr, subst, cond, rules}
+use Rattle.std.specs.Prelude.{◌≢◌}
+use Rattle.std.proofs.lemmas.List.Elements.{All-nil, All-cons}
+use Rattle.index_parts.specs.Id.{id_kind}
+use Rattle.index_parts.specs.declared.hash.Kind.{Kind}
+use Rattle.index_metadata.specs.declared.entry.stat.FileTime.{FileTime}
+use Rattle.index_metadata.specs.declared.entry.stat.Stat.{Stat}
+use Rattle.index_entries.specs.Record.{IdsAreOf, IsPlaced, IsSized, Record, record_in, records_in}
+use Rattle.index_entries.specs.declared.Entry.{Entry}
+use Rattle.index_state.specs.Edits.{with_records}
+use Rattle.index_state.specs.Racy.{MayBeTrusted, is_racy, smudged, smudged_entry, smudged_stat}
+use Rattle.index_format.specs.Contents.{Contents}
+use Rattle.index_format.specs.Storable.{IsStorable}
+
+-- what holds of each, and stays where it is changed, holds of each changed one
+pub all_mapped : {A B : Type 0} (P : A → Type 0) (Q : B → Type 0) (f : A → B) → ((x : A) → P x → Q (f x))
+    → (xs : List A) → All P xs → All Q (map f xs)
+all_mapped P Q f each [] h = All-nil Q
+all_mapped P Q f each (x ∷ xs) h = All-cons Q (f x) (map f xs) (each x h.0) (all_mapped P Q f each xs h.1)
+
+pub all_of : {A : Type 0} (P : A → Type 0) → ((x : A) → P x) → (xs : List A) → All P xs
+all_of P each [] = All-nil P
+all_of P each (x ∷ xs) = All-cons P x xs (each x) (all_of P each xs)
+
+pub records_smudged : (time : FileTime) (storage : List ℕ) (es : List Entry)
+    → records_in storage (map (smudged_entry time) es) ≡ map (smudged time) (records_in storage es)
+records_smudged time storage [] = refl
+records_smudged time storage (e ∷ es) =
+    let rest = records_smudged time storage es in
+    subst (λ rs. record_in storage (smudged_entry time e) ∷ records_in storage (map (smudged_entry time) es)
+    ≡ smudged time (record_in storage e) ∷ rs) rest refl
+
+sized_so : (b : Bool) (r : Record) → IsSized r
+    → IsSized (record r { stat = (cond b (record r.stat { size = 0 }) r.stat) })
+sized_so true r p = record {
+  ctime_secs = p.ctime_secs;
+  ctime_nsecs = p.ctime_nsecs;
+  mtime_secs = p.mtime_secs;
+  mtime_nsecs = p.mtime_nsecs;
+  dev = p.dev;
+  ino = p.ino;
+  uid = p.uid;
+  gid = p.gid;
+  size = search rules;
+  mode = p.mode;
+  id = p.id;
+}
+sized_so false r p = record {
+  ctime_secs = p.ctime_secs;
+  ctime_nsecs = p.ctime_nsecs;
+  mtime_secs = p.mtime_secs;
+  mtime_nsecs = p.mtime_nsecs;
+  dev = p.dev;
+  ino = p.ino;
+  uid = p.uid;
+  gid = p.gid;
+  size = p.size;
+  mode = p.mode;
+  id = p.id;
+}
+
+pub smudged_storable : (time : FileTime) (v : Contents) → IsStorable v
+    → IsStorable (with_records v (map (smudged time) v.records))
+smudged_storable time v h = record {
+  ids = all_mapped (λ r. id_kind r.id ≡ v.kind) (λ r. id_kind r.id ≡ v.kind) (smudged time) (λ r p. p) v.records h.ids;
+  paths = all_mapped (λ r. 4095 ≤ length r.path → All (λ b. b ≢ 0) r.path)
+      (λ r. 4095 ≤ length r.path → All (λ b. b ≢ 0) r.path) (smudged time) (λ r p. p) v.records h.paths;
+  fits = all_mapped IsSized IsSized (smudged time)
+      (λ r p. sized_so (is_racy time r.mode r.stat) r p) v.records h.fits;
+  tree = h.tree;
+}
+
+pub smudged_placed : (time : FileTime) (len : ℕ) (es : List Entry) → All (IsPlaced len) es
+    → All (IsPlaced len) (map (smudged_entry time) es)
+smudged_placed time len es h =
+    all_mapped (IsPlaced len) (IsPlaced len) (smudged_entry time)
+    (λ e p. record { forward = p.forward; inside = p.inside }) es h
+
+pub smudged_ids : (time : FileTime) (kind : Kind) (es : List Entry) → IdsAreOf kind es
+    → IdsAreOf kind (map (smudged_entry time) es)
+smudged_ids time kind es h =
+    all_mapped (λ e. id_kind e.id ≡ kind) (λ e. id_kind e.id ≡ kind) (smudged_entry time) (λ e p. p) es h
+
+-- what may be trusted then, may have been before
+trusted_so : (b : Bool) (time : FileTime) (r : Record) → is_racy time r.mode r.stat ≡ b
+    → (cond b (record r.stat { size = 0 }) r.stat).size ≢ 0 → MayBeTrusted time r
+trusted_so true time r is h = absurd (h refl)
+trusted_so false time r is h = record { in_time = inr is; sized = h }
+
+pub trusted_before : (time later : FileTime) (r : Record) → MayBeTrusted later (smudged time r) → MayBeTrusted time r
+trusted_before time later r h = trusted_so (is_racy time r.mode r.stat) time r refl h.sized
