@@ -79,10 +79,11 @@ def checked(found, name):
 
 
 def rewritten(is_version_4):
-    """The command that writes the index in this version, or in the smallest."""
+    """The command that writes the index in version 4, or in the smallest unless it has that version."""
     def made(found, _):
+        options = writing.Options(is_version_4=is_version_4 or found.version == 4)
         try:
-            return Answer(written=writing.image(found, writing.Options(is_version_4=is_version_4))[2])
+            return Answer(written=writing.image(found, options)[2])
         except writing.NulInPath:
             raise Refused(f"{OUT}: a path of the index has a NUL byte") from None
     return made

@@ -6,6 +6,7 @@ pub mod Files
 pub mod Joined
 mod OutlineFaults
 mod Outlines
+mod Times
 pub use Rattle.index_entries.proofs.ReadRecords
 pub use Rattle.index_entries.proofs.Storing
 pub use Rattle.index_extensions.proofs.Walks

@@ -3,7 +3,7 @@ use Rattle.std.specs.Prelude.{◌≡◌, ◌≢◌, ℕ, ◌<◌, ◌≤◌, Lis
 use Rattle.index_parts.specs.Id.{id_kind, id_len}
 use Rattle.index_parts.specs.declared.hash.ObjectId.{ObjectId}
 use Rattle.index_window.specs.Intact.{digest_id}
-use Rattle.gix_index.specs.FileFaults.{IsOfDisk}
+use Rattle.index_folder.specs.Locks.{IsOfDisk}
 use Rattle.gix_index.specs.declared.file.verify.Error.{Error}
 use Rattle.gix_index.specs.declared.file.verify.Error.TheVariants as errors
 

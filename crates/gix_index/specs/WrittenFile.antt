@@ -28,12 +28,12 @@ pub record WritesIndex {S : Type 0} (taken : S → Option (List ℕ)) (failed : 
 
 -- A file that was written to a path, which is its own then: version and checksum are those of what was written, the
 -- checksum None where that is zeros. All else stays.
-pub record IsWrittenTo (path : List ℕ) (old new : File) (options : Options) : Type 0 where
+pub record IsWrittenTo (to : List ℕ) (old new : File) (options : Options) : Type 0 where
   pub value : contents (state_of new) ≡ with_version (contents (state_of old))
       (image_version (contents (state_of old)) options)
   pub entries : entries_of (state_of new) ≡ entries_of (state_of old)
   pub storage : storage_of (state_of new) ≡ storage_of (state_of old)
-  pub path : path_of new ≡ path
+  pub path : path_of new ≡ to
   pub checksum : checksum_of new ≡
       (if options.skip_hash then None
       else Some (make_id (contents (state_of old)).kind (trailer (contents (state_of old)) options)))

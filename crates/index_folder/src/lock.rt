@@ -22,10 +22,10 @@ pub enum Error {
     /// A call of the system failed for this file.
     #[error("the index can't be locked: {0}")]
     Io(PathError),
-    /// This lock is there already, as while another process writes the index, or where one ended within that.
+    /// This lock is there already, as while another process writes the index, or where one ended while it did.
     #[error(
-        "the index is locked, as {} is there: another process writes the index, or ended within that; where none does, \
-         remove this",
+        "the index is locked, as {} is there: another process writes the index, or ended while it did; if none does, \
+         remove that file",
         OneLine(.0.as_path().as_str())
     )]
     Held(PathBuf),
@@ -86,7 +86,8 @@ pub struct Lock<R: Files> {
     asked: PathBuf,
     target: PathBuf,
     path: PathBuf,
-    file: R::File,
+    /// The lock as a file, to which is written what the locked file is to hold.
+    pub file: R::File,
 }
 
 /// The path with `.lock` behind it.
@@ -145,11 +146,6 @@ impl<R: Files> Lock<R> {
             Ok(metadata) => modified_of(&metadata),
             Err(_) => FileTime::EPOCH,
         }
-    }
-
-    /// The lock as a file, to which is written what the locked file is to hold.
-    pub fn file(&mut self) -> &mut R::File {
-        &mut self.file
     }
 
     /// Gives the lock the permissions of the file that it is to replace, where there is one, and this time, unless it is

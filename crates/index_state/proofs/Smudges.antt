@@ -1,7 +1,10 @@
 -- What stays of entries whose size is set to 0.
-use Rattle.std.proofs.Common.{◌≡◌, ◌≤◌, ◌<◌, ◌^◌, ℕ, Bool, true, false, List, [], ◌∷◌, All, length, map, refl, inr, subst, cond, rules}
+use Rattle.std.proofs.Common.{◌≡◌, ◌+◌, ◌-◌, ◌≤◌, ◌<◌, ◌^◌, ℕ, Bool, true, false, List, [], ◌∷◌, ◌++◌, All, length, map}
+use Rattle.std.proofs.Common.{take, drop, get_or, set, refl, inr, sym, subst, ap, ◌∙◌, cond, rules, arith}
 use Rattle.std.specs.Prelude.{◌≢◌}
-use Rattle.std.proofs.lemmas.List.Elements.{All-nil, All-cons}
+use Rattle.std.proofs.lemmas.Grind.{drop_more_same}
+use Rattle.std.proofs.lemmas.List.{drop-set-lt, get_or-drop, length-drop, map-append, take_more, take_more_set}
+use Rattle.std.proofs.lemmas.List.Elements.{All-nil, All-cons, All-map, All-weaker}
 use Rattle.index_parts.specs.Id.{id_kind}
 use Rattle.index_parts.specs.declared.hash.Kind.{Kind}
 use Rattle.index_metadata.specs.declared.entry.stat.FileTime.{FileTime}
@@ -16,12 +19,35 @@ use Rattle.index_format.specs.Storable.{IsStorable}
 -- what holds of each, and stays where it is changed, holds of each changed one
 pub all_mapped : {A B : Type 0} (P : A → Type 0) (Q : B → Type 0) (f : A → B) → ((x : A) → P x → Q (f x))
     → (xs : List A) → All P xs → All Q (map f xs)
-all_mapped P Q f each [] h = All-nil Q
-all_mapped P Q f each (x ∷ xs) h = All-cons Q (f x) (map f xs) (each x h.0) (all_mapped P Q f each xs h.1)
+all_mapped P Q f each xs h = All-map Q f xs (All-weaker P (λ x. Q (f x)) each xs h)
 
 pub all_of : {A : Type 0} (P : A → Type 0) → ((x : A) → P x) → (xs : List A) → All P xs
 all_of P each [] = All-nil P
 all_of P each (x ∷ xs) = All-cons P x xs (each x) (all_of P each xs)
+
+-- ---- each in its place
+
+module _ {A : Type 0} (f : A → A) (old xs : List A) (i : ℕ) (inside : i < length xs) (rest : drop i xs ≡ drop i old) where
+  still_inside : i < length old
+  still_inside = omega (arith, ap (λ (l : List A). length l) rest, length-drop i xs, length-drop i old)
+
+  same_element : (d : A) → get_or xs i d ≡ get_or old i d
+  same_element d =
+      let here : (l : List A) → get_or (drop i l) 0 d ≡ get_or l i d =
+      λ l. get_or-drop i l 0 d ∙ ap (λ n. get_or l n d) (omega arith) in
+      sym (here xs) ∙ ap (λ (l : List A). get_or l 0 d) rest ∙ here old
+
+  pub one_more : (d x : A) → x ≡ f (get_or xs i d) → take i xs ≡ map f (take i old)
+      → take (i + 1) (set xs i x) ≡ map f (take (i + 1) old)
+  one_more d x is front =
+      take_more_set xs i x inside
+      ∙ ap (λ (l : List A). l ++ x ∷ []) front
+      ∙ ap (λ (y : A). map f (take i old) ++ y ∷ []) (is ∙ ap f (same_element d))
+      ∙ sym (map-append f (take i old) (get_or old i d ∷ []))
+      ∙ ap (map f) (sym (take_more old i d still_inside))
+
+  pub others_stay : (x : A) → drop (i + 1) (set xs i x) ≡ drop (i + 1) old
+  others_stay x = drop-set-lt (i + 1) xs i x (omega arith) ∙ drop_more_same xs old i rest
 
 pub records_smudged : (time : FileTime) (storage : List ℕ) (es : List Entry)
     → records_in storage (map (smudged_entry time) es) ≡ map (smudged time) (records_in storage es)

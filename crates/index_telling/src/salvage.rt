@@ -1,7 +1,7 @@
 //! The command `salvage`.
 
 ghost use Rattle.std.specs.Option.{option_map};
-ghost use Rattle.std.specs.Prelude.{◌≡◌, ◌×◌, ℕ, List, IfErr, IfOk, OnOk};
+ghost use Rattle.std.specs.Prelude.{◌≡◌, ℕ, List, IfErr, IfOk, OnOk};
 ghost use Rattle.gix_index.specs.State.{contents};
 ghost use Rattle.index_inspect.specs.Remains.{IsPlainIndex, Remain};
 ghost use Rattle.index_failures.specs.Reading.{FailsToRead};

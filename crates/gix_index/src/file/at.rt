@@ -1,6 +1,6 @@
 //! Reading an index from the disk, with the shared index that it links to.
 
-ghost use Rattle.std.specs.Prelude.{◌≡◌, ◌⊎◌, Bool, List, ℕ, Option, IfErr, IfOk, IsErrAnd, IsTrue, None, Ok};
+ghost use Rattle.std.specs.Prelude.{◌≡◌, ◌⊎◌, Bool, List, ℕ, Option, IfErr, IfOk, IsErrAnd, IsTrue, None, Ok, OnErr};
 ghost use Rattle.std.specs.IoError.{error_kind};
 ghost use Rattle.std.specs.Path.{path_buf_bytes, path_bytes};
 ghost use Rattle.index_entries.specs.Record.{IdsAreOf};
@@ -189,6 +189,16 @@ fn read_opened<R: Files>(
     follow(rt, alloc, index, reading)
 }
 
+/// When an opened file was changed last; this time where none was opened.
+fn time_of<F: OpenFile>(opened: &io::Result<F>, absent: FileTime) -> io::Result<FileTime>
+    ensures { IfOk result (λ time. OnErr opened.now (time ≡ absent)) }
+{
+    match opened {
+        Ok(file) => Ok(modified_of(&file.metadata()?)),
+        Err(_) => Ok(absent),
+    }
+}
+
 /// The same of the file at a path, with the time at which it was changed last; with the given one where there is none.
 pub(super) fn read_since<R: Files>(
     rt: &R,
@@ -210,14 +220,14 @@ pub(super) fn read_since<R: Files>(
         × SaysOfFiles reading.skip_hash reading.object_hash time reading.options e) }
 {
     let opened = fs::open(rt, path.as_path());
-    let timestamp = match &opened {
-        Ok(file) => match file.metadata() {
-            Ok(metadata) => modified_of(&metadata),
-            Err(e) => return Err(read_fault(path, e)),
-        },
-        Err(_) => reading.timestamp,
+    let timestamp = match time_of(&opened, reading.timestamp) {
+        Ok(timestamp) => timestamp,
+        Err(e) => return Err(read_fault(path, e)),
     };
-    let reading = ReadOptions { timestamp, ..reading };
+    let reading = ReadOptions {
+        timestamp,
+        ..reading
+    };
     read_opened(rt, alloc, opened, path, reading, or_default)
 }
 

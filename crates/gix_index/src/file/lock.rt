@@ -1,7 +1,7 @@
 //! An index that is locked before it is read, so that no other writer comes between its reading and its writing.
 
 ghost use Rattle.std.specs.Path.{path_buf_bytes};
-ghost use Rattle.std.specs.Prelude.{◌≡◌, ◌×◌, ◌⊎◌, IfErr, IfOk, IsTrue, None, OnErr, OnOk};
+ghost use Rattle.std.specs.Prelude.{◌≡◌, ◌⊎◌, IfErr, IfOk, IsTrue, None, OnErr, OnOk};
 ghost use Rattle.index_entries.specs.Record.{IdsAreOf};
 ghost use Rattle.index_folder.specs.Locks.{asked_of};
 ghost use Rattle.index_format.specs.Storable.{IsStorable, IsWritable};

@@ -130,7 +130,7 @@ pub(super) fn committed<R: Files>(
     ensures writable { OnOk result (IsWritable (contents (state_of index.now)) options) }
     ensures fault { IfErr result (SaysOfWrite (contents (state_of index.now)) options) }
 {
-    let (version, id) = match index.fill(alloc, lock.file(), options) {
+    let (version, id) = match index.fill(alloc, &mut lock.file, options) {
         Ok(answer) => answer,
         Err(e) => return Err(put_fault(lock.release(rt), e)),
     };
