@@ -33,7 +33,7 @@ fn index_of(kind: Kind, paths: &[&[u8]]) -> Index {
 
 fn each_way() -> impl Iterator<Item = Options> {
     let versions = [VersionChoice::Smallest, VersionChoice::V4];
-    versions.into_iter().flat_map(|version| [false, true].map(|skip_hash| Options { version, skip_hash }))
+    versions.into_iter().flat_map(|version| [false, true].map(|skip_hash| Options { version, skip_hash, ..Options::default() }))
 }
 
 fn fault_of(error: Error) -> Fault {
