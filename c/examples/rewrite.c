@@ -10,18 +10,21 @@
 #define _POSIX_C_SOURCE 200809L
 #include "table.h"
 
+/* What stands at a lock's path that is no regular file. */
+static const char *name_of(const gix_index_lock *lock) {
+    return S_ISDIR(lock->mode) ? "directory" : S_ISFIFO(lock->mode) ? "fifo" : S_ISSOCK(lock->mode) ? "socket" : "device";
+}
+
 /* Says on standard error why a file can't be locked. */
 static void tell_unlocked(const char *path, uint32_t status, const gix_index_lock *lock) {
-    bool is_locked = status == GIX_INDEX_SYSTEM && errno == EEXIST;
-    const char *found = S_ISDIR(lock->mode) ? "directory" : S_ISFIFO(lock->mode) ? "fifo"
-                        : S_ISSOCK(lock->mode) ? "socket" : "device";
-    if (is_locked)
+    const char *at = lock->lock_path ? lock->lock_path : lock->path ? lock->path : path;
+    if (status == GIX_INDEX_SYSTEM && errno == EEXIST)
         fprintf(stderr, "rewrite: %s: %s is there: another process writes the index, or died while it did; if none"
-                " runs, remove that file\n", path, lock->lock_path);
+                " runs, remove that file\n", path, at);
     else if (status == GIX_INDEX_NOT_REGULAR)
-        fprintf(stderr, "rewrite: %s: it is a %s, and no regular file: it isn't replaced\n", path, found);
+        fprintf(stderr, "rewrite: %s: %s is a %s, and no regular file: it isn't replaced\n", path, at, name_of(lock));
     else
-        fprintf(stderr, "rewrite: %s: it can't be locked: %s\n", path,
+        fprintf(stderr, "rewrite: %s: %s: %s\n", path, at,
                 status == GIX_INDEX_MEMORY ? "out of memory" : strerror(errno));
 }
 

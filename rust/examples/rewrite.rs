@@ -5,22 +5,23 @@
 //! Usage: rewrite sha1|sha256 FILE OUT [4]
 //!
 //! The version is 4 where FILE's is or with a last word; else 2, or 3 where the flags ask for it. OUT gets the time of
-//! FILE, and keeps its permissions. The status is 1 where FILE can't be read or is no such index, or OUT can't be locked
-//! or written, with a line on standard error, and 2 for wrong words.
+//! FILE, and keeps its permissions. The status is 1 where FILE can't be read or is no such index, or OUT can't be
+//! locked or written, with a line on standard error, and 2 for wrong words.
 
 use gix_index_proved::write::{Options, VersionChoice};
-use gix_index_proved::{Error, Index, Kind};
+use gix_index_proved::{Index, Kind};
 use std::env;
 use std::process::ExitCode;
 
 /// Reads the one and writes the other, in version 4 where the one is of it or the caller asks for it.
-fn rewrite(kind: Kind, file: &str, to: &str, mut version: VersionChoice) -> Result<(), Error> {
-    let locked = Index::lock(to)?;
-    let (index, bytes) = Index::open_with_bytes(file, kind)?;
+fn rewrite(kind: Kind, file: &str, to: &str, mut version: VersionChoice) -> Result<(), String> {
+    let locked = Index::lock(to).map_err(|error| format!("{to}: {error}"))?;
+    let (index, bytes) = Index::open_with_bytes(file, kind).map_err(|error| format!("{file}: {error}"))?;
     if index.version() == 4 {
         version = VersionChoice::V4;
     }
-    locked.commit_over(&index, &bytes, Options { version, sync: true, ..Options::default() }).map(|_| ())
+    let options = Options { version, sync: true, ..Options::default() };
+    locked.commit_over(&index, &bytes, options).map(|_| ()).map_err(|error| format!("{to}: {error}"))
 }
 
 fn main() -> ExitCode {

@@ -176,13 +176,13 @@ impl fmt::Display for Error {
                 lock.display()
             ),
             Error::NotRegular { path, found } => {
-                write!(f, "{}: it is a {}, and no regular file: it isn't replaced", path.display(), name_of(found))
+                write!(f, "{} is a {}, and no regular file: it isn't replaced", path.display(), name_of(found))
             }
             Error::TooManyLinks { path } => {
-                write!(f, "{}: it leads over more than 5 symbolic links, one behind the other", path.display())
+                write!(f, "{} leads over more than 5 symbolic links, one behind the other", path.display())
             }
             Error::TooLong { path } => {
-                write!(f, "{}: it has more than the 4294967328 bytes that an index can have", path.display())
+                write!(f, "{} has more than the 4294967328 bytes that an index can have", path.display())
             }
             Error::Io { path, error } => write!(f, "{}: {error}", path.display()),
         }

@@ -5,8 +5,8 @@
 //! `crates/index_c/README.md`; this crate isn't proved: it hands slices to the library's calls and takes their answers.
 //! It has no dependencies, so its errors implement [`std::error::Error`] by hand.
 //!
-//! Safe beside git, which may write the same index, is [`Index::lock`], then a reading, then [`Locked::commit`]: what is
-//! read is what is replaced. [`Index::write`] locks only when it writes, so what another process wrote between the
+//! Safe beside git, which may write the same index, is [`Index::lock`], then a reading, then [`Locked::commit`]: what
+//! is read is what is replaced. [`Index::write`] locks only when it writes, so what another process wrote between the
 //! reading and it is lost.
 
 mod check;

@@ -160,9 +160,9 @@ impl Index {
     /// behind this call is what [`commit`](Locked::commit) or [`commit_over`](Locked::commit_over) replaces.
     ///
     /// Symbolic links are followed first, five at most; a sixth is [`Error::TooManyLinks`]. What the last one names
-    /// needn't be there. Where it is a directory, a device, a fifo or a socket, the error is [`Error::NotRegular`]. Then
-    /// the lock file is made, that path with `.lock` behind it; where it is there already, the error is
-    /// [`Error::Locked`]. After an error no file is changed, and none is left.
+    /// needn't be there. Where it is a directory, a device, a fifo or a socket, the error is [`Error::NotRegular`].
+    /// Then the lock file is made, that path with `.lock` behind it; where it is there already, the error is
+    /// [`Error::Locked`]. After an error all files are as they were.
     pub fn lock(path: impl AsRef<Path>) -> Result<Locked, Error> {
         Locked::new(path.as_ref())
     }

@@ -33,7 +33,8 @@ fn index_of(kind: Kind, paths: &[&[u8]]) -> Index {
 
 fn each_way() -> impl Iterator<Item = Options> {
     let versions = [VersionChoice::Smallest, VersionChoice::V4];
-    versions.into_iter().flat_map(|version| [false, true].map(|skip_hash| Options { version, skip_hash, ..Options::default() }))
+    let each = |version| [false, true].map(|skip_hash| Options { version, skip_hash, ..Options::default() });
+    versions.into_iter().flat_map(each)
 }
 
 fn fault_of(error: Error) -> Fault {
