@@ -52,6 +52,14 @@ static inline void gix_index_drop_table(gix_index_table *t) {
     *t = (gix_index_table){0};
 }
 
+/* Opens a file, also where a signal interrupts that. One that is made has the permissions that the umask leaves. */
+static inline int gix_index_open(const char *path, int flags) {
+    int file;
+    do file = open(path, flags | O_CLOEXEC, 0666);
+    while (file < 0 && errno == EINTR);
+    return file;
+}
+
 /* A room for twice as many bytes, but none for more than a file may have and one; or NULL, and errno says why. The old
  * one is gone then. */
 static inline uint8_t *gix_index_grow(uint8_t *bytes, size_t *room) {
@@ -89,7 +97,7 @@ static inline uint8_t *gix_index_bytes_behind(int file, size_t room, size_t *len
 
 /* The same of the file at a path, with the time at which it was written last, or zeros of a pipe or a device. */
 static inline uint8_t *gix_index_bytes_and_time_of(const char *path, size_t *len, struct timespec *mtime) {
-    int file = open(path, O_RDONLY | O_CLOEXEC);
+    int file = gix_index_open(path, O_RDONLY);
     if (file < 0) return NULL;
     struct stat said;
     uint8_t *bytes = NULL;
@@ -302,7 +310,7 @@ static inline uint32_t gix_index_make_lock(gix_index_lock *lock) {
     if (!lock->lock_path) return GIX_INDEX_MEMORY;
     memcpy(lock->lock_path, lock->path, len);
     memcpy(lock->lock_path + len, ".lock", sizeof ".lock");
-    lock->file = open(lock->lock_path, O_WRONLY | O_CREAT | O_EXCL | O_CLOEXEC, 0666);
+    lock->file = gix_index_open(lock->lock_path, O_WRONLY | O_CREAT | O_EXCL);
     if (lock->file < 0) return GIX_INDEX_SYSTEM;
     lock->is_held = true;
     uint32_t status = gix_index_look(lock);

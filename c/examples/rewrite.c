@@ -30,11 +30,13 @@ static void tell_unlocked(const char *path, uint32_t status, const gix_index_loc
 
 /* Says on standard error why a table wasn't written. */
 static void complain(const char *path, uint32_t status, const gix_index_written *told) {
-    const char *why = status == GIX_INDEX_MEMORY             ? "out of memory"
-                      : status == GIX_INDEX_SYSTEM           ? strerror(errno)
-                      : told->fault == GIX_INDEX_FAULT_ORDER ? "an entry isn't above the one before it"
-                      : told->fault == GIX_INDEX_FAULT_ROW   ? "an entry can't be written"
-                                                             : "there is too much for a file";
+    if (status == GIX_INDEX_SYSTEM || status == GIX_INDEX_MEMORY) {
+        fprintf(stderr, "rewrite: %s: %s\n", path, status == GIX_INDEX_MEMORY ? "out of memory" : strerror(errno));
+        return;
+    }
+    const char *why = told->fault == GIX_INDEX_FAULT_ORDER ? "an entry isn't above the one before it"
+                      : told->fault == GIX_INDEX_FAULT_ROW ? "an entry can't be written"
+                                                           : "there is too much for a file";
     fprintf(stderr, "rewrite: %s: %s (%zu)\n", path, why, told->fault_place);
 }
 
