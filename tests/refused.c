@@ -7,8 +7,8 @@
  *                wait     one that opens, reads or writes; it is interrupted before it did anything
  * REFUSED_NTH    which one, counted from 1
  * REFUSED_ON     where it is set, each one behind it as well
- * REFUSED_ALSO   where it is set, calls that look at a file otherwise, read a link, set permissions or times, or close a
- *                file count as well
+ * REFUSED_ALSO   where it is set, calls that look at a file otherwise, read a link, set permissions or times, or close
+ *                a file count as well
  * REFUSED_ERROR  the number of the error of a call (by default EIO)
  * REFUSED_SIZE   before the REFUSED_NTH reading the file has so many bytes, whatever REFUSED_KIND is
  * REFUSED_COUNTS a file for how many there were of the four kinds, and how many requests were for a block that there

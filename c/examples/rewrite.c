@@ -12,7 +12,8 @@
 
 /* What stands at a lock's path that is no regular file. */
 static const char *name_of(const gix_index_lock *lock) {
-    return S_ISDIR(lock->mode) ? "directory" : S_ISFIFO(lock->mode) ? "fifo" : S_ISSOCK(lock->mode) ? "socket" : "device";
+    mode_t mode = lock->mode;
+    return S_ISDIR(mode) ? "directory" : S_ISFIFO(mode) ? "fifo" : S_ISSOCK(mode) ? "socket" : "device";
 }
 
 /* Says on standard error why a file can't be locked. */
