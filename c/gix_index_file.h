@@ -449,7 +449,8 @@ static inline uint32_t gix_index_put_file(const char *path, uint8_t *bytes, size
  *
  * What gix_index_write writes goes to the lock file, which then takes the place of the index, so that the path has the
  * old index or the new one at each moment. Permissions and time are those of the old index, as gix_index_commit keeps
- * them. Nothing is synced to the disk, as git by its defaults doesn't sync an index.
+ * them; a new index's time is that of its making, by which git may trust more entries than by that of the index that
+ * they were read from. Nothing is synced to the disk, as git by its defaults doesn't sync an index.
  *
  * DONE: the path has the index. NOT_REGULAR, SYSTEM: as gix_index_lock_file and gix_index_commit answer; the path is as
  * it was, another's lock is left where it is, and this one's is removed, if that can be done. REFUSED, MEMORY,
