@@ -30,6 +30,7 @@ impl Drop for LockFile {
 ///
 /// What is read of [`path`](Locked::path) meanwhile is what a commit replaces, so that no change of another process is
 /// lost. Dropped, it leaves the index as it was, and removes the lock file.
+#[must_use = "dropped, it gives the lock up"]
 pub struct Locked {
     file: File,
     lock: LockFile,
