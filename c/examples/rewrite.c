@@ -23,7 +23,8 @@ static void tell_unlocked(const char *path, uint32_t status, const gix_index_loc
         fprintf(stderr, "rewrite: %s: %s is there: another process writes the index, or died while it did; if none"
                 " runs, remove that file\n", path, at);
     else if (status == GIX_INDEX_NOT_REGULAR)
-        fprintf(stderr, "rewrite: %s: %s is a %s, and no regular file: it isn't replaced\n", path, at, name_of(lock));
+        fprintf(stderr, "rewrite: %s: %s is a %s, and no regular file: it isn't replaced\n", path, lock->path,
+                name_of(lock));
     else
         fprintf(stderr, "rewrite: %s: %s: %s\n", path, at,
                 status == GIX_INDEX_MEMORY ? "out of memory" : strerror(errno));
