@@ -346,7 +346,7 @@ static void files(const char *file) {
     expect(write_file(lost, &whole) == GIX_INDEX_SYSTEM && errno == ENOENT, "a folder is passed over", errno, 0);
     unlink(path);
     if (mkdir(path, 0700)) exit(3);
-    expect(write_file(path, &whole) == GIX_INDEX_SYSTEM && errno != 0, "a folder is replaced", errno, 0);
+    expect(write_file(path, &whole) == GIX_INDEX_NOT_REGULAR, "a folder is replaced", errno, 0);
     expect(access(lock, F_OK) != 0, "a lock is left after a failure", 0, 0);
     rmdir(path);
     whole.rows[1].path_len = SIZE_MAX;

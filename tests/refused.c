@@ -7,6 +7,8 @@
  *                wait     one that opens, reads or writes; it is interrupted before it did anything
  * REFUSED_NTH    which one, counted from 1
  * REFUSED_ON     where it is set, each one behind it as well
+ * REFUSED_ALSO   where it is set, calls that look at a file otherwise, read a link, set permissions or times, or close
+ *                a file count as well
  * REFUSED_ERROR  the number of the error of a call (by default EIO)
  * REFUSED_SIZE   before the REFUSED_NTH reading the file has so many bytes, whatever REFUSED_KIND is
  * REFUSED_COUNTS a file for how many there were of the four kinds, and how many requests were for a block that there
@@ -30,7 +32,7 @@ static const char *const names[KINDS] = {"request", "call", "move", "wait"};
 
 static long counts[KINDS], blocks, nth, readings, size = -1;
 static enum kind refused = KINDS;
-static int goes_on, is_begun, error_number = EIO;
+static int goes_on, counts_also, is_begun, error_number = EIO;
 
 /* The C library's function of this name. */
 #define NEXT(name) ((__typeof__(&name))dlsym(RTLD_NEXT, #name))
@@ -44,6 +46,7 @@ __attribute__((constructor)) static void begin(void) {
   if (wanted) size = atol(wanted);
   if (error) error_number = atoi(error);
   goes_on = getenv("REFUSED_ON") != NULL;
+  counts_also = getenv("REFUSED_ALSO") != NULL;
   is_begun = 1;
 }
 
@@ -71,6 +74,7 @@ static int no_memory(const void *old) {
   return is_refused(REQUEST, ENOMEM);
 }
 static int fails(void) { return is_refused(CALL, error_number); }
+static int also_fails(void) { return counts_also && fails(); }
 static int is_interrupted(void) { return is_refused(WAIT, EINTR); }
 static size_t moved(size_t len) { return len > 1 && is_refused(MOVE, 0) ? 1 : len; }
 
@@ -114,6 +118,15 @@ int openat(int folder, const char *path, int flags, ...) {
   return fails() || is_interrupted() ? -1 : NEXT(openat)(folder, path, flags, mode);
 }
 
+int open64(const char *path, int flags, ...) {
+  va_list rest;
+  va_start(rest, flags);
+  mode_t mode = va_arg(rest, mode_t);
+  va_end(rest);
+  if (also_fails() || (counts_also && is_interrupted())) return -1;
+  return NEXT(open64)(path, flags, mode);
+}
+
 int statx(int folder, const char *restrict path, int flags, unsigned mask, struct statx *restrict to) {
   return fails() ? -1 : NEXT(statx)(folder, path, flags, mask, to);
 }
@@ -123,6 +136,16 @@ int rename(const char *from, const char *to) { return fails() ? -1 : NEXT(rename
 int unlink(const char *path) { return fails() ? -1 : NEXT(unlink)(path); }
 int fsync(int file) { return fails() ? -1 : NEXT(fsync)(file); }
 int ftruncate(int file, off_t len) { return fails() ? -1 : NEXT(ftruncate)(file, len); }
+
+int lstat(const char *path, struct stat *to) { return also_fails() ? -1 : NEXT(lstat)(path, to); }
+int fstat(int file, struct stat *to) { return also_fails() ? -1 : NEXT(fstat)(file, to); }
+int fchmod(int file, mode_t mode) { return also_fails() ? -1 : NEXT(fchmod)(file, mode); }
+int futimens(int file, const struct timespec times[2]) { return also_fails() ? -1 : NEXT(futimens)(file, times); }
+int close(int file) { return also_fails() ? -1 : NEXT(close)(file); }
+
+ssize_t readlink(const char *path, char *to, size_t len) {
+  return also_fails() ? -1 : NEXT(readlink)(path, to, len);
+}
 
 /* The file is longer or shorter than it was, as where another program writes it meanwhile. */
 static void resize(int file) {

@@ -1,21 +1,27 @@
-//! Writes an index to another file, by way of a lock, with its cached tree, where that tells what the entries give, and
-//! its mark of a sparse index, but no other extension. A link to a shared index is followed.
+//! Writes an index to another file, or over itself, by way of a lock that is made before FILE is read; with its cached
+//! tree, where that tells what the entries give, and its mark of a sparse index, but no other extension. A link to a
+//! shared index is followed.
 //!
 //! Usage: rewrite sha1|sha256 FILE OUT [4]
 //!
-//! The version is 2, or 3 where the flags ask for it, or 4 with a last word. The status is 1 where FILE can't be read
-//! or is no such index, or OUT can't be written, with a line on standard error, and 2 for wrong words.
+//! The version is 4 where FILE's is or with a last word; else 2, or 3 where the flags ask for it. OUT gets the time of
+//! FILE, and keeps its permissions. The status is 1 where FILE can't be read or is no such index, or OUT can't be
+//! locked or written, with a line on standard error, and 2 for wrong words.
 
 use gix_index_proved::write::{Options, VersionChoice};
-use gix_index_proved::{Error, Index, Kind};
-use std::{env, fs};
+use gix_index_proved::{Index, Kind};
+use std::env;
 use std::process::ExitCode;
 
-/// Reads the one and writes the other, in this version.
-fn rewrite(kind: Kind, file: &str, to: &str, version: VersionChoice) -> Result<(), Error> {
-    let index = Index::open(file, kind)?;
-    let bytes = fs::read(file).map_err(|error| Error::Io { path: file.into(), error })?;
-    index.write_over(to, &bytes, Options { version, ..Options::default() }).map(|_| ())
+/// Reads the one and writes the other, in version 4 where the one is of it or the caller asks for it.
+fn rewrite(kind: Kind, file: &str, to: &str, mut version: VersionChoice) -> Result<(), String> {
+    let locked = Index::lock(to).map_err(|error| format!("{to}: {error}"))?;
+    let (index, bytes) = Index::open_with_bytes(file, kind).map_err(|error| format!("{file}: {error}"))?;
+    if index.version() == 4 {
+        version = VersionChoice::V4;
+    }
+    let options = Options { version, sync: true, ..Options::default() };
+    locked.commit_over(&index, &bytes, options).map(|_| ()).map_err(|error| format!("{to}: {error}"))
 }
 
 fn main() -> ExitCode {

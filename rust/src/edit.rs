@@ -62,7 +62,8 @@ impl Row {
 impl Index {
     /// An index with no entry, for ids of this kind.
     pub fn new(kind: Kind) -> Index {
-        Index { rows: Vec::new(), paths: Vec::new(), kind, version: 2, has_link: false, shared_id: [0; 32] }
+        let (rows, paths) = (Vec::new(), Vec::new());
+        Index { rows, paths, kind, version: 2, has_link: false, shared_id: [0; 32], timestamp: None }
     }
 
     /// Puts an entry at the end, and its path behind the others. The stage is that of the flags.

@@ -2,7 +2,9 @@
 
 use crate::raw::{Summary, Written};
 use std::fmt;
+use std::fs::FileType;
 use std::io;
+use std::os::unix::fs::FileTypeExt;
 use std::path::PathBuf;
 
 /// What is wrong with bytes that are no index, or damaged, or don't pass a check; or with entries that aren't written.
@@ -68,6 +70,36 @@ pub enum Error {
         /// How many bytes it has.
         actual: usize,
     },
+    /// The lock file is there: another process writes the index, or died while it did, and then the file has to be
+    /// removed by hand.
+    Locked {
+        /// The lock file.
+        lock: PathBuf,
+    },
+    /// What is to be written over is a directory, a device, a fifo or a socket.
+    NotRegular {
+        /// The path that was come to behind all symbolic links.
+        path: PathBuf,
+        /// What stands there.
+        found: FileType,
+    },
+    /// A sixth symbolic link stands behind five, which are those that git follows to an index.
+    TooManyLinks {
+        /// The path of the first.
+        path: PathBuf,
+    },
+    /// A symbolic link leads to a file that isn't there.
+    LeadsNowhere {
+        /// The path of the first link.
+        path: PathBuf,
+        /// Where it leads.
+        target: PathBuf,
+    },
+    /// A file has more bytes than the 4294967328 that an index can have, or no end.
+    TooLong {
+        /// Which file.
+        path: PathBuf,
+    },
     /// The file, or its lock, can't be read or written.
     Io {
         /// Which file.
@@ -120,6 +152,21 @@ impl Error {
     }
 }
 
+/// What a file that is no regular one is called.
+fn name_of(found: &FileType) -> &'static str {
+    if found.is_dir() {
+        "directory"
+    } else if found.is_fifo() {
+        "fifo"
+    } else if found.is_socket() {
+        "socket"
+    } else if found.is_symlink() {
+        "symbolic link"
+    } else {
+        "device"
+    }
+}
+
 impl fmt::Display for Error {
     fn fmt(&self, f: &mut fmt::Formatter<'_>) -> fmt::Result {
         match self {
@@ -129,6 +176,23 @@ impl fmt::Display for Error {
             Error::Split => f.write_str("the index is split, and its link to a shared index isn't followed"),
             Error::Id { expected, actual } => {
                 write!(f, "an id has {actual} bytes, and those of the index have {expected}")
+            }
+            Error::Locked { lock } => write!(
+                f,
+                "{} is there: another process writes the index, or died while it did; if none runs, remove that file",
+                lock.display()
+            ),
+            Error::NotRegular { path, found } => {
+                write!(f, "{} is a {}, and no regular file: it isn't replaced", path.display(), name_of(found))
+            }
+            Error::TooManyLinks { path } => {
+                write!(f, "{} leads over more than 5 symbolic links, one behind the other", path.display())
+            }
+            Error::LeadsNowhere { path, target } => {
+                write!(f, "{} is a symbolic link to {}, which isn't there", path.display(), target.display())
+            }
+            Error::TooLong { path } => {
+                write!(f, "{} has more than the 4294967328 bytes that an index can have", path.display())
             }
             Error::Io { path, error } => write!(f, "{}: {error}", path.display()),
         }

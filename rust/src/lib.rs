@@ -4,10 +4,15 @@
 //! Names are those of the crate `gix-index` where they say the same. What is proved is told in
 //! `crates/index_c/README.md`; this crate isn't proved: it hands slices to the library's calls and takes their answers.
 //! It has no dependencies, so its errors implement [`std::error::Error`] by hand.
+//!
+//! Safe beside git, which may write the same index, is [`Index::lock`], then a reading, then [`Locked::commit`]: what
+//! is read is what is replaced. [`Index::write`] locks only when it writes, so what another process wrote between the
+//! reading and it is lost.
 
 mod check;
 mod edit;
 mod error;
+mod lock;
 mod raw;
 mod read;
 pub mod write;
@@ -15,8 +20,10 @@ pub mod write;
 pub use check::{verify, verify_file, verify_split};
 pub use edit::EntryMut;
 pub use error::{Error, Fault};
+pub use lock::Locked;
 use raw::{Places, Row};
 use std::ops::Range;
+use std::time::SystemTime;
 
 /// Which hash function a repository names its objects by.
 #[derive(Clone, Copy, Debug, PartialEq, Eq, Hash)]
@@ -158,6 +165,7 @@ pub struct Index {
     version: u32,
     has_link: bool,
     shared_id: [u8; 32],
+    timestamp: Option<SystemTime>,
 }
 
 /// So many copies of a value, or want of memory.
@@ -177,6 +185,12 @@ impl Index {
     /// The version of the file that was read: 2, 3 or 4; of a new index 2.
     pub fn version(&self) -> u32 {
         self.version
+    }
+
+    /// When the file was written last that this was read from, or None where it wasn't read from one: the time that
+    /// the index gets that is written, so that git trusts no more entries of it than of the one that was read.
+    pub fn timestamp(&self) -> Option<SystemTime> {
+        self.timestamp
     }
 
     /// Whether the bytes link to a shared index, which wasn't followed.

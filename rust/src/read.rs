@@ -2,7 +2,12 @@
 
 use crate::raw::{self, Row, Summary};
 use crate::{Error, Index, Kind, room};
+use std::fs::{File, Metadata};
+use std::io::{self, Read};
 use std::path::{Path, PathBuf};
+
+/// The most bytes that a file of an index may have: 2 to the 32nd, and the longest trailer.
+const MOST_BYTES: u64 = (1 << 32) + 32;
 
 /// The bytes of an index, and of the shared index that it links to, where they are given.
 #[derive(Clone, Copy)]
@@ -71,14 +76,35 @@ impl Files<'_> {
             said = self.read(false, &mut rows, &mut paths)?;
             if let (true, Summary { version, has_link, shared_id, .. }) = said {
                 let has_link = has_link != 0;
-                return Ok(Index { rows, paths, kind: self.kind, version, has_link, shared_id });
+                return Ok(Index { rows, paths, kind: self.kind, version, has_link, shared_id, timestamp: None });
             }
         }
     }
 }
 
+/// The bytes of a file, one more at most than an index can have, and what is said of it.
+fn read(path: &Path) -> io::Result<(Vec<u8>, Metadata)> {
+    let file = File::open(path)?;
+    let (said, mut bytes) = (file.metadata()?, Vec::new());
+    // (the size says only how much room is asked for first, as the file may change)
+    bytes.try_reserve_exact(said.len().min(MOST_BYTES + 1) as usize)?;
+    file.take(MOST_BYTES + 1).read_to_end(&mut bytes)?;
+    Ok((bytes, said))
+}
+
+/// All bytes of a file, and what is said of it.
+fn bytes_and_metadata_of(path: PathBuf) -> Result<(Vec<u8>, Metadata), Error> {
+    match read(&path) {
+        Ok((bytes, _)) if bytes.len() as u64 > MOST_BYTES => Err(Error::TooLong { path }),
+        Ok(all) => Ok(all),
+        Err(error) if error.kind() == io::ErrorKind::OutOfMemory => Err(Error::Memory),
+        Err(error) => Err(Error::Io { path, error }),
+    }
+}
+
+/// All bytes of a file.
 pub(crate) fn bytes_of(path: PathBuf) -> Result<Vec<u8>, Error> {
-    std::fs::read(&path).map_err(|error| Error::Io { path, error })
+    Ok(bytes_and_metadata_of(path)?.0)
 }
 
 /// The bytes of the shared index with this id, beside the index at a path.
@@ -119,16 +145,23 @@ impl Index {
 
     /// Reads the file at a path as [`from_bytes`](Index::from_bytes) reads bytes. Where it links to a shared index, the
     /// file of that is read too, as [`from_split_bytes`](Index::from_split_bytes) reads it, and the index has no link.
+    ///
+    /// A file with more than 2^32 bytes and a trailer, or without an end, is [`Error::TooLong`].
     pub fn open(path: impl AsRef<Path>, kind: Kind) -> Result<Index, Error> {
+        Ok(Index::open_with_bytes(path, kind)?.0)
+    }
+
+    /// The same, with the bytes of the file, over which [`write_to_over`](Index::write_to_over) writes.
+    pub fn open_with_bytes(path: impl AsRef<Path>, kind: Kind) -> Result<(Index, Vec<u8>), Error> {
         let path = path.as_ref();
-        let bytes = bytes_of(path.into())?;
-        let index = Index::from_bytes(&bytes, kind)?;
-        if !index.has_link {
-            return Ok(index);
+        let (bytes, said) = bytes_and_metadata_of(path.into())?;
+        let mut index = Index::from_bytes(&bytes, kind)?;
+        if index.has_link {
+            let shared = index.shared_id().map(|id| beside(path, id)).transpose()?.unwrap_or_default();
+            index = Index::from_split_bytes(&bytes, &shared, kind)?;
         }
-        let Some(id) = index.shared_id() else {
-            return Index::from_split_bytes(&bytes, &[], kind);
-        };
-        Index::from_split_bytes(&bytes, &beside(path, id)?, kind)
+        // (a pipe or a device says nothing of when an index was written)
+        index.timestamp = if said.is_file() { said.modified().ok() } else { None };
+        Ok((index, bytes))
     }
 }

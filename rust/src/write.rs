@@ -2,10 +2,7 @@
 
 use crate::raw::{self, Form, Written};
 use crate::{Error, Index, room};
-use std::ffi::OsString;
-use std::fs::{self, File};
-use std::io::{self, Write};
-use std::path::{Path, PathBuf};
+use std::path::Path;
 
 /// How many bytes an index has at most beside its paths: at each entry, and beside all.
 const PER_ENTRY: usize = 96;
@@ -28,6 +25,8 @@ pub struct Options {
     pub version: VersionChoice,
     /// Whether the trailer is zeros in place of the digest (git's `index.skipHash`).
     pub skip_hash: bool,
+    /// Whether a file is synced to the disk before it takes the index's place. git by its defaults doesn't sync it.
+    pub sync: bool,
 }
 
 /// What became of the cached tree of an index that was written over (gitformat-index, "Cache tree").
@@ -49,25 +48,6 @@ impl CachedTree {
             _ => CachedTree::None,
         }
     }
-}
-
-/// The path with `.lock` behind it.
-fn lock_path(path: &Path) -> PathBuf {
-    let mut lock = OsString::from(path);
-    lock.push(".lock");
-    lock.into()
-}
-
-/// Makes the lock with these bytes, and lets it take the index's place. A lock that can't is removed.
-fn replace(path: &Path, lock: &Path, bytes: &[u8]) -> Result<(), Error> {
-    let fault = |path: &Path, error: io::Error| Error::Io { path: path.into(), error };
-    let mut file = File::create_new(lock).map_err(|error| fault(lock, error))?;
-    let put = file.write_all(bytes).map_err(|error| fault(lock, error));
-    drop(file);
-    put.and_then(|()| fs::rename(lock, path).map_err(|error| fault(path, error))).inspect_err(|_| {
-        // (the first failure is what is told)
-        let _ = fs::remove_file(lock);
-    })
 }
 
 impl Index {
@@ -152,21 +132,22 @@ impl Index {
         self.image(Some(index), options)
     }
 
-    /// Writes the index to a path, by way of the lock file `<path>.lock`, which keeps other writers out.
+    /// Writes the index to a path, which is locked once the bytes are there: an index that was read before may have
+    /// been changed meanwhile, and the change is lost. [`Index::lock`] is safe beside git.
     ///
-    /// What [`write_to`](Index::write_to) gives goes to the lock, which is made new and then takes the index's place,
-    /// so that the path has the old index or the new one at each moment. Nothing is synced to the disk. After an error
-    /// the path is as it was; where there was a lock already it is left, and the error is [`Error::Io`] with
-    /// [`AlreadyExists`](io::ErrorKind::AlreadyExists).
+    /// What [`write_to`](Index::write_to) gives goes to the lock file, which then takes the index's place, so that the
+    /// path has the old index or the new one at each moment. Permissions, time and errors are those of
+    /// [`Index::lock`] and [`Locked::commit`](crate::Locked::commit). After an error the path is as it was; a lock file
+    /// that was there is left.
     pub fn write(&self, path: impl AsRef<Path>, options: Options) -> Result<(), Error> {
         let bytes = self.write_to(options)?;
-        replace(path.as_ref(), &lock_path(path.as_ref()), &bytes)
+        Index::lock(path)?.replace(&bytes, self.timestamp, options.sync)
     }
 
     /// The same of what [`write_to_over`](Index::write_to_over) gives over these bytes of an index.
     pub fn write_over(&self, path: impl AsRef<Path>, index: &[u8], options: Options) -> Result<CachedTree, Error> {
         let (bytes, tree) = self.write_to_over(index, options)?;
-        replace(path.as_ref(), &lock_path(path.as_ref()), &bytes)?;
+        Index::lock(path)?.replace(&bytes, self.timestamp, options.sync)?;
         Ok(tree)
     }
 }

@@ -5,7 +5,6 @@
 
 use gix_index_proved::write::{Options, VersionChoice};
 use gix_index_proved::{Entry, Error, Fault, Index, Kind, Stat, Time, flags, mode};
-use std::io::ErrorKind;
 use std::{env, fs};
 
 /// All that is read of an entry.
@@ -33,7 +32,8 @@ fn index_of(kind: Kind, paths: &[&[u8]]) -> Index {
 
 fn each_way() -> impl Iterator<Item = Options> {
     let versions = [VersionChoice::Smallest, VersionChoice::V4];
-    versions.into_iter().flat_map(|version| [false, true].map(|skip_hash| Options { version, skip_hash }))
+    let each = |version| [false, true].map(|skip_hash| Options { version, skip_hash, ..Options::default() });
+    versions.into_iter().flat_map(each)
 }
 
 fn fault_of(error: Error) -> Fault {
@@ -118,12 +118,9 @@ fn a_path_is_written_by_way_of_a_lock() {
     fs::write(&lock, b"another's").expect("it can be made");
     let other = index_of(Kind::Sha1, &[b"c"]);
     let error = other.write(&path, Options::default()).unwrap_err();
-    assert!(matches!(&error, Error::Io { path, error } if *path == lock && error.kind() == ErrorKind::AlreadyExists));
+    assert!(matches!(&error, Error::Locked { lock: named } if *named == lock), "{error}");
     assert!(lock.exists());
     assert_eq!(entries_of(&Index::open(&path, Kind::Sha1).expect("it can be read")), entries_of(&index));
     fs::remove_file(&lock).expect("it is there");
-    let error = index.write(&folder, Options::default()).unwrap_err();
-    assert!(matches!(&error, Error::Io { path, .. } if *path == folder), "{error}");
-    assert!(!folder.with_extension("lock").exists());
     fs::remove_dir_all(&folder).expect("it is there");
 }

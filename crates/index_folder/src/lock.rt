@@ -104,12 +104,16 @@ impl<R: Files> Lock<R> {
     /// new. Where nothing is at the path, the file is to be made there.
     ///
     /// [`Error::Held`]: it is there already. [`Error::IsFolder`], [`Error::IsSpecial`], [`Error::LeadsNowhere`] and
-    /// [`Error::TooManyLinks`] say what is at the path that can't be replaced. After an error all is as it was.
+    /// [`Error::TooManyLinks`] say what is at the path that can't be replaced. [`Error::Io`] names the file for which a
+    /// call of the system failed, as an empty path does. After an error all is as it was.
     pub fn acquire(rt: &R, alloc: Global, path: PathBuf) -> Result<Lock<R>, Error>
         ensures asked { IfOk result (λ lock. asked_of lock ≡ path_buf_bytes path) }
         ensures lock { IfOk result (λ lock. lock_of lock ≡ target_of lock ++ codes ".lock") }
         ensures fault { IfErr result SaysOfLock }
     {
+        if path.as_path().as_str().is_empty() {
+            return Err(Error::of(path, io::Error::from(ErrorKind::NotFound)));
+        }
         let asked = path.clone()?;
         let target = target_of(rt, alloc, path)?;
         let path = lock_path(alloc, &target)?;
