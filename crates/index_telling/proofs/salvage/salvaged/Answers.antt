@@ -1,17 +1,13 @@
-use Rattle.std.proofs.Common.{◌∙◌, ap, refl}
+use Rattle.std.proofs.Common.{ap, refl, ◌∙◌}
+use Rattle.gix_index.specs.Edits.{with_time}
 use Rattle.gix_index.specs.State.{contents}
-use Rattle.index_failures.proofs.Rewritings.{written_by_default}
+use Rattle.index_telling.proofs.Salvages.{salvaged_so}
 use Rattle.index_telling.proofs.salvage.salvaged.Goals as goal
 
-pub returns-in-Ok-write-clause-written : goal.returns-in-Ok-write-clause-written
-returns-in-Ok-write-clause-written g c = record {
-  bytes = c.deref.result.now;
-  saved = c.in-Ok-saved_of.saved;
-  of_bytes = c.in-Ok-saved_of.ensures.saved;
-  index = c.from_state-index.result;
-  holds = ap contents c.from_state-index.ensures.state;
-  path = c.from_state-index.ensures.path ∙ c.in-Ok-from_str.ensures;
-  is_written = written_by_default _ _ c.default.result.extensions c.default.result.version c.default.result.skip_hash
-      c.default.ensures.0 c.default.ensures.1.0 c.default.ensures.1.1 c.in-Ok-write.ensures.ok;
-  reports = record { declared = refl; read = refl; kept = c.kept-kept.ensures; fault = refl; shared = refl };
-}
+pub returns-in-Ok-commit_at-clause-written : goal.returns-in-Ok-commit_at-clause-written
+returns-in-Ok-commit_at-clause-written g c =
+    salvaged_so c.args.kind _ c.args.to.now c.in-Ok-saved_at.found.0 _ c.from_state-index.result
+    _ c.in-Ok.ensures.asked c.in-Ok-saved_at.ensures.saved
+    (ap contents c.from_state-index.ensures.state ∙ c.set_timestamp.ensures.set)
+    c.in-Ok-commit_at.ensures.written
+    (record { declared = refl; read = refl; kept = c.kept-kept.ensures; fault = refl; shared = refl })
