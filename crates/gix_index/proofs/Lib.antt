@@ -4,8 +4,6 @@ pub mod Checks
 mod FileFaults
 pub mod Files
 pub mod Joined
-mod OutlineFaults
-mod Outlines
 mod Times
 pub use Rattle.index_entries.proofs.ReadRecords
 pub use Rattle.index_entries.proofs.Storing

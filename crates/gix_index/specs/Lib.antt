@@ -87,9 +87,7 @@ pub use Rattle.index_format.specs.Stored
 pub use Rattle.index_format.specs.Writing
 pub use Rattle.index_window.specs.Behind
 pub use Rattle.index_window.specs.Intact
-pub use Rattle.index_folder.specs.Locks
 pub use Rattle.index_folder.specs.declared.fault.PathError
-pub use Rattle.index_folder.specs.declared.lock.Lock
 pub use Rattle.index_state.specs.Dissolve
 pub use Rattle.index_state.specs.Edits
 pub use Rattle.index_state.specs.SoundState

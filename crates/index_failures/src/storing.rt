@@ -2,9 +2,9 @@
 
 ghost use Rattle.std.specs.Prelude.{◌≡◌, IfErr, IfOk};
 ghost use Rattle.gix_index.specs.File.{state_of};
-ghost use Rattle.gix_index.specs.Locks.{asked_of};
 ghost use Rattle.gix_index.specs.State.{PathsInStorage};
 ghost use Rattle.gix_index.specs.WrittenFile.{IsWrittenTo};
+ghost use Rattle.gix_index.specs.WrittenFile.Locks.{asked_of};
 ghost use Rattle.index_failures.specs.Options.{rewrite_options};
 ghost use Rattle.index_failures.specs.Storing.{FailsToWrite};
 

@@ -8,7 +8,7 @@ use Rattle.gix_index.specs.Kind.{Kind}
 use Rattle.gix_index.specs.Outlined.{Outlines}
 use Rattle.gix_index.specs.State.{contents}
 use Rattle.gix_index.specs.Version.{Version}
-use Rattle.gix_index.specs.declared.file.outline.Outline.{Outline}
+use Rattle.gix_index.specs.Outlined.Outline.{Outline}
 use Rattle.index_table.specs.Reading.{TellsOfValue, link_number, shared_id_bytes}
 use Rattle.index_table.specs.declared.read.Summary.{Summary}
 

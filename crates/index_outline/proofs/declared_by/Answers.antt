@@ -2,8 +2,8 @@ use Rattle.std.proofs.Common.{◌≡◌, ◌∙◌, sym, false, length, ltb}
 use Rattle.std.proofs.lemmas.Bool.{le-ltb}
 use Rattle.index_entries.specs.Header.{count_of}
 use Rattle.index_entries.specs.Limits.{is_too_large, most_entries}
-use Rattle.gix_index.proofs.OutlineFaults.{answer_is}
-use Rattle.gix_index.proofs.file.outline.declared_by.Goals as goal
+use Rattle.index_outline.proofs.OutlineFaults.{answer_is}
+use Rattle.index_outline.proofs.declared_by.Goals as goal
 
 pub returns-clause-behind : goal.returns-clause-behind
 returns-clause-behind c =

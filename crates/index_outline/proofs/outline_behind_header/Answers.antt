@@ -8,10 +8,10 @@ use Rattle.index_format.specs.declared.Parts.{Parts}
 use Rattle.index_format.proofs.Answers.{body_late}
 use Rattle.index_state.specs.State.{contents}
 use Rattle.index_window.specs.Passed.{paths_len}
-use Rattle.gix_index.specs.declared.file.outline.Outline.{Outline}
-use Rattle.gix_index.proofs.OutlineFaults.{says_weaker}
-use Rattle.gix_index.proofs.Outlines.{ending_fault, fits_is, marked_value, outline_from}
-use Rattle.gix_index.proofs.file.outline.outline_behind_header.Goals as goal
+use Rattle.index_outline.specs.declared.Outline.{Outline}
+use Rattle.index_outline.proofs.OutlineFaults.{says_weaker}
+use Rattle.index_outline.proofs.Outlines.{ending_fault, fits_is, marked_value, outline_from}
+use Rattle.index_outline.proofs.outline_behind_header.Goals as goal
 
 pub returns-in-Err-clause-fault : goal.returns-in-Err-clause-fault
 returns-in-Err-clause-fault c =

@@ -20,9 +20,9 @@ use Rattle.index_format.specs.Storable.{IsStorable}
 use Rattle.index_format.proofs.ReadValues.{answer_read, same_value}
 use Rattle.index_state.specs.Edits.{with_records}
 use Rattle.index_state.specs.State.{contents}
-use Rattle.gix_index.specs.Outlined.{Outlines}
+use Rattle.index_outline.specs.Outlines.{Outlines}
 use Rattle.index_window.specs.Passed.{in_64_bits, paths_len}
-use Rattle.gix_index.specs.declared.file.outline.Outline.{Outline}
+use Rattle.index_outline.specs.declared.Outline.{Outline}
 
 -- ---- the trailer
 

@@ -1,0 +1,2 @@
+pub mod OutlineFaults
+pub mod Outlines
