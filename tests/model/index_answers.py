@@ -5,7 +5,6 @@ import entries
 import extensions
 import faults
 import files
-import lookups
 import merging
 import show
 import state
@@ -114,33 +113,6 @@ def with_state(told):
             return [f"fault: {faults.of_index(fault)}"]
         return told(found, row[2:])
     return answered
-
-
-def place_word(is_found, place):
-    return f"at {place}" if is_found else f"before {place}"
-
-
-def answer_search(found, row):
-    path, most = words.text_of(row[0]), len(found.entries).bit_length() + 1
-    if len(row) == 1:
-        place = place_word(*lookups.place_of_path(found.entries, path))
-        return [
-            f"search_path: {place}",
-            f"search_path comparisons: at most {most}",
-            f"entry_index_by_path: {place}",
-        ]
-    is_found, place = lookups.place_of_path_and_stage(found.entries, path, int(row[1]))
-    return [
-        f"search_path_and_stage: {place_word(is_found, place)}",
-        f"search_path_and_stage comparisons: at most {most}",
-        f"entry_index_by_path_and_stage: {place if is_found else 'none'}",
-        f"entry_by_path_and_stage: {show.entry(found.entries[place]) if is_found else 'none'}",
-    ]
-
-
-def answer_order(found, _):
-    pairs = zip(found.entries, found.entries[1:])
-    return [f"cmp {place}: {show.sign(one.key, other.key)}" for place, (one, other) in enumerate(pairs)]
 
 
 def images_of_entry(found, place):
@@ -369,8 +341,6 @@ CALLS = {
     "fronts": answer_fronts,
     "file-fronts": answer_file_fronts,
     "content-fronts": answer_content_fronts,
-    "search": with_state(answer_search),
-    "order": with_state(answer_order),
     "entry": with_state(answer_entry),
     "body": with_state(answer_body),
     "write": with_state(answer_write),

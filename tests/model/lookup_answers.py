@@ -1,9 +1,9 @@
-"""What `index_lookup_rows` has to answer: each lookup for some paths over a list of entries."""
+"""What `index_lookup_rows` has to answer: each lookup for some paths over a list of entries, and single searches."""
 
 import lookups
 import show
 import words
-from index_answers import place_word, with_state
+from index_answers import with_state
 
 
 def answer(row, folder):
@@ -29,6 +29,10 @@ def answer_lookup(found, row):
         for name in ("search_path", "entry_range", "prefixed_entries_range", "search_prefix"):
             lines.append(f"{show.text(path)}: {name}: among the entries")
     return lines
+
+
+def place_word(is_found, place):
+    return f"at {place}" if is_found else f"before {place}"
 
 
 def comparisons(name, *most):
@@ -123,4 +127,27 @@ def by_stage(entries, path):
     ]
 
 
-CALLS = {"lookup": with_state(answer_lookup)}
+def answer_search(found, row):
+    path, most = words.text_of(row[0]), most_among(len(found.entries))
+    if len(row) == 1:
+        place = place_word(*lookups.place_of_path(found.entries, path))
+        return [f"search_path: {place}", comparisons("search_path", most), f"entry_index_by_path: {place}"]
+    is_found, place = lookups.place_of_path_and_stage(found.entries, path, int(row[1]))
+    return [
+        f"search_path_and_stage: {place_word(is_found, place)}",
+        comparisons("search_path_and_stage", most),
+        f"entry_index_by_path_and_stage: {place if is_found else 'none'}",
+        f"entry_by_path_and_stage: {show.entry(found.entries[place]) if is_found else 'none'}",
+    ]
+
+
+def answer_order(found, _):
+    pairs = zip(found.entries, found.entries[1:])
+    return [f"cmp {place}: {show.sign(one.key, other.key)}" for place, (one, other) in enumerate(pairs)]
+
+
+CALLS = {
+    "lookup": with_state(answer_lookup),
+    "search": with_state(answer_search),
+    "order": with_state(answer_order),
+}

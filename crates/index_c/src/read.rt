@@ -5,10 +5,20 @@ ghost use Rattle.index_table.specs.Joining.{AreReadSo, AreRefusedBoth, LackMemor
 ghost use Rattle.index_table.specs.Reading.{Fills, HasText, IsFilled, IsRefusedIndex, IsTooSmall, LacksMemory, LacksRoom};
 ghost use Rattle.index_table.specs.Table.{kind_numbered};
 
-use index_table::read::{Summary, read_table};
+use index_table::read::{Summary, kind_of, nothing, read_table};
 use index_table::row::Row;
 use index_table::split::read_split;
+use index_table::status::WRONG_NUMBER;
 use std::alloc::Global;
+
+/// Tells that the number of a kind is none.
+fn wrong_number(summary: &mut Summary) -> u32
+    ensures status { result ≡ 4 }
+    ensures text { summary.new.text_bytes ≡ 0 }
+{
+    *summary = nothing(WRONG_NUMBER).summary;
+    WRONG_NUMBER
+}
 
 /// Reads an index from all bytes of its file into a table in the caller's memory.
 ///
@@ -43,6 +53,9 @@ pub extern "C" fn gix_index_read(
     ensures paths { result ≢ 0 → paths.new ≡ paths.old }
     ensures text { HasText summary.new.text_bytes text.old text.new }
 {
+    let Some(kind) = kind_of(kind) else {
+        return wrong_number(summary);
+    };
     let outcome = read_table(alloc, bytes, kind, skip_hash, rows, paths, text);
     *summary = outcome.summary;
     outcome.status
@@ -84,6 +97,9 @@ pub extern "C" fn gix_index_read_split(
     ensures paths { result ≢ 0 → paths.new ≡ paths.old }
     ensures text { HasText summary.new.text_bytes text.old text.new }
 {
+    let Some(kind) = kind_of(kind) else {
+        return wrong_number(summary);
+    };
     let outcome = read_split(alloc, bytes, shared, kind, skip_hash, rows, paths, text);
     *summary = outcome.summary;
     outcome.status

@@ -10,7 +10,7 @@ use Rattle.gix_index.specs.StateType.{State as StateType}
 use Rattle.gix_index.specs.SoundState.{AreSoundExtensions}
 use Rattle.index_failures.specs.declared.failure.Failure.{Failure}
 use Rattle.index_failures.specs.declared.failure.Failure.TheVariants as failures
-use Rattle.index_commands.specs.Checking.{FailsToCheck, FailsToCompare}
+use Rattle.index_commands.specs.Checking.{FailsToCheck, FailsToVerify}
 use Rattle.index_commands.specs.Trees.{FailsToTellTrees, FailsToTree}
 
 -- the entries are as many as the records
@@ -19,20 +19,20 @@ pub sound_counted : (s : StateType) → AreSoundExtensions (length (entries_of s
 sound_counted s h = subst (λ (n : ℕ). AreSoundExtensions n (contents s).extensions.tree)
     (sym (length-map (entries_of s) (record_in (storage_of s)))) h
 
--- a failure of the comparison is one of the check, which printed nothing then
-pub compare_fails : (f : Failure) (ids : Bool) (kind : Kind) (path : List ℕ) (known : Option (List ℕ))
-    → FailsToCompare path f → FailsToCheck ids kind path f known known
-compare_fails (failures.Read e) ids kind path known h = absurd h
-compare_fails (failures.Index file e) ids kind path known h = absurd h
-compare_fails (failures.Entries file e) ids kind path known h = absurd h
-compare_fails (failures.CachedTree file e) ids kind path known h = absurd h
-compare_fails (failures.Changed file e) ids kind path known h = absurd h
-compare_fails (failures.Damaged file offset e) ids kind path known h = absurd h
-compare_fails (failures.Trees file e) ids kind path known h = absurd h
-compare_fails (failures.Lock file e) ids kind path known h = absurd h
-compare_fails (failures.Rewrite file e) ids kind path known h = absurd h
-compare_fails (failures.Output e) ids kind path known h = absurd h
-compare_fails (failures.TreeIds file e) ids kind path known h = (h, Keeps-refl known)
+-- a failure of what an index holds is one of the check, which printed nothing then
+pub verify_fails : (f : Failure) (ids : Bool) (kind : Kind) (path : List ℕ) (known : Option (List ℕ))
+    → FailsToVerify path f → FailsToCheck ids kind path f known known
+verify_fails (failures.Read e) ids kind path known h = absurd h
+verify_fails (failures.Index file e) ids kind path known h = absurd h
+verify_fails (failures.Entries file e) ids kind path known h = (h, Keeps-refl known)
+verify_fails (failures.CachedTree file e) ids kind path known h = (h, Keeps-refl known)
+verify_fails (failures.Changed file e) ids kind path known h = absurd h
+verify_fails (failures.Damaged file offset e) ids kind path known h = absurd h
+verify_fails (failures.Trees file e) ids kind path known h = absurd h
+verify_fails (failures.Lock file e) ids kind path known h = absurd h
+verify_fails (failures.Rewrite file e) ids kind path known h = absurd h
+verify_fails (failures.Output e) ids kind path known h = absurd h
+verify_fails (failures.TreeIds file e) ids kind path known h = (h, Keeps-refl known)
 
 -- a failure of an index that has no trees is one of telling them, which printed nothing then
 pub tree_fails : (f : Failure) (kind : Kind) (path : List ℕ) (known : Option (List ℕ)) → FailsToTree path f

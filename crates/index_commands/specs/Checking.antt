@@ -58,7 +58,9 @@ FailsToPass path failure = FailsToRead path failure
 abbrev pub FailsToCheck : Bool → Kind → List ℕ → Failure → Option (List ℕ) → Option (List ℕ) → Type 0
 FailsToCheck ids kind path failure old new = FailsTelling (ChecksFront ids kind) (FailsToPass path) failure old new
 
--- a failure of comparing the cached tree with the entries
-abbrev pub FailsToCompare : List ℕ → Failure → Type 0
-FailsToCompare path (failures.TreeIds file e) = file.now ≡ path
-FailsToCompare path failure = ⊥
+-- a failure of an index that was read, by what it holds: of its entries, or of its cached tree
+abbrev pub FailsToVerify : List ℕ → Failure → Type 0
+FailsToVerify path (failures.Entries file e) = file.now ≡ path
+FailsToVerify path (failures.CachedTree file e) = file.now ≡ path
+FailsToVerify path (failures.TreeIds file e) = file.now ≡ path
+FailsToVerify path failure = ⊥

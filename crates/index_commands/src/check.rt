@@ -1,10 +1,11 @@
 //! The commands `check` and `check-trees`.
 
-ghost use Rattle.std.specs.Prelude.{◌≡◌, true, IfErr, OnOk};
+ghost use Rattle.std.specs.Prelude.{◌≡◌, true, IfErr, OnOk, length};
 ghost use Rattle.gix_index.specs.File.{state_of};
 ghost use Rattle.gix_index.specs.Order.{IsStrictlyOrdered};
+ghost use Rattle.gix_index.specs.SoundState.{AreSoundExtensions};
 ghost use Rattle.gix_index.specs.State.{PathsInStorage, contents};
-ghost use Rattle.index_commands.specs.Checking.{Checks, FailsToCheck, FailsToCompare, HasRightTrees};
+ghost use Rattle.index_commands.specs.Checking.{Checks, FailsToCheck, FailsToVerify, HasRightTrees};
 
 use gix_index::File;
 use gix_index::hash::Kind;
@@ -29,7 +30,7 @@ fn compare_trees<'a>(
     requires placed { PathsInStorage (state_of index.now) }
     requires ordered { IsStrictlyOrdered (contents (state_of index.now)).records }
     ensures right { OnOk result (ids ≡ true → HasRightTrees (contents (state_of index.now))) }
-    ensures fault { IfErr result (FailsToCompare path.now) }
+    ensures fault { IfErr result (FailsToVerify path.now) }
 {
     if !ids {
         return Ok(());
@@ -38,6 +39,33 @@ fn compare_trees<'a>(
         Ok(()) => Ok(()),
         Err(fault) => Err(Failure::TreeIds { path, fault }),
     }
+}
+
+/// Fails where the entries aren't in order, or the cached tree doesn't hold together, or, where it is to be compared with
+/// them, tells something else than they give.
+fn verify_contents<'a>(
+    alloc: Global,
+    ids: bool,
+    index: &File,
+    path: &'a str,
+) -> Result<(), Failure<'a>>
+    requires { PathsInStorage (state_of index.now) }
+    ensures ordered { OnOk result (IsStrictlyOrdered (contents (state_of index.now)).records) }
+    ensures tree { OnOk result (AreSoundExtensions (length (contents (state_of index.now)).records)
+        (contents (state_of index.now)).extensions.tree) }
+    ensures right { OnOk result (ids ≡ true → HasRightTrees (contents (state_of index.now))) }
+    ensures fault { IfErr result (FailsToVerify path.now) }
+{
+    if let Err(fault) = index.verify_entries() {
+        return Err(Failure::Entries { path, fault });
+    }
+    if let Err(fault) = index.verify_extensions(alloc, false, &NoObjects) {
+        return Err(Failure::CachedTree { path, fault });
+    }
+    if let Err(failure) = compare_trees(alloc, ids, index, path) {
+        return Err(failure);
+    }
+    Ok(())
 }
 
 /// Checks the index in a file, with the shared index that it links to, and writes `ok` and a newline to `out`.
@@ -64,13 +92,7 @@ pub fn check<'a, R: Files, W: io::Write>(
         Ok(index) => index,
         Err(failure) => return Err(failure),
     };
-    if let Err(fault) = index.verify_entries() {
-        return Err(Failure::Entries { path, fault });
-    }
-    if let Err(fault) = index.verify_extensions(alloc, false, &NoObjects) {
-        return Err(Failure::CachedTree { path, fault });
-    }
-    if let Err(failure) = compare_trees(alloc, ids, &index, path) {
+    if let Err(failure) = verify_contents(alloc, ids, &index, path) {
         return Err(failure);
     }
     if let Err(fault) = index.verify_integrity(rt, alloc) {

@@ -1,4 +1,4 @@
-//! `index-lookup-rows`: what lookups answer for each row of a table.
+//! `index-lookup-rows`: what lookups and searches answer for each row of a table.
 //!
 //! The table comes on standard input. `tests/model/DIALECT.md` says how a row is written and which lines answer it. A
 //! row that can't be understood ends the program with its number on standard error and status 1.
@@ -7,6 +7,7 @@
 mod icase;
 mod ordered;
 mod place;
+mod search;
 mod unordered;
 
 ghost use Rattle.std.specs.Prelude.{◌≡◌};
@@ -21,17 +22,21 @@ struct Rows;
 
 impl Answer for Rows {
     fn answer(&self, call: &str, words: &mut Words<'_>, out: &mut Lines) -> Result<(), Fault> {
-        if call != "lookup" {
-            return Err(Fault::Wrong("the name of a call"));
-        }
         let kind = words.kind()?;
-        match words.state(kind)? {
-            Ok(state) => lookup(out, &state, &words.texts()?),
+        let state = match words.state(kind)? {
+            Ok(state) => state,
             Err(e) => {
                 refusal::decode(out, &e);
-                Ok(())
+                return Ok(());
             }
+        };
+        match call {
+            "lookup" => lookup(out, &state, &words.texts()?)?,
+            "search" => search::search(out, &state, words)?,
+            "order" => search::order(out, &state),
+            _ => return Err(Fault::Wrong("the name of a call")),
         }
+        Ok(())
     }
 }
 

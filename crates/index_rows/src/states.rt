@@ -1,4 +1,4 @@
-//! The rows about a whole index: read, searched and written.
+//! The rows about a whole index: read and written.
 
 ghost use Rattle.std.specs.Prelude.{◌≡◌};
 ghost use Rattle.gix_index.specs.State.{PathsInStorage};
@@ -6,11 +6,10 @@ ghost use Rattle.gix_index.specs.State.{PathsInStorage};
 use crate::cuts::Cuts;
 use crate::reading::{Reading, read};
 use crate::{cuts, prefixes, show};
-use gix_index::entry::Stage;
 use gix_index::hash::Kind;
 use gix_index::hash::io::Plain;
 use gix_index::{File, State, decode, write};
-use index_row_kit::show::{Bytes, Item, OrNone, sign_of, version_of, yes};
+use index_row_kit::show::{Bytes, version_of, yes};
 use index_row_kit::{Fault, Lines, Words, refusal};
 use std::path::PathBuf;
 
@@ -25,10 +24,6 @@ pub enum Call {
     Fronts,
     /// `file-fronts`: the same of files whose digest is compared first.
     FileFronts,
-    /// `search`: where a path stands.
-    Search,
-    /// `order`: each entry compared with the next.
-    Order,
     /// `entry`: the bytes of one entry alone.
     Entry,
     /// `body`: what is written of a state.
@@ -51,8 +46,6 @@ impl Call {
             "file" => Some(Call::File),
             "fronts" => Some(Call::Fronts),
             "file-fronts" => Some(Call::FileFronts),
-            "search" => Some(Call::Search),
-            "order" => Some(Call::Order),
             "entry" => Some(Call::Entry),
             "body" => Some(Call::Body),
             "write" => Some(Call::Write),
@@ -115,8 +108,6 @@ impl Call {
         requires { PathsInStorage state }
     {
         match self {
-            Call::Search => search(&state, words, out)?,
-            Call::Order => order(out, &state),
             Call::Entry => entry(&state, words, out)?,
             Call::Body => body(out, &state),
             Call::Copy => copy(out, &state),
@@ -128,69 +119,11 @@ impl Call {
     }
 }
 
-fn search(state: &State, words: &mut Words<'_>, out: &mut Lines) -> Result<(), Fault>
-    requires { PathsInStorage state.now }
-{
-    let path = words.text()?;
-    match words.stage()? {
-        Some(stage) => search_stage(out, state, &path, stage),
-        None => {
-            let (found, count) = state.search_path(&path);
-            place(out, "search_path", found);
-            compared(out, "search_path", state, count);
-            place(out, "entry_index_by_path", state.entry_index_by_path(&path));
-        }
-    }
-    Ok(())
-}
-
-fn search_stage(out: &mut Lines, state: &State, path: &[u8], stage: Stage)
-    requires { PathsInStorage state.now }
-{
-    let (found, count) = state.search_path_and_stage(path, stage);
-    place(out, "search_path_and_stage", found);
-    compared(out, "search_path_and_stage", state, count);
-    let index = state.entry_index_by_path_and_stage(path, stage);
-    out.put("entry_index_by_path_and_stage", OrNone(index));
-    let entry = state.entry_by_path_and_stage(path, stage);
-    let item = entry.map(|entry| Item { path, entry });
-    out.put("entry_by_path_and_stage", OrNone(item));
-}
-
 /// What the state's copy holds.
 fn copy(out: &mut Lines, state: &State) {
     match state.clone() {
         Ok(state) => show::state::state(out, &state, None),
         Err(_) => out.put("fault", "memory"),
-    }
-}
-
-/// Where a search ended: at a place, or before the place where the path belongs.
-fn place(out: &mut Lines, name: &str, found: Result<usize, usize>) {
-    match found {
-        Ok(place) => writeln!(out, "{name}: at {place}"),
-        Err(place) => writeln!(out, "{name}: before {place}"),
-    }
-}
-
-/// How many paths a search may have compared at most: no more than the number of entries has binary digits, and one.
-fn compared(out: &mut Lines, name: &str, state: &State, count: usize) {
-    let len = state.entries().len();
-    let digits = usize::BITS.saturating_sub(len.leading_zeros());
-    let most = digits.saturating_add(1) as usize;
-    if count <= most && (count > 0 || len == 0) {
-        writeln!(out, "{name} comparisons: at most {most}");
-    } else {
-        writeln!(out, "{name} comparisons: {count}, not at most {most}");
-    }
-}
-
-fn order(out: &mut Lines, state: &State)
-    requires { PathsInStorage state.now }
-{
-    let pairs = state.entries().iter().zip(state.entries().iter().skip(1));
-    for (place, (entry, next)) in pairs.enumerate() {
-        writeln!(out, "cmp {place}: {}", sign_of(entry.cmp(next, state)));
     }
 }
 

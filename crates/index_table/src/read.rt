@@ -1,6 +1,6 @@
 //! Reading an index into a caller's table.
 
-ghost use Rattle.std.specs.Prelude.{◌≡◌, ◌≢◌, ◌≤◌, ◌↔◌, ◌⊎◌, All, IfErr, IfOk, IsSomeAnd, None, Ok, Option, length};
+ghost use Rattle.std.specs.Prelude.{◌≡◌, ◌≢◌, ◌≤◌, ◌⊎◌, All, IfErr, IfOk, None, Ok, Option, length};
 ghost use Rattle.gix_index.specs.EntryImage.{version_code};
 ghost use Rattle.gix_index.specs.ObjectId.{ObjectId as Id};
 ghost use Rattle.gix_index.specs.Record.{IsSized};
@@ -13,7 +13,7 @@ ghost use Rattle.index_table.specs.Table.{kind_numbered};
 use crate::fault::{fault_of, put_fault};
 use crate::filling::table_of_outline;
 use crate::row::{Row, fill, padded};
-use crate::status::{DONE, MEMORY, NO_ROOM, REFUSED, SHA1, SHA256, WRONG_NUMBER};
+use crate::status::{DONE, MEMORY, NO_ROOM, REFUSED, SHA1, SHA256};
 use gix_index::entry::FileTime;
 use gix_index::hash::{Kind, ObjectId};
 use gix_index::{File, State, Version, decode, file};
@@ -211,7 +211,7 @@ pub fn index_of(
 }
 
 /// Reads bytes into a table. No entry is kept anywhere else meanwhile.
-fn outcome_of(
+pub fn read_table(
     alloc: Global,
     bytes: &[u8],
     kind: Kind,
@@ -235,36 +235,5 @@ fn outcome_of(
     match File::outline(alloc, bytes, kind, skip_hash, time, options) {
         Ok(outline) => table_of_outline(&outline, rows, paths),
         Err(e) => refused(alloc, e, 0, text),
-    }
-}
-
-/// Reads bytes into a table, where the number is a kind.
-pub fn read_table(
-    alloc: Global,
-    bytes: &[u8],
-    kind: u32,
-    skip_hash: bool,
-    rows: &mut [Row],
-    paths: &mut [u8],
-    text: &mut [u8],
-) -> Outcome
-    ensures status { result.status ≤ 4 }
-    ensures done { result.status ≡ 0
-        → IsSomeAnd (kind_numbered kind) (λ k. IsFilled skip_hash k bytes.now result.summary
-        rows.old rows.new paths.old paths.new) }
-    ensures refused { result.status ≡ 1 → IsSomeAnd (kind_numbered kind)
-        (λ k. IsRefusedIndex skip_hash k bytes.now result.summary) }
-    ensures memory { result.status ≡ 2 → IsSomeAnd (kind_numbered kind)
-        (λ k. LacksMemory None skip_hash k bytes.now) }
-    ensures no_room { result.status ≡ 3 → IsSomeAnd (kind_numbered kind)
-        (λ k. LacksRoom skip_hash k bytes.now result.summary rows.old paths.old) }
-    ensures wrong_number { (result.status ≡ 4) ↔ (kind_numbered kind ≡ None) }
-    ensures rows { result.status ≢ 0 → rows.new ≡ rows.old }
-    ensures paths { result.status ≢ 0 → paths.new ≡ paths.old }
-    ensures text { HasText result.summary.text_bytes text.old text.new }
-{
-    match kind_of(kind) {
-        Some(kind) => outcome_of(alloc, bytes, kind, skip_hash, rows, paths, text),
-        None => nothing(WRONG_NUMBER),
     }
 }

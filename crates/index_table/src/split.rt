@@ -1,16 +1,14 @@
 //! Reading a split index with the shared index that it links to, and both into a caller's table.
 
-ghost use Rattle.std.specs.Prelude.{◌≡◌, ◌≢◌, ◌≤◌, ◌↔◌, ◌⊎◌, None, Some, IfErr, IfOk, IsSomeAnd, OnOk};
+ghost use Rattle.std.specs.Prelude.{◌≡◌, ◌≢◌, ◌≤◌, ◌⊎◌, Some, IfErr, IfOk, OnOk};
 ghost use Rattle.gix_index.specs.Link.{link_of};
 ghost use Rattle.gix_index.specs.State.{PathsInStorage, contents};
 ghost use Rattle.gix_index.specs.Storable.{IsStorable};
 ghost use Rattle.index_table.specs.Joining.{AreReadSo, AreRefusedBoth, IsJoinedBy, IsLinkRefused, IsSharedRefused, LackMemory};
 ghost use Rattle.index_table.specs.Reading.{Fills, HasText, IsTooSmall, LacksMemory};
-ghost use Rattle.index_table.specs.Table.{kind_numbered};
 
-use crate::read::{Outcome, index_of, kind_of, nothing, refused, table_of};
+use crate::read::{Outcome, index_of, refused, table_of};
 use crate::row::Row;
-use crate::status::WRONG_NUMBER;
 use gix_index::extension::Link;
 use gix_index::hash::Kind;
 use gix_index::{State, file};
@@ -90,8 +88,9 @@ pub fn both_of(
     join(alloc, split, link, shared, kind, skip_hash, text)
 }
 
-/// Reads bytes, and those of the shared index that they link to, into a table.
-fn table_of_both(
+/// Reads bytes, with those of the shared index that they link to, into a table. Where they link to none, these aren't
+/// looked at.
+pub fn read_split(
     alloc: Global,
     bytes: &[u8],
     shared: &[u8],
@@ -117,39 +116,5 @@ fn table_of_both(
     match both_of(alloc, bytes, shared, kind, skip_hash, text) {
         Ok(state) => table_of(&state, rows, paths),
         Err(told) => told,
-    }
-}
-
-/// Reads bytes into a table, where the number is a kind, with those of the shared index that they link to. Where they
-/// link to none, these aren't looked at.
-pub fn read_split(
-    alloc: Global,
-    bytes: &[u8],
-    shared: &[u8],
-    kind: u32,
-    skip_hash: bool,
-    rows: &mut [Row],
-    paths: &mut [u8],
-    text: &mut [u8],
-) -> Outcome
-    ensures status { result.status ≤ 4 }
-    ensures done { result.status ≡ 0 → IsSomeAnd (kind_numbered kind)
-        (λ k. AreReadSo skip_hash k bytes.now shared.now
-        (λ v. Fills v result.summary rows.old rows.new paths.old paths.new)) }
-    ensures refused { result.status ≡ 1 → IsSomeAnd (kind_numbered kind)
-        (λ k. AreRefusedBoth skip_hash k bytes.now shared.now result.summary) }
-    ensures memory { result.status ≡ 2 → IsSomeAnd (kind_numbered kind)
-        (λ k. LackMemory skip_hash k bytes.now shared.now result.summary) }
-    ensures no_room { result.status ≡ 3 → IsSomeAnd (kind_numbered kind)
-        (λ k. AreReadSo skip_hash k bytes.now shared.now
-        (λ v. IsTooSmall v result.summary rows.old paths.old)) }
-    ensures wrong_number { (result.status ≡ 4) ↔ (kind_numbered kind ≡ None) }
-    ensures rows { result.status ≢ 0 → rows.new ≡ rows.old }
-    ensures paths { result.status ≢ 0 → paths.new ≡ paths.old }
-    ensures text { HasText result.summary.text_bytes text.old text.new }
-{
-    match kind_of(kind) {
-        Some(kind) => table_of_both(alloc, bytes, shared, kind, skip_hash, rows, paths, text),
-        None => nothing(WRONG_NUMBER),
     }
 }

@@ -2,22 +2,16 @@ use Rattle.std.proofs.Common.{refl}
 use Rattle.std.proofs.KnownBytes.{Keeps-refl}
 use Rattle.gix_index.specs.State.{contents}
 use Rattle.gix_index.specs.File.{checksum_of, state_of}
-use Rattle.index_commands.proofs.Endings.{compare_fails, sound_counted}
+use Rattle.index_commands.proofs.Endings.{verify_fails}
 use Rattle.index_commands.proofs.check.check.Goals as goal
 
-pub returns-in-Err-verify_entries-clause-refused : goal.returns-in-Err-verify_entries-clause-refused
-returns-in-Err-verify_entries-clause-refused g c = (refl, Keeps-refl (g.W.Write.contents c.args.out.now))
-
-pub returns-in-Err-verify_extensions-clause-refused : goal.returns-in-Err-verify_extensions-clause-refused
-returns-in-Err-verify_extensions-clause-refused g c = (refl, Keeps-refl (g.W.Write.contents c.args.out.now))
+pub returns-in-Err-verify_contents-clause-refused : goal.returns-in-Err-verify_contents-clause-refused
+returns-in-Err-verify_contents-clause-refused g c =
+    verify_fails c.in-Err-verify_contents.failure c.args.ids c.args.kind c.args.path.now
+    (g.W.Write.contents c.args.out.now) c.in-Err-verify_contents.ensures.fault
 
 pub returns-in-Err-verify_integrity-clause-refused : goal.returns-in-Err-verify_integrity-clause-refused
 returns-in-Err-verify_integrity-clause-refused g c = (refl, Keeps-refl (g.W.Write.contents c.args.out.now))
-
-pub returns-in-Err-compare_trees-clause-refused : goal.returns-in-Err-compare_trees-clause-refused
-returns-in-Err-compare_trees-clause-refused g c =
-    compare_fails c.in-Err-compare_trees.failure c.args.ids c.args.kind c.args.path.now
-    (g.W.Write.contents c.args.out.now) c.in-Err-compare_trees.ensures.fault
 
 pub returns-in-Ok-put_all-clause-checked : goal.returns-in-Ok-put_all-clause-checked
 returns-in-Ok-put_all-clause-checked g c = record {
@@ -25,10 +19,9 @@ returns-in-Ok-put_all-clause-checked g c = record {
   checksum = checksum_of c.in-Ok.index;
   sound = record {
     read = c.in-Ok.ensures.read;
-    ordered = rw c.deref.ensures at (c.in_default.ensures.ok.0 refl);
-    tree = sound_counted (state_of c.in-Ok.index)
-        (rw c.deref-2.ensures at ((c.in_default-verify_extensions.ensures.sound refl).0 refl));
-    trees = c.in_default-compare_trees.ensures.right;
+    ordered = c.in_default.ensures.ordered;
+    tree = c.in_default.ensures.tree;
+    trees = c.in_default.ensures.right;
     intact = c.in_default-verify_integrity.ensures.ok;
   };
   grew = c.in-Ok-put_all.ensures.ok;
@@ -40,10 +33,9 @@ returns-clause-refused g c = record {
   checksum = checksum_of c.in-Ok.index;
   sound = record {
     read = c.in-Ok.ensures.read;
-    ordered = rw c.deref.ensures at (c.in_default.ensures.ok.0 refl);
-    tree = sound_counted (state_of c.in-Ok.index)
-        (rw c.deref-2.ensures at ((c.in_default-verify_extensions.ensures.sound refl).0 refl));
-    trees = c.in_default-compare_trees.ensures.right;
+    ordered = c.in_default.ensures.ordered;
+    tree = c.in_default.ensures.tree;
+    trees = c.in_default.ensures.right;
     intact = c.in_default-verify_integrity.ensures.ok;
   };
   grew = c.in-Err-put_all.ensures.err;

@@ -1,6 +1,6 @@
 use Rattle.std.proofs.Common.{None, refl, sym, ◌∙◌}
 use Rattle.index_table.proofs.Refusals.{lacks_by, options_are, read_by, refusal_by, refused_from}
-use Rattle.index_table.proofs.read.outcome_of.Goals as goal
+use Rattle.index_table.proofs.read.read_table.Goals as goal
 
 pub table_of_outline-requires : goal.table_of_outline-requires
 table_of_outline-requires c =

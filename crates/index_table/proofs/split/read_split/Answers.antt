@@ -2,7 +2,7 @@ use Rattle.gix_index.specs.Contents.{Contents}
 use Rattle.gix_index.specs.State.{contents}
 use Rattle.index_table.specs.Reading.{Fills, IsTooSmall}
 use Rattle.index_table.proofs.Joins.{read_so}
-use Rattle.index_table.proofs.split.table_of_both.Goals as goal
+use Rattle.index_table.proofs.split.read_split.Goals as goal
 
 pub returns-in-Ok-clause-done : goal.returns-in-Ok-clause-done
 returns-in-Ok-clause-done c = λ is.
