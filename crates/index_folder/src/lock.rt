@@ -91,7 +91,7 @@ pub struct Lock<R: Files> {
 }
 
 /// The path with `.lock` behind it.
-fn lock_path(alloc: Global, path: &PathBuf) -> Result<PathBuf, AllocError>
+pub fn lock_path(alloc: Global, path: &PathBuf) -> Result<PathBuf, AllocError>
     ensures { IfOk result (λ lock. path_buf_bytes lock ≡ path_buf_bytes path.now ++ codes ".lock") }
 {
     let mut lock = String::from_str(alloc, path.as_path().as_str())?;

@@ -1,7 +1,7 @@
 //! Writing a `File` to its path, by way of a lock file.
 
 ghost use Rattle.std.specs.Path.{path_buf_bytes};
-ghost use Rattle.std.specs.Prelude.{◌≡◌, ◌++◌, codes, IfErr, IfOk, OnErr, OnOk};
+ghost use Rattle.std.specs.Prelude.{◌≡◌, IfErr, IfOk, OnErr, OnOk};
 ghost use Rattle.index_folder.specs.Locks.{asked_of};
 ghost use Rattle.index_parts.specs.Id.{make_id};
 ghost use Rattle.index_format.specs.Contents.{Contents};
@@ -17,7 +17,7 @@ ghost use Rattle.gix_index.specs.declared.file.write.Error.TheVariants.{Memory};
 use super::File;
 use index_entries::Version;
 use index_folder::fault::PathError;
-use index_folder::lock::{CommitError, Lock};
+use index_folder::lock::{CommitError, Lock, lock_path};
 use index_format::write;
 use index_format::write::Options;
 use index_parts::hash::ObjectId;
@@ -86,15 +86,6 @@ fn fault_of(step: Step, path: PathBuf, error: io::Error) -> Error
         Step::Put => Error::Io(fault),
         Step::Commit => Error::CommitLock(fault),
     }
-}
-
-/// The index's path with `.lock` behind it.
-fn lock_path(alloc: Global, path: &PathBuf) -> Result<PathBuf, AllocError>
-    ensures { IfOk result (λ lock. path_buf_bytes lock ≡ path_buf_bytes path.now ++ codes ".lock") }
-{
-    let mut lock = String::from_str(alloc, path.as_path().as_str())?;
-    lock.push_str(".lock")?;
-    PathBuf::from_str(alloc, lock.as_str())
 }
 
 /// What it says that the bytes didn't go to the lock file.
