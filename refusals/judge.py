@@ -129,6 +129,11 @@ class Sources:
             texts[file] = before.replace(old, new)
         return found
 
+    def tried_by(self, edit):
+        """The functions that the edit changes, and those that have to refuse it: no check tries two edits of one."""
+        last = edit.at and edit.at.split("::")[-1]
+        return self.changed(edit) | {it for it in self.functions if it.name == last}
+
     def body(self, function):
         return "\n".join(self.texts[function.file].split("\n")[function.first - 1 : function.last])
 
