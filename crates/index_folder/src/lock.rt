@@ -152,8 +152,8 @@ impl<R: Files> Lock<R> {
         }
     }
 
-    /// Gives the lock the permissions of the file that it is to replace, where there is one, and this time, unless it is
-    /// the begin of 1970; and has all of it brought to the disk, where that is wanted.
+    /// Gives the lock the permissions of the file that it is to replace, where there is one, and this time, unless its
+    /// seconds are 0; and has all of it brought to the disk, where that is wanted.
     fn finish(&self, rt: &R, time: FileTime, is_synced: bool) -> io::Result<()> {
         match fs::metadata(rt, self.target.as_path()) {
             Ok(metadata) => self.file.set_permissions(metadata.permissions())?,
@@ -171,8 +171,8 @@ impl<R: Files> Lock<R> {
 
     /// Lets what was written to the lock take the place of the locked file, whose permissions it gets.
     ///
-    /// The time of its last change becomes the one that is given, unless that is the begin of 1970, which git takes for
-    /// a time that isn't known. With `is_synced`, all bytes are on the disk before. After an error the file is as it
+    /// The time of its last change becomes the one that is given, unless the seconds of that are 0, which git takes for a
+    /// time that isn't known. With `is_synced`, all bytes are on the disk before. After an error the file is as it
     /// was, and it was tried to remove the lock. Gives the path that was asked for.
     pub fn commit(self, rt: &R, time: FileTime, is_synced: bool) -> Result<PathBuf, CommitError>
         ensures { IfOk result (λ path. path_buf_bytes path ≡ asked_of self) }

@@ -17,16 +17,16 @@ fn file_time(time: SystemTime) -> Option<FileTime>
     FileTime::new(i64::try_from(since.as_secs()).ok()?, since.subsec_nanos())
 }
 
-/// A time as the system takes it; None of the begin of 1970 and of each time before.
+/// A time as the system takes it; None of each before 1970, and of one whose seconds are 0 in the 32 bits that git looks
+/// at.
 pub fn system_time(time: FileTime) -> Option<SystemTime>
     ensures { IfSome result (IsTimeOf time) }
 {
     let seconds = u64::try_from(time.unix_seconds()).ok()?;
-    let since = Duration::new(seconds, time.nanoseconds());
-    if since.is_zero() {
+    if seconds as u32 == 0 {
         return None;
     }
-    SystemTime::UNIX_EPOCH.checked_add(since)
+    SystemTime::UNIX_EPOCH.checked_add(Duration::new(seconds, time.nanoseconds()))
 }
 
 /// When a file was changed last, as its metadata say; the begin of 1970 where they say nothing or a time before.

@@ -109,7 +109,7 @@ impl File {
     ///
     /// What [`File::write_to`] writes goes to the lock through a buffer of 64 KiB. The file gets the permissions of the
     /// one whose place it takes, and [`State::timestamp`](index_state::State::timestamp) as the time of its last change,
-    /// unless that is the begin of 1970: git trusts what the index says of a file of the work tree only where that file
+    /// unless its seconds are 0: git trusts what the index says of a file of the work tree only where that file
     /// is older than the index, so that each file which git would have looked at, it still looks at. With `is_synced`
     /// all bytes are on the disk before it takes that place.
     ///
