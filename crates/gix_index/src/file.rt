@@ -15,10 +15,10 @@ ghost use Rattle.std.specs.Path.{path_bytes, path_buf_bytes};
 ghost use Rattle.gix_index.specs.File.{state_of, path_of, checksum_of, IsSameFile, LendsState};
 
 use index_entries::{PathBacking, PathStorageRef};
-use index_parts::hash::ObjectId;
-use index_state::State;
 pub use index_folder::fault::{OneLine, PathError};
 pub use index_folder::whole::bytes_at;
+use index_parts::hash::ObjectId;
+use index_state::State;
 pub use outline::Outline;
 use std::alloc::AllocError;
 use std::fmt;

@@ -41,8 +41,8 @@ fn compare_trees<'a>(
     }
 }
 
-/// Fails where the entries aren't in order, or the cached tree doesn't hold together, or, where it is to be compared with
-/// them, tells something else than they give.
+/// Fails where the entries aren't in order, or the cached tree doesn't hold together, or, where it is to be compared
+/// with them, tells something else than they give.
 fn verify_contents<'a>(
     alloc: Global,
     ids: bool,

@@ -16,12 +16,7 @@ use std::alloc::Global;
 use std::rt::Files;
 
 /// The index in a file, with the shared index that it links to, and with a cached tree that is made of its entries.
-fn made<'a, R: Files>(
-    rt: &R,
-    alloc: Global,
-    kind: Kind,
-    path: &'a str,
-) -> Result<File, Failure<'a>>
+fn made<'a, R: Files>(rt: &R, alloc: Global, kind: Kind, path: &'a str) -> Result<File, Failure<'a>>
     ensures made { IfOk result (λ index. IsMadeInFile kind (contents (state_of index))) }
     ensures placed { IfOk result (λ index. PathsInStorage (state_of index)) }
     ensures fault { IfErr result (FailsToTree path.now) }

@@ -32,9 +32,9 @@ pub fn lock_at<'a, R: Files>(rt: &R, alloc: Global, to: &'a str) -> Result<Lock<
     }
 }
 
-/// Writes an index in the place of the file that was locked, with all extensions and the digest at the end, and gives it
-/// as it is there. All bytes are on the disk before it takes that place. [`Failure::Rewrite`] names that file, which is
-/// as it was.
+/// Writes an index in the place of the file that was locked, with all extensions and the digest at the end, and gives
+/// it as it is there. All bytes are on the disk before it takes that place. [`Failure::Rewrite`] names that file, which
+/// is as it was.
 pub fn commit_at<'a, R: Files>(
     rt: &R,
     alloc: Global,

@@ -32,7 +32,12 @@ pub struct PathError {
 
 impl fmt::Display for PathError {
     fn fmt<W: fmt::Write>(&self, f: &mut fmt::Formatter<W>) -> fmt::Result {
-        write!(f, "{}: {}", OneLine(self.path.as_path().as_str()), self.error)
+        write!(
+            f,
+            "{}: {}",
+            OneLine(self.path.as_path().as_str()),
+            self.error
+        )
     }
 }
 

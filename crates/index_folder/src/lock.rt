@@ -23,11 +23,8 @@ pub enum Error {
     #[error("the index can't be locked: {0}")]
     Io(PathError),
     /// This lock is there already, as while another process writes the index, or where one ended while it did.
-    #[error(
-        "the index is locked, as {} is there: another process writes the index, or ended while it did; if none does, \
-         remove that file",
-        OneLine(.0.as_path().as_str())
-    )]
+    #[error("the index is locked, as {} is there: another process writes the index, or ended while it did; if none does, \
+         remove that file", OneLine(.0.as_path().as_str()))]
     Held(PathBuf),
     /// A folder is at this path, where a file is to be.
     #[error("the index can't be locked: {}: it is a folder", OneLine(.0.as_path().as_str()))]
@@ -39,10 +36,7 @@ pub enum Error {
     #[error("the index can't be locked: {}: the symbolic link leads nowhere", OneLine(.0.as_path().as_str()))]
     LeadsNowhere(PathBuf),
     /// More than five symbolic links, one after another, lead on from this path.
-    #[error(
-        "the index can't be locked: {}: more than five symbolic links, one after another, lead on from there",
-        OneLine(.0.as_path().as_str())
-    )]
+    #[error("the index can't be locked: {}: more than five symbolic links, one after another, lead on from there", OneLine(.0.as_path().as_str()))]
     TooManyLinks(PathBuf),
     /// A growth was refused.
     #[error("out of memory while locking an index")]
@@ -100,8 +94,8 @@ pub fn lock_path(alloc: Global, path: &PathBuf) -> Result<PathBuf, AllocError>
 }
 
 impl<R: Files> Lock<R> {
-    /// Locks the file that a path leads to, by at most five symbolic links, as git locks an index: `<file>.lock` is made
-    /// new. Where nothing is at the path, the file is to be made there.
+    /// Locks the file that a path leads to, by at most five symbolic links, as git locks an index: `<file>.lock` is
+    /// made new. Where nothing is at the path, the file is to be made there.
     ///
     /// [`Error::Held`]: it is there already. [`Error::IsFolder`], [`Error::IsSpecial`], [`Error::LeadsNowhere`] and
     /// [`Error::TooManyLinks`] say what is at the path that can't be replaced. [`Error::Io`] names the file for which a
@@ -161,7 +155,8 @@ impl<R: Files> Lock<R> {
             Err(e) => return Err(e),
         }
         if let Some(modified) = system_time(time) {
-            self.file.set_times(FileTimes::new().set_modified(modified))?;
+            self.file
+                .set_times(FileTimes::new().set_modified(modified))?;
         }
         if is_synced {
             self.file.sync_all()?;
@@ -171,8 +166,8 @@ impl<R: Files> Lock<R> {
 
     /// Lets what was written to the lock take the place of the locked file, whose permissions it gets.
     ///
-    /// The time of its last change becomes the one that is given, unless the seconds of that are 0, which git takes for a
-    /// time that isn't known. With `is_synced`, all bytes are on the disk before. After an error the file is as it
+    /// The time of its last change becomes the one that is given, unless the seconds of that are 0, which git takes for
+    /// a time that isn't known. With `is_synced`, all bytes are on the disk before. After an error the file is as it
     /// was, and it was tried to remove the lock. Gives the path that was asked for.
     pub fn commit(self, rt: &R, time: FileTime, is_synced: bool) -> Result<PathBuf, CommitError>
         ensures { IfOk result (λ path. path_buf_bytes path ≡ asked_of self) }
@@ -192,7 +187,10 @@ impl<R: Files> Lock<R> {
             Ok(()) => Ok(asked),
             Err(error) => {
                 let _ = fs::remove_file(rt, path.as_path());
-                Err(CommitError::Rename(PathError { path: target, error }))
+                Err(CommitError::Rename(PathError {
+                    path: target,
+                    error,
+                }))
             }
         }
     }

@@ -17,8 +17,8 @@ fn file_time(time: SystemTime) -> Option<FileTime>
     FileTime::new(i64::try_from(since.as_secs()).ok()?, since.subsec_nanos())
 }
 
-/// A time as the system takes it; None of each before 1970, and of one whose seconds are 0 in the 32 bits that git looks
-/// at.
+/// A time as the system takes it; None of each before 1970, and of one whose seconds are 0 in the 32 bits that git
+/// looks at.
 pub fn system_time(time: FileTime) -> Option<SystemTime>
     ensures { IfSome result (IsTimeOf time) }
 {

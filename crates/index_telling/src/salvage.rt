@@ -147,9 +147,9 @@ fn saved_at<'a, R: Files>(
 /// The file at the other path is locked, as git locks an index, before the first is opened. What is saved is told by
 /// [`remains_of`] and [`Remains::save`]; it is written as an index without extensions, with the time at which the first
 /// was changed last, and else as [`commit_at`] says. Where a link to a shared index is read, that is looked for beside
-/// the file, and used where it can be read as an index with the link's id and fits the file. A file whose header can't be
-/// read gives nothing. [`Failure::Lock`], [`Failure::Rewrite`]: it can't be written, and what was at the path is there as
-/// before. Any other failure concerns the file that is read.
+/// the file, and used where it can be read as an index with the link's id and fits the file. A file whose header can't
+/// be read gives nothing. [`Failure::Lock`], [`Failure::Rewrite`]: it can't be written, and what was at the path is
+/// there as before. Any other failure concerns the file that is read.
 pub fn salvaged<'a, R: Files>(
     rt: &R,
     alloc: Global,

@@ -271,9 +271,10 @@ fn run_command<'a, R: Files, W: io::Write>(
 /// it has one, `map-svg KIND FILE` a picture of these parts, `show KIND FILE` lines of what it holds, and `show-json
 /// KIND FILE` the same as JSON. `rewrite KIND FILE OUT` writes the index to the path OUT, and nothing to `out`: OUT is
 /// locked, as git locks an index, before FILE is opened, and gets the time of FILE. `rewrite4 KIND FILE OUT` does so in
-/// version 4, and `rewrite-trees KIND FILE OUT` with a cached tree made anew. `salvage KIND FILE OUT` writes what can be saved of FILE there, with the entries of
-/// its shared index where that can be read, and says on one line on `faults` how many entries were declared, read and
-/// kept, where the first fault is, and whether the entries of a shared index are there or missing.
+/// version 4, and `rewrite-trees KIND FILE OUT` with a cached tree made anew. `salvage KIND FILE OUT` writes what can
+/// be saved of FILE there, with the entries of its shared index where that can be read, and says on one line on
+/// `faults` how many entries were declared, read and kept, where the first fault is, and whether the entries of a
+/// shared index are there or missing.
 ///
 /// [`DONE`]: the command did all that. [`REFUSED`]: a file can't be read or written, or is no such index, or `out`
 /// failed; nothing goes to `out` before FILE was read whole and, but for `map` and `map-svg`, all checks have passed;

@@ -56,9 +56,9 @@ pub struct Locked<R: Files> {
 }
 
 impl File {
-    /// Locks the index at a path, and then reads it as [`File::open`] does; so what is committed takes the place of what
-    /// was read, or of an edit of it, and nothing that git writes meanwhile is lost. Where there is no file at the path,
-    /// and `or_default`, it is an empty one, as of the time at which the lock was made.
+    /// Locks the index at a path, and then reads it as [`File::open`] does; so what is committed takes the place of
+    /// what was read, or of an edit of it, and nothing that git writes meanwhile is lost. Where there is no file at the
+    /// path, and `or_default`, it is an empty one, as of the time at which the lock was made.
     ///
     /// [`Error::Lock`]: it isn't locked, as another process writes it, or as what is at the path is no place for an
     /// index. [`Error::Read`] is that of [`File::open`]; it was tried then to remove the lock.
@@ -105,11 +105,12 @@ impl File {
         }
     }
 
-    /// Writes the index in the place of the file that was locked, and its path is then the one that was asked for there.
+    /// Writes the index in the place of the file that was locked, and its path is then the one that was asked for
+    /// there.
     ///
     /// What [`File::write_to`] writes goes to the lock through a buffer of 64 KiB. The file gets the permissions of the
-    /// one whose place it takes, and [`State::timestamp`](index_state::State::timestamp) as the time of its last change,
-    /// unless its seconds are 0: git trusts what the index says of a file of the work tree only where that file
+    /// one whose place it takes, and [`State::timestamp`](index_state::State::timestamp) as the time of its last
+    /// change, unless its seconds are 0: git trusts what the index says of a file of the work tree only where that file
     /// is older than the index, so that each file which git would have looked at, it still looks at. With `is_synced`
     /// all bytes are on the disk before it takes that place.
     ///
@@ -148,8 +149,8 @@ impl<R: Files> Locked<R> {
         (file, lock)
     }
 
-    /// Writes the index, as it is now, in the place of the file that was locked, by [`File::commit`], and gives it as it
-    /// is there. After an error that file is as it was, and it was tried to remove the lock.
+    /// Writes the index, as it is now, in the place of the file that was locked, by [`File::commit`], and gives it as
+    /// it is there. After an error that file is as it was, and it was tried to remove the lock.
     pub fn commit(
         self,
         rt: &R,

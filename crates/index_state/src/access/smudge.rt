@@ -33,8 +33,8 @@ fn smudge(entries: &mut [Entry], time: FileTime)
 }
 
 impl State {
-    /// Sets the size in the stat of each entry to 0, submodules aside, whose file was changed last in the second of this
-    /// time or later: of such a file the stat doesn't tell that it is as it was staged, and git then looks at its
+    /// Sets the size in the stat of each entry to 0, submodules aside, whose file was changed last in the second of
+    /// this time or later: of such a file the stat doesn't tell that it is as it was staged, and git then looks at its
     /// content (Git's documentation, racy-git, "Racy Git"). All else stays.
     ///
     /// With the time of the index that was read, the entries may be written as an index of any later time: what git
