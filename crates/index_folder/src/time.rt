@@ -23,7 +23,7 @@ pub fn system_time(time: FileTime) -> Option<SystemTime>
     ensures { IfSome result (IsTimeOf time) }
 {
     let seconds = u64::try_from(time.unix_seconds()).ok()?;
-    if seconds as u32 == 0 {
+    if seconds % (1 << 32) == 0 {
         return None;
     }
     SystemTime::UNIX_EPOCH.checked_add(Duration::new(seconds, time.nanoseconds()))
