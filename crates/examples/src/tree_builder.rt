@@ -1,8 +1,8 @@
 //! `examples tree-builder LIST OUT`: makes the trees of a list of files, and an index of it.
 //!
 //! LIST has lines as `git ls-files --stage` and `git ls-tree -r` print them, in any order: the mode in octal digits, an
-//! id of SHA-1, a tab and a path, and other words before the tab don't count. The index is written to OUT, by way of
-//! OUT.lock. Printed are the id of the root, the number of entries, and the digest at the end of the file.
+//! id of SHA-1, a tab and a path, and other words before the tab don't count. The index is written to OUT, which is
+//! locked as git locks an index. Printed are the id of the root, the number of entries, and the digest at the end of the file.
 
 ghost use Rattle.std.specs.Prelude.{◌≡◌, IfErr, IfOk, IsPermutation, None, map};
 ghost use Rattle.gix_index.specs.Order.{IsStrictlyOrdered};
@@ -10,6 +10,7 @@ ghost use Rattle.gix_index.specs.State.{PathsInStorage, records};
 ghost use Rattle.examples.specs.Listed.{SaysTwice, record_of};
 
 use gix_index::entry::{FileTime, Flags, Mode, Stage, Stat};
+use gix_index::file::lock::Lock;
 use gix_index::hash::{Kind, ObjectId};
 use gix_index::init::ComponentCheck;
 use gix_index::verify::entries;
@@ -97,8 +98,9 @@ pub fn run(rt: &HostRuntime, words: &[&str]) -> anyhow::Result<()> {
     let state = index_of(alloc, Kind::Sha1, &files)?;
     let tree = state.write_trees(alloc, &AnyName, &mut Discard)?;
     println!(rt; "tree {}", tree.id)?;
-    let mut file = File::from_state(state, PathBuf::from_str(alloc, out)?);
-    file.write(rt, alloc, write::Options::default())?;
+    let lock = Lock::acquire(rt, alloc, PathBuf::from_str(alloc, out)?)?;
+    let mut file = File::from_state(state, PathBuf::new(alloc));
+    file.commit(rt, alloc, lock, write::Options::default(), true)?;
     if let Some(checksum) = file.checksum() {
         println!(rt; "{} entries, {checksum}", file.entries().len())?;
     }
