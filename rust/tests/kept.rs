@@ -32,15 +32,14 @@ fn has(bytes: &[u8], signature: &[u8]) -> bool {
 fn what_tells_of_the_entries_is_kept() {
     for (kind, _, bytes) in files("GIX_INDEX") {
         let index = Index::from_bytes(&bytes, kind).expect("it can be read");
-        let is_merged = index.entries().all(|entry| entry.stage() == 0);
         for version in [VersionChoice::Smallest, VersionChoice::V4] {
             let options = Options { version, ..Options::default() };
             let (again, tree) = index.write_to_over(&bytes, options).expect("it can be written");
             assert_eq!(entries_of(&Index::from_bytes(&again, kind).expect("it can be read")), entries_of(&index));
             assert_eq!(has(&again, b"TREE"), tree == CachedTree::Kept);
             assert_eq!(has(&again, b"sdir\0\0\0\0"), has(&bytes, b"sdir\0\0\0\0"));
-            let is_there = has(&bytes, b"TREE");
-            assert!(if is_merged { (tree == CachedTree::Kept) == is_there } else { tree != CachedTree::Kept });
+            // (git leaves one that is right, beside entries in conflict too)
+            assert_eq!(tree == CachedTree::Kept, has(&bytes, b"TREE"));
         }
     }
 }

@@ -111,11 +111,12 @@ def answer_verify_tree_ids(row, _):
     kind, tree = row[0], words.named(row, "tree")
     if tree is None:
         return ["verify: right"]
+    merged, unmerged = made_trees.divided(words.list_of(row[1], kind).entries)
     try:
-        given, _ = made_trees.made(kind, words.list_of(row[1], kind).entries)
+        given, _ = made_trees.made(kind, merged)
     except made_trees.NoTree as fault:
         return [f"fault: {faults.of_no_tree(fault)}"]
-    wrong = made_trees.first_wrong(words.tree_of(tree, kind), given)
+    wrong = made_trees.first_wrong(words.tree_of(tree, kind), given, unmerged)
     return ["verify: right" if wrong is None else f"fault: {faults.of_tree_ids(*wrong)}"]
 
 

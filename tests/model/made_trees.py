@@ -131,17 +131,34 @@ def walked(tree):
         yield b"/".join(names), node
 
 
-def first_wrong(tree, given):
+def divided(entries):
+    """The entries that are merged, or removed, and the others."""
+    merged = [it for it in entries if it.is_removed or not it.stage]
+    return merged, [it for it in entries if not it.is_removed and it.stage]
+
+
+def first_wrong(tree, given, unmerged=()):
     """The first node in preorder that has a count, and another id or count than what is given to its directory.
 
-    What is told is its path, the node, and the node that is given there, if one with a count is.
+    What is told is its path, the node, and the node that is given there, if one with a count is, and no unmerged entry
+    lies below it.
     """
     known = {names: node for names, node in named(given) if node.count is not None}
+    disputed = {tuple(parts[:level]) for parts in (it.path.split(b"/") for it in unmerged) for level in range(len(parts))}
     for names, node in named(tree):
-        same = known.get(names)
+        same = None if names in disputed else known.get(names)
         if node.count is not None and (same is None or (node.id, node.count) != (same.id, same.count)):
             return b"/".join(names), node, same
     return None
+
+
+def kept(tree, old):
+    """The tree with the counts and ids alone that the old one, if there is one, has at the same names."""
+    known = {} if old is None else {names: (node.id, node.count) for names, node in named(old)}
+    for names, node in list(named(tree)):
+        if node.count is None or known.get(names) != (node.id, node.count):
+            node.id, node.count = bytes(len(node.id)), None
+    return tree
 
 
 def lines(tree):

@@ -89,34 +89,35 @@ def rewritten(is_version_4):
     return made
 
 
-def made_of(found, name):
-    """The cached tree of an index, made anew."""
+def made_of(found, entries, name):
+    """The cached tree of some entries of an index, made anew."""
     place = lookups.first_out_of_order(found.entries)
     if place is not None:
         raise Refused(f"{name}: entry {place}, ")
     try:
-        return made_trees.made(found.kind, found.entries)[0]
+        return made_trees.made(found.kind, entries)[0]
     except made_trees.NoTree:
         raise Refused(f"{name}: ") from None
 
 
 def treed(found, name):
     """A line for each directory of the trees that the entries make."""
-    return Answer(out=made_trees.lines(made_of(found, name)))
+    return Answer(out=made_trees.lines(made_of(found, found.entries, name)))
 
 
 def tree_checked(found, name):
     """What is checked, and whether each node that has a count has the id and the count that the entries give."""
     answer = checked(found, name)
     if found.tree is not None:
-        if made_trees.first_wrong(found.tree, made_of(found, name)) is not None:
+        merged, unmerged = made_trees.divided(found.entries)
+        if made_trees.first_wrong(found.tree, made_of(found, merged, name), unmerged) is not None:
             raise Refused(f"{name}: ")
     return answer
 
 
 def retreed(found, name):
-    """The index with a cached tree made anew."""
-    found.tree = made_of(found, name)
+    """The index with a cached tree made anew, of the counts that its own has too."""
+    found.tree = made_trees.kept(made_of(found, found.entries, name), found.tree)
     return rewritten(False)(found, name)
 
 

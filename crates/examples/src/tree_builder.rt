@@ -10,7 +10,8 @@ ghost use Rattle.gix_index.specs.State.{PathsInStorage, records};
 ghost use Rattle.examples.specs.Listed.{SaysTwice, record_of};
 
 use gix_index::entry::{FileTime, Flags, Mode, Stage, Stat};
-use gix_index::file::lock::Lock;
+use gix_index::file::System;
+use gix_index::file::lock::acquire;
 use gix_index::hash::{Kind, ObjectId};
 use gix_index::init::ComponentCheck;
 use gix_index::verify::entries;
@@ -98,9 +99,10 @@ pub fn run(rt: &HostRuntime, words: &[&str]) -> anyhow::Result<()> {
     let state = index_of(alloc, Kind::Sha1, &files)?;
     let tree = state.write_trees(alloc, &AnyName, &mut Discard)?;
     println!(rt; "tree {}", tree.id)?;
-    let lock = Lock::acquire(rt, alloc, PathBuf::from_str(alloc, out)?)?;
+    let mut folder = System { rt };
+    let lock = acquire(&mut folder, alloc, PathBuf::from_str(alloc, out)?)?;
     let mut file = File::from_state(state, PathBuf::new(alloc));
-    file.commit(rt, alloc, lock, write::Options::default(), true)?;
+    file.commit(&mut folder, alloc, lock, write::Options::default(), true)?;
     if let Some(checksum) = file.checksum() {
         println!(rt; "{} entries, {checksum}", file.entries().len())?;
     }

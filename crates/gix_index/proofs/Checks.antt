@@ -10,7 +10,8 @@ use Rattle.index_format.specs.declared.error.Extension.TheVariants as extensions
 use Rattle.index_split.specs.declared.link.decode.Error.TheVariants as links
 use Rattle.index_format.specs.Answer.{Answer, Verify, IsAnswer}
 use Rattle.index_format.specs.DecodeErrors.{SaysFault}
-use Rattle.gix_index.specs.Checked.{digest_fault, IsFileAnswer, error_of, SaysFile}
+use Rattle.gix_index.specs.Checked.{digest_fault, IsFileAnswer, SaysFile}
+use Rattle.index_file_faults.specs.ReadErrors.{error_of}
 use Rattle.index_window.specs.Intact.{needs_check, digest_id, trailer_id, IsIntact, IsBroken}
 
 to_by : (t : Bool) (E : Type 0) (P N : Type 0) → MatchBool t E (Unit {0}) → P → MatchBool t ((E × P) ⊎ N) P

@@ -1,9 +1,12 @@
 -- From what is said of one file to what is said of an index and the shared one.
-use Rattle.std.proofs.Common.{ℕ, Bool, List, Option, inl, inr, refl}
-use Rattle.std.specs.Prelude.{Result, Ok, Err, IfOk}
+use Rattle.std.proofs.Common.{◌≡◌, ℕ, Bool, true, List, Option, Some, None, inl, inr, refl, subst}
+use Rattle.std.specs.Prelude.{Result, Ok, Err, IfErr, IfOk, IfSome}
+use Rattle.std.specs.declared.io.Error.{Error as IoError}
 use Rattle.index_parts.specs.declared.hash.Kind.{Kind}
 use Rattle.index_parts.specs.declared.hash.ObjectId.{ObjectId}
 use Rattle.index_metadata.specs.declared.entry.stat.FileTime.{FileTime}
+use Rattle.index_folder.specs.World.{Absent, Directory, Holds, IsFaultOf, Known, Leads, MayBe, Special, Stored, Unknown, World}
+use Rattle.index_folder.specs.declared.fault.PathError.{PathError}
 use Rattle.index_format.specs.Contents.{Contents}
 use Rattle.index_format.specs.declared.decode.Options.{Options}
 use Rattle.index_split.specs.Link.{LinkValue, Corrupt, BitmapDecode}
@@ -14,53 +17,181 @@ use Rattle.index_state.specs.Edits.{without_link}
 use Rattle.index_state.specs.State.{contents}
 use Rattle.gix_index.specs.declared.file.File.{File}
 use Rattle.gix_index.specs.File.{state_of, checksum_of}
-use Rattle.gix_index.specs.Checked.{IsFileAnswer, SaysFile, link_error_of}
-use Rattle.gix_index.specs.FileFaults.{SaysOfFile, SaysOfFiles}
-use Rattle.gix_index.specs.Linked.{IsSplit, expecting}
-use Rattle.gix_index.specs.declared.file.init.Error.{Error}
-use Rattle.gix_index.specs.declared.file.init.Error.TheVariants as errors
+use Rattle.gix_index.specs.Checked.{IsFileAnswer, SaysFile}
+use Rattle.index_file_faults.specs.ReadErrors.{link_error_of}
+use Rattle.gix_index.specs.Disk.{Disk, MayHave, disk_beside, known_of, shared_path}
+use Rattle.gix_index.specs.FileFaults.{IsOfFile, SaysOfFile, SaysOfFiles}
+use Rattle.gix_index.specs.Linked.{IsOnDisk, IsReadAs, IsSplit, expecting, own, joined}
+use Rattle.index_file_faults.specs.declared.init.Error.{Error}
+use Rattle.index_file_faults.specs.declared.init.Error.TheVariants as errors
+
+-- what holds of an opened file that is known, holds of what is at the path
+pub opened_so : (k : Known) (stored : Option Stored) (P : Stored → Type 0) → MayBe k (λ there. stored ≡ Some there)
+    → MayBe (known_of stored) P → MayBe k P
+opened_so Unknown stored P e h = tt
+opened_so Absent stored P e h = absurd e
+opened_so (Holds file) stored P e h = subst (λ (o : Option Stored). MayBe (known_of o) P) e h
+opened_so (Leads to) stored P e h = tt
+opened_so Directory stored P e h = tt
+opened_so Special stored P e h = tt
+
+-- an opened file isn't missing
+fault_of_opened : (k : Known) (stored : Option Stored) (e : IoError) → IsFaultOf (known_of stored) e → IsFaultOf k e
+fault_of_opened k None e (inl h) = inl h
+fault_of_opened k (Some file) e (inl h) = inl h
+fault_of_opened k None e (inr h) = absurd h.1
+fault_of_opened k (Some file) e (inr h) = absurd h.1
+
+-- bytes that are those of an open file, where they are known
+pub held_by : (stored : Option Stored) (bytes : List ℕ) → IfSome stored (λ whole. bytes ≡ whole.bytes)
+    → MayHave (known_of stored) bytes
+held_by None bytes h = tt
+held_by (Some file) bytes h = h
 
 module _ (skip : Bool) (kind : Kind) (time : FileTime) (options : Options) where
-  -- what is read of these bytes is read of some bytes
-  pub read_some : (bytes : List ℕ) (r : Result File Error) → SaysFile r (IsFileAnswer skip kind time options bytes)
-      → IfOk r (λ f. (b : List ℕ) × IsFileAnswer skip kind time options b (Ok (contents (state_of f), checksum_of f)))
-  read_some bytes (Ok f) h = (bytes, h)
-  read_some bytes (Err e) h = tt
+  -- the file that was opened is the one at the path
+  pub read_there : (k : Known) (stored : Option Stored) (v : Contents) (c : Option ObjectId)
+      → MayBe k (λ there. stored ≡ Some there) → IsReadAs (known_of stored) skip kind time options v c
+      → IsReadAs k skip kind time options v c
+  read_there k stored v c e h = record {
+    bytes = h.bytes;
+    held = opened_so k stored (λ file. h.bytes ≡ file.bytes) e h.held;
+    read = h.read;
+  }
 
-  -- what an error says of these bytes is a fault of some bytes
-  pub of_bytes : (bytes : List ℕ) (e : Error) → SaysFile (Err e) (IsFileAnswer skip kind time options bytes)
-      → SaysOfFile skip kind time options e
-  of_bytes bytes (errors.Io fault) h = absurd h
-  of_bytes bytes (errors.Decode e) h = (bytes, h)
-  of_bytes bytes (errors.LinkExtension e) h = absurd h
-  of_bytes bytes errors.Memory h = tt
+  own_there : (path : List ℕ) (w fw : Bool) (k : Known) (stored : Option Stored) (fault : PathError)
+      → (w ≡ true → fw ≡ true) → IsOfFile path fw (known_of stored) fault → IsOfFile path w k fault
+  own_there path w fw k stored fault works h =
+      (h.0, h.1, λ is. fault_of_opened k stored fault.error (h.2 (works is)))
 
-  pub of_own : (e : Error) → SaysOfFile skip kind time options e → SaysOfFiles skip kind time options e
-  of_own (errors.Io fault) h = h
-  of_own (errors.Decode e) h = inl h
-  of_own (errors.LinkExtension e) h = absurd h
-  of_own errors.Memory h = tt
+  pub fault_there : (path : List ℕ) (w fw : Bool) (k : Known) (stored : Option Stored) (e : Error)
+      → (w ≡ true → fw ≡ true) → MayBe k (λ there. stored ≡ Some there)
+      → SaysOfFile path fw (known_of stored) skip kind time options e
+      → SaysOfFile path w k skip kind time options e
+  fault_there path w fw k stored (errors.Io fault) works o h = own_there path w fw k stored fault works h
+  fault_there path w fw k stored (errors.Decode e) works o h =
+      (h.0, opened_so k stored (λ file. h.0 ≡ file.bytes) o h.1, h.2)
+  fault_there path w fw k stored (errors.LinkExtension e) works o h = h
+  fault_there path w fw k stored errors.Memory works o h = h
 
-  pub of_shared : (split : Contents) (checksum : Option ObjectId) (link : LinkValue) (e : Error)
-      → IsSplit skip kind time options split checksum link
-      → SaysOfFile skip kind time (expecting options link.shared) e → SaysOfFiles skip kind time options e
-  of_shared split checksum link (errors.Io fault) is h = h
-  of_shared split checksum link (errors.Decode e) is h =
+  pub fault_read : {T : Type 0} (at path : List ℕ) (w fw : Bool) (world : World) (stored : Option Stored)
+      (r : Result T Error) → at ≡ path → (w ≡ true → fw ≡ true) → MayBe (world at) (λ there. stored ≡ Some there)
+      → IfErr r (SaysOfFile path fw (known_of stored) skip kind time options)
+      → IfErr r (SaysOfFile path w (world path) skip kind time options)
+  fault_read at path w fw world stored (Ok x) same works o h = tt
+  fault_read at path w fw world stored (Err e) same works o h =
+      subst (λ (x : List ℕ). SaysOfFile path w (world x) skip kind time options e) same
+      (fault_there path w fw (world at) stored e works o h)
+
+  split_there : (k : Known) (stored : Option Stored) (split : Contents) (c : Option ObjectId) (link : LinkValue)
+      → MayBe k (λ there. stored ≡ Some there) → IsSplit (known_of stored) skip kind time options split c link
+      → IsSplit k skip kind time options split c link
+  split_there k stored split c link e h = record {
+    read = read_there k stored split c e h.read;
+    has_link = h.has_link;
+    followed = h.followed;
+  }
+
+  pub disk_there : (k : Known) (stored : Option Stored) (shared : ObjectId → Known) (v : Contents)
+      (c : Option ObjectId) → MayBe k (λ there. stored ≡ Some there)
+      → IsOnDisk (record { own = known_of stored; shared = shared }) skip kind time options v c
+      → IsOnDisk (record { own = k; shared = shared }) skip kind time options v c
+  disk_there k stored shared v c e (own h) = own (record {
+    split = h.split;
+    read = read_there k stored h.split c e h.read;
+    unfollowed = h.unfollowed;
+    is = h.is;
+  })
+  disk_there k stored shared v c e (joined h) = joined (record {
+    split = h.split;
+    link = h.link;
+    is_split = split_there k stored h.split c h.link e h.is_split;
+    shared = h.shared;
+    shared_checksum = h.shared_checksum;
+    read_shared = h.read_shared;
+    dissolved = h.dissolved;
+  })
+
+  pub faults_there : (path : List ℕ) (w : Bool) (k : Known) (stored : Option Stored) (shared : ObjectId → Known)
+      (e : Error) → MayBe k (λ there. stored ≡ Some there)
+      → SaysOfFiles path w (record { own = known_of stored; shared = shared }) skip kind time options e
+      → SaysOfFiles path w (record { own = k; shared = shared }) skip kind time options e
+  faults_there path w k stored shared (errors.Io fault) o (inl h) =
+      inl (own_there path w w k stored fault (λ is. is) h)
+  faults_there path w k stored shared (errors.Io fault) o (inr h) = inr (record {
+    split = h.split;
+    checksum = h.checksum;
+    link = h.link;
+    is_split = split_there k stored h.split h.checksum h.link o h.is_split;
+    names = h.names;
+  })
+  faults_there path w k stored shared (errors.Decode e) o (inl h) =
+      inl (h.0, opened_so k stored (λ file. h.0 ≡ file.bytes) o h.1, h.2)
+  faults_there path w k stored shared (errors.Decode e) o (inr h) = inr (record {
+    split = h.split;
+    checksum = h.checksum;
+    link = h.link;
+    is_split = split_there k stored h.split h.checksum h.link o h.is_split;
+    refuses = h.refuses;
+  })
+  faults_there path w k stored shared (errors.LinkExtension e) o h = record {
+    split = h.split;
+    checksum = h.checksum;
+    link = h.link;
+    is_split = split_there k stored h.split h.checksum h.link o h.is_split;
+    shared = h.shared;
+    shared_checksum = h.shared_checksum;
+    read_shared = h.read_shared;
+    fault = h.fault;
+    stands_for = h.stands_for;
+    is_fault = h.is_fault;
+  }
+  faults_there path w k stored shared errors.Memory o h = h
+
+  -- what is read of these bytes
+  pub read_some : (known : Known) (bytes : List ℕ) (r : Result File Error) → MayHave known bytes
+      → SaysFile r (IsFileAnswer skip kind time options bytes)
+      → IfOk r (λ f. IsReadAs known skip kind time options (contents (state_of f)) (checksum_of f))
+  read_some known bytes (Ok f) m h = record { bytes = bytes; held = m; read = h }
+  read_some known bytes (Err e) m h = tt
+
+  -- what an error says of these bytes
+  pub of_bytes : (path : List ℕ) (works : Bool) (known : Known) (bytes : List ℕ) (e : Error) → MayHave known bytes
+      → SaysFile (Err e) (IsFileAnswer skip kind time options bytes) → SaysOfFile path works known skip kind time options e
+  of_bytes path works known bytes (errors.Io fault) m h = absurd h
+  of_bytes path works known bytes (errors.Decode e) m h = (bytes, m, h)
+  of_bytes path works known bytes (errors.LinkExtension e) m h = absurd h
+  of_bytes path works known bytes errors.Memory m h = tt
+
+  pub of_own : (path : List ℕ) (works : Bool) (disk : Disk) (e : Error)
+      → SaysOfFile path works disk.own skip kind time options e → SaysOfFiles path works disk skip kind time options e
+  of_own path works disk (errors.Io fault) h = inl h
+  of_own path works disk (errors.Decode e) h = inl h
+  of_own path works disk (errors.LinkExtension e) h = absurd h
+  of_own path works disk errors.Memory h = tt
+
+  pub of_shared : (path : List ℕ) (works : Bool) (disk : Disk) (split : Contents) (checksum : Option ObjectId) (link : LinkValue)
+      (e : Error) → IsSplit disk.own skip kind time options split checksum link
+      → SaysOfFile (shared_path path link.shared) works (disk.shared link.shared) skip kind time
+      (expecting options link.shared) e → SaysOfFiles path works disk skip kind time options e
+  of_shared path works disk split checksum link (errors.Io fault) is h =
+      inr (record { split = split; checksum = checksum; link = link; is_split = is; names = h })
+  of_shared path works disk split checksum link (errors.Decode e) is h =
       inr (record { split = split; checksum = checksum; link = link; is_split = is; refuses = h })
-  of_shared split checksum link (errors.LinkExtension e) is h = absurd h
-  of_shared split checksum link errors.Memory is h = tt
+  of_shared path works disk split checksum link (errors.LinkExtension e) is h = absurd h
+  of_shared path works disk split checksum link errors.Memory is h = tt
 
-  pub of_link : (split : Contents) (checksum : Option ObjectId) (link : LinkValue) (bytes : List ℕ) (shared : Contents)
-      (shared_checksum : Option ObjectId) (e : LinkError)
-      → IsSplit skip kind time options split checksum link
-      → IsFileAnswer skip kind time (expecting options link.shared) bytes (Ok (shared, shared_checksum))
-      → SaysDissolve e link shared (without_link split) → SaysOfFiles skip kind time options (link_error_of e)
-  of_link split checksum link bytes shared shared_checksum (links.Corrupt text) is read h = record {
+  pub of_link : (path : List ℕ) (works : Bool) (disk : Disk) (split : Contents) (checksum : Option ObjectId) (link : LinkValue)
+      (shared : Contents) (shared_checksum : Option ObjectId) (e : LinkError)
+      → IsSplit disk.own skip kind time options split checksum link
+      → IsReadAs (disk.shared link.shared) skip kind time (expecting options link.shared) shared shared_checksum
+      → SaysDissolve e link shared (without_link split)
+      → SaysOfFiles path works disk skip kind time options (link_error_of e)
+  of_link path works disk split checksum link shared shared_checksum (links.Corrupt text) is read h = record {
     split = split;
     checksum = checksum;
     link = link;
     is_split = is;
-    shared_bytes = bytes;
     shared = shared;
     shared_checksum = shared_checksum;
     read_shared = read;
@@ -68,12 +199,11 @@ module _ (skip : Bool) (kind : Kind) (time : FileTime) (options : Options) where
     stands_for = refl;
     is_fault = h;
   }
-  of_link split checksum link bytes shared shared_checksum (links.BitmapDecode error name) is read h = record {
+  of_link path works disk split checksum link shared shared_checksum (links.BitmapDecode error name) is read h = record {
     split = split;
     checksum = checksum;
     link = link;
     is_split = is;
-    shared_bytes = bytes;
     shared = shared;
     shared_checksum = shared_checksum;
     read_shared = read;
@@ -81,4 +211,4 @@ module _ (skip : Bool) (kind : Kind) (time : FileTime) (options : Options) where
     stands_for = refl;
     is_fault = h;
   }
-  of_link split checksum link bytes shared shared_checksum links.Memory is read h = tt
+  of_link path works disk split checksum link shared shared_checksum links.Memory is read h = tt

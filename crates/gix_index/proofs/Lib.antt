@@ -1,9 +1,10 @@
-mod Absent
 mod Behind
 pub mod Checks
 mod FileFaults
 pub mod Files
 pub mod Joined
+mod Puts
+mod ReadsBy
 mod Times
 pub use Rattle.index_entries.proofs.ReadRecords
 pub use Rattle.index_entries.proofs.Storing

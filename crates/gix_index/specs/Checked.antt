@@ -3,8 +3,6 @@
 use Rattle.std.specs.Prelude.{◌≡◌, ◌≢◌, ℕ, ◌⊎◌, Bool, List, Result, Ok, Err, MatchBool}
 use Rattle.index_parts.specs.declared.hash.Kind.{Kind}
 use Rattle.index_metadata.specs.declared.entry.stat.FileTime.{FileTime}
-use Rattle.index_split.specs.declared.link.decode.Error.{Error as LinkError}
-use Rattle.index_split.specs.declared.link.decode.Error.TheVariants as links
 use Rattle.index_format.specs.declared.decode.Options.{Options}
 use Rattle.index_format.specs.declared.error.Error.{Error as Decoding}
 use Rattle.index_format.specs.declared.error.Error.TheVariants as decoding
@@ -13,8 +11,8 @@ use Rattle.index_format.specs.DecodeErrors.{IsEarly, SaysFault}
 use Rattle.index_state.specs.State.{contents}
 use Rattle.index_window.specs.Intact.{needs_check, digest_id, trailer_id}
 use Rattle.gix_index.specs.declared.file.File.{File}
-use Rattle.gix_index.specs.declared.file.init.Error.{Error}
-use Rattle.gix_index.specs.declared.file.init.Error.TheVariants as errors
+use Rattle.index_file_faults.specs.declared.init.Error.{Error}
+use Rattle.index_file_faults.specs.declared.init.Error.TheVariants as errors
 use Rattle.gix_index.specs.File.{state_of, checksum_of}
 
 -- the error of a digest that isn't the trailer
@@ -29,16 +27,6 @@ IsFileAnswer skip kind time options bytes a =
     ⊎ ((digest_id kind bytes ≢ trailer_id kind bytes)
     × (a ≡ Err (Verify (digest_id kind bytes) (trailer_id kind bytes)))))
     (IsAnswer kind time options bytes a)
-
--- the error that reading's error becomes: want of memory is told by the outer variant
-abbrev pub error_of : Decoding → Error
-error_of decoding.Memory = errors.Memory
-error_of e = errors.Decode e
-
--- the same of a link's error
-abbrev pub link_error_of : LinkError → Error
-link_error_of links.Memory = errors.Memory
-link_error_of e = errors.LinkExtension e
 
 -- What a result says of the answer that P holds of. Want of memory has a variant of its own, and says that no early
 -- fault is the answer.

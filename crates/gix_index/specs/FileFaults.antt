@@ -1,6 +1,7 @@
--- Why an index isn't read from a file or written to one (gitformat-index, "Split index"; the library's own). No clause
--- can name a file's bytes: a fault that was read is one of some bytes.
-use Rattle.std.specs.Prelude.{◌≡◌, ◌⊎◌, ℕ, Bool, List, Option, Some, Ok, Err}
+-- Why an index isn't read from a file or written to one (gitformat-index, "Split index"; the library's own).
+pub use Rattle.index_file_faults.specs.ReadErrors
+pub use Rattle.index_file_faults.specs.declared.init.Error as ReadError
+use Rattle.std.specs.Prelude.{◌≡◌, ◌⊎◌, ℕ, Bool, true, List, Option, Some, Ok, Err}
 use Rattle.index_parts.specs.declared.hash.Kind.{Kind}
 use Rattle.index_parts.specs.declared.hash.ObjectId.{ObjectId}
 use Rattle.index_metadata.specs.declared.entry.stat.FileTime.{FileTime}
@@ -16,66 +17,87 @@ use Rattle.index_format.specs.declared.write.Options.{Options as WriteOptions}
 use Rattle.index_state.specs.Dissolve.{IsDissolveFault}
 use Rattle.index_state.specs.Edits.{without_link}
 use Rattle.gix_index.specs.Checked.{IsFileAnswer, SaysFile}
-use Rattle.gix_index.specs.Linked.{IsSplit, expecting}
+use Rattle.gix_index.specs.Disk.{Disk, MayHave, shared_path}
+use Rattle.gix_index.specs.Linked.{IsReadAs, IsSplit, expecting}
 use Rattle.index_folder.specs.Locks.{IsOfDisk, SaysOfLock}
-use Rattle.gix_index.specs.declared.file.lock.Error.{Error as LockingError}
-use Rattle.gix_index.specs.declared.file.lock.Error.TheVariants as locks
-use Rattle.gix_index.specs.declared.file.init.Error.{Error as ReadError}
-use Rattle.gix_index.specs.declared.file.init.Error.TheVariants as reads
-use Rattle.gix_index.specs.declared.file.write.Error.{Error as WriteError}
-use Rattle.gix_index.specs.declared.file.write.Error.TheVariants as writes
+use Rattle.index_folder.specs.World.{IsFaultOf, Known, World}
+use Rattle.index_folder.specs.declared.fault.PathError.{PathError}
+use Rattle.std.specs.Path.{path_buf_bytes}
+use Rattle.index_file_faults.specs.declared.lock.Error.{Error as LockingError}
+use Rattle.index_file_faults.specs.declared.lock.Error.TheVariants as locks
+use Rattle.index_file_faults.specs.declared.init.Error.{Error as ReadFault}
+use Rattle.index_file_faults.specs.declared.init.Error.TheVariants as reads
+use Rattle.index_file_faults.specs.declared.write.Error.{Error as WriteError}
+use Rattle.index_file_faults.specs.declared.write.Error.TheVariants as writes
 
 -- ---- reading
 
--- some bytes are refused with this fault
-abbrev pub RefusesBytes : Bool → Kind → FileTime → ReadOptions → DecodeError → Type 0
-RefusesBytes skip kind time options e =
-    (bytes : List ℕ) × SaysFile (Err (reads.Decode e)) (IsFileAnswer skip kind time options bytes)
+-- the file's bytes are refused with this fault
+abbrev pub RefusesBytes : Known → Bool → Kind → FileTime → ReadOptions → DecodeError → Type 0
+RefusesBytes known skip kind time options e =
+    (bytes : List ℕ) × MayHave known bytes × SaysFile (Err (reads.Decode e)) (IsFileAnswer skip kind time options bytes)
 
--- there is a split index, and some bytes of its shared index are refused with this fault
-pub record RefusesShared (skip : Bool) (kind : Kind) (time : FileTime) (options : ReadOptions) (e : DecodeError)
-    : Type 0 where
+-- there is a split index, and the bytes of its shared index are refused with this fault
+pub record RefusesShared (disk : Disk) (skip : Bool) (kind : Kind) (time : FileTime) (options : ReadOptions)
+    (e : DecodeError) : Type 0 where
   pub split : Contents
   pub checksum : Option ObjectId
   pub link : LinkValue
-  pub is_split : IsSplit skip kind time options split checksum link
-  pub refuses : RefusesBytes skip kind time (expecting options link.shared) e
+  pub is_split : IsSplit disk.own skip kind time options split checksum link
+  pub refuses : RefusesBytes (disk.shared link.shared) skip kind time (expecting options link.shared) e
 
--- a split index and its shared index are read of some bytes, and the link between them has this first fault
-pub record RefusesLink (skip : Bool) (kind : Kind) (time : FileTime) (options : ReadOptions) (e : LinkError)
-    : Type 0 where
+-- a split index and its shared index are read, and the link between them has this first fault
+pub record RefusesLink (disk : Disk) (skip : Bool) (kind : Kind) (time : FileTime) (options : ReadOptions)
+    (e : LinkError) : Type 0 where
   pub split : Contents
   pub checksum : Option ObjectId
   pub link : LinkValue
-  pub is_split : IsSplit skip kind time options split checksum link
-  pub shared_bytes : List ℕ
+  pub is_split : IsSplit disk.own skip kind time options split checksum link
   pub shared : Contents
   pub shared_checksum : Option ObjectId
-  pub read_shared : IsFileAnswer skip kind time (expecting options link.shared) shared_bytes
-      (Ok (shared, shared_checksum))
+  pub read_shared : IsReadAs (disk.shared link.shared) skip kind time (expecting options link.shared) shared
+      shared_checksum
   pub fault : LinkFault
   pub stands_for : link_fault e ≡ Some fault
   pub is_fault : IsDissolveFault link shared (without_link split) fault
 
--- what an error says of one file; want of memory says nothing
-abbrev pub SaysOfFile : Bool → Kind → FileTime → ReadOptions → ReadError → Type 0
-SaysOfFile skip kind time options (reads.Io fault) = IsOfDisk fault
-SaysOfFile skip kind time options (reads.Decode e) = RefusesBytes skip kind time options e
-SaysOfFile skip kind time options (reads.LinkExtension e) = ⊥
-SaysOfFile skip kind time options reads.Memory = Unit {0}
+-- A fault of the disk that names this path. Of a place that works, it says that no file may be there, or that it is too
+-- long.
+abbrev pub IsOfFile : List ℕ → Bool → Known → PathError → Type 0
+IsOfFile path works known fault =
+    IsOfDisk fault × (path_buf_bytes fault.path ≡ path) × (works ≡ true → IsFaultOf known fault.error)
 
--- what an error says of a file and the shared index that it links to
-abbrev pub SaysOfFiles : Bool → Kind → FileTime → ReadOptions → ReadError → Type 0
-SaysOfFiles skip kind time options (reads.Io fault) = IsOfDisk fault
-SaysOfFiles skip kind time options (reads.Decode e) =
-    RefusesBytes skip kind time options e ⊎ RefusesShared skip kind time options e
-SaysOfFiles skip kind time options (reads.LinkExtension e) = RefusesLink skip kind time options e
-SaysOfFiles skip kind time options reads.Memory = Unit {0}
+-- what an error says of the file at a path, in a place that works or may fail; want of memory says nothing
+abbrev pub SaysOfFile : List ℕ → Bool → Known → Bool → Kind → FileTime → ReadOptions → ReadFault → Type 0
+SaysOfFile path works known skip kind time options (reads.Io fault) = IsOfFile path works known fault
+SaysOfFile path works known skip kind time options (reads.Decode e) = RefusesBytes known skip kind time options e
+SaysOfFile path works known skip kind time options (reads.LinkExtension e) = ⊥
+SaysOfFile path works known skip kind time options reads.Memory = Unit {0}
+
+-- there is a split index, and the fault names its shared index, beside a path
+pub record NamesShared (path : List ℕ) (works : Bool) (disk : Disk) (skip : Bool) (kind : Kind) (time : FileTime)
+    (options : ReadOptions) (fault : PathError) : Type 0 where
+  pub split : Contents
+  pub checksum : Option ObjectId
+  pub link : LinkValue
+  pub is_split : IsSplit disk.own skip kind time options split checksum link
+  pub names : IsOfFile (shared_path path link.shared) works (disk.shared link.shared) fault
+
+-- what an error says of the file at a path and the shared index that it links to
+abbrev pub SaysOfFiles : List ℕ → Bool → Disk → Bool → Kind → FileTime → ReadOptions → ReadFault → Type 0
+SaysOfFiles path works disk skip kind time options (reads.Io fault) =
+    IsOfFile path works disk.own fault ⊎ NamesShared path works disk skip kind time options fault
+SaysOfFiles path works disk skip kind time options (reads.Decode e) =
+    RefusesBytes disk.own skip kind time options e ⊎ RefusesShared disk skip kind time options e
+SaysOfFiles path works disk skip kind time options (reads.LinkExtension e) =
+    RefusesLink disk skip kind time options e
+SaysOfFiles path works disk skip kind time options reads.Memory = Unit {0}
 
 -- what it says that an index isn't locked and read
-abbrev pub SaysOfLocking : Bool → Kind → ReadOptions → LockingError → Type 0
-SaysOfLocking skip kind options (locks.Lock fault) = SaysOfLock fault
-SaysOfLocking skip kind options (locks.Read e) = (time : FileTime) × SaysOfFiles skip kind time options e
+abbrev pub SaysOfLocking : List ℕ → Bool → World → Bool → Kind → ReadOptions → LockingError → Type 0
+SaysOfLocking path works world skip kind options (locks.Lock fault) = SaysOfLock world path fault
+SaysOfLocking path works world skip kind options (locks.Read e) =
+    (time : FileTime) × (disk : Disk) × SaysOfFiles path works disk skip kind time options e
 
 -- ---- writing
 

@@ -1,8 +1,11 @@
 -- What a caller's clauses cite, each under one name, a type under its own where a file of definitions has the type's.
 pub mod Checked
+pub mod Disk
+pub mod Ewah
 pub mod File
 pub mod FileFaults
 pub mod Hashing
+pub mod InPlace
 pub mod Linked
 pub mod Outlined
 pub mod Searching
@@ -11,10 +14,6 @@ pub mod VerifiedFile
 pub mod WrittenFile
 pub use Rattle.bstr.specs.Owned
 pub use Rattle.hex.specs.Hex
-pub use Rattle.index_bitmaps.specs.Ascending
-pub use Rattle.index_bitmaps.specs.Bitmap
-pub use Rattle.index_bitmaps.specs.Bits
-pub use Rattle.index_bitmaps.specs.UnpackingSteps
 pub use Rattle.index_parts.specs.Id
 pub use Rattle.index_parts.specs.Limit
 pub use Rattle.index_parts.specs.Numbers
@@ -87,7 +86,6 @@ pub use Rattle.index_format.specs.Stored
 pub use Rattle.index_format.specs.Writing
 pub use Rattle.index_window.specs.Behind
 pub use Rattle.index_window.specs.Intact
-pub use Rattle.index_folder.specs.declared.fault.PathError
 pub use Rattle.index_state.specs.Dissolve
 pub use Rattle.index_state.specs.Edits
 pub use Rattle.index_state.specs.SoundState
@@ -95,11 +93,6 @@ pub use Rattle.index_state.specs.State
 pub use Rattle.index_parts.specs.declared.hash.Kind
 pub use Rattle.index_parts.specs.declared.hash.ObjectId
 pub use Rattle.index_parts.specs.contracts.hash.ObjectIdOrd
-pub use Rattle.index_bitmaps.specs.declared.ewah.Vec as BitmapType
-pub use Rattle.index_bitmaps.specs.declared.ewah.iter.Malformed as BitmapMalformed
-pub use Rattle.index_bitmaps.specs.declared.ewah.iter.Run as BitmapRun
-pub use Rattle.index_bitmaps.specs.declared.ewah.iter.Positions
-pub use Rattle.index_bitmaps.specs.declared.ewah.reading.Error as BitmapError
 pub use Rattle.index_metadata.specs.declared.entry.flags.Flags as FlagsType
 pub use Rattle.index_metadata.specs.declared.entry.flags.Stage
 pub use Rattle.index_metadata.specs.declared.entry.mode.Mode as ModeType

@@ -3,6 +3,7 @@
 pub use Rattle.index_objects.specs.NameCheck
 pub use Rattle.index_objects.specs.TreeObject
 pub use Rattle.index_trees.specs.Leaves
+pub use Rattle.index_tree_writer.specs.Kept
 pub use Rattle.index_tree_writer.specs.Objects
 pub use Rattle.index_laws.specs.TreesAnswer
 pub use Rattle.index_objects.specs.declared.check.ComponentCheck

@@ -1,7 +1,6 @@
 -- What becomes of a writer (`std::io::Write`), and of the answer, where an index is written with its digest
 -- (gitformat-index, "Hash checksum").
 use Rattle.std.specs.Prelude.{◌≡◌, ◌↔◌, ℕ, Bool, List, Option, Some, None, Result, Err, IfOk, if◌then◌else◌}
-pub use Rattle.index_folder.specs.Locks
 use Rattle.index_parts.specs.Id.{make_id}
 use Rattle.index_parts.specs.declared.hash.ObjectId.{ObjectId}
 use Rattle.index_entries.specs.declared.Version.{Version}

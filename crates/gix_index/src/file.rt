@@ -16,6 +16,8 @@ ghost use Rattle.gix_index.specs.File.{state_of, path_of, checksum_of, IsSameFil
 
 use index_entries::{PathBacking, PathStorageRef};
 pub use index_folder::fault::{OneLine, PathError};
+pub use index_folder::folder;
+pub use index_folder::system::System;
 pub use index_folder::whole::bytes_at;
 use index_parts::hash::ObjectId;
 use index_state::State;

@@ -48,9 +48,9 @@ pub extern "C" fn gix_index_write(
 /// read as `gix_index_read` reads them, with their digest, and are no longer needed then.
 ///
 /// Of that index the mark of a sparse one is kept, and then rows may stand for directories. Its cached tree is kept
-/// exactly where it tells what the rows give: none of them is at fault, as one in conflict, and each node of it that
-/// has a count has the id and the count that `git write-tree` gives its directory. What became of it is told. Other
-/// extensions aren't kept, but an end marker stands behind those that are.
+/// exactly where it tells what the rows give: none that isn't in conflict is at fault, and each node of it that has a
+/// count has the id and the count that `git write-tree` gives its directory, and no row in conflict below that. What
+/// became of it is told. Other extensions aren't kept, but an end marker stands behind those that are.
 ///
 /// `DONE`, `NO_ROOM`, `REFUSED`, `WRONG_NUMBER`: as `gix_index_write` answers them; `REFUSED` before, where the bytes
 /// of the index are refused, with the fault that `gix_index_read` tells. `MEMORY`: a growth was refused.

@@ -2,14 +2,14 @@
 use Rattle.std.specs.Prelude.{◌≡◌, ℕ, Bool, true, List, length, Option, IfSome, codes}
 use Rattle.std.specs.Io.KnownBytes.{Appends}
 use Rattle.gix_index.specs.Taking.{AppendsPrefix}
+use Rattle.gix_index.specs.Disk.{Disk}
 use Rattle.gix_index.specs.Kind.{Kind}
 use Rattle.gix_index.specs.ObjectId.{ObjectId}
 use Rattle.gix_index.specs.Order.{IsStrictlyOrdered}
 use Rattle.gix_index.specs.Contents.{Contents}
 use Rattle.gix_index.specs.SoundState.{AreSoundExtensions}
-use Rattle.gix_index.specs.Staged.{staged_in}
 use Rattle.gix_index.specs.TreeIds.{AreRight}
-use Rattle.gix_index.specs.VerifiedFile.{FitsSomeBytes}
+use Rattle.gix_index.specs.VerifiedFile.{FitsFile}
 use Rattle.index_failures.specs.declared.failure.Failure.{Failure}
 use Rattle.index_failures.specs.declared.failure.Failure.TheVariants as failures
 use Rattle.index_failures.specs.Reading.{IsInFile, FailsToRead}
@@ -20,30 +20,30 @@ ok_line = codes "ok\n"
 
 -- the cached tree, if there is one, tells of each directory what the entries give
 abbrev pub HasRightTrees : Contents → Type 0
-HasRightTrees value = IfSome value.extensions.tree (AreRight value.kind (staged_in value.records))
+HasRightTrees value = IfSome value.extensions.tree (AreRight value.kind value.records)
 
 -- An index in a file, whose entries strictly increase by path, then stage, and whose cached tree, if it has one, is
 -- sound and counts no more than these entries; where it is compared with them, it tells what they give. The checksum,
--- unless it is null, fits some bytes: those that the file has when it is read again.
-pub record IsSoundInFile (ids : Bool) (kind : Kind) (value : Contents) (checksum : Option ObjectId) : Type 0 where
-  pub read : IsInFile kind value checksum
+-- unless it is null, fits the bytes that the file has when it is read again.
+pub record IsSoundInFile (ids : Bool) (disk : Disk) (kind : Kind) (value : Contents) (checksum : Option ObjectId) : Type 0 where
+  pub read : IsInFile disk kind value checksum
   pub ordered : IsStrictlyOrdered value.records
   pub tree : AreSoundExtensions (length value.records) value.extensions.tree
   pub trees : ids ≡ true → HasRightTrees value
-  pub intact : IfSome checksum FitsSomeBytes
+  pub intact : IfSome checksum (FitsFile disk.own)
 
 -- known bytes grew by the line of an index that passed all checks
-pub record Checks (ids : Bool) (kind : Kind) (old new : Option (List ℕ)) : Type 0 where
+pub record Checks (ids : Bool) (disk : Disk) (kind : Kind) (old new : Option (List ℕ)) : Type 0 where
   pub value : Contents
   pub checksum : Option ObjectId
-  pub sound : IsSoundInFile ids kind value checksum
+  pub sound : IsSoundInFile ids disk kind value checksum
   pub grew : Appends old new ok_line
 
 -- known bytes grew by a prefix of that line, and all checks had passed
-pub record ChecksFront (ids : Bool) (kind : Kind) (old new : Option (List ℕ)) : Type 0 where
+pub record ChecksFront (ids : Bool) (disk : Disk) (kind : Kind) (old new : Option (List ℕ)) : Type 0 where
   pub value : Contents
   pub checksum : Option ObjectId
-  pub sound : IsSoundInFile ids kind value checksum
+  pub sound : IsSoundInFile ids disk kind value checksum
   pub grew : AppendsPrefix old new ok_line
 
 -- a failure of an index in a file that doesn't pass the checks names that file
@@ -55,8 +55,8 @@ FailsToPass path (failures.Changed file e) = file.now ≡ path
 FailsToPass path failure = FailsToRead path failure
 
 -- a failure of a check
-abbrev pub FailsToCheck : Bool → Kind → List ℕ → Failure → Option (List ℕ) → Option (List ℕ) → Type 0
-FailsToCheck ids kind path failure old new = FailsTelling (ChecksFront ids kind) (FailsToPass path) failure old new
+abbrev pub FailsToCheck : Bool → Disk → Kind → List ℕ → Failure → Option (List ℕ) → Option (List ℕ) → Type 0
+FailsToCheck ids disk kind path failure old new = FailsTelling (ChecksFront ids disk kind) (FailsToPass path) failure old new
 
 -- a failure of an index that was read, by what it holds: of its entries, or of its cached tree
 abbrev pub FailsToVerify : List ℕ → Failure → Type 0

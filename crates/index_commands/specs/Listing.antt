@@ -2,6 +2,7 @@
 use Rattle.std.specs.Prelude.{ℕ, List, Option}
 use Rattle.std.specs.Io.KnownBytes.{Appends}
 use Rattle.gix_index.specs.Taking.{AppendsPrefix}
+use Rattle.gix_index.specs.Disk.{Disk}
 use Rattle.gix_index.specs.Kind.{Kind}
 use Rattle.gix_index.specs.ObjectId.{ObjectId}
 use Rattle.gix_index.specs.Contents.{Contents}
@@ -11,19 +12,19 @@ use Rattle.index_lines.specs.Line.{listing}
 use Rattle.index_failures.specs.Reading.{IsInFile, FailsToRead}
 
 -- known bytes grew by the lines of the index in a file
-pub record ListsIndex (kind : Kind) (old new : Option (List ℕ)) : Type 0 where
+pub record ListsIndex (disk : Disk) (kind : Kind) (old new : Option (List ℕ)) : Type 0 where
   pub value : Contents
   pub checksum : Option ObjectId
-  pub read : IsInFile kind value checksum
+  pub read : IsInFile disk kind value checksum
   pub grew : Appends old new (listing value.records)
 
 -- known bytes grew by a prefix of them
-pub record ListsFront (kind : Kind) (old new : Option (List ℕ)) : Type 0 where
+pub record ListsFront (disk : Disk) (kind : Kind) (old new : Option (List ℕ)) : Type 0 where
   pub value : Contents
   pub checksum : Option ObjectId
-  pub read : IsInFile kind value checksum
+  pub read : IsInFile disk kind value checksum
   pub grew : AppendsPrefix old new (listing value.records)
 
 -- a failure of a listing
-abbrev pub FailsToList : Kind → List ℕ → Failure → Option (List ℕ) → Option (List ℕ) → Type 0
-FailsToList kind path failure old new = FailsTelling (ListsFront kind) (FailsToRead path) failure old new
+abbrev pub FailsToList : Disk → Kind → List ℕ → Failure → Option (List ℕ) → Option (List ℕ) → Type 0
+FailsToList disk kind path failure old new = FailsTelling (ListsFront disk kind) (FailsToRead path) failure old new

@@ -1,6 +1,7 @@
 //! The commands `check` and `check-trees`.
 
 ghost use Rattle.std.specs.Prelude.{◌≡◌, true, IfErr, OnOk, length};
+ghost use Rattle.gix_index.specs.Disk.{disk_at};
 ghost use Rattle.gix_index.specs.File.{state_of};
 ghost use Rattle.gix_index.specs.Order.{IsStrictlyOrdered};
 ghost use Rattle.gix_index.specs.SoundState.{AreSoundExtensions};
@@ -8,6 +9,7 @@ ghost use Rattle.gix_index.specs.State.{PathsInStorage, contents};
 ghost use Rattle.index_commands.specs.Checking.{Checks, FailsToCheck, FailsToVerify, HasRightTrees};
 
 use gix_index::File;
+use gix_index::file::folder::Folder;
 use gix_index::hash::Kind;
 use gix_index::hash::io::put_all;
 use gix_index::object::NoObjects;
@@ -15,7 +17,6 @@ use index_failures::failure::Failure;
 use index_failures::index::index_at;
 use std::alloc::Global;
 use std::io;
-use std::rt::Files;
 
 /// What `out` gets of an index that passed all checks.
 const OK_LINE: &[u8] = b"ok\n";
@@ -75,27 +76,28 @@ fn verify_contents<'a>(
 /// id and the count that the entries give, as `git write-tree` would make them. The file's bytes have to have the
 /// digest still that their trailer gave. Nothing goes to `out` before the last check has passed. Ok: `out` took the
 /// whole line. [`Failure::Output`]: it took a front. Any other failure: it took nothing.
-pub fn check<'a, R: Files, W: io::Write>(
-    rt: &R,
+pub fn check<'a, D: Folder, W: io::Write>(
+    folder: &D,
     alloc: Global,
     ids: bool,
     kind: Kind,
     path: &'a str,
     out: &mut W,
 ) -> Result<(), Failure<'a>>
-    ensures checked { OnOk result (Checks ids kind (W.contents out.old) (W.contents out.new)) }
+    ensures checked { OnOk result (Checks ids (disk_at (D.known folder.now) path.now) kind
+        (W.contents out.old) (W.contents out.new)) }
     ensures refused { IfErr result
-        (λ failure. FailsToCheck ids kind path.now failure (W.contents out.old)
-        (W.contents out.new)) }
+        (λ failure. FailsToCheck ids (disk_at (D.known folder.now) path.now) kind path.now
+        failure (W.contents out.old) (W.contents out.new)) }
 {
-    let index = match index_at(rt, alloc, kind, path) {
+    let index = match index_at(folder, alloc, kind, path) {
         Ok(index) => index,
         Err(failure) => return Err(failure),
     };
     if let Err(failure) = verify_contents(alloc, ids, &index, path) {
         return Err(failure);
     }
-    if let Err(fault) = index.verify_integrity(rt, alloc) {
+    if let Err(fault) = index.verify_integrity(folder, alloc) {
         return Err(Failure::Changed { path, fault });
     }
     match put_all(out, OK_LINE) {

@@ -1,9 +1,14 @@
 //! The commands `rewrite` and `rewrite4`.
 
-ghost use Rattle.std.specs.Prelude.{◌≡◌, IfErr, IfOk, IsSome, OnOk};
+ghost use Rattle.std.specs.Prelude.{◌≡◌, true, IfErr, IfOk, IsSome, OnErr, OnOk};
+ghost use Rattle.gix_index.specs.Disk.{disk_at};
+ghost use Rattle.gix_index.specs.InPlace.Locks.{Restores};
+ghost use Rattle.gix_index.specs.declared.file.File.{File as IndexFile};
 ghost use Rattle.gix_index.specs.File.{checksum_of};
-ghost use Rattle.index_commands.specs.Rewriting.{FailsToRewrite, IsRewritten, Rewrites, chosen};
+ghost use Rattle.index_commands.specs.Rewriting.{FailsToRewrite, Rewrites, chosen};
 
+use gix_index::file::folder::Folder;
+use gix_index::file::lock::Lock;
 use gix_index::hash::Kind;
 use gix_index::write::VersionChoice;
 use gix_index::{File, Version};
@@ -11,7 +16,6 @@ use index_failures::failure::Failure;
 use index_failures::index::opened_at;
 use index_failures::storing::{commit_at, lock_at};
 use std::alloc::Global;
-use std::rt::Files;
 
 /// In which version an index is written again.
 #[derive(Clone, Copy)]
@@ -39,47 +43,56 @@ pub(crate) fn choice(form: Form, version: Version) -> VersionChoice
 /// time at which the first was changed last, and else what [`commit_at`] says, in the version of the form.
 /// [`Failure::Lock`], [`Failure::Rewrite`]: it can't be written, and what was at the path is there as before. Any other
 /// failure concerns the file that is read.
-pub fn rewritten<'a, R: Files>(
-    rt: &R,
+pub fn rewritten<'a, D: Folder>(
+    folder: &mut D,
     alloc: Global,
     form: Form,
     kind: Kind,
     path: &'a str,
     to: &'a str,
 ) -> Result<File, Failure<'a>>
-    ensures written { IfOk result (IsRewritten form kind to.now) }
+    ensures written { IfOk result (Rewrites (D.alone folder.old) (D.guards folder.old) form kind
+        (D.known folder.old) (D.known folder.new) path.now to.now) }
+    ensures restored { OnErr result (D.alone folder.old ≡ true → Restores (D.works folder.old)
+        (D.known folder.old) (D.known folder.new) to.now) }
     ensures checksum { IfOk result (λ written. IsSome (checksum_of written)) }
     ensures fault { IfErr result (FailsToRewrite path.now to.now) }
 {
-    let lock = match lock_at(rt, alloc, to) {
+    let lock = match lock_at(folder, alloc, to) {
         Ok(lock) => lock,
         Err(failure) => return Err(failure),
     };
-    match opened_at(rt, alloc, kind, path) {
+    match opened_at(folder, alloc, kind, path) {
         Ok(index) => {
             let version = choice(form, index.version());
-            commit_at(rt, alloc, index, lock, version, to)
+            commit_at(folder, alloc, index, lock, version, to)
         }
         Err(failure) => {
-            lock.release(rt);
+            let Lock { place, file } = lock;
+            drop(file);
+            place.release(folder);
             Err(failure)
         }
     }
 }
 
 /// The command: [`rewritten`], of which nothing is kept.
-pub fn rewrite<'a, R: Files>(
-    rt: &R,
+pub fn rewrite<'a, D: Folder>(
+    folder: &mut D,
     alloc: Global,
     form: Form,
     kind: Kind,
     path: &'a str,
     to: &'a str,
 ) -> Result<(), Failure<'a>>
-    ensures written { OnOk result (Rewrites form kind to.now) }
+    ensures written { OnOk result ((written : IndexFile) × Rewrites (D.alone folder.old)
+        (D.guards folder.old) form kind (D.known folder.old) (D.known folder.new) path.now to.now
+        written) }
+    ensures restored { OnErr result (D.alone folder.old ≡ true → Restores (D.works folder.old)
+        (D.known folder.old) (D.known folder.new) to.now) }
     ensures fault { IfErr result (FailsToRewrite path.now to.now) }
 {
-    match rewritten(rt, alloc, form, kind, path, to) {
+    match rewritten(folder, alloc, form, kind, path, to) {
         Ok(_) => Ok(()),
         Err(failure) => Err(failure),
     }

@@ -1,27 +1,60 @@
 //! The command `rewrite-trees`.
 
-ghost use Rattle.std.specs.Prelude.{IfErr, IfOk, OnOk};
+ghost use Rattle.std.specs.Prelude.{◌≡◌, true, IfErr, IfOk, OnErr, OnOk};
+ghost use Rattle.gix_index.specs.Disk.{disk_at};
+ghost use Rattle.gix_index.specs.InPlace.Locks.{Restores};
+ghost use Rattle.gix_index.specs.declared.file.File.{File as IndexFile};
 ghost use Rattle.gix_index.specs.File.{state_of};
 ghost use Rattle.gix_index.specs.State.{PathsInStorage, contents};
-ghost use Rattle.index_commands.specs.Trees.{FailsToRetree, FailsToTree, IsMadeInFile, IsRetreed, Retrees};
+ghost use Rattle.gix_index.specs.Tree.{node_of};
+ghost use Rattle.index_commands.specs.Trees.{FailsToRetree, FailsToTree, IsMadeInFile, IsTreePut, Retrees};
 
 use crate::rewrite::{Form, choice};
 use crate::trees::tree_of;
-use gix_index::File;
+use gix_index::extension::Tree;
+use gix_index::file::folder::Folder;
+use gix_index::file::lock::Lock;
 use gix_index::hash::Kind;
+use gix_index::{File, State};
 use index_failures::failure::Failure;
 use index_failures::index::opened_at;
 use index_failures::storing::{commit_at, lock_at};
 use std::alloc::Global;
-use std::rt::Files;
+
+/// Which counts, and so which trees' ids, a cached tree has that is made anew.
+#[derive(Clone, Copy)]
+pub enum Counts {
+    /// Those that the cached tree had before too, so that it names no other tree.
+    Known,
+    /// All.
+    All,
+}
+
+/// Puts a cached tree into an index that was made of its entries.
+fn put_tree(state: &mut State, counts: Counts, tree: Tree)
+    ensures put { IsTreePut counts (contents state.old) (node_of tree) (contents state.new) }
+    ensures placed { PathsInStorage state.old → PathsInStorage state.new }
+{
+    match counts {
+        Counts::Known => state.renew_tree(tree),
+        Counts::All => state.set_tree(tree),
+    }
+}
 
 /// The index in a file, with the shared index that it links to, and with a cached tree that is made of its entries.
-fn made<'a, R: Files>(rt: &R, alloc: Global, kind: Kind, path: &'a str) -> Result<File, Failure<'a>>
-    ensures made { IfOk result (λ index. IsMadeInFile kind (contents (state_of index))) }
+fn made<'a, D: Folder>(
+    folder: &D,
+    alloc: Global,
+    counts: Counts,
+    kind: Kind,
+    path: &'a str,
+) -> Result<File, Failure<'a>>
+    ensures made { IfOk result (λ index. IsMadeInFile counts (disk_at (D.known folder.now) path.now)
+        kind (contents (state_of index))) }
     ensures placed { IfOk result (λ index. PathsInStorage (state_of index)) }
     ensures fault { IfErr result (FailsToTree path.now) }
 {
-    let index = match opened_at(rt, alloc, kind, path) {
+    let index = match opened_at(folder, alloc, kind, path) {
         Ok(index) => index,
         Err(failure) => return Err(failure),
     };
@@ -30,55 +63,67 @@ fn made<'a, R: Files>(rt: &R, alloc: Global, kind: Kind, path: &'a str) -> Resul
         Err(failure) => return Err(failure),
     };
     let (mut state, path) = index.into_parts();
-    state.set_tree(tree);
+    put_tree(&mut state, counts, tree);
     Ok(File::from_state(state, path))
 }
 
 /// Writes the index in a file, with the shared index that it links to, to another path, or to the same, with a cached
-/// tree that is made of its entries, and gives it as it is there.
+/// tree that is made of its entries, and gives it as it is there. A directory whose tree has no count there, and so no
+/// id, is one that git looks at anew.
 ///
 /// The file at the other path is locked, as git locks an index, before the first is opened; what is written gets the
 /// time at which the first was changed last, and else what [`commit_at`] says. Nothing is written before the tree is
 /// made. [`Failure::Lock`], [`Failure::Rewrite`]: it can't be written, and what was at the path is there as before. Any
 /// other failure concerns the file that is read.
-pub fn retreed<'a, R: Files>(
-    rt: &R,
+pub fn retreed<'a, D: Folder>(
+    folder: &mut D,
     alloc: Global,
+    counts: Counts,
     kind: Kind,
     path: &'a str,
     to: &'a str,
 ) -> Result<File, Failure<'a>>
-    ensures written { IfOk result (IsRetreed kind to.now) }
+    ensures written { IfOk result (Retrees (D.alone folder.old) (D.guards folder.old) counts kind
+        (D.known folder.old) (D.known folder.new) path.now to.now) }
+    ensures restored { OnErr result (D.alone folder.old ≡ true → Restores (D.works folder.old)
+        (D.known folder.old) (D.known folder.new) to.now) }
     ensures fault { IfErr result (FailsToRetree path.now to.now) }
 {
-    let lock = match lock_at(rt, alloc, to) {
+    let lock = match lock_at(folder, alloc, to) {
         Ok(lock) => lock,
         Err(failure) => return Err(failure),
     };
-    match made(rt, alloc, kind, path) {
+    match made(folder, alloc, counts, kind, path) {
         Ok(index) => {
             let version = choice(Form::AsRead, index.version());
-            commit_at(rt, alloc, index, lock, version, to)
+            commit_at(folder, alloc, index, lock, version, to)
         }
         Err(failure) => {
-            lock.release(rt);
+            let Lock { place, file } = lock;
+            drop(file);
+            place.release(folder);
             Err(failure)
         }
     }
 }
 
 /// The command: [`retreed`], of which nothing is kept.
-pub fn rewrite_trees<'a, R: Files>(
-    rt: &R,
+pub fn rewrite_trees<'a, D: Folder>(
+    folder: &mut D,
     alloc: Global,
+    counts: Counts,
     kind: Kind,
     path: &'a str,
     to: &'a str,
 ) -> Result<(), Failure<'a>>
-    ensures written { OnOk result (Retrees kind to.now) }
+    ensures written { OnOk result ((written : IndexFile) × Retrees (D.alone folder.old)
+        (D.guards folder.old) counts kind (D.known folder.old) (D.known folder.new) path.now to.now
+        written) }
+    ensures restored { OnErr result (D.alone folder.old ≡ true → Restores (D.works folder.old)
+        (D.known folder.old) (D.known folder.new) to.now) }
     ensures fault { IfErr result (FailsToRetree path.now to.now) }
 {
-    match retreed(rt, alloc, kind, path, to) {
+    match retreed(folder, alloc, counts, kind, path, to) {
         Ok(_) => Ok(()),
         Err(failure) => Err(failure),
     }

@@ -1,6 +1,7 @@
 //! The command `trees`, and the trees of an index.
 
 ghost use Rattle.std.specs.Prelude.{◌≡◌, IfErr, IfOk, None, OnOk};
+ghost use Rattle.gix_index.specs.Disk.{disk_at};
 ghost use Rattle.gix_index.specs.File.{state_of};
 ghost use Rattle.gix_index.specs.State.{PathsInStorage, contents};
 ghost use Rattle.gix_index.specs.Tree.{node_of};
@@ -8,6 +9,7 @@ ghost use Rattle.index_commands.specs.Trees.{FailsToTellTrees, FailsToTree, IsTr
 
 use gix_index::File;
 use gix_index::extension::Tree;
+use gix_index::file::folder::Folder;
 use gix_index::hash::Kind;
 use gix_index::init::ComponentCheck;
 use gix_index::write_trees::Discard;
@@ -16,7 +18,6 @@ use index_failures::index::index_at;
 use index_lines::write_trees;
 use std::alloc::Global;
 use std::io;
-use std::rt::Files;
 
 /// Lets all names pass: git has looked at those of an index.
 #[derive(Clone, Copy)]
@@ -51,19 +52,20 @@ pub fn tree_of<'a>(alloc: Global, index: &File, path: &'a str) -> Result<Tree, F
 ///
 /// Nothing goes to `out` before all are made. Ok: `out` took all lines. [`Failure::Output`]: it took a front. Any other
 /// failure: it took nothing.
-pub fn trees<'a, R: Files, W: io::Write>(
-    rt: &R,
+pub fn trees<'a, D: Folder, W: io::Write>(
+    folder: &D,
     alloc: Global,
     kind: Kind,
     path: &'a str,
     out: &mut W,
 ) -> Result<(), Failure<'a>>
-    ensures told { OnOk result (TreesIndex kind (W.contents out.old) (W.contents out.new)) }
+    ensures told { OnOk result (TreesIndex (disk_at (D.known folder.now) path.now) kind
+        (W.contents out.old) (W.contents out.new)) }
     ensures refused { IfErr result
-        (λ failure. FailsToTellTrees kind path.now failure (W.contents out.old)
-        (W.contents out.new)) }
+        (λ failure. FailsToTellTrees (disk_at (D.known folder.now) path.now) kind path.now
+        failure (W.contents out.old) (W.contents out.new)) }
 {
-    let index = match index_at(rt, alloc, kind, path) {
+    let index = match index_at(folder, alloc, kind, path) {
         Ok(index) => index,
         Err(failure) => return Err(failure),
     };

@@ -1,7 +1,9 @@
 -- What was read at the begin of 1970, with the default options.
-use Rattle.std.proofs.Common.{◌≡◌, subst, false, Option, None, refl}
+use Rattle.std.proofs.Common.{◌≡◌, ℕ, List, subst, false, Option, None, refl}
 use Rattle.gix_index.specs.Contents.{Contents}
 use Rattle.gix_index.specs.DecodeOptions.{Options}
+use Rattle.gix_index.specs.Disk.{disk_at}
+use Rattle.gix_index.specs.Disk.World.{World}
 use Rattle.gix_index.specs.FileTime.{FileTime}
 use Rattle.gix_index.specs.Kind.{Kind}
 use Rattle.gix_index.specs.Linked.{IsOnDisk, IsOnDiskSince}
@@ -9,18 +11,22 @@ use Rattle.gix_index.specs.ObjectId.{ObjectId}
 use Rattle.index_failures.specs.Options.{unlimited_options, IsBeginOf1970}
 use Rattle.index_failures.specs.Reading.{IsInFile, IsInFileSince}
 
-pub in_file : (kind : Kind) (time : FileTime) (options : Options) (v : Contents) (checksum : Option ObjectId)
-    → IsBeginOf1970 time → options ≡ unlimited_options → IsOnDisk false kind time options v checksum
-    → IsInFile kind v checksum
-in_file kind time options v checksum begin e is = record {
+pub in_file : (world : World) (at path : List ℕ) (kind : Kind) (time : FileTime) (options : Options) (v : Contents) (checksum : Option ObjectId)
+    → IsBeginOf1970 time → at ≡ path → options ≡ unlimited_options
+    → IsOnDisk (disk_at world at) false kind time options v checksum → IsInFile (disk_at world path) kind v checksum
+in_file world at path kind time options v checksum begin same e is = record {
   time = time;
   begin = begin;
-  is = subst (λ (o : Options). IsOnDisk false kind time o v checksum) e is;
+  is = subst (λ (p : List ℕ). IsOnDisk (disk_at world p) false kind time unlimited_options v checksum) same
+      (subst (λ (o : Options). IsOnDisk (disk_at world at) false kind time o v checksum) e is);
 }
 
-pub in_file_since : (kind : Kind) (options : Options) (v : Contents) (checksum : Option ObjectId)
-    → options ≡ unlimited_options → IsOnDiskSince false kind options v checksum → IsInFileSince kind v checksum
-in_file_since kind options v checksum e is = subst (λ (o : Options). IsOnDiskSince false kind o v checksum) e is
+pub in_file_since : (world : World) (at path : List ℕ) (kind : Kind) (options : Options) (v : Contents)
+    (checksum : Option ObjectId) → at ≡ path → options ≡ unlimited_options
+    → IsOnDiskSince (disk_at world at) false kind options v checksum → IsInFileSince (disk_at world path) kind v checksum
+in_file_since world at path kind options v checksum same e is =
+    subst (λ (p : List ℕ). IsOnDiskSince (disk_at world p) false kind unlimited_options v checksum) same
+    (subst (λ (o : Options). IsOnDiskSince (disk_at world at) false kind o v checksum) e is)
 
 pub options_are : (options : Options) → options.thread_limit ≡ None
     → options.min_extension_block_in_bytes_for_threading ≡ 0 → options.expected_checksum ≡ None

@@ -1,19 +1,20 @@
 //! The index in a file that a command's words name.
 
 ghost use Rattle.std.specs.Prelude.{◌≡◌, IfErr, IfOk};
-ghost use Rattle.gix_index.specs.File.{checksum_of, state_of};
+ghost use Rattle.gix_index.specs.Disk.{disk_at};
+ghost use Rattle.gix_index.specs.File.{checksum_of, path_of, state_of};
 ghost use Rattle.gix_index.specs.State.{PathsInStorage, contents};
-ghost use Rattle.gix_index.specs.declared.file.init.Error.TheVariants.{Memory};
+ghost use Rattle.gix_index.specs.FileFaults.ReadError.TheVariants.{Memory};
 ghost use Rattle.index_failures.specs.Reading.{FailsToRead, IsInFile, IsInFileSince};
 ghost use Rattle.index_failures.specs.declared.failure.Failure.TheVariants.{Index};
 
 use crate::failure::Failure;
 use gix_index::entry::FileTime;
+use gix_index::file::folder::Folder;
 use gix_index::hash::Kind;
 use gix_index::{File, decode, file};
 use std::alloc::Global;
 use std::path::PathBuf;
-use std::rt::Files;
 
 /// Why there is no index to be had of a file.
 pub fn failure_of(path: &str, fault: file::init::Error) -> Failure<'_>
@@ -38,14 +39,16 @@ pub fn out_of_memory(path: &str) -> Failure<'_>
 ///
 /// The digest of the bytes is compared with their trailer, unless that is null. [`Failure::Read`] names the file that
 /// can't be read, this one or the shared one; [`Failure::Index`] comes for any other fault of either.
-pub fn index_at<'a, R: Files>(
-    rt: &R,
+pub fn index_at<'a, D: Folder>(
+    folder: &D,
     alloc: Global,
     kind: Kind,
     path: &'a str,
 ) -> Result<File, Failure<'a>>
     ensures read { IfOk result
-        (λ index. IsInFile kind (contents (state_of index)) (checksum_of index)) }
+        (λ index. IsInFile (disk_at (D.known folder.now) path.now) kind
+        (contents (state_of index)) (checksum_of index)) }
+    ensures path { IfOk result (λ index. path_of index ≡ path.now) }
     ensures placed { IfOk result (λ index. PathsInStorage (state_of index)) }
     ensures fault { IfErr result (FailsToRead path.now) }
 {
@@ -54,28 +57,29 @@ pub fn index_at<'a, R: Files>(
     };
     let time = FileTime::EPOCH;
     let options = decode::Options::default();
-    match File::at(rt, alloc, file, kind, false, time, options) {
+    match File::at(folder, alloc, file, kind, false, time, options) {
         Ok(index) => Ok(index),
         Err(fault) => Err(failure_of(path, fault)),
     }
 }
 
 /// The same, with the time at which the file was changed last.
-pub fn opened_at<'a, R: Files>(
-    rt: &R,
+pub fn opened_at<'a, D: Folder>(
+    folder: &D,
     alloc: Global,
     kind: Kind,
     path: &'a str,
 ) -> Result<File, Failure<'a>>
     ensures read { IfOk result
-        (λ index. IsInFileSince kind (contents (state_of index)) (checksum_of index)) }
+        (λ index. IsInFileSince (disk_at (D.known folder.now) path.now) kind
+        (contents (state_of index)) (checksum_of index)) }
     ensures placed { IfOk result (λ index. PathsInStorage (state_of index)) }
     ensures fault { IfErr result (FailsToRead path.now) }
 {
     let Ok(file) = PathBuf::from_str(alloc, path) else {
         return Err(out_of_memory(path));
     };
-    match File::open(rt, alloc, file, kind, false, decode::Options::default()) {
+    match File::open(folder, alloc, file, kind, false, decode::Options::default()) {
         Ok(index) => Ok(index),
         Err(fault) => Err(failure_of(path, fault)),
     }

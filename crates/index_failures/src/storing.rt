@@ -1,32 +1,45 @@
 //! The file that a command writes: its lock, and the index that takes its place.
 
-ghost use Rattle.std.specs.Prelude.{◌≡◌, IfErr, IfOk};
+ghost use Rattle.std.specs.Prelude.{◌≡◌, ◌++◌, [], Some, true, codes, IfErr, IfOk, OnErr, OnOk};
 ghost use Rattle.gix_index.specs.File.{state_of};
-ghost use Rattle.gix_index.specs.State.{PathsInStorage};
+ghost use Rattle.gix_index.specs.InPlace.{IsPutSince};
+ghost use Rattle.gix_index.specs.InPlace.Locks.{IsReleased, asked_of, lock_of, target_of};
+ghost use Rattle.gix_index.specs.State.{PathsInStorage, contents};
 ghost use Rattle.gix_index.specs.WrittenFile.{IsWrittenTo};
-ghost use Rattle.gix_index.specs.WrittenFile.Locks.{asked_of};
 ghost use Rattle.index_failures.specs.Options.{rewrite_options};
-ghost use Rattle.index_failures.specs.Storing.{FailsToWrite};
+ghost use Rattle.index_failures.specs.Storing.{FailsToWrite, IsUnderLock};
 
 use crate::failure::Failure;
 use gix_index::File;
-use gix_index::file::lock::{Fault, Lock};
+use gix_index::file::folder::Folder;
+use gix_index::file::lock::{Fault, Lock, acquire};
 use gix_index::write::{Options, VersionChoice};
 use std::alloc::Global;
 use std::path::PathBuf;
-use std::rt::Files;
 
 /// Locks the file that a command writes, before the file that it reads is opened: so nothing that git writes meanwhile
 /// is lost. [`Failure::Lock`] names it.
-pub fn lock_at<'a, R: Files>(rt: &R, alloc: Global, to: &'a str) -> Result<Lock<R>, Failure<'a>>
-    ensures asked { IfOk result (λ lock. asked_of lock ≡ to.now) }
+pub fn lock_at<'a, D: Folder>(
+    folder: &mut D,
+    alloc: Global,
+    to: &'a str,
+) -> Result<Lock<D::Made>, Failure<'a>>
+    ensures locked { IfOk result (λ lock. IsUnderLock (D.guards folder.old) (D.known folder.old)
+        (D.known folder.new) to.now lock.place) }
+    ensures beside { IfOk result
+        (λ lock. lock_of lock.place ≡ target_of lock.place ++ codes ".lock") }
+    ensures empty { IfOk result
+        (λ lock. D.alone folder.old ≡ true → D.Made.contents lock.file ≡ Some []) }
+    ensures unmade { OnErr result (D.known folder.new ≡ D.known folder.old) }
     ensures fault { IfErr result (FailsToWrite to.now) }
+    ensures alone { D.alone folder.new ≡ D.alone folder.old }
+    ensures works { D.works folder.new ≡ D.works folder.old }
 {
     let Ok(path) = PathBuf::from_str(alloc, to) else {
         let fault = Fault::Memory;
         return Err(Failure::Lock { path: to, fault });
     };
-    match Lock::acquire(rt, alloc, path) {
+    match acquire(folder, alloc, path) {
         Ok(lock) => Ok(lock),
         Err(fault) => Err(Failure::Lock { path: to, fault }),
     }
@@ -35,24 +48,31 @@ pub fn lock_at<'a, R: Files>(rt: &R, alloc: Global, to: &'a str) -> Result<Lock<
 /// Writes an index in the place of the file that was locked, with all extensions and the digest at the end, and gives
 /// it as it is there. All bytes are on the disk before it takes that place. [`Failure::Rewrite`] names that file, which
 /// is as it was.
-pub fn commit_at<'a, R: Files>(
-    rt: &R,
+pub fn commit_at<'a, D: Folder>(
+    folder: &mut D,
     alloc: Global,
     mut index: File,
-    lock: Lock<R>,
+    lock: Lock<D::Made>,
     version: VersionChoice,
     to: &'a str,
 ) -> Result<File, Failure<'a>>
     requires placed { PathsInStorage (state_of index) }
     ensures written { IfOk result
-        (λ written. IsWrittenTo (asked_of lock) index written (rewrite_options version)) }
+        (λ written. IsWrittenTo (asked_of lock.place) index written (rewrite_options version)) }
+    ensures put { OnOk result (D.alone folder.old ≡ true → D.Made.contents lock.file ≡ Some []
+        → IsPutSince (D.known folder.old) (D.known folder.new) lock.place
+        (contents (state_of index)) (rewrite_options version)) }
+    ensures released { OnErr result (D.alone folder.old ≡ true → IsReleased (D.works folder.old)
+        (D.known folder.old) (D.known folder.new) (lock_of lock.place)) }
     ensures fault { IfErr result (FailsToWrite to.now) }
+    ensures alone { D.alone folder.new ≡ D.alone folder.old }
+    ensures works { D.works folder.new ≡ D.works folder.old }
 {
     let options = Options {
         version,
         ..Options::default()
     };
-    match index.commit(rt, alloc, lock, options, true) {
+    match index.commit(folder, alloc, lock, options, true) {
         Ok(()) => Ok(index),
         Err(fault) => Err(Failure::Rewrite { path: to, fault }),
     }

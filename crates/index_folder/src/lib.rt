@@ -2,8 +2,11 @@
 #![tactic(auto)]
 
 pub mod fault;
+pub mod folder;
 pub mod lock;
+mod locked;
 pub mod pieces;
 pub mod place;
+pub mod system;
 pub mod time;
 pub mod whole;

@@ -1,19 +1,23 @@
 //! The lock under which a file is replaced: a file beside it, made new, which takes its place or is removed.
 
-ghost use Rattle.std.specs.Prelude.{◌≡◌, ◌++◌, codes, IfErr, IfOk};
+ghost use Rattle.std.specs.Prelude.{◌≡◌, ◌++◌, codes, ℕ, List, [], Some, true, IfErr, IfOk, OnErr, OnOk};
+ghost use Rattle.std.specs.IoError.{error_kind};
 ghost use Rattle.std.specs.Path.{path_buf_bytes, path_bytes};
-ghost use Rattle.index_folder.specs.Locks.{IsOfDisk, SaysOfLock, asked_of, lock_of, target_of};
+ghost use Rattle.index_folder.specs.Locks.{IsCommitted, IsOfDisk, IsReleased, LeadsTo, SaysOfLock, asked_of, lock_of};
+ghost use Rattle.index_folder.specs.Locks.{target_of};
+ghost use Rattle.index_folder.specs.Times.{is_told};
+ghost use Rattle.index_folder.specs.World.{Makes, World};
 
 use crate::fault::{OneLine, PathError};
+use crate::folder::{Folder, Made};
+pub use crate::locked::Place;
 use crate::place::target_of;
-use crate::time::{modified_of, system_time};
+use crate::time::is_told;
 use index_metadata::entry::FileTime;
 use std::alloc::{AllocError, Global};
-use std::fs::{FileTimes, OpenFile};
+use std::io;
 use std::io::ErrorKind;
 use std::path::{Path, PathBuf};
-use std::rt::Files;
-use std::{fs, io};
 use thiserror::Error;
 
 /// Why there is no lock.
@@ -46,7 +50,7 @@ pub enum Error {
 impl Error {
     /// What it says that a call of the system failed for a file.
     pub(crate) fn of(path: PathBuf, error: io::Error) -> Error
-        ensures { SaysOfLock result }
+        ensures fault { (world : World) (bytes : List ℕ) → SaysOfLock world bytes result }
     {
         if error.kind() == ErrorKind::OutOfMemory {
             return Error::Memory;
@@ -74,14 +78,13 @@ pub enum CommitError {
     Rename(PathError),
 }
 
-/// A lock that was made. Only what [`Lock::commit`] and [`Lock::release`] do takes it away again.
+/// A lock that was made.
 #[derive(Drop)]
-pub struct Lock<R: Files> {
-    asked: PathBuf,
-    target: PathBuf,
-    path: PathBuf,
+pub struct Lock<M: Made> {
+    /// What is locked.
+    pub place: Place,
     /// The lock as a file, to which is written what the locked file is to hold.
-    pub file: R::File,
+    pub file: M,
 }
 
 /// The path with `.lock` behind it.
@@ -93,41 +96,19 @@ pub fn lock_path(alloc: Global, path: &PathBuf) -> Result<PathBuf, AllocError>
     PathBuf::from_str(alloc, lock.as_str())
 }
 
-impl<R: Files> Lock<R> {
-    /// Locks the file that a path leads to, by at most five symbolic links, as git locks an index: `<file>.lock` is
-    /// made new. Where nothing is at the path, the file is to be made there.
-    ///
-    /// [`Error::Held`]: it is there already. [`Error::IsFolder`], [`Error::IsSpecial`], [`Error::LeadsNowhere`] and
-    /// [`Error::TooManyLinks`] say what is at the path that can't be replaced. [`Error::Io`] names the file for which a
-    /// call of the system failed, as an empty path does. After an error all is as it was.
-    pub fn acquire(rt: &R, alloc: Global, path: PathBuf) -> Result<Lock<R>, Error>
-        ensures asked { IfOk result (λ lock. asked_of lock ≡ path_buf_bytes path) }
-        ensures lock { IfOk result (λ lock. lock_of lock ≡ target_of lock ++ codes ".lock") }
-        ensures fault { IfErr result SaysOfLock }
-    {
-        if path.as_path().as_str().is_empty() {
-            return Err(Error::of(path, io::Error::from(ErrorKind::NotFound)));
-        }
-        let asked = path.clone()?;
-        let target = target_of(rt, alloc, path)?;
-        let path = lock_path(alloc, &target)?;
-        match fs::File::create_new(rt, path.as_path()) {
-            Ok(file) => Ok(Lock {
-                asked,
-                target,
-                path,
-                file,
-            }),
-            Err(e) if e.kind() == ErrorKind::AlreadyExists => Err(Error::Held(path)),
-            Err(e) => Err(Error::of(path, e)),
-        }
-    }
-
+impl Place {
     /// The path that was asked for.
     pub fn asked(&self) -> Path<'_>
         ensures { path_bytes result ≡ asked_of self.now }
     {
         self.asked.as_path()
+    }
+
+    /// The path of the file that is locked.
+    pub fn target(&self) -> Path<'_>
+        ensures { path_bytes result ≡ target_of self.now }
+    {
+        self.target.as_path()
     }
 
     /// The path of the lock itself.
@@ -137,56 +118,62 @@ impl<R: Files> Lock<R> {
         self.path.as_path()
     }
 
-    /// When the lock was last changed: when it was made, as long as nothing was written to it. It is the begin of 1970
-    /// where the system doesn't say.
-    pub fn modified(&self) -> FileTime {
-        match self.file.metadata() {
-            Ok(metadata) => modified_of(&metadata),
-            Err(_) => FileTime::EPOCH,
-        }
-    }
-
-    /// Gives the lock the permissions of the file that it is to replace, where there is one, and this time, unless its
-    /// seconds are 0; and has all of it brought to the disk, where that is wanted.
-    fn finish(&self, rt: &R, time: FileTime, is_synced: bool) -> io::Result<()> {
-        match fs::metadata(rt, self.target.as_path()) {
-            Ok(metadata) => self.file.set_permissions(metadata.permissions())?,
-            Err(e) if e.kind() == ErrorKind::NotFound => {}
-            Err(e) => return Err(e),
-        }
-        if let Some(modified) = system_time(time) {
-            self.file
-                .set_times(FileTimes::new().set_modified(modified))?;
+    /// Gives the lock the permissions of the file that it is to replace, where there is one, and this time, where that
+    /// can be told; and has all of it brought to the disk, where that is wanted.
+    fn finish<D: Folder>(
+        &self,
+        folder: &D,
+        file: &mut D::Made,
+        time: FileTime,
+        is_synced: bool,
+    ) -> io::Result<()>
+        ensures contents { D.Made.contents file.new ≡ D.Made.contents file.old }
+        ensures given { OnOk result (is_told time ≡ true → D.Made.given file.new time) }
+    {
+        folder.copy_permissions(file, self.target.as_path())?;
+        if is_told(time) {
+            file.set_time(time)?;
         }
         if is_synced {
-            self.file.sync_all()?;
+            file.sync()?;
         }
         Ok(())
     }
 
     /// Lets what was written to the lock take the place of the locked file, whose permissions it gets.
     ///
-    /// The time of its last change becomes the one that is given, unless the seconds of that are 0, which git takes for
-    /// a time that isn't known. With `is_synced`, all bytes are on the disk before. After an error the file is as it
-    /// was, and it was tried to remove the lock. Gives the path that was asked for.
-    pub fn commit(self, rt: &R, time: FileTime, is_synced: bool) -> Result<PathBuf, CommitError>
-        ensures { IfOk result (λ path. path_buf_bytes path ≡ asked_of self) }
+    /// The time of its last change becomes the one that is given, unless that is before 1970, or its seconds are 0 in
+    /// 32 bits, which git takes for a time that isn't known. With `is_synced`, all bytes are on the disk before. After
+    /// an error the file is as it was, and it was tried to remove the lock. Gives the path that was asked for.
+    pub fn commit<D: Folder>(
+        self,
+        folder: &mut D,
+        mut file: D::Made,
+        time: FileTime,
+        is_synced: bool,
+    ) -> Result<PathBuf, CommitError>
+        ensures asked { IfOk result (λ path. path_buf_bytes path ≡ asked_of self) }
+        ensures committed { OnOk result (D.alone folder.old ≡ true
+            → IsCommitted (D.known folder.old) (D.known folder.new) self (D.Made.contents file) time) }
+        ensures released { OnErr result (D.alone folder.old ≡ true → IsReleased (D.works folder.old)
+            (D.known folder.old) (D.known folder.new) (lock_of self)) }
+        ensures alone { D.alone folder.new ≡ D.alone folder.old }
+        ensures works { D.works folder.new ≡ D.works folder.old }
     {
-        if let Err(error) = self.finish(rt, time, is_synced) {
-            let path = self.release(rt);
+        if let Err(error) = self.finish(folder, &mut file, time, is_synced) {
+            drop(file);
+            let path = self.release(folder);
             return Err(CommitError::Lock(PathError { path, error }));
         }
-        let Lock {
+        let Place {
             asked,
             target,
             path,
-            file,
         } = self;
-        drop(file);
-        match fs::rename(rt, path.as_path(), target.as_path()) {
+        match folder.put(file, path.as_path(), target.as_path()) {
             Ok(()) => Ok(asked),
             Err(error) => {
-                let _ = fs::remove_file(rt, path.as_path());
+                let _ = folder.remove(path.as_path());
                 Err(CommitError::Rename(PathError {
                     path: target,
                     error,
@@ -195,13 +182,61 @@ impl<R: Files> Lock<R> {
         }
     }
 
-    /// Gives the lock up: it is tried to remove it. The locked file is as it was. Gives the lock's path.
-    pub fn release(self, rt: &R) -> PathBuf
-        ensures { path_buf_bytes result ≡ lock_of self }
+    /// Gives the lock up, whose file is closed: it is tried to remove it. The locked file is as it was. Gives the
+    /// lock's path.
+    pub fn release<D: Folder>(self, folder: &mut D) -> PathBuf
+        ensures path { path_buf_bytes result ≡ lock_of self }
+        ensures released { D.alone folder.old ≡ true → IsReleased (D.works folder.old)
+            (D.known folder.old) (D.known folder.new) (lock_of self) }
+        ensures alone { D.alone folder.new ≡ D.alone folder.old }
+        ensures works { D.works folder.new ≡ D.works folder.old }
     {
-        let Lock { path, file, .. } = self;
-        drop(file);
-        let _ = fs::remove_file(rt, path.as_path());
-        path
+        let _ = folder.remove(self.path.as_path());
+        self.path
+    }
+}
+
+/// Locks the file that a path leads to, by at most five symbolic links, as git locks an index: `<file>.lock` is made
+/// new. Where nothing is at the path, the file is to be made there.
+///
+/// [`Error::Held`]: it is there already. [`Error::IsFolder`], [`Error::IsSpecial`], [`Error::LeadsNowhere`] and
+/// [`Error::TooManyLinks`] say what is at the path that can't be replaced. [`Error::Io`] names the file for which a call
+/// of the system failed, as an empty path does. After an error all is as it was.
+pub fn acquire<D: Folder>(
+    folder: &mut D,
+    alloc: Global,
+    path: PathBuf,
+) -> Result<Lock<D::Made>, Error>
+    ensures asked { IfOk result (λ lock. asked_of lock.place ≡ path_buf_bytes path) }
+    ensures target { IfOk result (λ lock. LeadsTo (D.known folder.old) 5 (path_buf_bytes path)
+        (target_of lock.place)) }
+    ensures lock { IfOk result
+        (λ lock. lock_of lock.place ≡ target_of lock.place ++ codes ".lock") }
+    ensures made { IfOk result (λ lock. Makes (D.guards folder.old) (D.known folder.old)
+        (D.known folder.new) (lock_of lock.place)) }
+    ensures empty { IfOk result
+        (λ lock. D.alone folder.old ≡ true → D.Made.contents lock.file ≡ Some []) }
+    ensures unmade { OnErr result (D.known folder.new ≡ D.known folder.old) }
+    ensures fault { IfErr result (SaysOfLock (D.known folder.old) (path_buf_bytes path)) }
+    ensures alone { D.alone folder.new ≡ D.alone folder.old }
+    ensures works { D.works folder.new ≡ D.works folder.old }
+{
+    if path.as_path().as_str().is_empty() {
+        return Err(Error::of(path, io::Error::from(ErrorKind::NotFound)));
+    }
+    let asked = path.clone()?;
+    let target = target_of(folder, alloc, path)?;
+    let path = lock_path(alloc, &target)?;
+    match folder.make(path.as_path()) {
+        Ok(file) => Ok(Lock {
+            place: Place {
+                asked,
+                target,
+                path,
+            },
+            file,
+        }),
+        Err(e) if e.kind() == ErrorKind::AlreadyExists => Err(Error::Held(path)),
+        Err(e) => Err(Error::of(path, e)),
     }
 }

@@ -1,12 +1,14 @@
-//! Bytes of a reader, piece by piece, into room that is used again.
+//! Bytes of an open file, piece by piece, into room that is used again.
 
-ghost use Rattle.std.specs.Prelude.{◌≡◌, ◌≤◌, ◌<◌, ◌+◌, drop, vec_len, IfOk, OnOk};
+ghost use Rattle.std.specs.Prelude.{◌≡◌, ◌≤◌, ◌<◌, ◌+◌, drop, vec_len, true, IfErr, IfOk, IsOk, OnOk};
+ghost use Rattle.std.specs.IoError.{error_kind};
 ghost use Rattle.std.specs.Io.{ReadsAtMost, StartsWith, appended_bytes};
 ghost use Rattle.std.specs.Io.KnownBytes.{Consumes, IsAtEnd, ReadConsumes};
 
+use crate::folder::Source;
 use std::alloc::AllocError;
 use std::io;
-use std::io::{ErrorKind, Read};
+use std::io::ErrorKind;
 
 /// How many bytes are read before they are hashed: so few that they are still in a processor's cache, and so many that
 /// readying the room of a piece costs little beside them.
@@ -17,12 +19,15 @@ const MAX_TRIES: u32 = u32::MAX;
 
 /// One read into a room, tried again where a signal interrupted it. It gives up with [`ErrorKind::TimedOut`] where
 /// signals interrupt 2^32 - 1 reads in a row.
-fn read_once<R: Read>(reader: &mut R, room: &mut [u8]) -> io::Result<usize>
+fn read_once<S: Source>(file: &mut S, room: &mut [u8]) -> io::Result<usize>
     ensures bound { ReadsAtMost result room.new }
-    ensures bytes { ReadConsumes (R.remaining reader.old) (R.remaining reader.new) result room.new }
+    ensures bytes { ReadConsumes (S.remaining file.old) (S.remaining file.new) result room.new }
+    ensures stored { S.stored file.new ≡ S.stored file.old }
+    ensures works { S.works file.new ≡ S.works file.old }
+    ensures succeeds { S.works file.old ≡ true → IsOk result }
 {
     for _ in 0..MAX_TRIES {
-        match reader.read(room) {
+        match file.read(room) {
             Err(e) if e.kind() == ErrorKind::Interrupted => {}
             answer => return answer,
         }
@@ -30,14 +35,18 @@ fn read_once<R: Read>(reader: &mut R, room: &mut [u8]) -> io::Result<usize>
     Err(io::Error::new(ErrorKind::TimedOut, "signals interrupted each try to read"))
 }
 
-/// Appends what a reader gives at once, at most a piece, and no more than there is room for, if there is room. None
+/// Appends what a file gives at once, at most a piece, and no more than there is room for, if there is room. None
 /// comes only at its end.
-pub fn append_piece<R: Read>(reader: &mut R, bytes: &mut Vec<u8>) -> io::Result<usize>
+pub fn append_piece<S: Source>(file: &mut S, bytes: &mut Vec<u8>) -> io::Result<usize>
     ensures appends { OnOk result (StartsWith bytes.new.items bytes.old.items) }
     ensures len { IfOk result (λ count. vec_len bytes.new ≡ vec_len bytes.old + count) }
-    ensures consumes { OnOk result (Consumes (R.remaining reader.old) (R.remaining reader.new)
+    ensures consumes { OnOk result (Consumes (S.remaining file.old) (S.remaining file.new)
         (appended_bytes bytes.old.items bytes.new.items)) }
-    ensures end { IfOk result (λ count. count ≡ 0 → IsAtEnd (R.remaining reader.new)) }
+    ensures end { IfOk result (λ count. count ≡ 0 → IsAtEnd (S.remaining file.new)) }
+    ensures stored { S.stored file.new ≡ S.stored file.old }
+    ensures works { S.works file.new ≡ S.works file.old }
+    ensures fault { S.works file.old ≡ true
+        → IfErr result (λ e. error_kind e ≡ ErrorKind.OutOfMemory) }
 {
     let filled = bytes.len();
     let spare = bytes.capacity() - filled;
@@ -48,22 +57,26 @@ pub fn append_piece<R: Read>(reader: &mut R, bytes: &mut Vec<u8>) -> io::Result<
     };
     let end = filled.checked_add(room).ok_or(AllocError)?;
     bytes.resize(end, 0)?;
-    let count = read_once(reader, &mut bytes[filled..])?;
+    let count = read_once(file, &mut bytes[filled..])?;
     bytes.truncate(filled + count);
     Ok(count)
 }
 
-/// Reads on until there are so many bytes, or the reader is at its end. Gives how many came.
-pub fn fill<R: Read>(reader: &mut R, bytes: &mut Vec<u8>, len: usize) -> io::Result<usize>
+/// Reads on until there are so many bytes, or the file is at its end. Gives how many came.
+pub fn fill<S: Source>(file: &mut S, bytes: &mut Vec<u8>, len: usize) -> io::Result<usize>
     ensures appends { OnOk result (StartsWith bytes.new.items bytes.old.items) }
     ensures len { IfOk result (λ count. vec_len bytes.new ≡ vec_len bytes.old + count) }
-    ensures consumes { OnOk result (Consumes (R.remaining reader.old) (R.remaining reader.new)
+    ensures consumes { OnOk result (Consumes (S.remaining file.old) (S.remaining file.new)
         (appended_bytes bytes.old.items bytes.new.items)) }
-    ensures end { OnOk result (vec_len bytes.new < len → IsAtEnd (R.remaining reader.new)) }
+    ensures end { OnOk result (vec_len bytes.new < len → IsAtEnd (S.remaining file.new)) }
+    ensures stored { S.stored file.new ≡ S.stored file.old }
+    ensures works { S.works file.new ≡ S.works file.old }
+    ensures fault { S.works file.old ≡ true
+        → IfErr result (λ e. error_kind e ≡ ErrorKind.OutOfMemory) }
 {
     let start = bytes.len();
     'pieces: loop {
-        let count = append_piece(reader, bytes)?;
+        let count = append_piece(file, bytes)?;
         if count == 0 || bytes.len() >= len {
             return Ok(bytes.len() - start);
         }

@@ -1,41 +1,26 @@
 //! Which file a path leads to.
 
-ghost use Rattle.std.specs.Prelude.{IfErr};
-ghost use Rattle.index_folder.specs.Locks.{SaysOfLock};
+ghost use Rattle.std.specs.Prelude.{◌≡◌, ℕ, List, IfErr, IfOk};
+ghost use Rattle.std.specs.Path.{path_buf_bytes, path_bytes, path_with_file_name};
+ghost use Rattle.index_folder.specs.Locks.{LeadsTo, SaysOfLock};
+ghost use Rattle.index_folder.specs.World.{MayLead};
 
+use crate::folder::{Folder, Standing};
 use crate::lock::Error;
 use std::alloc::Global;
-use std::io::ErrorKind;
+use std::io;
 use std::path::{Path, PathBuf};
-use std::rt::Files;
-use std::{fs, io};
 
 /// How many links are followed, one after another: as many as git follows to an index.
 const MAX_LINKS: u32 = 5;
 
-/// What is at a path, where no link is followed.
-enum Standing {
-    Nothing,
-    Link,
-    File,
-    Folder,
-    Special,
-}
-
-fn look<R: Files>(rt: &R, path: Path<'_>) -> io::Result<Standing> {
-    match fs::symlink_metadata(rt, path) {
-        Ok(metadata) if metadata.is_symlink() => Ok(Standing::Link),
-        Ok(metadata) if metadata.is_file() => Ok(Standing::File),
-        Ok(metadata) if metadata.is_dir() => Ok(Standing::Folder),
-        Ok(_) => Ok(Standing::Special),
-        Err(e) if e.kind() == ErrorKind::NotFound => Ok(Standing::Nothing),
-        Err(e) => Err(e),
-    }
-}
-
 /// Where the link at a path leads, seen from the folder that it is in.
-fn followed<R: Files>(rt: &R, alloc: Global, link: Path<'_>) -> io::Result<PathBuf> {
-    let to = rt.read_link(alloc, link.as_str())?;
+fn followed<D: Folder>(folder: &D, alloc: Global, link: Path<'_>) -> io::Result<PathBuf>
+    ensures { IfOk result (λ next. (text : List ℕ)
+        × MayLead (D.known folder.now (path_bytes link.entry)) text
+        × (path_buf_bytes next ≡ path_with_file_name (path_bytes link.entry) text)) }
+{
+    let to = folder.read_link(alloc, link)?;
     Ok(link.with_file_name(alloc, to.as_path().as_str())?)
 }
 
@@ -43,18 +28,20 @@ fn followed<R: Files>(rt: &R, alloc: Global, link: Path<'_>) -> io::Result<PathB
 ///
 /// [`Error::IsFolder`] and [`Error::IsSpecial`] name what is there and is no regular file. [`Error::LeadsNowhere`] and
 /// [`Error::TooManyLinks`] name the path. [`Error::Io`] names what can't be looked at.
-pub fn target_of<R: Files>(rt: &R, alloc: Global, path: PathBuf) -> Result<PathBuf, Error>
-    ensures { IfErr result SaysOfLock }
+pub fn target_of<D: Folder>(folder: &D, alloc: Global, path: PathBuf) -> Result<PathBuf, Error>
+    ensures leads { IfOk result
+        (λ target. LeadsTo (D.known folder.now) 5 (path_buf_bytes path) (path_buf_bytes target)) }
+    ensures fault { IfErr result (SaysOfLock (D.known folder.now) (path_buf_bytes path)) }
 {
     let mut target = path.clone()?;
-    for links in 0..=MAX_LINKS {
-        match look(rt, target.as_path()) {
+    for links in 0..MAX_LINKS + 1 {
+        match folder.look(target.as_path()) {
             Ok(Standing::File) => return Ok(target),
             Ok(Standing::Nothing) if links == 0 => return Ok(target),
             Ok(Standing::Nothing) => return Err(Error::LeadsNowhere(path)),
             Ok(Standing::Folder) => return Err(Error::IsFolder(target)),
             Ok(Standing::Special) => return Err(Error::IsSpecial(target)),
-            Ok(Standing::Link) => match followed(rt, alloc, target.as_path()) {
+            Ok(Standing::Link) => match followed(folder, alloc, target.as_path()) {
                 Ok(next) => target = next,
                 Err(e) => return Err(Error::of(target, e)),
             },

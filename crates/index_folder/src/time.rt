@@ -3,7 +3,7 @@
 ghost use Rattle.std.specs.Prelude.{◌≡◌, ◌*◌, ◌+◌, pos, IfSome, ℕ};
 ghost use Rattle.std.specs.Time.{system_time_nanos};
 ghost use Rattle.index_metadata.specs.Stat.{nanoseconds_of, seconds_of};
-ghost use Rattle.index_folder.specs.Times.{IsTimeOf};
+ghost use Rattle.index_folder.specs.Times.{IsTimeOf, is_told};
 
 use index_metadata::entry::FileTime;
 use std::fs::Metadata;
@@ -17,15 +17,22 @@ fn file_time(time: SystemTime) -> Option<FileTime>
     FileTime::new(i64::try_from(since.as_secs()).ok()?, since.subsec_nanos())
 }
 
-/// A time as the system takes it; None of each before 1970, and of one whose seconds are 0 in the 32 bits that git
-/// looks at.
+/// Whether a file can be given a time so that git takes it for known: it isn't before 1970, and its seconds aren't 0 in
+/// the 32 bits that git looks at.
+pub fn is_told(time: FileTime) -> bool
+    ensures { result ≡ is_told time }
+{
+    match u64::try_from(time.unix_seconds()) {
+        Ok(seconds) => seconds % (1 << 32) != 0,
+        Err(_) => false,
+    }
+}
+
+/// A time as the system takes it; None of each before 1970.
 pub fn system_time(time: FileTime) -> Option<SystemTime>
     ensures { IfSome result (IsTimeOf time) }
 {
     let seconds = u64::try_from(time.unix_seconds()).ok()?;
-    if seconds % (1 << 32) == 0 {
-        return None;
-    }
     SystemTime::UNIX_EPOCH.checked_add(Duration::new(seconds, time.nanoseconds()))
 }
 

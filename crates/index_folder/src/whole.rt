@@ -1,59 +1,75 @@
 //! All bytes of a file.
 
-ghost use Rattle.std.specs.Prelude.{◌≡◌, ◌≤◌, [], vec_len, IfOk, IfSome, OnOk};
+ghost use Rattle.std.specs.Prelude.{◌≡◌, ◌⊎◌, ◌≤◌, ◌<◌, [], length, vec_len, true, IfErr, IfOk, IfSome, OnOk};
+ghost use Rattle.std.specs.IoError.{error_kind};
+ghost use Rattle.std.specs.Path.{path_bytes};
+ghost use Rattle.index_folder.specs.World.{IsFaultOf, IsOwnFault, MayBe};
 
+use crate::folder::{Folder, Source, Status};
 use crate::pieces::fill;
-use crate::time::modified_of;
 use index_metadata::entry::FileTime;
 use std::alloc::Global;
-use std::fs::{Metadata, OpenFile};
-use std::io::{ErrorKind, Read};
+use std::io;
+use std::io::ErrorKind;
 use std::path::Path;
-use std::rt::Files;
-use std::{fs, io};
 
 /// So many bytes has an index file at most: 2^32, and a trailer of SHA-256.
 pub const MAX_LEN: u64 = 4_294_967_328;
 
 /// What it says that a file is longer than an index can be.
-pub fn too_long() -> io::Error {
+pub fn too_long() -> io::Error
+    ensures { error_kind result ≡ ErrorKind.FileTooLarge }
+{
     let why = "it is longer than the 4294967328 bytes that an index has at most";
     io::Error::new(ErrorKind::FileTooLarge, why)
 }
 
-/// Room for as many bytes as a file's metadata say.
-pub fn room_for(alloc: Global, metadata: &Metadata) -> io::Result<Vec<u8>>
-    ensures { IfOk result (λ room. room.items ≡ []) }
+/// Room for as many bytes as a file says that it has.
+pub fn room_for(alloc: Global, status: Status) -> io::Result<Vec<u8>>
+    ensures room { IfOk result (λ room. room.items ≡ []) }
+    ensures bound { IfOk result (λ _. status.len ≤ 4294967328) }
+    ensures fault { IfErr result (λ e. error_kind e ≡ ErrorKind.OutOfMemory
+        ⊎ ((4294967328 < status.len) × (error_kind e ≡ ErrorKind.FileTooLarge))) }
 {
-    let len = metadata.len();
+    let len = status.len;
     if len > MAX_LEN {
         return Err(too_long());
     }
     Ok(Vec::with_capacity(alloc, len as usize + 1)?)
 }
 
-/// Reads a reader to its end, behind no bytes. It is an error that there are more than [`MAX_LEN`].
-pub fn read_to_end<R: Read>(reader: &mut R, bytes: &mut Vec<u8>) -> io::Result<()>
+/// Reads a file to its end, behind no bytes. It is an error that there are more than [`MAX_LEN`].
+pub fn read_to_end<S: Source>(file: &mut S, bytes: &mut Vec<u8>) -> io::Result<()>
     requires { bytes.old.items ≡ [] }
-    ensures whole { OnOk result (IfSome (R.remaining reader.old) (λ left. bytes.new.items ≡ left)) }
+    ensures whole { OnOk result (IfSome (S.remaining file.old) (λ left. bytes.new.items ≡ left)) }
+    ensures stored { S.stored file.new ≡ S.stored file.old }
+    ensures works { S.works file.new ≡ S.works file.old }
+    ensures fault { S.works file.old ≡ true → IfErr result IsOwnFault }
 {
     let most = MAX_LEN as usize;
-    fill(reader, bytes, most + 1)?;
+    fill(file, bytes, most + 1)?;
     if bytes.len() > most {
         return Err(too_long());
     }
     Ok(())
 }
 
-/// All bytes of the file at a path, read into room for as many as its metadata say, and when it was changed last.
-pub fn bytes_at<R: Files>(
-    rt: &R,
+/// All bytes of the file at a path, read into room for as many as it says that it has, and when it was changed last.
+pub fn bytes_at<D: Folder>(
+    folder: &D,
     alloc: Global,
     path: Path<'_>,
-) -> io::Result<(Vec<u8>, FileTime)> {
-    let mut file = fs::open(rt, path)?;
-    let metadata = file.metadata()?;
-    let mut bytes = room_for(alloc, &metadata)?;
+) -> io::Result<(Vec<u8>, FileTime)>
+    ensures held { IfOk result (λ read. MayBe (D.known folder.now (path_bytes path.entry))
+        (λ file. read.0.items ≡ file.bytes)) }
+    ensures since { IfOk result (λ read. MayBe (D.known folder.now (path_bytes path.entry))
+        (λ file. read.1 ≡ file.time)) }
+    ensures fault { D.works folder.now ≡ true
+        → IfErr result (IsFaultOf (D.known folder.now (path_bytes path.entry))) }
+{
+    let mut file = folder.open(path)?;
+    let status = file.status()?;
+    let mut bytes = room_for(alloc, status)?;
     read_to_end(&mut file, &mut bytes)?;
-    Ok((bytes, modified_of(&metadata)))
+    Ok((bytes, status.modified))
 }

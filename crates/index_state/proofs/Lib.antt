@@ -1,3 +1,4 @@
+mod CachedTrees
 pub mod Edits
 pub mod FewerEntries
 pub mod Given

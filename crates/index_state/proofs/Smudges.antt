@@ -1,5 +1,5 @@
 -- What stays of entries whose size is set to 0.
-use Rattle.std.proofs.Common.{◌≡◌, ◌+◌, ◌-◌, ◌≤◌, ◌<◌, ◌^◌, ℕ, Bool, true, false, List, [], ◌∷◌, ◌++◌, All, length, map}
+use Rattle.std.proofs.Common.{◌≡◌, ◌+◌, ◌≤◌, ◌<◌, ℕ, Bool, true, false, List, [], ◌∷◌, ◌++◌, All, length, map}
 use Rattle.std.proofs.Common.{take, drop, get_or, set, refl, inr, sym, subst, ap, ◌∙◌, cond, rules, arith}
 use Rattle.std.specs.Prelude.{◌≢◌}
 use Rattle.std.proofs.lemmas.Grind.{drop_more_same}
@@ -8,11 +8,10 @@ use Rattle.std.proofs.lemmas.List.Elements.{All-nil, All-cons, All-map, All-weak
 use Rattle.index_parts.specs.Id.{id_kind}
 use Rattle.index_parts.specs.declared.hash.Kind.{Kind}
 use Rattle.index_metadata.specs.declared.entry.stat.FileTime.{FileTime}
-use Rattle.index_metadata.specs.declared.entry.stat.Stat.{Stat}
 use Rattle.index_entries.specs.Record.{IdsAreOf, IsPlaced, IsSized, Record, record_in, records_in}
 use Rattle.index_entries.specs.declared.Entry.{Entry}
 use Rattle.index_state.specs.Edits.{with_records}
-use Rattle.index_state.specs.Racy.{MayBeTrusted, is_racy, smudged, smudged_entry, smudged_stat}
+use Rattle.index_state.specs.Racy.{MayBeTrusted, is_racy, smudged, smudged_entry}
 use Rattle.index_format.specs.Contents.{Contents}
 use Rattle.index_format.specs.Storable.{IsStorable}
 

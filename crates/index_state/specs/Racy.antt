@@ -1,6 +1,6 @@
 -- Entries whose files may have changed within the second in which the index was written (Git's documentation,
 -- racy-git).
-use Rattle.std.specs.Prelude.{◌≡◌, ◌≢◌, ◌⊎◌, ℕ, pos, int_lt, Bool, false, not, ◌&&◌, ◌==◌, List, map, if◌then◌else◌}
+use Rattle.std.specs.Prelude.{◌≡◌, ◌≢◌, ◌⊎◌, ℕ, pos, int_lt, Bool, false, not, ◌&&◌, ◌==◌, if◌then◌else◌}
 use Rattle.index_objects.specs.Mode.{commit_mode}
 use Rattle.index_metadata.specs.Stat.{seconds_of}
 use Rattle.index_metadata.specs.declared.entry.stat.FileTime.{FileTime}

@@ -1,13 +1,14 @@
 //! The trees of the entries.
 
 ghost use Rattle.std.specs.Prelude.{◌≡◌, ◌<◌, ◌^◌, [], Some, IfOk, IfErr, IfSome, MatchOption, length};
-ghost use Rattle.index_cached_tree.specs.Tree.{node_of};
+ghost use Rattle.index_cached_tree.specs.Tree.{Node, node_of};
 ghost use Rattle.index_entries.specs.Order.{IsStrictlyOrdered};
 ghost use Rattle.index_tree_writer.specs.Cached.{IsCached};
 ghost use Rattle.index_tree_writer.specs.Directory.{IsTreeOf, Items, objects};
+ghost use Rattle.index_tree_writer.specs.Kept.{KeepsCounts};
 ghost use Rattle.index_tree_writer.specs.Objects.{with_objects};
 ghost use Rattle.index_tree_writer.specs.Refusals.{AreFit, AreRefused, SaysTreesFault};
-ghost use Rattle.index_tree_writer.specs.Staged.{staged_in};
+ghost use Rattle.index_tree_writer.specs.Staged.{merged_in, staged_in};
 ghost use Rattle.index_tree_writer.specs.TreeIds.{AreRight, SaysTreeIds, any_name};
 ghost use Rattle.index_state.specs.Edits.{with_cached_tree};
 ghost use Rattle.index_state.specs.State.{PathsInStorage, contents, entries_of, records, storage_of};
@@ -16,6 +17,7 @@ use crate::State;
 use crate::verify::tree_ids;
 use index_cached_tree::Tree;
 use index_objects::check::ComponentCheck;
+use index_tree_writer::kept::keep_counts;
 use index_tree_writer::tree_ids::verify_tree_ids;
 use index_tree_writer::write::write_trees;
 use index_tree_writer::{Error, Sink};
@@ -64,28 +66,45 @@ impl State {
         self.parts.extensions.tree = Some(tree);
     }
 
+    /// Puts a cached tree in that was made of the entries, with those counts alone that the one in its place has: a node
+    /// keeps its count and id where that one has them at the same directory. Any other is invalid, and has the null id.
+    /// So it names no tree that the one before didn't name. All else stays.
+    pub fn renew_tree(&mut self, mut tree: Tree)
+        ensures set { (t : Node) × KeepsCounts (contents self.old).kind []
+            (contents self.old).extensions.tree (node_of tree) t
+            × (contents self.new ≡ with_cached_tree (contents self.old) t) }
+        ensures entries { entries_of self.new ≡ entries_of self.old }
+        ensures storage { storage_of self.new ≡ storage_of self.old }
+    {
+        let old = self.parts.extensions.tree.as_ref();
+        keep_counts(self.parts.object_hash, &mut tree, old);
+        self.set_tree(tree);
+    }
+
     /// Whether the cached tree tells what the entries give (gitformat-index, "Cache tree"): each node of it that has a
     /// count has the id of the tree that `git write-tree` makes of the entries below its directory, and counts as many
-    /// entries as lie there. Of a node without a count only the children are looked at.
+    /// entries as lie there. Where one of them isn't merged, they give no tree. Of a node without a count only the
+    /// children are looked at.
     ///
     /// The error is the first node in preorder that tells something else, with what it tells and what the entries give.
-    /// Before any node, it is the first entry that has no place in a tree, as [`write_trees`](State::write_trees) tells
-    /// it, but that any name passes.
+    /// Before any node, it is the first merged entry that has no place in a tree, as
+    /// [`write_trees`](State::write_trees) tells it, but that any name passes.
     pub fn verify_tree_ids(&self, alloc: Global) -> Result<(), tree_ids::Error>
         requires placed { PathsInStorage self.now }
         requires ordered { IsStrictlyOrdered (records self.now) }
         ensures right { IfOk result (λ _. IfSome (contents self.now).extensions.tree
-            (AreRight (contents self.now).kind (staged_in (records self.now)))) }
+            (AreRight (contents self.now).kind (records self.now))) }
         ensures fit { IfOk result (λ _. IfSome (contents self.now).extensions.tree
-            (λ _. AreFit any_name (contents self.now).kind (records self.now))) }
+            (λ _. AreFit any_name (contents self.now).kind (merged_in (records self.now)))) }
         ensures few { IfOk result (λ _. IfSome (contents self.now).extensions.tree
-            (λ _. length (records self.now) < 2 ^ 31)) }
+            (λ _. length (merged_in (records self.now)) < 2 ^ 31)) }
         ensures fault { IfErr result (λ e. MatchOption (contents self.now).extensions.tree ⊥
             (λ t. SaysTreeIds (contents self.now).kind (records self.now) t e)) }
     {
         let Some(tree) = self.tree() else {
             return Ok(());
         };
-        verify_tree_ids(alloc, self.parts.object_hash, &self.slice(), tree)
+        let backing = self.path_backing();
+        verify_tree_ids(alloc, self.parts.object_hash, self.entries(), backing, tree)
     }
 }

@@ -7,7 +7,8 @@ use Rattle.gix_index.specs.Answer.{Answer, Fault, Extension, IsAnswer, Verify}
 use Rattle.gix_index.proofs.Checks.{from_file}
 use Rattle.gix_index.proofs.Joined.{read_kind}
 use Rattle.gix_index.proofs.OnceAnswers.{answer_one}
-use Rattle.gix_index.specs.Checked.{IsFileAnswer, SaysFile, link_error_of}
+use Rattle.gix_index.specs.Checked.{IsFileAnswer, SaysFile}
+use Rattle.gix_index.specs.FileFaults.ReadErrors.{link_error_of}
 use Rattle.gix_index.specs.Contents.{Contents}
 use Rattle.gix_index.specs.DecodeError.TheVariants as errors
 use Rattle.gix_index.specs.DecodeErrors.{IsEarly, extension_fault}
@@ -22,8 +23,8 @@ use Rattle.gix_index.specs.Intact.{IsIntact, digest_id, needs_check, trailer_id}
 use Rattle.gix_index.specs.Outcome.{ExtensionFault}
 use Rattle.gix_index.specs.Kind.{Kind}
 use Rattle.gix_index.specs.Stat.{nanoseconds_of, seconds_of}
-use Rattle.gix_index.specs.declared.file.init.Error.{Error as ReadError}
-use Rattle.gix_index.specs.declared.file.init.Error.TheVariants as reads
+use Rattle.gix_index.specs.FileFaults.ReadError.{Error as ReadError}
+use Rattle.gix_index.specs.FileFaults.ReadError.TheVariants as reads
 use Rattle.index_table.specs.Faults.{HasNumber, IsNumbered, SaysRefusal, decode_fault, read_status}
 use Rattle.index_table.specs.Joining.{IsLinkRefused, IsSharedRefused, SharedReadsAs}
 use Rattle.index_table.specs.Overwriting.{IsRefusedBefore}

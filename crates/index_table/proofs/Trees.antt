@@ -5,8 +5,9 @@ use Rattle.std.specs.Prelude.{IfSome, MatchOption}
 use Rattle.std.proofs.lemmas.List.Elements.{All-head, All-tail}
 use Rattle.gix_index.specs.Contents.{Contents}
 use Rattle.gix_index.specs.Kind.{Kind}
+use Rattle.gix_index.specs.Record.{Record}
 use Rattle.gix_index.specs.Refusals.{AreFit, AreRefused, SaysTreesFault}
-use Rattle.gix_index.specs.Staged.{Staged, staged_in}
+use Rattle.gix_index.specs.Staged.{merged_in}
 use Rattle.gix_index.specs.Tree.{Node}
 use Rattle.gix_index.specs.TreeIds.{AreRight, IsFirstWrong, IsRight, SaysTreeIds, Spot, any_name, spots}
 use Rattle.gix_index.specs.TreeIdsError.{Error}
@@ -21,8 +22,9 @@ pub keeps_by : (o : Option Node) (v w : Contents) (number : ℕ) → v.extension
     → KeepsTree v number w
 keeps_by o v w number e h = subst (λ (x : Option Node). KeepsThis x v number w) (sym e) h
 
-pub keeps_right : (o : Option Node) (v : Contents) → o ≢ None → IfSome o (AreRight v.kind (staged_in v.records))
-    → IfSome o (λ _. AreFit any_name v.kind v.records) → IfSome o (λ _. length v.records < 2 ^ 31) → KeepsThis o v 1 v
+pub keeps_right : (o : Option Node) (v : Contents) → o ≢ None → IfSome o (AreRight v.kind v.records)
+    → IfSome o (λ _. AreFit any_name v.kind (merged_in v.records))
+    → IfSome o (λ _. length (merged_in v.records) < 2 ^ 31) → KeepsThis o v 1 v
 keeps_right None v some right fit few = absurd (some refl)
 keeps_right (Some t) v some right fit few = inl (refl, refl, record { few = few; fit = fit; right = right })
 
@@ -31,16 +33,16 @@ in_middle P [] x after all = All-head P x after all
 in_middle P (b ∷ before) x after all = in_middle P before x after (All-tail P b (before ++ x ∷ after) all)
 
 -- a node that isn't right keeps the tree from being so
-wrong_from : (kind : Kind) (staged : List Staged) (t : Node) (P : Spot → Type 0)
-    → IsFirstWrong kind staged (spots [] t) P → AreRight kind staged t → ⊥
-wrong_from kind staged t P h right =
-    let all : All (IsRight kind staged) (h.0 ++ h.1 ∷ h.2) =
-    subst (λ (ss : List Spot). All (IsRight kind staged) ss) h.3 right in
-    h.5 (in_middle (IsRight kind staged) h.0 h.1 h.2 all)
+wrong_from : (kind : Kind) (rs : List Record) (t : Node) (P : Spot → Type 0)
+    → IsFirstWrong kind rs (spots [] t) P → AreRight kind rs t → ⊥
+wrong_from kind rs t P h right =
+    let all : All (IsRight kind rs) (h.0 ++ h.1 ∷ h.2) =
+    subst (λ (ss : List Spot). All (IsRight kind rs) ss) h.3 right in
+    h.5 (in_middle (IsRight kind rs) h.0 h.1 h.2 all)
 
 -- a fault of entries, which isn't want of memory, says that they are refused
 refused_from : (e : TreesError) (v : Contents) (t : Node) → wants_memory (errors.Entries e) ≡ false
-    → SaysTreesFault e (λ n. ⊥) (AreRefused any_name v.kind v.records) → IsWrongTree v t
+    → SaysTreesFault e (λ n. ⊥) (AreRefused any_name v.kind (merged_in v.records)) → IsWrongTree v t
 refused_from (trees.Sink number) v t e says = absurd says
 refused_from trees.TooManyEntries v t e says = inl (_, says)
 refused_from (trees.Unmerged path) v t e says = inl (_, says)
@@ -54,9 +56,9 @@ refused_from trees.Memory v t e says = absurd cc
 is_wrong : (e : Error) (v : Contents) (t : Node) → wants_memory e ≡ false → SaysTreeIds v.kind v.records t e
     → IsWrongTree v t
 is_wrong (errors.Other path id count given number) v t e says =
-    inr (λ right. wrong_from v.kind (staged_in v.records) t _ says.1 right)
+    inr (λ right. wrong_from v.kind v.records t _ says.1 right)
 is_wrong (errors.Ungiven path id count) v t e says =
-    inr (λ right. wrong_from v.kind (staged_in v.records) t _ says.1 right)
+    inr (λ right. wrong_from v.kind v.records t _ says.1 right)
 is_wrong (errors.Entries fault) v t e says = refused_from fault v t e says
 is_wrong errors.Memory v t e says = absurd cc
 

@@ -19,8 +19,8 @@ use Rattle.gix_index.specs.TreeError.TheVariants as trees
 use Rattle.gix_index.specs.TreeIdsError.{Error as TreeIdsError}
 use Rattle.gix_index.specs.TreeIdsError.TheVariants as tree_ids
 use Rattle.gix_index.specs.WriteTreesError.TheVariants as writes
-use Rattle.gix_index.specs.declared.file.init.Error.{Error as ReadError}
-use Rattle.gix_index.specs.declared.file.init.Error.TheVariants as reads
+use Rattle.gix_index.specs.FileFaults.ReadError.{Error as ReadError}
+use Rattle.gix_index.specs.FileFaults.ReadError.TheVariants as reads
 
 -- ---- faults
 

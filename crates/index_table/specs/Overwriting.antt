@@ -5,7 +5,7 @@ use Rattle.gix_index.specs.Contents.{Contents}
 use Rattle.gix_index.specs.Edits.{with_records, without_tree}
 use Rattle.gix_index.specs.Kind.{Kind}
 use Rattle.gix_index.specs.Refusals.{AreFit, AreRefused, Refusal}
-use Rattle.gix_index.specs.Staged.{staged_in}
+use Rattle.gix_index.specs.Staged.{merged_in}
 use Rattle.gix_index.specs.Tree.{Node}
 use Rattle.gix_index.specs.TreeIds.{AreRight, any_name}
 use Rattle.gix_index.specs.VersionChoice.{VersionChoice}
@@ -21,17 +21,17 @@ use Rattle.index_table.specs.declared.write.Written.{Written}
 
 -- ---- the cached tree
 
--- The tree tells what the value's records give: none of them is at fault, and each node with a count has the id and the
+-- The tree tells what the value's records give: no merged one is at fault, and each node with a count has the id and the
 -- count of the entries below its directory.
 pub record IsRightTree (v : Contents) (t : Node) : Type 0 where
-  pub few : length v.records < 2 ^ 31
-  pub fit : AreFit any_name v.kind v.records
-  pub right : AreRight v.kind (staged_in v.records) t
+  pub few : length (merged_in v.records) < 2 ^ 31
+  pub fit : AreFit any_name v.kind (merged_in v.records)
+  pub right : AreRight v.kind v.records t
 
--- the records have a fault, for which they have no trees; or some node isn't right
+-- the merged records have a fault, for which they have no trees; or some node isn't right
 abbrev pub IsWrongTree : Contents → Node → Type 0
 IsWrongTree v t =
-    ((fault : Refusal) × AreRefused any_name v.kind v.records fault) ⊎ (AreRight v.kind (staged_in v.records) t → ⊥)
+    ((fault : Refusal) × AreRefused any_name v.kind (merged_in v.records) fault) ⊎ (AreRight v.kind v.records t → ⊥)
 
 abbrev pub KeepsThis : Option Node → Contents → ℕ → Contents → Type 0
 KeepsThis None v number kept = (number ≡ 0) × (kept ≡ v)

@@ -1,10 +1,10 @@
--- What the program saves of a damaged file, and of the shared index beside it (the program's own). No clause can name a
--- file's bytes: it is what is saved of some.
-use Rattle.std.specs.Prelude.{◌≡◌, ℕ, false, List, length, Option, Some, None, IsSomeAnd, Ok, Err}
+-- What the program saves of a damaged file, and of the shared index beside it (the program's own).
+use Rattle.std.specs.Prelude.{◌≡◌, ℕ, Bool, false, List, length, Option, Some, None, IsSomeAnd, Ok, Err}
 use Rattle.std.specs.Option.{option_map}
 use Rattle.gix_index.specs.Checked.{IsFileAnswer}
 use Rattle.gix_index.specs.Contents.{Contents}
 use Rattle.gix_index.specs.DecodeError.TheVariants as decoding
+use Rattle.gix_index.specs.Disk.{Disk, MayHave, disk_at}
 use Rattle.gix_index.specs.Edits.{with_time}
 use Rattle.gix_index.specs.File.{state_of}
 use Rattle.gix_index.specs.FileTime.{FileTime}
@@ -16,10 +16,11 @@ use Rattle.gix_index.specs.Linked.{expecting}
 use Rattle.gix_index.specs.ObjectId.{ObjectId}
 use Rattle.gix_index.specs.State.{contents, records}
 use Rattle.gix_index.specs.VersionChoice.TheVariants.{Smallest}
+use Rattle.gix_index.specs.Disk.World.{Known, MayBe, World}
 use Rattle.gix_index.specs.WrittenFile.{IsWrittenTo}
 use Rattle.gix_index.specs.declared.file.File.{File}
-use Rattle.gix_index.specs.declared.file.init.Error.{Error as FileError}
-use Rattle.gix_index.specs.declared.file.init.Error.TheVariants as reading
+use Rattle.gix_index.specs.FileFaults.ReadError.{Error as FileError}
+use Rattle.gix_index.specs.FileFaults.ReadError.TheVariants as reading
 use Rattle.index_inspect.specs.Remains.{IsPlainIndex, Remain, wanted_id}
 use Rattle.index_inspect.specs.Salvage.{Saves}
 use Rattle.index_inspect.specs.declared.remains.Remains.{Remains}
@@ -31,29 +32,30 @@ use Rattle.index_failures.specs.declared.failure.Failure.TheVariants as failures
 use Rattle.index_failures.specs.Reading.{FailsToRead}
 use Rattle.index_failures.specs.Options.{IsBeginOf1970, unlimited_options}
 use Rattle.index_failures.specs.Options.{rewrite_options}
-use Rattle.index_failures.specs.Storing.{FailsStoring}
+use Rattle.index_failures.specs.Storing.{FailsStoring, IsReplaced}
 
--- Some bytes are read as the value, with a trailer that has to be this id unless it is null: their digest is compared,
+-- A file's bytes are read as the value, with a trailer that has to be this id unless it is null: their digest is compared,
 -- and the time is the begin of 1970.
-pub record IsSharedIn (kind : Kind) (id : ObjectId) (value : Contents) : Type 0 where
+pub record IsSharedIn (known : Known) (kind : Kind) (id : ObjectId) (value : Contents) : Type 0 where
   pub bytes : List ℕ
+  pub held : MayHave known bytes
   pub checksum : Option ObjectId
   pub time : FileTime
   pub begin : IsBeginOf1970 time
   pub is : IsFileAnswer false kind time (expecting unlimited_options id) bytes (Ok (value, checksum))
 
 -- the shared index that is wanted, or none
-abbrev pub IsBeside : Kind → Option ObjectId → Option Contents → Type 0
-IsBeside kind wanted None = Unit {0}
-IsBeside kind wanted (Some value) = IsSomeAnd wanted (λ id. IsSharedIn kind id value)
+abbrev pub IsBeside : (ObjectId → Known) → Kind → Option ObjectId → Option Contents → Type 0
+IsBeside shared kind wanted None = Unit {0}
+IsBeside shared kind wanted (Some value) = IsSomeAnd wanted (λ id. IsSharedIn (shared id) kind id value)
 
 -- what is saved of these bytes, completed with the shared index that their link wants if there is one, and with nothing
 -- but its entries, so that a file can hold it
-pub record IsOfBytes (kind : Kind) (bytes : List ℕ) (saved : Salvaged) : Type 0 where
+pub record IsOfBytes (beside : ObjectId → Known) (kind : Kind) (bytes : List ℕ) (saved : Salvaged) : Type 0 where
   pub remains : Remains
   pub remain : Remain kind bytes remains
   pub shared : Option Contents
-  pub beside : IsBeside kind (wanted_id (option_map link_of remains.link)) shared
+  pub is_shared : IsBeside beside kind (wanted_id (option_map link_of remains.link)) shared
   pub is : Saves remains shared saved
   pub plain : IsPlainIndex saved.state
 
@@ -65,20 +67,27 @@ pub record Reports (report : Report) (saved : Salvaged) : Type 0 where
   pub fault : report.fault ≡ saved.fault
   pub shared : report.shared ≡ saved.shared
 
--- what is saved of some bytes, once it was written to this path, and what is told of it
-pub record IsSalvaged (kind : Kind) (to : List ℕ) (rescue : Rescue) : Type 0 where
+-- what is saved of a file's bytes, with the time at which it was changed last, as an index that is to be written
+pub record IsSavedOf (disk : Disk) (kind : Kind) (index : File) (saved : Salvaged) : Type 0 where
   pub bytes : List ℕ
-  pub saved : Salvaged
-  pub of_bytes : IsOfBytes kind bytes saved
   pub time : FileTime
-  pub index : File
+  pub held : MayHave disk.own bytes
+  pub since : MayBe disk.own (λ file. time ≡ file.time)
+  pub of_bytes : IsOfBytes disk.shared kind bytes saved
   pub holds : contents (state_of index) ≡ with_time (contents saved.state) time
+
+-- the same, once it was written to this path, and what is told of it
+pub record IsSalvaged (disk : Disk) (kind : Kind) (to : List ℕ) (index : File) (rescue : Rescue) : Type 0 where
+  pub saved : Salvaged
+  pub is_saved : IsSavedOf disk kind index saved
   pub is_written : IsWrittenTo to index rescue.index (rewrite_options Smallest)
   pub reports : Reports rescue.report saved
 
--- an index was written so
-abbrev pub Salvages : Kind → List ℕ → Type 0
-Salvages kind to = (rescue : Rescue) × IsSalvaged kind to rescue
+-- a file was read under the lock of the file that is written, and what was saved of it was written there
+abbrev pub Salvages : Bool → Bool → Kind → World → World → List ℕ → List ℕ → Rescue → Type 0
+Salvages alone guards kind old new path to rescue =
+    IsReplaced alone guards old new to (λ world index. IsSalvaged (disk_at world path) kind to index rescue)
+    (λ index. rewrite_options Smallest)
 
 -- the fault says why nothing is saved of these bytes: what keeps their header from being read, or that memory is short
 abbrev pub LosesHeader : Kind → List ℕ → FileError → Type 0

@@ -4,6 +4,7 @@ ghost use Rattle.std.specs.Prelude.{◌≡◌, IfErr, OnOk};
 ghost use Rattle.index_telling.specs.Mapping.{Draws, FailsToDraw};
 
 use crate::map::{bytes_at, last_offset};
+use gix_index::file::folder::Folder;
 use gix_index::hash::Kind;
 use index_failures::failure::Failure;
 use index_failures::index::out_of_memory;
@@ -11,25 +12,26 @@ use index_inspect::divide;
 use index_picture::write_svg;
 use std::alloc::Global;
 use std::io;
-use std::rt::Files;
 
 /// Writes a picture of the parts of a file, which may be damaged, to `out`.
 ///
 /// Ok: the file can be read as an index, but for a link that isn't followed, and `out` took the whole picture.
 /// [`Failure::Damaged`]: `out` took the whole picture too, in which the last part is all from the first fault on, which
 /// is named with its offset. [`Failure::Output`]: it took a front. Any other failure: it took nothing.
-pub fn map_svg<'a, R: Files, W: io::Write>(
-    rt: &R,
+pub fn map_svg<'a, D: Folder, W: io::Write>(
+    folder: &D,
     alloc: Global,
     kind: Kind,
     path: &'a str,
     out: &mut W,
 ) -> Result<(), Failure<'a>>
-    ensures drawn { OnOk result (Draws kind (W.contents out.old) (W.contents out.new)) }
+    ensures drawn { OnOk result (Draws (D.known folder.now path.now) kind (W.contents out.old)
+        (W.contents out.new)) }
     ensures refused { IfErr result
-        (λ failure. FailsToDraw kind path.now failure (W.contents out.old) (W.contents out.new)) }
+        (λ failure. FailsToDraw (D.known folder.now path.now) kind path.now failure
+        (W.contents out.old) (W.contents out.new)) }
 {
-    let (bytes, _) = match bytes_at(rt, alloc, path) {
+    let (bytes, _) = match bytes_at(folder, alloc, path) {
         Ok(read) => read,
         Err(failure) => return Err(failure),
     };

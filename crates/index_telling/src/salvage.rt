@@ -1,16 +1,22 @@
 //! The command `salvage`.
 
 ghost use Rattle.std.specs.Option.{option_map};
-ghost use Rattle.std.specs.Prelude.{◌≡◌, ℕ, List, IfErr, IfOk, OnOk};
+ghost use Rattle.std.specs.Prelude.{◌≡◌, ℕ, List, true, IfErr, IfOk, OnErr, OnOk};
+ghost use Rattle.gix_index.specs.Disk.{MayHave, disk_at};
+ghost use Rattle.gix_index.specs.InPlace.Locks.{Restores};
 ghost use Rattle.gix_index.specs.State.{contents};
+ghost use Rattle.gix_index.specs.Disk.World.{MayBe};
 ghost use Rattle.index_inspect.specs.Remains.{IsPlainIndex, Remain};
 ghost use Rattle.index_failures.specs.Reading.{FailsToRead};
-ghost use Rattle.index_telling.specs.Salvaging.{FailsToSalvage, FailsToSave, IsOfBytes, IsSalvaged, Salvages};
+ghost use Rattle.index_telling.specs.Salvaging.{FailsToSalvage, FailsToSave, IsOfBytes, Salvages};
+ghost use Rattle.index_telling.specs.declared.salvage.Rescue.{Rescue as RescueValue};
 
 use crate::map::bytes_at;
 use crate::shared::shared_beside;
 use gix_index::entry::FileTime;
 use gix_index::file::OneLine;
+use gix_index::file::folder::Folder;
+use gix_index::file::lock::Lock;
 use gix_index::hash::Kind;
 use gix_index::write::VersionChoice;
 use gix_index::{File, decode, file};
@@ -23,7 +29,6 @@ use std::alloc::Global;
 use std::fmt;
 use std::fmt::Write as _;
 use std::path::PathBuf;
-use std::rt::Files;
 
 /// What was saved of a file, for its line of faults.
 #[derive(Debug, Drop)]
@@ -98,14 +103,15 @@ fn remains_in<'a>(
 }
 
 /// What can be saved of a file with these bytes, and of the shared index beside it.
-fn saved_of<'a, R: Files>(
-    rt: &R,
+fn saved_of<'a, D: Folder>(
+    folder: &D,
     alloc: Global,
     kind: Kind,
     path: &'a str,
     bytes: &[u8],
 ) -> Result<Salvaged, Failure<'a>>
-    ensures saved { IfOk result (IsOfBytes kind bytes.now) }
+    ensures saved { IfOk result
+        (IsOfBytes (disk_at (D.known folder.now) path.now).shared kind bytes.now) }
     ensures fault { IfErr result (FailsToRead path.now) }
     ensures lost { IfErr result (FailsToSave kind path.now bytes.now) }
 {
@@ -113,7 +119,7 @@ fn saved_of<'a, R: Files>(
         Ok(remains) => remains,
         Err(failure) => return Err(failure),
     };
-    let Ok(shared) = shared_beside(rt, alloc, kind, path, remains.shared_index()) else {
+    let Ok(shared) = shared_beside(folder, alloc, kind, path, remains.shared_index()) else {
         return Err(out_of_memory(path));
     };
     match remains.save(alloc, shared) {
@@ -123,20 +129,24 @@ fn saved_of<'a, R: Files>(
 }
 
 /// What can be saved of a file, and of the shared index beside it; and when the file was changed last.
-fn saved_at<'a, R: Files>(
-    rt: &R,
+fn saved_at<'a, D: Folder>(
+    folder: &D,
     alloc: Global,
     kind: Kind,
     path: &'a str,
 ) -> Result<(Salvaged, FileTime), Failure<'a>>
-    ensures saved { IfOk result (λ x. (bytes : List ℕ) × IsOfBytes kind bytes x.0) }
+    ensures saved { IfOk result (λ x. (bytes : List ℕ)
+        × MayHave (D.known folder.now path.now) bytes
+        × IsOfBytes (disk_at (D.known folder.now) path.now).shared kind bytes x.0) }
+    ensures since { IfOk result
+        (λ x. MayBe (D.known folder.now path.now) (λ file. x.1 ≡ file.time)) }
     ensures fault { IfErr result (FailsToRead path.now) }
 {
-    let (bytes, time) = match bytes_at(rt, alloc, path) {
+    let (bytes, time) = match bytes_at(folder, alloc, path) {
         Ok(read) => read,
         Err(failure) => return Err(failure),
     };
-    match saved_of(rt, alloc, kind, path, &bytes) {
+    match saved_of(folder, alloc, kind, path, &bytes) {
         Ok(saved) => Ok((saved, time)),
         Err(failure) => Err(failure),
     }
@@ -150,24 +160,29 @@ fn saved_at<'a, R: Files>(
 /// the file, and used where it can be read as an index with the link's id and fits the file. A file whose header can't
 /// be read gives nothing. [`Failure::Lock`], [`Failure::Rewrite`]: it can't be written, and what was at the path is
 /// there as before. Any other failure concerns the file that is read.
-pub fn salvaged<'a, R: Files>(
-    rt: &R,
+pub fn salvaged<'a, D: Folder>(
+    folder: &mut D,
     alloc: Global,
     kind: Kind,
     path: &'a str,
     to: &'a str,
 ) -> Result<Rescue<'a>, Failure<'a>>
-    ensures written { IfOk result (IsSalvaged kind to.now) }
+    ensures written { IfOk result (Salvages (D.alone folder.old) (D.guards folder.old) kind
+        (D.known folder.old) (D.known folder.new) path.now to.now) }
+    ensures restored { OnErr result (D.alone folder.old ≡ true → Restores (D.works folder.old)
+        (D.known folder.old) (D.known folder.new) to.now) }
     ensures fault { IfErr result (FailsToSalvage path.now to.now) }
 {
-    let lock = match lock_at(rt, alloc, to) {
+    let lock = match lock_at(folder, alloc, to) {
         Ok(lock) => lock,
         Err(failure) => return Err(failure),
     };
-    let (saved, time) = match saved_at(rt, alloc, kind, path) {
+    let (saved, time) = match saved_at(folder, alloc, kind, path) {
         Ok(found) => found,
         Err(failure) => {
-            lock.release(rt);
+            let Lock { place, file } = lock;
+            drop(file);
+            place.release(folder);
             return Err(failure);
         }
     };
@@ -189,24 +204,28 @@ pub fn salvaged<'a, R: Files>(
     };
     state.set_timestamp(time);
     let index = File::from_state(state, PathBuf::new(alloc));
-    match commit_at(rt, alloc, index, lock, VersionChoice::Smallest, to) {
+    match commit_at(folder, alloc, index, lock, VersionChoice::Smallest, to) {
         Ok(index) => Ok(Rescue { index, report }),
         Err(failure) => Err(failure),
     }
 }
 
 /// The command: [`salvaged`], of which the report is kept.
-pub fn save<'a, R: Files>(
-    rt: &R,
+pub fn save<'a, D: Folder>(
+    folder: &mut D,
     alloc: Global,
     kind: Kind,
     path: &'a str,
     to: &'a str,
 ) -> Result<Report<'a>, Failure<'a>>
-    ensures written { OnOk result (Salvages kind to.now) }
+    ensures written { OnOk result ((rescue : RescueValue) × Salvages (D.alone folder.old)
+        (D.guards folder.old) kind (D.known folder.old) (D.known folder.new) path.now to.now
+        rescue) }
+    ensures restored { OnErr result (D.alone folder.old ≡ true → Restores (D.works folder.old)
+        (D.known folder.old) (D.known folder.new) to.now) }
     ensures fault { IfErr result (FailsToSalvage path.now to.now) }
 {
-    match salvaged(rt, alloc, kind, path, to) {
+    match salvaged(folder, alloc, kind, path, to) {
         Ok(Rescue { index, report }) => {
             drop(index);
             Ok(report)

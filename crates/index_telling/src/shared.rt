@@ -1,20 +1,21 @@
 //! The shared index beside a split one.
 
 ghost use Rattle.std.specs.Option.{option_map};
-ghost use Rattle.std.specs.Path.{path_buf_bytes};
+ghost use Rattle.std.specs.Path.{path_buf_bytes, path_bytes};
 ghost use Rattle.std.specs.Prelude.{◌≡◌, IfOk, IfSome};
-ghost use Rattle.gix_index.specs.Linked.{shared_path};
+ghost use Rattle.gix_index.specs.Disk.{MayHave, disk_at, shared_path};
 ghost use Rattle.gix_index.specs.State.{PathsInStorage, contents};
 ghost use Rattle.gix_index.specs.Storable.{IsStorable};
+ghost use Rattle.gix_index.specs.Disk.World.{Known};
 ghost use Rattle.index_telling.specs.Salvaging.{IsBeside, IsSharedIn};
 
 use gix_index::entry::FileTime;
+use gix_index::file::folder::Folder;
 use gix_index::hash::{Kind, ObjectId};
 use gix_index::{File, State, decode, file};
 use std::alloc::{AllocError, Global};
 use std::io::ErrorKind;
 use std::path::{Path, PathBuf};
-use std::rt::Files;
 
 /// The path of the shared index with this id: beside the file at a path.
 fn shared_path(alloc: Global, path: &str, id: ObjectId) -> Result<PathBuf, AllocError>
@@ -26,12 +27,15 @@ fn shared_path(alloc: Global, path: &str, id: ObjectId) -> Result<PathBuf, Alloc
 }
 
 /// All bytes of the file at a path, if it can be read.
-fn readable<R: Files>(
-    rt: &R,
+fn readable<D: Folder>(
+    folder: &D,
     alloc: Global,
     path: Path<'_>,
-) -> Result<Option<Vec<u8>>, AllocError> {
-    match file::bytes_at(rt, alloc, path) {
+) -> Result<Option<Vec<u8>>, AllocError>
+    ensures { IfOk result (λ found. IfSome found
+        (λ bytes. MayHave (D.known folder.now (path_bytes path.entry)) bytes.items)) }
+{
+    match file::bytes_at(folder, alloc, path) {
         Ok((bytes, _)) => Ok(Some(bytes)),
         Err(e) => {
             if e.kind() == ErrorKind::OutOfMemory {
@@ -51,7 +55,8 @@ fn shared_in(
     id: ObjectId,
 ) -> Result<Option<State>, AllocError>
     ensures read { IfOk result
-        (λ found. IfSome found (λ state. IsSharedIn kind id (contents state))) }
+        (λ found. IfSome found (λ state. (known : Known) → MayHave known bytes.now
+        → IsSharedIn known kind id (contents state))) }
     ensures placed { IfOk result (λ found. IfSome found PathsInStorage) }
     ensures storable { IfOk result
         (λ found. IfSome found (λ state. IsStorable (contents state))) }
@@ -70,14 +75,15 @@ fn shared_in(
 
 /// The shared index that is wanted, from the folder of the file at a path, where it is named `sharedindex.` with the id
 /// in base 16. None where it can't be read as an index with that id.
-pub fn shared_beside<R: Files>(
-    rt: &R,
+pub fn shared_beside<D: Folder>(
+    folder: &D,
     alloc: Global,
     kind: Kind,
     path: &str,
     wanted: Option<ObjectId>,
 ) -> Result<Option<State>, AllocError>
-    ensures read { IfOk result (λ found. IsBeside kind wanted (option_map contents found)) }
+    ensures read { IfOk result (λ found. IsBeside (disk_at (D.known folder.now) path.now).shared kind
+        wanted (option_map contents found)) }
     ensures placed { IfOk result (λ found. IfSome found PathsInStorage) }
     ensures storable { IfOk result
         (λ found. IfSome found (λ state. IsStorable (contents state))) }
@@ -86,7 +92,7 @@ pub fn shared_beside<R: Files>(
         return Ok(None);
     };
     let shared = shared_path(alloc, path, id)?;
-    let Some(bytes) = readable(rt, alloc, shared.as_path())? else {
+    let Some(bytes) = readable(folder, alloc, shared.as_path())? else {
         return Ok(None);
     };
     shared_in(alloc, kind, &bytes, shared, id)

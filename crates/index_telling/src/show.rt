@@ -4,10 +4,11 @@ ghost use Rattle.std.specs.Prelude.{◌≡◌, IfErr, IfOk, OnOk};
 ghost use Rattle.gix_index.specs.File.{checksum_of, state_of};
 ghost use Rattle.gix_index.specs.State.{PathsInStorage, contents};
 ghost use Rattle.index_failures.specs.Reading.{FailsToRead};
-ghost use Rattle.index_telling.specs.Showing.{FailsToShow, IsInSomeBytes, Shows};
+ghost use Rattle.index_telling.specs.Showing.{FailsToShow, IsInBytes, Shows};
 
 use gix_index::entry::FileTime;
 use gix_index::file::Unfollowed;
+use gix_index::file::folder::Folder;
 use gix_index::hash::Kind;
 use gix_index::{File, decode};
 use index_failures::failure::Failure;
@@ -17,7 +18,6 @@ use index_show::write_show;
 use std::alloc::Global;
 use std::io;
 use std::path::PathBuf;
-use std::rt::Files;
 
 /// The index in a file, and what the file's offset table and its end marker say.
 #[derive(Drop)]
@@ -27,14 +27,14 @@ pub struct Told {
 }
 
 /// What a file holds, whose link isn't followed.
-pub fn told_at<'a, R: Files>(
-    rt: &R,
+pub fn told_at<'a, D: Folder>(
+    folder: &D,
     alloc: Global,
     kind: Kind,
     path: &'a str,
 ) -> Result<Told, Failure<'a>>
-    ensures told { IfOk result (λ told. IsInSomeBytes kind (contents (state_of told.index))
-        (checksum_of told.index) told.marks) }
+    ensures told { IfOk result (λ told. IsInBytes (D.known folder.now path.now) kind
+        (contents (state_of told.index)) (checksum_of told.index) told.marks) }
     ensures placed { IfOk result (λ told. PathsInStorage (state_of told.index)) }
     ensures fault { IfErr result (FailsToRead path.now) }
 {
@@ -43,7 +43,7 @@ pub fn told_at<'a, R: Files>(
     };
     let time = FileTime::EPOCH;
     let options = decode::Options::default();
-    let read = match File::unfollowed_at(rt, alloc, file, kind, false, time, options) {
+    let read = match File::unfollowed_at(folder, alloc, file, kind, false, time, options) {
         Ok(read) => read,
         Err(fault) => return Err(failure_of(path, fault)),
     };
@@ -58,18 +58,20 @@ pub fn told_at<'a, R: Files>(
 ///
 /// Nothing goes to `out` before the file was read whole. Ok: `out` took all lines. [`Failure::Output`]: it took a
 /// front. Any other failure: it took nothing.
-pub fn show<'a, R: Files, W: io::Write>(
-    rt: &R,
+pub fn show<'a, D: Folder, W: io::Write>(
+    folder: &D,
     alloc: Global,
     kind: Kind,
     path: &'a str,
     out: &mut W,
 ) -> Result<(), Failure<'a>>
-    ensures shown { OnOk result (Shows kind (W.contents out.old) (W.contents out.new)) }
+    ensures shown { OnOk result (Shows (D.known folder.now path.now) kind (W.contents out.old)
+        (W.contents out.new)) }
     ensures refused { IfErr result
-        (λ failure. FailsToShow kind path.now failure (W.contents out.old) (W.contents out.new)) }
+        (λ failure. FailsToShow (D.known folder.now path.now) kind path.now failure
+        (W.contents out.old) (W.contents out.new)) }
 {
-    let Told { index, marks } = match told_at(rt, alloc, kind, path) {
+    let Told { index, marks } = match told_at(folder, alloc, kind, path) {
         Ok(told) => told,
         Err(failure) => return Err(failure),
     };

@@ -1,7 +1,7 @@
 //! A file that is looked at again after the index was written to it, and one whose lock another holds.
 
 use gix_index::entry::{FileTime, Flags, Mode, Stage, Stat};
-use gix_index::file::{verify, write};
+use gix_index::file::{System, verify, write};
 use gix_index::hash::{Kind, ObjectId};
 use gix_index::write::Options;
 use gix_index::{File, State};
@@ -25,12 +25,12 @@ fn is_written(rt: &HostRuntime, file: &mut File, skip_hash: bool) -> bool {
         skip_hash,
         ..Options::default()
     };
-    file.paths_in_storage() && file.write(rt, rt.alloc(), options).is_ok()
+    file.paths_in_storage() && file.write(&mut System { rt }, rt.alloc(), options).is_ok()
 }
 
 /// Whether the bytes in a file of these bytes are those of the checksum.
 fn verify_told(rt: &HostRuntime, file: &File) -> &'static str {
-    match file.verify_integrity(rt, rt.alloc()) {
+    match file.verify_integrity(&System { rt }, rt.alloc()) {
         Ok(()) => "intact",
         Err(verify::Error::Io(_)) => "no file",
         Err(verify::Error::TooShort) => "too short",
@@ -63,7 +63,7 @@ fn a_held_lock_changes_nothing(rt: HostRuntime) -> Result<(), Fail> {
     let before = file.clone()?;
     fs::write(&rt, "held.lock", b"".as_slice())?;
     assert!(rt; file.paths_in_storage());
-    let answer = file.write(&rt, rt.alloc(), Options::default());
+    let answer = file.write(&mut System { rt: &rt }, rt.alloc(), Options::default());
     assert!(rt; matches!(answer, Err(write::Error::AcquireLock(_))));
     assert!(rt; file.entries() == before.entries());
     assert_eq!(rt; file.version(), before.version());

@@ -14,6 +14,8 @@ mod entry;
 #[cfg(test)]
 mod extension;
 #[cfg(test)]
+mod faults;
+#[cfg(test)]
 mod file;
 #[cfg(test)]
 mod hash;

@@ -1,15 +1,18 @@
 //! The commands, from words to a status.
 
-ghost use Rattle.std.specs.Prelude.{◌≡◌, ◌≤◌, ◌↔◌, false, map, IfErr, IfOk, OnOk, OnErr, IsSomeAnd, None, is_some, string_bytes};
+ghost use Rattle.std.specs.Prelude.{◌≡◌, ◌≤◌, ◌↔◌, false, true, map, IfErr, IfOk, OnOk, OnErr, IsSomeAnd, None, is_some, string_bytes};
 ghost use Rattle.std.specs.Io.KnownBytes.{Keeps};
 ghost use Rattle.std.specs.Option.{option_map};
-ghost use Rattle.index_tool.specs.Command.{command_named, command_value, kind_named, read_named, reading_named, reports, write_named, writing_named, FailsToStore, GivesUp, Reads, StoresIndex, Succeeds, Prints, Writes};
+ghost use Rattle.index_tool.specs.Command.{command_named, command_value, kind_named, opted, read_named, reading_named, reports, write_named, writing_named, FailsToStore, GivesUp, Reads, Spares, StoresIndex, Succeeds, Prints, Writes};
+ghost use Rattle.gix_index.specs.Disk.{disk_at};
+ghost use Rattle.gix_index.specs.InPlace.Locks.{Restores};
 
+use gix_index::file::folder::Folder;
 use gix_index::hash::Kind;
 use index_commands::check::check;
 use index_commands::list::list;
 use index_commands::rewrite::{Form, rewrite};
-use index_commands::rewrite_trees::rewrite_trees;
+use index_commands::rewrite_trees::{Counts, rewrite_trees};
 use index_commands::trees::trees;
 use index_failures::failure::Failure;
 use index_telling::map::map;
@@ -20,7 +23,6 @@ use index_telling::show_json::show_json;
 use std::alloc::Global;
 use std::io;
 use std::io::Write;
-use std::rt::Files;
 
 /// The status of a command that succeeded.
 pub const DONE: u8 = 0;
@@ -56,7 +58,7 @@ pub enum Writing {
     /// The index again.
     Rewrite(Form),
     /// The index with a cached tree made anew.
-    RewriteTrees,
+    RewriteTrees(Counts),
     /// What can be saved of it, where it is damaged.
     Salvage,
 }
@@ -133,7 +135,7 @@ fn writing_of(name: &str) -> Option<Writing>
         return Some(Writing::Rewrite(Form::V4));
     }
     if name == "rewrite-trees" {
-        return Some(Writing::RewriteTrees);
+        return Some(Writing::RewriteTrees(Counts::Known));
     }
     if name == "salvage" {
         return Some(Writing::Salvage);
@@ -156,20 +158,44 @@ fn read_of(what: Reading, words: &[String]) -> Option<Command<'_>>
     })
 }
 
-/// The command of the words KIND FILE OUT.
-fn write_of(what: Writing, words: &[String]) -> Option<Command<'_>>
-    ensures { option_map command_value result ≡ write_named what (map string_bytes words.now) }
+/// What is written with an option in front of the words, where it may stand there.
+fn opted(what: Writing, option: &str) -> Option<Writing>
+    ensures { result ≡ opted what option.now }
 {
-    let [kind, file, to] = words else {
-        return None;
-    };
-    let kind = kind_of(kind.as_str())?;
+    match what {
+        Writing::RewriteTrees(_) if option == "--missing-ok" => {
+            Some(Writing::RewriteTrees(Counts::All))
+        }
+        Writing::RewriteTrees(_) | Writing::Rewrite(_) | Writing::Salvage => None,
+    }
+}
+
+/// The command of these words.
+fn write_to<'a>(what: Writing, kind: &'a str, path: &'a str, to: &'a str) -> Option<Command<'a>>
+    ensures { option_map command_value result
+        ≡ option_map (λ k. Writes what k path.now to.now) (kind_named kind.now) }
+{
+    let kind = kind_of(kind)?;
     Some(Command::Write {
         what,
         kind,
-        path: file.as_str(),
-        to: to.as_str(),
+        path,
+        to,
     })
+}
+
+/// The command of the words KIND FILE OUT, perhaps behind an option.
+fn write_of(what: Writing, words: &[String]) -> Option<Command<'_>>
+    ensures { option_map command_value result ≡ write_named what (map string_bytes words.now) }
+{
+    match words {
+        [kind, file, to] => write_to(what, kind.as_str(), file.as_str(), to.as_str()),
+        [option, kind, file, to] => {
+            let what = opted(what, option.as_str())?;
+            write_to(what, kind.as_str(), file.as_str(), to.as_str())
+        }
+        _ => None,
+    }
 }
 
 /// The command that these words are, if they are one.
@@ -187,69 +213,81 @@ fn command_of(words: &[String]) -> Option<Command<'_>>
 }
 
 /// Tells what is asked of the index in a file: Ok where all of it went to `out`.
-fn tell<'a, R: Files, W: io::Write>(
-    rt: &R,
+fn tell<'a, D: Folder, W: io::Write>(
+    folder: &D,
     alloc: Global,
     what: Reading,
     kind: Kind,
     path: &'a str,
     out: &mut W,
 ) -> Result<(), Failure<'a>>
-    ensures told { OnOk result (Prints what kind (W.contents out.old) (W.contents out.new)) }
-    ensures refused { OnErr result
-        (GivesUp (Reads what kind path.now) (W.contents out.old) (W.contents out.new)) }
+    ensures told { OnOk result (Prints what (disk_at (D.known folder.now) path.now) kind
+        (W.contents out.old) (W.contents out.new)) }
+    ensures refused { OnErr result (GivesUp (D.known folder.now) (Reads what kind path.now)
+        (W.contents out.old) (W.contents out.new)) }
 {
     match what {
-        Reading::List => list(rt, alloc, kind, path, out),
-        Reading::Check => check(rt, alloc, false, kind, path, out),
-        Reading::CheckTrees => check(rt, alloc, true, kind, path, out),
-        Reading::Map => map(rt, alloc, kind, path, out),
-        Reading::MapSvg => map_svg(rt, alloc, kind, path, out),
-        Reading::Show => show(rt, alloc, kind, path, out),
-        Reading::ShowJson => show_json(rt, alloc, kind, path, out),
-        Reading::Trees => trees(rt, alloc, kind, path, out),
+        Reading::List => list(folder, alloc, kind, path, out),
+        Reading::Check => check(folder, alloc, false, kind, path, out),
+        Reading::CheckTrees => check(folder, alloc, true, kind, path, out),
+        Reading::Map => map(folder, alloc, kind, path, out),
+        Reading::MapSvg => map_svg(folder, alloc, kind, path, out),
+        Reading::Show => show(folder, alloc, kind, path, out),
+        Reading::ShowJson => show_json(folder, alloc, kind, path, out),
+        Reading::Trees => trees(folder, alloc, kind, path, out),
     }
 }
 
 /// Writes what is asked of the index in a file to another path. A report comes of what was saved alone.
-fn write<'a, R: Files>(
-    rt: &R,
+fn write<'a, D: Folder>(
+    folder: &mut D,
     alloc: Global,
     what: Writing,
     kind: Kind,
     path: &'a str,
     to: &'a str,
 ) -> Result<Option<Report<'a>>, Failure<'a>>
-    ensures written { OnOk result (StoresIndex what kind to.now) }
+    ensures written { OnOk result (StoresIndex what (D.alone folder.old) (D.guards folder.old) kind
+        (D.known folder.old) (D.known folder.new) path.now to.now) }
+    ensures restored { OnErr result (D.alone folder.old ≡ true → Restores (D.works folder.old)
+        (D.known folder.old) (D.known folder.new) to.now) }
     ensures fault { IfErr result (FailsToStore what path.now to.now) }
     ensures report { IfOk result
         (λ report. is_some report ≡ reports (Writes what kind path.now to.now)) }
 {
     match what {
-        Writing::Rewrite(form) => rewrite(rt, alloc, form, kind, path, to)?,
-        Writing::RewriteTrees => rewrite_trees(rt, alloc, kind, path, to)?,
-        Writing::Salvage => return Ok(Some(save(rt, alloc, kind, path, to)?)),
+        Writing::Rewrite(form) => {
+            rewrite(folder, alloc, form, kind, path, to)?;
+            Ok(None)
+        }
+        Writing::RewriteTrees(counts) => {
+            rewrite_trees(folder, alloc, counts, kind, path, to)?;
+            Ok(None)
+        }
+        Writing::Salvage => Ok(Some(save(folder, alloc, kind, path, to)?)),
     }
-    Ok(None)
 }
 
 /// Runs a command: Ok where its whole result went to `out`, with what else is to be told.
-fn run_command<'a, R: Files, W: io::Write>(
-    rt: &R,
+fn run_command<'a, D: Folder, W: io::Write>(
+    folder: &mut D,
     alloc: Global,
     command: Command<'a>,
     out: &mut W,
 ) -> Result<Option<Report<'a>>, Failure<'a>>
-    ensures done { OnOk result
-        (Succeeds (command_value command.entry) (W.contents out.old) (W.contents out.new)) }
-    ensures refused { OnErr result
-        (GivesUp (command_value command.entry) (W.contents out.old) (W.contents out.new)) }
+    ensures done { OnOk result (Succeeds (D.alone folder.old) (D.guards folder.old)
+        (D.known folder.old) (D.known folder.new) (command_value command.entry)
+        (W.contents out.old) (W.contents out.new)) }
+    ensures refused { OnErr result (GivesUp (D.known folder.old) (command_value command.entry)
+        (W.contents out.old) (W.contents out.new)) }
+    ensures spared { OnErr result (Spares (D.alone folder.old) (D.works folder.old)
+        (D.known folder.old) (D.known folder.new) (command_value command.entry)) }
     ensures report { IfOk result
         (λ report. is_some report ≡ reports (command_value command.entry)) }
 {
     match command {
         Command::Read { what, kind, path } => {
-            tell(rt, alloc, what, kind, path, out)?;
+            tell(folder, alloc, what, kind, path, out)?;
             Ok(None)
         }
         Command::Write {
@@ -257,7 +295,7 @@ fn run_command<'a, R: Files, W: io::Write>(
             kind,
             path,
             to,
-        } => write(rt, alloc, what, kind, path, to),
+        } => write(folder, alloc, what, kind, path, to),
     }
 }
 
@@ -271,17 +309,18 @@ fn run_command<'a, R: Files, W: io::Write>(
 /// it has one, `map-svg KIND FILE` a picture of these parts, `show KIND FILE` lines of what it holds, and `show-json
 /// KIND FILE` the same as JSON. `rewrite KIND FILE OUT` writes the index to the path OUT, and nothing to `out`: OUT is
 /// locked, as git locks an index, before FILE is opened, and gets the time of FILE. `rewrite4 KIND FILE OUT` does so in
-/// version 4, and `rewrite-trees KIND FILE OUT` with a cached tree made anew. `salvage KIND FILE OUT` writes what can
-/// be saved of FILE there, with the entries of its shared index where that can be read, and says on one line on
-/// `faults` how many entries were declared, read and kept, where the first fault is, and whether the entries of a
-/// shared index are there or missing.
+/// version 4, and `rewrite-trees KIND FILE OUT` with a cached tree made anew, in which a directory has a count and an id
+/// where that of FILE has the same; with `--missing-ok` in front of KIND each has them, also those of trees that no
+/// object store has yet. `salvage KIND FILE OUT` writes what can be saved of FILE there, with the entries of its shared
+/// index where that can be read, and says on one line on `faults` how many entries were declared, read and kept, where
+/// the first fault is, and whether the entries of a shared index are there or missing.
 ///
 /// [`DONE`]: the command did all that. [`REFUSED`]: a file can't be read or written, or is no such index, or `out`
 /// failed; nothing goes to `out` before FILE was read whole and, but for `map` and `map-svg`, all checks have passed;
 /// the map and the picture of a damaged file go there whole. [`WRONG_WORDS`]: the words are no command; no file is
 /// opened. A status other than [`DONE`] comes with one line on `faults`, which names the file that it concerns.
-pub fn run<R: Files + Alloc, O: io::Write, E: io::Write>(
-    rt: &R,
+pub fn run<D: Folder, O: io::Write, E: io::Write>(
+    folder: &mut D,
     alloc: Global,
     words: &[String],
     out: &mut O,
@@ -292,11 +331,16 @@ pub fn run<R: Files + Alloc, O: io::Write, E: io::Write>(
         ↔ (command_named (map string_bytes words.now) ≡ None) }
     ensures nothing_opened { result ≡ WRONG_WORDS
         → Keeps (O.contents out.old) (O.contents out.new) }
-    // The file's bytes can't be named: what goes to `out` is the result for some bytes.
     ensures done { result ≡ DONE → IsSomeAnd (command_named (map string_bytes words.now))
-        (λ command. Succeeds command (O.contents out.old) (O.contents out.new)) }
+        (λ command. Succeeds (D.alone folder.old) (D.guards folder.old) (D.known folder.old)
+        (D.known folder.new) command (O.contents out.old) (O.contents out.new)) }
     ensures refused { result ≡ REFUSED → IsSomeAnd (command_named (map string_bytes words.now))
-        (λ command. GivesUp command (O.contents out.old) (O.contents out.new)) }
+        (λ command. GivesUp (D.known folder.old) command (O.contents out.old)
+        (O.contents out.new)) }
+    ensures spared { result ≡ REFUSED → IsSomeAnd (command_named (map string_bytes words.now))
+        (λ command. Spares (D.alone folder.old) (D.works folder.old) (D.known folder.old)
+        (D.known folder.new) command) }
+    ensures untouched { result ≡ WRONG_WORDS → D.known folder.new ≡ D.known folder.old }
     ensures no_fault { result ≡ DONE → IsSomeAnd (command_named (map string_bytes words.now))
         (λ command. reports command ≡ false
         → Keeps (E.contents faults.old) (E.contents faults.new)) }
@@ -305,11 +349,11 @@ pub fn run<R: Files + Alloc, O: io::Write, E: io::Write>(
         let _ = writeln!(
             faults,
             "index-tool: usage: index-tool list|check|check-trees|map|map-svg|show|show-json|trees sha1|sha256 FILE, \
-             or index-tool rewrite|rewrite4|rewrite-trees|salvage sha1|sha256 FILE OUT"
+             or index-tool rewrite|rewrite4|rewrite-trees [--missing-ok]|salvage sha1|sha256 FILE OUT"
         );
         return WRONG_WORDS;
     };
-    match run_command(rt, alloc, command, out) {
+    match run_command(folder, alloc, command, out) {
         Ok(None) => DONE,
         Ok(Some(report)) => {
             let _ = writeln!(faults, "index-tool: {report}");

@@ -1,8 +1,11 @@
 pub mod Aparts
 pub mod Begun
 pub mod Behinds
+pub mod Beside
 pub mod Checked
+pub mod Divided
 pub mod Gives
+pub mod Keeps
 pub mod Leaves
 pub mod OneTree
 pub mod PathNames

@@ -16,13 +16,16 @@ use Rattle.std.proofs.lemmas.List.{get_or-map, length-map}
 use Rattle.std.proofs.lemmas.List.Sorted.{IsNonDecreasingBy-from_all_adjacent}
 use Rattle.std.proofs.lemmas.Map.Lookups.{exact_bytes}
 use denote.Param.Members.{Mut}
+use Rattle.index_parts.specs.declared.hash.Kind.{Kind}
+use Rattle.index_tree_writer.specs.Staged.{Staged}
 use Rattle.index_cached_tree.specs.Tree.{Node, none, name_of, node_of, nodes_from, name_cmp}
 use Rattle.index_cached_tree.specs.declared.Tree.{Tree}
 use Rattle.index_cached_tree.specs.declared.Tree.TheViews.{out-Tree}
 use Rattle.index_cached_tree.proofs.Children.{stand, rises_to}
 use Rattle.index_cached_tree.proofs.Spelled.{node_of-out}
 use Rattle.index_tree_writer.specs.TreeIds.{staged_at}
-use Rattle.index_tree_writer.specs.TreeIdsSteps.{GivesNode, IsChildOf, IsGiving, children_of, its_tree, nothing, whole}
+use Rattle.index_tree_writer.specs.TreeIdsSteps.{GivesAt, GivesNode, IsChildOf, IsSortedBelow, children_of, its_tree}
+use Rattle.index_tree_writer.specs.TreeIdsSteps.{nothing, whole}
 use Rattle.index_tree_writer.proofs.Gives.{NotNamed}
 use Rattle.index_tree_writer.proofs.Spots.{same_nodes}
 
@@ -98,16 +101,32 @@ searched g f name ts r sorted range at calls =
     by (Ok i) lt h = (lt, h)
     by (Err i) lt h = let p = h (stands_rise name ts sorted) in each_apart name ts (unequal name ts i p.0 p.1)
 
+-- what is found has the name, in any order
+pub hit : {F : Type 0} (g : Mut F (Bor Tree × Unit {0}) Ordering) (f : F) (name : List ℕ) (ts : List Tree)
+    (r : Result ℕ ℕ) (i : ℕ) → r ≡ Ok i → IsSearchInRange r (length ts)
+    → ((ord : Tree → Ordering) → ComputesKey g ord f → IsBinarySearchResult ord ts r)
+    → ((a : Bor Tree × Unit {0}) (o : Ordering) (f' : F) → Called g f a o f'
+    → (o ≡ slice_cmp nat_cmp (name_of (node_of a.0.now)) name) × (f' ≡ f))
+    → Finds name ts r
+hit g f name ts r i is range at calls =
+    by r is range (at (stand name) (always_returns_same g (λ a o. o ≡ stand name a.0.now) f calls))
+  where
+    by : (r : Result ℕ ℕ) → r ≡ Ok i → IsSearchInRange r (length ts) → IsBinarySearchResult (stand name) ts r
+        → Finds name ts r
+    by (Ok j) e lt h = (lt, h)
+    by (Err j) e lt h = absurd cc
+
 -- ---- the children of what is given
 
-sorted_children : (given : Option Node) (ts : List Node) → IsGiving given → children_of given ≡ nodes_from ts
-    → IsSorted name_cmp ts
-sorted_children given ts h e = by given h.3 e
+-- a node that is given to a directory
+pub sorted_children : (kind : Kind) (staged : List Staged) (names : List (List ℕ)) (given : Option Node)
+    → GivesAt kind staged names given → IsSortedBelow given
+sorted_children kind staged names given g ts e = by given g e
   where
     empty : none ≡ nodes_from ts → IsSorted name_cmp ts
     empty z = subst (IsSorted name_cmp) (same_nodes [] ts z) (λ k d low within. absurd (omega (arith, within)))
 
-    by : (given : Option Node) → GivesNode h.0 h.2 (staged_at h.2 h.1) given → children_of given ≡ nodes_from ts
+    by : (given : Option Node) → GivesNode kind names (staged_at names staged) given → children_of given ≡ nodes_from ts
         → IsSorted name_cmp ts
     by None (nothing some later) z = empty z
     by (Some t) (its_tree n items u is some nodes) z = subst (IsSorted name_cmp)
@@ -126,8 +145,8 @@ module _ (given : Option (Bor Tree)) (b : Bor Tree) (is : given ≡ Some b) (ts 
   its_kids : children_of as_node ≡ nodes_from (map node_of ts)
   its_kids = kids (ap (λ (o : Option (Bor Tree)). option_map (λ t. node_of t.now) o) is)
 
-  pub sorted_kids : IsGiving as_node → IsSorted name_cmp (map node_of ts)
-  sorted_kids h = sorted_children as_node (map node_of ts) h its_kids
+  pub sorted_kids : IsSortedBelow as_node → IsSorted name_cmp (map node_of ts)
+  sorted_kids h = h (map node_of ts) its_kids
 
   pub none_found : (r : Result ℕ ℕ) (i : ℕ) → r ≡ Err i → Finds name ts r → IsChildOf as_node name None
   none_found r i e h = (map node_of ts, its_kids, subst (Finds name ts) e h)

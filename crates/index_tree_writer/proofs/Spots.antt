@@ -22,11 +22,16 @@ use Rattle.index_cached_tree.proofs.Spelled.{node_of-out}
 use Rattle.index_tree_writer.specs.Directory.{Items, IsTreeOf, no_more, next, leaf_count, items_id, leaves}
 use Rattle.index_entries.specs.Record.{Record}
 use Rattle.index_tree_writer.specs.Cached.{IsCached}
-use Rattle.index_tree_writer.specs.Refusals.{AreFit}
-use Rattle.index_tree_writer.specs.Staged.{Staged, staged_in}
-use Rattle.index_tree_writer.specs.TreeIds.{any_name, moved, AreRight, GivesNone, IsFirstWrong, GivesId, IsRight, Names}
+use Rattle.index_tree_writer.specs.Refusals.{AreFit, AreRefused, Both, Mode, NullId, OtherKind, Path, Refusal}
+use Rattle.index_tree_writer.specs.Refusals.{SaysTreesFault, TooMany, Unmerged}
+use Rattle.index_tree_writer.specs.declared.error.Error.{Error as WriteError}
+use Rattle.index_tree_writer.specs.declared.error.Error.TheVariants as writes
+use Rattle.index_tree_writer.specs.Staged.{Staged, merged_in, staged_in, unmerged_in}
+use Rattle.index_tree_writer.specs.TreeIds.{any_name, moved, AreRight, Gives, GivesId, GivesNone, IsFirstWrong, IsRight}
+use Rattle.index_tree_writer.specs.TreeIds.{Names}
 use Rattle.index_tree_writer.specs.TreeIds.{SaysTreeIds, Spot, joined, spots, spots_below, staged_at}
-use Rattle.index_tree_writer.specs.TreeIdsSteps.{GivesNode, GivesAt, IsAmong, IsChildOf, IsSaid, SaysFirst, SaysSpot}
+use Rattle.index_tree_writer.specs.TreeIdsSteps.{GivesNode, GivesAt, IsAmong, IsChildOf, IsPassedOn, IsSaid, IsTold}
+use Rattle.index_tree_writer.specs.TreeIdsSteps.{SaysFirst, SaysSpot}
 use Rattle.index_tree_writer.specs.TreeIdsSteps.{children_of, parent_path, its_tree, nothing, tells, whole}
 use Rattle.index_tree_writer.specs.declared.tree_ids.Error.{Error}
 use Rattle.index_tree_writer.specs.declared.tree_ids.Error.TheVariants as errors
@@ -106,7 +111,7 @@ later_uncounted [] some h = absurd (some refl)
 later_uncounted (s ∷ ss) some h = let e : s.later ≡ true = All-head Later s ss h in rw e refl
 
 pub none_told : (kind : Kind) (staged : List Staged) (names : List (List ℕ)) (given : Option Node)
-    → GivesAt kind staged names given → tells given ≡ None → GivesNone kind staged names
+    → GivesAt kind staged names given → tells given ≡ None → (i : ObjectId) (c : ℕ) → GivesId kind staged names i c → ⊥
 none_told kind staged names None (nothing some later) e i c (inl (a)) = by a.some
   where
     by : (names ≡ []) ⊎ (staged_at names staged ≢ []) → ⊥
@@ -171,25 +176,26 @@ path_of_front (n ∷ names) front e =
 
 -- ---- one node
 
-pub spot_said : (kind : Kind) (staged : List Staged) (names : List (List ℕ)) (given : Option Node) (front : List ℕ)
+pub spot_said : (kind : Kind) (rs : List Record) (names : List (List ℕ)) (given : Option Node) (front : List ℕ)
     (id : ObjectId) (count : ℕ) (e : Error) → IsSaid given front id count e → (tells given ≡ Some (id, count) → ⊥)
-    → GivesAt kind staged names given → front ≡ parent_path names
-    → SaysSpot kind staged (record { names = names; id = id; count = Some count }) e
-spot_said kind staged names given front id count (errors.Other path i n other number) s wrong g f = (
-  λ r.
-      let o =
-      one_given kind staged names other id number count (told_given kind staged names given other number g s.3) r in
-      wrong (s.3 ∙ ap (λ (x : ObjectId). Some (x, number)) o.0 ∙ ap (λ (c : ℕ). Some (id, c)) o.1),
-  (path_of_front names front f ∙ sym s.0, sym s.1, ap Some (sym s.2)),
-  told_given kind staged names given other number g s.3,
-)
-spot_said kind staged names given front id count (errors.Ungiven path i n) s wrong g f = (
-  λ r. none_told kind staged names given g s.3 id count r,
-  (path_of_front names front f ∙ sym s.0, sym s.1, ap Some (sym s.2)),
-  none_told kind staged names given g s.3,
-)
-spot_said kind staged names given front id count (errors.Entries fault) s wrong g f = s
-spot_said kind staged names given front id count errors.Memory s wrong g f = tt
+    → IsTold kind rs names (tells given) → front ≡ parent_path names
+    → SaysSpot kind rs (record { names = names; id = id; count = Some count }) e
+spot_said kind rs names given front id count (errors.Other path i n other number) s wrong told f =
+    let gives : Gives kind rs names other number = subst (IsTold kind rs names) s.3 told in (
+      λ r.
+          let o = one_given kind (staged_in (merged_in rs)) names other id number count gives.1 r.1 in
+          wrong (s.3 ∙ ap (λ (x : ObjectId). Some (x, number)) o.0 ∙ ap (λ (c : ℕ). Some (id, c)) o.1),
+      (path_of_front names front f ∙ sym s.0, sym s.1, ap Some (sym s.2)),
+      gives,
+    )
+spot_said kind rs names given front id count (errors.Ungiven path i n) s wrong told f =
+    let none : GivesNone kind rs names = subst (IsTold kind rs names) s.3 told in (
+      λ r. none id count r,
+      (path_of_front names front f ∙ sym s.0, sym s.1, ap Some (sym s.2)),
+      none,
+    )
+spot_said kind rs names given front id count (errors.Entries fault) s wrong told f = s
+spot_said kind rs names given front id count errors.Memory s wrong told f = tt
 
 -- ---- a child
 
@@ -262,7 +268,7 @@ module _ (kind : Kind) (staged : List Staged) (names : List (List ℕ)) (name : 
 
 -- ---- a node, and all below it
 
-abbrev row : List Tree → Nodes
+abbrev pub row : List Tree → Nodes
 row ts = nodes_from (map node_of ts)
 
 below_append : (names : List (List ℕ)) (a b : List Node)
@@ -272,17 +278,17 @@ below_append names (t ∷ a) b =
     ap (λ (l : List Spot). spots (names ++ name_of t ∷ []) t ++ l) (below_append names a b) ∙ sym (append_assoc
     (spots (names ++ name_of t ∷ []) t) (spots_below names (nodes_from a)) (spots_below names (nodes_from b)))
 
-row_parts : (names : List (List ℕ)) (a b : List Tree)
+pub row_parts : (names : List (List ℕ)) (a b : List Tree)
     → spots_below names (row (a ++ b)) ≡ spots_below names (row a) ++ spots_below names (row b)
 row_parts names a b = ap (λ (l : List Node). spots_below names (nodes_from l)) (map-append node_of a b)
     ∙ below_append names (map node_of a) (map node_of b)
 
-module _ (kind : Kind) (staged : List Staged) where
+module _ (kind : Kind) (rs : List Record) where
   abbrev Right : Spot → Type 0
-  Right = IsRight kind staged
+  Right = IsRight kind rs
 
-  wrong_within : (P : Spot → Type 0) (a b c : List Spot) → All Right a → IsFirstWrong kind staged b P
-      → IsFirstWrong kind staged (a ++ (b ++ c)) P
+  wrong_within : (P : Spot → Type 0) (a b c : List Spot) → All Right a → IsFirstWrong kind rs b P
+      → IsFirstWrong kind rs (a ++ (b ++ c)) P
   wrong_within P a b c h w = (
     a ++ w.0,
     w.1,
@@ -294,16 +300,16 @@ module _ (kind : Kind) (staged : List Staged) where
     w.6,
   )
 
-  says_within : (e : Error) (a b c : List Spot) → All Right a → SaysFirst kind staged b e
-      → SaysFirst kind staged (a ++ (b ++ c)) e
+  says_within : (e : Error) (a b c : List Spot) → All Right a → SaysFirst kind rs b e
+      → SaysFirst kind rs (a ++ (b ++ c)) e
   says_within (errors.Other path id count other number) a b c h w =
-      wrong_within (λ s. Names (bstring_bytes path) id count s × GivesId kind staged s.names other number) a b c h w
+      wrong_within (λ s. Names (bstring_bytes path) id count s × Gives kind rs s.names other number) a b c h w
   says_within (errors.Ungiven path id count) a b c h w =
-      wrong_within (λ s. Names (bstring_bytes path) id count s × GivesNone kind staged s.names) a b c h w
+      wrong_within (λ s. Names (bstring_bytes path) id count s × GivesNone kind rs s.names) a b c h w
   says_within (errors.Entries fault) a b c h w = w
   says_within errors.Memory a b c h w = w
 
-  says_own : (e : Error) (s : Spot) (ss : List Spot) → SaysSpot kind staged s e → SaysFirst kind staged (s ∷ ss) e
+  says_own : (e : Error) (s : Spot) (ss : List Spot) → SaysSpot kind rs s e → SaysFirst kind rs (s ∷ ss) e
   says_own (errors.Other path id count other number) s ss w = ([], s, ss, refl, All-nil Right, w.0, (w.1, w.2))
   says_own (errors.Ungiven path id count) s ss w = ([], s, ss, refl, All-nil Right, w.0, (w.1, w.2))
   says_own (errors.Entries fault) s ss w = w
@@ -316,8 +322,8 @@ module _ (kind : Kind) (staged : List Staged) where
     spots_at : spots names (node_of t) ≡ own ∷ spots_below names (row b)
     spots_at = ap (spots names) (node_of-out t) ∙ ap (λ (l : List Tree). own ∷ spots_below names (row l)) (sym below)
 
-    pub own_fault : (e : Error) → SaysSpot kind staged own e → SaysFirst kind staged (spots names (node_of t)) e
-    own_fault e w = subst (λ (l : List Spot). SaysFirst kind staged l e) (sym spots_at)
+    pub own_fault : (e : Error) → SaysSpot kind rs own e → SaysFirst kind rs (spots names (node_of t)) e
+    own_fault e w = subst (λ (l : List Spot). SaysFirst kind rs l e) (sym spots_at)
         (says_own e own (spots_below names (row b)) w)
 
     module _ (i : ℕ) (right : All Right (spots_below names (row (take i b)))) where
@@ -336,8 +342,8 @@ module _ (kind : Kind) (staged : List Staged) where
         one = append-nil (spots (names ++ name_of (node_of x) ∷ []) (node_of x))
             ∙ ap (λ (n : List ℕ). spots (names ++ n ∷ []) (node_of x)) (ap name_of (node_of-out x) ∙ sym named)
 
-        pub child_fault : (e : Error) → Right own → SaysFirst kind staged (spots its (node_of x)) e
-            → SaysFirst kind staged (spots names (node_of t)) e
+        pub child_fault : (e : Error) → Right own → SaysFirst kind rs (spots its (node_of x)) e
+            → SaysFirst kind rs (spots names (node_of t)) e
         child_fault e h w =
             let parts : b ≡ take i b ++ (x ∷ [] ++ drop (i + 1) b) =
             sym (take-append-drop i b) ∙ ap (λ (l : List Tree). take i b ++ l) (cut_at b i x lt is) in
@@ -349,7 +355,7 @@ module _ (kind : Kind) (staged : List Staged) where
             ap (λ (l : List Tree). spots_below names (row l)) parts
             ∙ row_parts names (take i b) (x ∷ [] ++ drop (i + 1) b)
             ∙ ap (λ (l : List Spot). spots_below names (row (take i b)) ++ l) back in
-            subst (λ (l : List Spot). SaysFirst kind staged l e) (sym (spots_at ∙ ap (λ (l : List Spot). own ∷ l) all))
+            subst (λ (l : List Spot). SaysFirst kind rs l e) (sym (spots_at ∙ ap (λ (l : List Spot). own ∷ l) all))
             (says_within e (own ∷ spots_below names (row (take i b))) (spots its (node_of x)) (spots_below names
             (row (drop (i + 1) b))) (All-cons Right own (spots_below names (row (take i b))) h right) w)
 
@@ -371,24 +377,60 @@ pub root_given : (kind : Kind) (staged : List Staged) (items : Items) (t : Node)
 root_given kind staged items t is cached =
     its_tree [] items t (subst (λ (l : List Staged). IsTreeOf kind l items) (sym (at_root staged)) is) (inl refl) cached
 
-pub root_right : (r : Result (Unit {0}) Error) (kind : Kind) (staged : List Staged) (given : Option Node) (t : Node)
-    → IfOk r (λ _. (k : Kind) (ss : List Staged) (names : List (List ℕ)) → GivesAt k ss names given
-    → All (IsRight k ss) (spots names t))
-    → GivesAt kind staged [] given → IfOk r (λ _. AreRight kind staged t)
-root_right (Ok u) kind staged given t h g = h kind staged [] g
-root_right (Err e) kind staged given t h g = tt
+pub root_right : (r : Result (Unit {0}) Error) (kind : Kind) (ms qs : List Record) (given : Option Node) (t : Node)
+    (front : List ℕ)
+    → IfOk r (λ _. (k : Kind) (ss : List Record) (names : List (List ℕ)) → qs ≡ unmerged_in ss
+    → front ≡ parent_path names → GivesAt k (staged_in (merged_in ss)) names given → All (IsRight k ss) (spots names t))
+    → front ≡ [] → GivesAt kind (staged_in ms) [] given
+    → IfOk r (λ _. (rs : List Record) → ms ≡ merged_in rs → qs ≡ unmerged_in rs → AreRight kind rs t)
+root_right (Ok u) kind ms qs given t front h f g = λ rs e d.
+    h kind rs [] d f (subst (λ (l : List Record). GivesAt kind (staged_in l) [] given) e g)
+root_right (Err e) kind ms qs given t front h f g = tt
 
-says_whole : (kind : Kind) (rs : List Record) (t : Node) (e : Error) → AreFit any_name kind rs
-    → SaysFirst kind (staged_in rs) (spots [] t) e → SaysTreeIds kind rs t e
+says_whole : (kind : Kind) (rs : List Record) (t : Node) (e : Error) → AreFit any_name kind (merged_in rs)
+    → SaysFirst kind rs (spots [] t) e → SaysTreeIds kind rs t e
 says_whole kind rs t (errors.Other path id count other number) fit w = (fit, w)
 says_whole kind rs t (errors.Ungiven path id count) fit w = (fit, w)
 says_whole kind rs t (errors.Entries fault) fit w = absurd w
 says_whole kind rs t errors.Memory fit w = tt
 
-pub root_fault : (r : Result (Unit {0}) Error) (kind : Kind) (rs : List Record) (given : Option Node) (t : Node)
+pub root_fault : (r : Result (Unit {0}) Error) (kind : Kind) (ms qs : List Record) (given : Option Node) (t : Node)
     (front : List ℕ)
-    → IfErr r (λ e. (k : Kind) (ss : List Staged) (names : List (List ℕ)) → GivesAt k ss names given
-    → front ≡ parent_path names → SaysFirst k ss (spots names t) e)
-    → front ≡ [] → AreFit any_name kind rs → GivesAt kind (staged_in rs) [] given → IfErr r (SaysTreeIds kind rs t)
-root_fault (Ok u) kind rs given t front h f fit g = tt
-root_fault (Err e) kind rs given t front h f fit g = says_whole kind rs t e fit (h kind (staged_in rs) [] g f)
+    → IfErr r (λ e. (k : Kind) (ss : List Record) (names : List (List ℕ)) → qs ≡ unmerged_in ss
+    → front ≡ parent_path names → GivesAt k (staged_in (merged_in ss)) names given → SaysFirst k ss (spots names t) e)
+    → front ≡ [] → AreFit any_name kind ms → GivesAt kind (staged_in ms) [] given
+    → IfErr r (λ e. (rs : List Record) → ms ≡ merged_in rs → qs ≡ unmerged_in rs → SaysTreeIds kind rs t e)
+root_fault (Ok u) kind ms qs given t front h f fit g = tt
+root_fault (Err e) kind ms qs given t front h f fit g = λ rs is d.
+    says_whole kind rs t e (subst (AreFit any_name kind) is fit)
+    (h kind rs [] d f (subst (λ (l : List Record). GivesAt kind (staged_in l) [] given) is g))
+
+-- why the merged entries have no trees is said of all
+module _ (kind : Kind) (ms rs : List Record) (t : Node) (S : ℕ → Type 0) (X : Type 0) (is : ms ≡ merged_in rs) where
+  abbrev Refused : Refusal → Type 0
+  Refused f = AreRefused any_name kind ms f × X
+
+  said_of : (e g : Error) → g ≡ e → SaysTreeIds kind rs t e → SaysTreeIds kind rs t g
+  said_of e g p h = subst (SaysTreeIds kind rs t) (sym p) h
+
+  refused_so : (f : Refusal) → Refused f → AreRefused any_name kind (merged_in rs) f
+  refused_so f h = subst (λ (l : List Record). AreRefused any_name kind l f) is h.0
+
+  pub passed_said : (fault : WriteError) (e : Error) → IsPassedOn fault e → SaysTreesFault fault S Refused
+      → SaysTreeIds kind rs t e
+  passed_said (writes.Sink number) e p h = said_of errors.Memory e p tt
+  passed_said writes.TooManyEntries e p h =
+      said_of (errors.Entries writes.TooManyEntries) e p (refused_so TooMany h)
+  passed_said (writes.Unmerged path) e p h =
+      said_of (errors.Entries (writes.Unmerged path)) e p (refused_so (Unmerged (bstring_bytes path)) h)
+  passed_said (writes.Mode path mode) e p h =
+      said_of (errors.Entries (writes.Mode path mode)) e p (refused_so (Mode (bstring_bytes path) mode.0) h)
+  passed_said (writes.Path path fault) e p h =
+      said_of (errors.Entries (writes.Path path fault)) e p (refused_so (Path (bstring_bytes path) fault) h)
+  passed_said (writes.OtherKind path) e p h =
+      said_of (errors.Entries (writes.OtherKind path)) e p (refused_so (OtherKind (bstring_bytes path)) h)
+  passed_said (writes.NullId path) e p h =
+      said_of (errors.Entries (writes.NullId path)) e p (refused_so (NullId (bstring_bytes path)) h)
+  passed_said (writes.Both file below) e p h = said_of (errors.Entries (writes.Both file below)) e p
+      (refused_so (Both (bstring_bytes file) (bstring_bytes below)) h)
+  passed_said writes.Memory e p h = said_of errors.Memory e p tt

@@ -1,6 +1,9 @@
 pub mod ApartSteps
 pub mod Cached
 pub mod Directory
+pub mod Kept
+pub mod KeptSteps
+pub mod MergedSteps
 pub mod Objects
 pub mod Refusals
 pub mod Staged

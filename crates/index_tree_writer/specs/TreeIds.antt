@@ -12,7 +12,7 @@ use Rattle.index_cached_tree.specs.Tree.{Node, Nodes, node, none, more, name_of}
 use Rattle.index_tree_writer.specs.Directory.{Items, IsTreeOf, leaf_count, items_id}
 use Rattle.index_entries.specs.Record.{Record}
 use Rattle.index_tree_writer.specs.Refusals.{AreFit, Check, AreRefused, SaysTreesFault}
-use Rattle.index_tree_writer.specs.Staged.{Staged, staged_in}
+use Rattle.index_tree_writer.specs.Staged.{Staged, merged_in, staged_in, unmerged_in}
 use Rattle.index_tree_writer.specs.declared.tree_ids.Error.{Error}
 use Rattle.index_tree_writer.specs.declared.tree_ids.Error.TheVariants as errors
 
@@ -59,9 +59,17 @@ abbrev pub GivesId : Kind → List Staged → List (List ℕ) → ObjectId → �
 GivesId kind staged names id count =
     IsMadeOf kind names (staged_at names staged) id count ⊎ IsWholeDirectory (staged_at names staged) id count
 
+-- a merge has decided on all that lies below the directory
+abbrev pub IsMergedAt : List Record → List (List ℕ) → Type 0
+IsMergedAt rs names = All (λ r. behind_all names r.path ≡ None) (unmerged_in rs)
+
+-- The id and the count that records give it: those that the merged ones give, where all below it are such.
+abbrev pub Gives : Kind → List Record → List (List ℕ) → ObjectId → ℕ → Type 0
+Gives kind rs names id count = IsMergedAt rs names × GivesId kind (staged_in (merged_in rs)) names id count
+
 -- they give it no id with a count
-abbrev pub GivesNone : Kind → List Staged → List (List ℕ) → Type 0
-GivesNone kind staged names = (id : ObjectId) (count : ℕ) → GivesId kind staged names id count → ⊥
+abbrev pub GivesNone : Kind → List Record → List (List ℕ) → Type 0
+GivesNone kind rs names = (id : ObjectId) (count : ℕ) → Gives kind rs names id count → ⊥
 
 -- ---- nodes
 
@@ -81,21 +89,21 @@ abbrev mutual
   spots_below names none = []
   spots_below names (more t ts) = spots (names ++ name_of t ∷ []) t ++ spots_below names ts
 
--- where it has a count, its id and its count are those that the entries give
-abbrev pub IsRight : Kind → List Staged → Spot → Type 0
-IsRight kind staged s = IfSome s.count (λ count. GivesId kind staged s.names s.id count)
+-- where it has a count, its id and its count are those that the records give
+abbrev pub IsRight : Kind → List Record → Spot → Type 0
+IsRight kind rs s = IfSome s.count (λ count. Gives kind rs s.names s.id count)
 
 -- each node is right; the root is reached by no name
-abbrev pub AreRight : Kind → List Staged → Node → Type 0
-AreRight kind staged t = All (IsRight kind staged) (spots [] t)
+abbrev pub AreRight : Kind → List Record → Node → Type 0
+AreRight kind rs t = All (IsRight kind rs) (spots [] t)
 
 -- ---- errors
 
 -- the first of these that isn't right is such
-abbrev pub IsFirstWrong : Kind → List Staged → List Spot → (Spot → Type 0) → Type 0
-IsFirstWrong kind staged ss P =
+abbrev pub IsFirstWrong : Kind → List Record → List Spot → (Spot → Type 0) → Type 0
+IsFirstWrong kind rs ss P =
     (before : List Spot) × (s : Spot) × (after : List Spot) × (ss ≡ before ++ s ∷ after)
-    × All (IsRight kind staged) before × (IsRight kind staged s → ⊥) × P s
+    × All (IsRight kind rs) before × (IsRight kind rs s → ⊥) × P s
 
 -- the names as one path; that of the root is empty
 abbrev pub joined : List (List ℕ) → List ℕ
@@ -111,16 +119,17 @@ Names path id count s = (joined s.names ≡ path) × (s.id ≡ id) × (s.count �
 abbrev pub any_name : Check
 any_name = λ name symlink. None
 
--- Where no entry has a fault, the first node that isn't right, and what the entries give instead, or that they give
--- nothing; else the fault of the entries.
+-- Where no merged record has a fault, the first node that isn't right, and what the records give instead, or that they
+-- give nothing; else the fault of the merged records.
 abbrev pub SaysTreeIds : Kind → List Record → Node → Error → Type 0
 SaysTreeIds kind rs t (errors.Other path id count given number) =
-    AreFit any_name kind rs
-    × IsFirstWrong kind (staged_in rs) (spots [] t)
-    (λ s. Names (bstring_bytes path) id count s × GivesId kind (staged_in rs) s.names given number)
+    AreFit any_name kind (merged_in rs)
+    × IsFirstWrong kind rs (spots [] t)
+    (λ s. Names (bstring_bytes path) id count s × Gives kind rs s.names given number)
 SaysTreeIds kind rs t (errors.Ungiven path id count) =
-    AreFit any_name kind rs
-    × IsFirstWrong kind (staged_in rs) (spots [] t)
-    (λ s. Names (bstring_bytes path) id count s × GivesNone kind (staged_in rs) s.names)
-SaysTreeIds kind rs t (errors.Entries fault) = SaysTreesFault fault (λ n. ⊥) (AreRefused any_name kind rs)
+    AreFit any_name kind (merged_in rs)
+    × IsFirstWrong kind rs (spots [] t)
+    (λ s. Names (bstring_bytes path) id count s × GivesNone kind rs s.names)
+SaysTreeIds kind rs t (errors.Entries fault) =
+    SaysTreesFault fault (λ n. ⊥) (AreRefused any_name kind (merged_in rs))
 SaysTreeIds kind rs t errors.Memory = Unit {0}

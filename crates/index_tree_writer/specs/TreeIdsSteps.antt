@@ -1,15 +1,17 @@
 -- How a node that entries give stands for a directory. Public clauses cite none of these.
 use Rattle.std.specs.Prelude.{◌≡◌, ◌≢◌, ◌⊎◌, ℕ, List, [], ◌∷◌, ◌-◌, ◌++◌, All, Contains, false, true, length, take}
 use Rattle.std.specs.Prelude.{Option, Some, None}
+use Rattle.std.specs.List.Sorted.{IsSorted}
 use Rattle.bstr.specs.Owned.{bstring_bytes}
 use Rattle.index_parts.specs.declared.hash.Kind.{Kind}
 use Rattle.index_parts.specs.declared.hash.ObjectId.{ObjectId}
-use Rattle.index_cached_tree.specs.Tree.{Node, Nodes, node, none, name_of, nodes_from}
+use Rattle.index_cached_tree.specs.Tree.{Node, Nodes, node, none, name_cmp, name_of, nodes_from}
 use Rattle.index_objects.specs.declared.object.tree.EntryKind.TheVariants as kinds
+use Rattle.index_entries.specs.Record.{Record}
 use Rattle.index_tree_writer.specs.Cached.{IsCached}
 use Rattle.index_tree_writer.specs.Directory.{Items, IsTreeOf}
 use Rattle.index_tree_writer.specs.Staged.{Staged}
-use Rattle.index_tree_writer.specs.TreeIds.{Spot, GivesId, GivesNone, IsRight, IsFirstWrong, Names, staged_at}
+use Rattle.index_tree_writer.specs.TreeIds.{Spot, Gives, GivesNone, IsRight, IsFirstWrong, Names, staged_at}
 use Rattle.index_tree_writer.specs.declared.error.Error.{Error as WriteError}
 use Rattle.index_tree_writer.specs.declared.error.Error.TheVariants as writes
 use Rattle.index_tree_writer.specs.declared.tree_ids.Error.{Error}
@@ -29,14 +31,14 @@ pub data GivesNode (kind : Kind) (names : List (List ℕ)) (below : List Staged)
 abbrev pub GivesAt : Kind → List Staged → List (List ℕ) → Option Node → Type 0
 GivesAt kind staged names given = GivesNode kind names (staged_at names staged) given
 
--- what some entries give some directory
-abbrev pub IsGiving : Option Node → Type 0
-IsGiving given = (kind : Kind) × (staged : List Staged) × (names : List (List ℕ)) × GivesAt kind staged names given
-
 -- the children of a node, in order
 abbrev pub children_of : Option Node → Nodes
 children_of None = none
 children_of (Some (node name id count children)) = children
+
+-- they stand in the order of their names
+abbrev pub IsSortedBelow : Option Node → Type 0
+IsSortedBelow given = (ts : List Node) → children_of given ≡ nodes_from ts → IsSorted name_cmp ts
 
 -- one of these that has the name, or none where none has it
 abbrev pub IsAmong : List Node → List ℕ → Option Node → Type 0
@@ -55,22 +57,22 @@ parent_path (name ∷ names) = name ++ 47 ∷ parent_path names
 -- ---- errors
 
 -- a node that isn't right, and what is said of it
-abbrev pub SaysSpot : Kind → List Staged → Spot → Error → Type 0
-SaysSpot kind staged s (errors.Other path id count given number) =
-    (IsRight kind staged s → ⊥) × Names (bstring_bytes path) id count s × GivesId kind staged s.names given number
-SaysSpot kind staged s (errors.Ungiven path id count) =
-    (IsRight kind staged s → ⊥) × Names (bstring_bytes path) id count s × GivesNone kind staged s.names
-SaysSpot kind staged s (errors.Entries fault) = ⊥
-SaysSpot kind staged s errors.Memory = Unit {0}
+abbrev pub SaysSpot : Kind → List Record → Spot → Error → Type 0
+SaysSpot kind rs s (errors.Other path id count given number) =
+    (IsRight kind rs s → ⊥) × Names (bstring_bytes path) id count s × Gives kind rs s.names given number
+SaysSpot kind rs s (errors.Ungiven path id count) =
+    (IsRight kind rs s → ⊥) × Names (bstring_bytes path) id count s × GivesNone kind rs s.names
+SaysSpot kind rs s (errors.Entries fault) = ⊥
+SaysSpot kind rs s errors.Memory = Unit {0}
 
 -- the first of these that isn't right, and what is said of it
-abbrev pub SaysFirst : Kind → List Staged → List Spot → Error → Type 0
-SaysFirst kind staged ss (errors.Other path id count given number) =
-    IsFirstWrong kind staged ss (λ s. Names (bstring_bytes path) id count s × GivesId kind staged s.names given number)
-SaysFirst kind staged ss (errors.Ungiven path id count) =
-    IsFirstWrong kind staged ss (λ s. Names (bstring_bytes path) id count s × GivesNone kind staged s.names)
-SaysFirst kind staged ss (errors.Entries fault) = ⊥
-SaysFirst kind staged ss errors.Memory = Unit {0}
+abbrev pub SaysFirst : Kind → List Record → List Spot → Error → Type 0
+SaysFirst kind rs ss (errors.Other path id count given number) =
+    IsFirstWrong kind rs ss (λ s. Names (bstring_bytes path) id count s × Gives kind rs s.names given number)
+SaysFirst kind rs ss (errors.Ungiven path id count) =
+    IsFirstWrong kind rs ss (λ s. Names (bstring_bytes path) id count s × GivesNone kind rs s.names)
+SaysFirst kind rs ss (errors.Entries fault) = ⊥
+SaysFirst kind rs ss errors.Memory = Unit {0}
 
 -- an error of the entries is passed on, but for want of memory, which is also all that the objects' own sink fails for
 abbrev pub IsPassedOn : WriteError → Error → Type 0
@@ -91,6 +93,11 @@ abbrev pub tells : Option Node → Option (ObjectId × ℕ)
 tells None = None
 tells (Some (node name id None children)) = None
 tells (Some (node name id (Some count) children)) = Some (id, count)
+
+-- this is what records give the directory, or that they give it nothing
+abbrev pub IsTold : Kind → List Record → List (List ℕ) → Option (ObjectId × ℕ) → Type 0
+IsTold kind rs names (Some told) = Gives kind rs names told.0 told.1
+IsTold kind rs names None = GivesNone kind rs names
 
 -- The error has this id and count, and what is given, where that has a count. Its path is that of the
 -- directory, without the slash at the end.

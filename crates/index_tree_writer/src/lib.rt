@@ -4,7 +4,9 @@
 mod apart;
 mod check;
 mod error;
+pub mod kept;
 mod leaf;
+mod merged;
 mod names;
 mod object;
 mod sink;

@@ -1,26 +1,29 @@
 //! Whether a cached tree has the ids and the counts that the entries give.
 
-ghost use Rattle.std.specs.Prelude.{◌≡◌, ◌↔◌, ◌<◌, ◌^◌, [], ℕ, List, All, None, Some, IfOk, IfErr, IsTrue, OnOk};
-ghost use Rattle.std.specs.Prelude.{length};
+ghost use Rattle.std.specs.Prelude.{◌≡◌, ◌↔◌, ◌<◌, ◌^◌, [], ℕ, List, All, None, Some, IfOk, IfErr, IfSome, IsTrue};
+ghost use Rattle.std.specs.Prelude.{OnOk, length};
 ghost use Rattle.std.specs.Cmp.Lexicographic.{slice_cmp};
 ghost use Rattle.std.specs.Option.{option_map};
 ghost use Rattle.std.specs.Ordering.{nat_cmp};
-ghost use Rattle.index_entries.specs.Order.{IsStrictlyOrdered};
+ghost use Rattle.index_entries.specs.Order.{IsOrderedByPath, IsStrictlyOrdered};
+ghost use Rattle.index_entries.specs.Record.{IsPlaced, Record, records_in};
 ghost use Rattle.index_parts.specs.declared.hash.Kind.{Kind};
 ghost use Rattle.index_parts.specs.declared.hash.ObjectId.{ObjectId};
 ghost use Rattle.index_cached_tree.specs.Tree.{name_of, node_of};
 ghost use Rattle.index_tree_writer.specs.Refusals.{AreFit};
-ghost use Rattle.index_tree_writer.specs.Staged.{Staged, staged_in};
+ghost use Rattle.index_tree_writer.specs.Staged.{merged_in, staged_in, unmerged_in};
 ghost use Rattle.index_tree_writer.specs.TreeIds.{AreRight, IsRight, SaysTreeIds, any_name, spots};
-ghost use Rattle.index_tree_writer.specs.TreeIdsSteps.{GivesAt, IsChildOf, IsGiving, IsPassedOn, IsSaid, SaysFirst};
-ghost use Rattle.index_tree_writer.specs.TreeIdsSteps.{SaysSpot, parent_path, tells};
+ghost use Rattle.index_tree_writer.specs.TreeIdsSteps.{GivesAt, IsChildOf, IsPassedOn, IsSaid, IsSortedBelow, IsTold};
+ghost use Rattle.index_tree_writer.specs.TreeIdsSteps.{SaysFirst, SaysSpot, parent_path, tells};
 ghost use Rattle.index_tree_writer.specs.declared.tree_ids.Error.TheVariants.{Memory};
 
 use crate::Error as WriteError;
+use crate::merged::{has_entry_below, has_unmerged, partition};
 use crate::sink::Discard;
 use crate::write::write_trees;
 use bstr::BString;
 use index_cached_tree::Tree;
+use index_entries::Entry;
 use index_entries::slice::EntrySlice;
 use index_objects::check::ComponentCheck;
 use index_parts::hash::{Kind, ObjectId};
@@ -47,10 +50,11 @@ pub enum Error {
         /// How many entries lie below the directory.
         given_count: u32,
     },
-    /// A node has a count, but nothing stands below its directory, or something there is only intended to be added.
+    /// A node has a count, but nothing stands below its directory, or something there is only intended to be added, or
+    /// isn't merged.
     #[error("the cached tree has the tree {id} with {count} entries \
          for the directory {path:?}, but no entry is there, \
-         or one is only intended to be added")]
+         or one is only intended to be added, or isn't merged")]
     Ungiven {
         /// The directory's path.
         path: BString,
@@ -59,7 +63,7 @@ pub enum Error {
         /// The node's count.
         count: u32,
     },
-    /// An entry has no place in a tree, so that no node is looked at.
+    /// A merged entry has no place in a tree, so that no node is looked at.
     #[error("the entries have no trees to compare the cached tree with: {0}")]
     Entries(WriteError),
     /// There is no memory for the trees.
@@ -113,9 +117,12 @@ fn compare_to(tree: &Tree, name: &[u8]) -> Ordering
     tree.name.as_slice().cmp(&name)
 }
 
-/// The child of a node that has this name, if there is one.
-fn child_of<'a>(given: Option<&'a Tree>, name: &[u8]) -> Option<&'a Tree>
-    ensures { IsGiving (option_map (λ t. node_of t.now) given.entry)
+/// The child of a node that has this name, if there is one. It is found where the children stand in the order of their
+/// names.
+pub(crate) fn child_of<'a>(given: Option<&'a Tree>, name: &[u8]) -> Option<&'a Tree>
+    ensures found { IfSome (option_map (λ t. node_of t.now) result)
+        (λ t. IsChildOf (option_map (λ t. node_of t.now) given.entry) name.now (Some t)) }
+    ensures exactly { IsSortedBelow (option_map (λ t. node_of t.now) given.entry)
         → IsChildOf (option_map (λ t. node_of t.now) given.entry) name.now
         (option_map (λ t. node_of t.now) result) }
 {
@@ -155,7 +162,7 @@ fn wrong(
 }
 
 /// Whether what is given has this id and count.
-fn is_given(given: Option<&Tree>, id: &ObjectId, count: u32) -> bool
+pub(crate) fn is_given(given: Option<&Tree>, id: &ObjectId, count: u32) -> bool
     ensures { IsTrue result
         ↔ tells (option_map (λ t. node_of t.now) given.entry) ≡ Some (id.now, count) }
 {
@@ -165,26 +172,48 @@ fn is_given(given: Option<&Tree>, id: &ObjectId, count: u32) -> bool
     given.id == *id && given.num_entries == Some(count)
 }
 
-/// Fails where a node has a count, and another id or count than what is given.
+/// What is given to a directory of this path, which has a slash at the end: nothing where an unmerged entry lies below
+/// it.
+fn given_beside<'a>(
+    given: Option<&'a Tree>,
+    unmerged: &EntrySlice<'_>,
+    parent: &[u8],
+) -> Option<&'a Tree>
+    requires { IsOrderedByPath unmerged.now }
+    ensures { (kind : Kind) (rs : List Record) (names : List (List ℕ))
+        → unmerged.now ≡ unmerged_in rs → parent.now ≡ parent_path names
+        → GivesAt kind (staged_in (merged_in rs)) names (option_map (λ t. node_of t.now) given.entry)
+        → IsTold kind rs names (tells (option_map (λ t. node_of t.now) result)) }
+{
+    if has_entry_below(unmerged, parent) {
+        return None;
+    }
+    given
+}
+
+/// Fails where a node has a count, and another id or count than what is given beside the unmerged entries.
 fn check_node(
     alloc: Global,
     given: Option<&Tree>,
+    unmerged: &EntrySlice<'_>,
     parent: &[u8],
     id: ObjectId,
     count: Option<u32>,
 ) -> Result<(), Error>
-    ensures ok { IfOk result (λ _. (kind : Kind) (staged : List Staged) (names : List (List ℕ))
-        → GivesAt kind staged names (option_map (λ t. node_of t.now) given.entry)
-        → IsRight kind staged (record { names = names; id = id; count = count })) }
-    ensures fault { IfErr result (λ e.
-        (kind : Kind) (staged : List Staged) (names : List (List ℕ))
-        → GivesAt kind staged names (option_map (λ t. node_of t.now) given.entry)
-        → parent.now ≡ parent_path names
-        → SaysSpot kind staged (record { names = names; id = id; count = count }) e) }
+    requires { IsOrderedByPath unmerged.now }
+    ensures ok { IfOk result (λ _. (kind : Kind) (rs : List Record) (names : List (List ℕ))
+        → unmerged.now ≡ unmerged_in rs → parent.now ≡ parent_path names
+        → GivesAt kind (staged_in (merged_in rs)) names (option_map (λ t. node_of t.now) given.entry)
+        → IsRight kind rs (record { names = names; id = id; count = count })) }
+    ensures fault { IfErr result (λ e. (kind : Kind) (rs : List Record) (names : List (List ℕ))
+        → unmerged.now ≡ unmerged_in rs → parent.now ≡ parent_path names
+        → GivesAt kind (staged_in (merged_in rs)) names (option_map (λ t. node_of t.now) given.entry)
+        → SaysSpot kind rs (record { names = names; id = id; count = count }) e) }
 {
     let Some(count) = count else {
         return Ok(());
     };
+    let given = given_beside(given, unmerged, parent);
     if is_given(given, &id, count) {
         return Ok(());
     }
@@ -192,54 +221,95 @@ fn check_node(
 }
 
 /// Fails at the first node, each before all below it, that has a count, and another id or count than what is given to
-/// its directory. The path has the names that lead to the node, each with a slash.
+/// its directory beside the unmerged entries. The path has the names that lead to the node, each with a slash.
 fn check_nodes(
     alloc: Global,
     given: Option<&Tree>,
+    unmerged: &EntrySlice<'_>,
     parent: &mut Vec<u8>,
     tree: &Tree,
 ) -> Result<(), Error>
+    requires { IsOrderedByPath unmerged.now }
     ensures parent { OnOk result (parent.new.items ≡ parent.old.items) }
-    ensures ok { IfOk result (λ _. (kind : Kind) (staged : List Staged) (names : List (List ℕ))
-        → GivesAt kind staged names (option_map (λ t. node_of t.now) given.entry)
-        → All (IsRight kind staged) (spots names (node_of tree.now))) }
-    ensures fault { IfErr result (λ e.
-        (kind : Kind) (staged : List Staged) (names : List (List ℕ))
-        → GivesAt kind staged names (option_map (λ t. node_of t.now) given.entry)
-        → parent.old.items ≡ parent_path names
-        → SaysFirst kind staged (spots names (node_of tree.now)) e) }
+    ensures ok { IfOk result (λ _. (kind : Kind) (rs : List Record) (names : List (List ℕ))
+        → unmerged.now ≡ unmerged_in rs → parent.old.items ≡ parent_path names
+        → GivesAt kind (staged_in (merged_in rs)) names (option_map (λ t. node_of t.now) given.entry)
+        → All (IsRight kind rs) (spots names (node_of tree.now))) }
+    ensures fault { IfErr result (λ e. (kind : Kind) (rs : List Record) (names : List (List ℕ))
+        → unmerged.now ≡ unmerged_in rs → parent.old.items ≡ parent_path names
+        → GivesAt kind (staged_in (merged_in rs)) names (option_map (λ t. node_of t.now) given.entry)
+        → SaysFirst kind rs (spots names (node_of tree.now)) e) }
 {
-    check_node(alloc, given, parent, tree.id, tree.num_entries)?;
+    check_node(alloc, given, unmerged, parent, tree.id, tree.num_entries)?;
     let len = parent.len();
     for child in &tree.children {
         let name = child.name.as_slice();
         parent.extend_from_slice(name)?;
         parent.extend_from_slice(b"/")?;
-        check_nodes(alloc, child_of(given, name), parent, child)?;
+        check_nodes(alloc, child_of(given, name), unmerged, parent, child)?;
         parent.truncate(len);
     }
     Ok(())
 }
 
-/// Whether each node of a cached tree that has a count has the id and the count that the entries below its directory
-/// give.
-pub fn verify_tree_ids(
+/// Compares the nodes of a cached tree with what the merged entries give, beside those that aren't.
+fn verify_beside(
     alloc: Global,
     kind: Kind,
-    entries: &EntrySlice<'_>,
+    merged: &EntrySlice<'_>,
+    unmerged: &EntrySlice<'_>,
     tree: &Tree,
 ) -> Result<(), Error>
-    requires { IsStrictlyOrdered entries.now }
-    ensures right { IfOk result
-        (λ _. AreRight kind (staged_in entries.now) (node_of tree.now)) }
-    ensures fit { IfOk result (λ _. AreFit any_name kind entries.now) }
-    ensures few { IfOk result (λ _. length entries.now < 2 ^ 31) }
-    ensures fault { IfErr result (SaysTreeIds kind entries.now (node_of tree.now)) }
+    requires ordered { IsStrictlyOrdered merged.now }
+    requires unmerged { IsOrderedByPath unmerged.now }
+    ensures right { IfOk result (λ _. (rs : List Record)
+        → merged.now ≡ merged_in rs → unmerged.now ≡ unmerged_in rs
+        → AreRight kind rs (node_of tree.now)) }
+    ensures fit { IfOk result (λ _. AreFit any_name kind merged.now) }
+    ensures few { IfOk result (λ _. length merged.now < 2 ^ 31) }
+    ensures fault { IfErr result (λ e. (rs : List Record)
+        → merged.now ≡ merged_in rs → unmerged.now ≡ unmerged_in rs
+        → SaysTreeIds kind rs (node_of tree.now) e) }
 {
-    let given = match write_trees(alloc, kind, entries, &AnyName, &mut Discard) {
+    let given = match write_trees(alloc, kind, merged, &AnyName, &mut Discard) {
         Ok(given) => given,
         Err(fault) => return Err(no_trees(fault)),
     };
     let mut parent = Vec::new(alloc);
-    check_nodes(alloc, Some(&given), &mut parent, tree)
+    check_nodes(alloc, Some(&given), unmerged, &mut parent, tree)
+}
+
+/// Whether each node of a cached tree that has a count has the id and the count that the entries below its directory
+/// give, of these paths. They give none where one of them is unmerged.
+pub fn verify_tree_ids(
+    alloc: Global,
+    kind: Kind,
+    entries: &[Entry],
+    backing: &[u8],
+    tree: &Tree,
+) -> Result<(), Error>
+    requires placed { All (IsPlaced (length backing.now)) entries.now }
+    requires ordered { IsStrictlyOrdered (records_in backing.now entries.now) }
+    ensures right { IfOk result
+        (λ _. AreRight kind (records_in backing.now entries.now) (node_of tree.now)) }
+    ensures fit { IfOk result
+        (λ _. AreFit any_name kind (merged_in (records_in backing.now entries.now))) }
+    ensures few { IfOk result
+        (λ _. length (merged_in (records_in backing.now entries.now)) < 2 ^ 31) }
+    ensures fault { IfErr result
+        (SaysTreeIds kind (records_in backing.now entries.now) (node_of tree.now)) }
+{
+    if !has_unmerged(entries) {
+        let merged = EntrySlice::new(entries, backing);
+        return verify_beside(alloc, kind, &merged, &merged.first(0), tree);
+    }
+    let (merged, unmerged) = partition(alloc, entries)?;
+    let merged = EntrySlice::new(&merged, backing);
+    verify_beside(
+        alloc,
+        kind,
+        &merged,
+        &EntrySlice::new(&unmerged, backing),
+        tree,
+    )
 }

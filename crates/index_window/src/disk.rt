@@ -1,54 +1,55 @@
 //! All bytes of a file on the disk, with their digest.
 
-ghost use Rattle.std.specs.Prelude.{◌≡◌, [], IfOk, IfSome, IsTrue, OnOk};
+ghost use Rattle.std.specs.Path.{path_bytes};
+ghost use Rattle.std.specs.Prelude.{◌≡◌, [], true, IfErr, IfOk, IfSome, OnOk};
+ghost use Rattle.index_folder.specs.World.{IsFaultOf, IsOwnFault, MayBe, whole_of};
 ghost use Rattle.index_window.specs.Intact.{digest_id};
 
-use index_folder::pieces::append_piece;
+use index_folder::folder::{Folder, Source};
+use index_folder::pieces::{append_piece, fill};
 use index_folder::whole::{MAX_LEN, read_to_end, room_for, too_long};
 use index_parts::hash::{Hasher, Kind, ObjectId};
 use index_reading::trailer;
 use std::alloc::Global;
-use std::fs::OpenFile;
-use std::io::{Read, Seek, SeekFrom};
+use std::io;
 use std::path::Path;
-use std::rt::Files;
-use std::{fs, io};
 
 /// Whether a file's last bytes, of which an id has as many, are all zero. It says no of what is no plain file, as a
 /// pipe, which can be read only in order. The file then stands at its start, and the room is empty.
-fn ends_in_null<F: OpenFile + Read + Seek>(
-    file: &mut F,
-    kind: Kind,
-    room: &mut Vec<u8>,
-) -> io::Result<bool>
-    requires { room.old.items ≡ [] }
-    ensures { OnOk result (room.new.items ≡ []) }
+fn ends_in_null<S: Source>(file: &mut S, kind: Kind, room: &mut Vec<u8>) -> io::Result<bool>
+    requires room { room.old.items ≡ [] }
+    requires start { S.remaining file.old ≡ whole_of (S.stored file.old) }
+    ensures room { OnOk result (room.new.items ≡ []) }
+    ensures start { OnOk result (S.remaining file.new ≡ whole_of (S.stored file.new)) }
+    ensures stored { S.stored file.new ≡ S.stored file.old }
+    ensures works { S.works file.new ≡ S.works file.old }
+    ensures fault { S.works file.old ≡ true → IfErr result IsOwnFault }
 {
-    let metadata = file.metadata()?;
-    if !metadata.is_file() {
+    let status = file.status()?;
+    if !status.is_plain {
         return Ok(false);
     }
     let len = kind.len_in_bytes();
-    let start = metadata.len().saturating_sub(len as u64);
-    file.seek(SeekFrom::Start(start))?;
-    file.by_ref().take(len as u64).read_to_end(room)?;
+    file.go_to(status.len.saturating_sub(len as u64))?;
+    fill(file, room, len)?;
     let is_null = room.len() == len && trailer::checksum(kind, room).is_none();
     room.clear();
-    file.seek(SeekFrom::Start(0))?;
+    file.go_to(0)?;
     Ok(is_null)
 }
 
-/// Reads a reader to its end in pieces, and hashes each while it is at hand. The digest is that of all bytes but the
+/// Reads a file to its end in pieces, and hashes each while it is at hand. The digest is that of all bytes but the
 /// last, of which an id of the kind has as many.
-fn read_hashed<R: Read>(reader: &mut R, kind: Kind, bytes: &mut Vec<u8>) -> io::Result<ObjectId>
+fn read_hashed<S: Source>(file: &mut S, kind: Kind, bytes: &mut Vec<u8>) -> io::Result<ObjectId>
     requires { bytes.old.items ≡ [] }
     ensures digest { IfOk result (λ id. id ≡ digest_id kind bytes.new.items) }
-    ensures whole { OnOk result (IfSome (R.remaining reader.old) (λ left. bytes.new.items ≡ left)) }
+    ensures whole { OnOk result (IfSome (S.remaining file.old) (λ left. bytes.new.items ≡ left)) }
+    ensures fault { S.works file.old ≡ true → IfErr result IsOwnFault }
 {
     let mut hasher = Hasher::new(kind);
     let mut hashed = 0;
     'pieces: loop {
-        let count = append_piece(reader, bytes)?;
+        let count = append_piece(file, bytes)?;
         let end = bytes.len().saturating_sub(kind.len_in_bytes());
         hasher.update(&bytes[hashed..end]);
         hashed = end;
@@ -61,9 +62,9 @@ fn read_hashed<R: Read>(reader: &mut R, kind: Kind, bytes: &mut Vec<u8>) -> io::
     }
 }
 
-/// Reads a reader to its end. The digest is taken as it is wanted.
-fn read_whole<R: Read>(
-    reader: &mut R,
+/// Reads a file to its end. The digest is taken as it is wanted.
+fn read_whole<S: Source>(
+    file: &mut S,
     kind: Kind,
     is_hashed: bool,
     bytes: &mut Vec<u8>,
@@ -71,45 +72,51 @@ fn read_whole<R: Read>(
     requires { bytes.old.items ≡ [] }
     ensures digest { IfOk result
         (λ digest. IfSome digest (λ id. id ≡ digest_id kind bytes.new.items)) }
-    ensures whole { OnOk result (IfSome (R.remaining reader.old) (λ left. bytes.new.items ≡ left)) }
+    ensures whole { OnOk result (IfSome (S.remaining file.old) (λ left. bytes.new.items ≡ left)) }
+    ensures fault { S.works file.old ≡ true → IfErr result IsOwnFault }
 {
     if is_hashed {
-        return Ok(Some(read_hashed(reader, kind, bytes)?));
+        return Ok(Some(read_hashed(file, kind, bytes)?));
     }
-    read_to_end(reader, bytes)?;
+    read_to_end(file, bytes)?;
     Ok(None)
 }
 
 /// All bytes of the file at a path, read into room for as many as its metadata says, and the digest of all but the
 /// last, of which an id of the kind has as many.
-pub fn hashed_at<R: Files>(
-    rt: &R,
+pub fn hashed_at<D: Folder>(
+    folder: &D,
     alloc: Global,
     path: Path<'_>,
     kind: Kind,
 ) -> io::Result<(Vec<u8>, ObjectId)>
-    ensures { IfOk result (λ read. read.1 ≡ digest_id kind read.0.items) }
+    ensures digest { IfOk result (λ read. read.1 ≡ digest_id kind read.0.items) }
+    ensures held { IfOk result (λ read. MayBe (D.known folder.now (path_bytes path.entry))
+        (λ file. read.0.items ≡ file.bytes)) }
+    ensures fault { D.works folder.now ≡ true
+        → IfErr result (IsFaultOf (D.known folder.now (path_bytes path.entry))) }
 {
-    let mut file = fs::open(rt, path)?;
-    let mut bytes = room_for(alloc, &file.metadata()?)?;
+    let mut file = folder.open(path)?;
+    let mut bytes = room_for(alloc, file.status()?)?;
     let digest = read_hashed(&mut file, kind, &mut bytes)?;
     Ok((bytes, digest))
 }
 
 /// The same of a file that was opened, but without the digest where it isn't wanted, or where the last bytes are null.
-pub fn bytes_of<F: OpenFile + Read + Seek + Drop>(
+pub fn bytes_of<S: Source>(
     alloc: Global,
-    mut file: F,
+    mut file: S,
     kind: Kind,
     skip_hash: bool,
 ) -> io::Result<(Vec<u8>, Option<ObjectId>)>
+    requires { S.remaining file ≡ whole_of (S.stored file) }
     ensures digest { IfOk result
         (λ read. IfSome read.1 (λ id. id ≡ digest_id kind read.0.items)) }
-    // Of a file that was looked at before, and put back, no clause says what is left.
-    ensures whole { IsTrue skip_hash
-        → IfOk result (λ read. IfSome (F.remaining file) (λ left. read.0.items ≡ left)) }
+    ensures whole { IfOk result
+        (λ read. IfSome (S.stored file) (λ whole. read.0.items ≡ whole.bytes)) }
+    ensures fault { S.works file ≡ true → IfErr result IsOwnFault }
 {
-    let mut bytes = room_for(alloc, &file.metadata()?)?;
+    let mut bytes = room_for(alloc, file.status()?)?;
     let is_hashed = !skip_hash && !ends_in_null(&mut file, kind, &mut bytes)?;
     let digest = read_whole(&mut file, kind, is_hashed, &mut bytes)?;
     Ok((bytes, digest))

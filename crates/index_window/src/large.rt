@@ -1,7 +1,8 @@
 //! A large index file on the disk.
 
-ghost use Rattle.std.specs.Prelude.{ℕ, List, IfOk, IfSome, Ok};
+ghost use Rattle.std.specs.Prelude.{◌≡◌, ℕ, List, true, IfErr, IfNone, IfOk, IfSome, Ok, OnOk};
 ghost use Rattle.index_entries.specs.Record.{IdsAreOf};
+ghost use Rattle.index_folder.specs.World.{IsOwnFault, whole_of};
 ghost use Rattle.index_format.specs.Answer.{IsAnswer};
 ghost use Rattle.index_format.specs.Contents.{ExtensionIdsAreOf, PartsInStorage, parts_contents, parts_entries};
 ghost use Rattle.index_format.specs.Storable.{IsStorable};
@@ -10,23 +11,29 @@ ghost use Rattle.index_window.specs.Intact.{IsIntact};
 
 use crate::ReadOptions;
 use crate::windows::{KEPT_LEN, WindowedIndex, lacks_marker, offset_in, windowed};
+use index_folder::folder::Source;
+use index_folder::pieces::fill;
 use index_folder::whole::{MAX_LEN, too_long};
 use index_parts::hash::Kind;
 use index_reading::trailer;
 use std::alloc::Global;
-use std::fs::OpenFile;
 use std::io;
-use std::io::{Read, Seek, SeekFrom};
 
 /// A file of fewer bytes is read whole.
 const SMALL_LEN: u64 = 1_048_576;
 
 /// The last bytes of a file of so many, which then stands at its start.
-fn end_of<F: Read + Seek>(alloc: Global, file: &mut F, len: u64) -> io::Result<Vec<u8>> {
+fn end_of<S: Source>(alloc: Global, file: &mut S, len: u64) -> io::Result<Vec<u8>>
+    ensures start { OnOk result (S.remaining file.new ≡ whole_of (S.stored file.new)) }
+    ensures stored { S.stored file.new ≡ S.stored file.old }
+    ensures works { S.works file.new ≡ S.works file.old }
+    ensures fault { S.works file.old ≡ true → IfErr result IsOwnFault }
+{
     let mut end = Vec::with_capacity(alloc, KEPT_LEN)?;
-    file.seek(SeekFrom::Start(len.saturating_sub(KEPT_LEN as u64)))?;
-    file.by_ref().take(KEPT_LEN as u64).read_to_end(&mut end)?;
-    file.seek(SeekFrom::Start(0))?;
+    file.go_to(len.saturating_sub(KEPT_LEN as u64))?;
+    fill(file, &mut end, KEPT_LEN)?;
+    end.truncate(KEPT_LEN);
+    file.go_to(0)?;
     Ok(end)
 }
 
@@ -39,17 +46,23 @@ fn ends_in_null(kind: Kind, end: &[u8]) -> bool {
 /// Reads a plain file in windows, and gives the index in it. It is None of a small file, of what is no plain file, as a
 /// pipe, and where the index isn't sound, or changes meanwhile: then a plain file stands at its start again, and has to
 /// be read whole.
-pub fn in_windows<F: OpenFile + Read + Seek>(
+pub fn in_windows<S: Source>(
     alloc: Global,
-    file: &mut F,
+    file: &mut S,
     reading: ReadOptions,
 ) -> io::Result<Option<WindowedIndex>>
-    // The file's bytes can't be named: the index is what some bytes are read as.
+    requires { S.remaining file.old ≡ whole_of (S.stored file.old) }
     ensures read { IfOk result (λ o. IfSome o (λ x. (bytes : List ℕ)
+        × IfSome (S.stored file.old) (λ whole. bytes ≡ whole.bytes)
         × IsIntact reading.skip_hash reading.object_hash bytes
         × IsAnswer reading.object_hash reading.timestamp reading.options bytes
         (Ok (parts_contents x.parts, x.checksum))
         × FollowEntries reading.object_hash bytes x.ending.items)) }
+    ensures back { IfOk result
+        (λ o. IfNone o (S.remaining file.new ≡ whole_of (S.stored file.new))) }
+    ensures stored { S.stored file.new ≡ S.stored file.old }
+    ensures works { S.works file.new ≡ S.works file.old }
+    ensures fault { S.works file.old ≡ true → IfErr result IsOwnFault }
     ensures placed { IfOk result (λ o. IfSome o (λ x. PartsInStorage x.parts)) }
     ensures ids { IfOk result
         (λ o. IfSome o (λ x. IdsAreOf reading.object_hash (parts_entries x.parts))) }
@@ -57,9 +70,9 @@ pub fn in_windows<F: OpenFile + Read + Seek>(
     ensures extension_ids { IfOk result (λ o. IfSome o
         (λ x. ExtensionIdsAreOf reading.object_hash (parts_contents x.parts).extensions)) }
 {
-    let metadata = file.metadata()?;
-    let len = metadata.len();
-    if !metadata.is_file() || len < SMALL_LEN {
+    let status = file.status()?;
+    let len = status.len;
+    if !status.is_plain || len < SMALL_LEN {
         return Ok(None);
     }
     if len > MAX_LEN {
@@ -72,6 +85,6 @@ pub fn in_windows<F: OpenFile + Read + Seek>(
     if let Ok(Some(read)) = windowed(alloc, file, len, is_hashed, offset, reading) {
         return Ok(Some(read));
     }
-    file.seek(SeekFrom::Start(0))?;
+    file.go_to(0)?;
     Ok(None)
 }

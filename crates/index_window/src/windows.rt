@@ -20,6 +20,7 @@ use index_entries::list::EntryList;
 use index_entries::sizes::HEADER_LEN;
 use index_entry_reading::entries::{FirstEntries, Read as ReadEntries, entries_in};
 use index_extensions::end_of_index_entry;
+use index_folder::folder::Source;
 use index_folder::pieces::{fill, remove_front};
 use index_format::Parts;
 use index_parts::hash::{Hasher, Kind, ObjectId};
@@ -28,7 +29,6 @@ use index_reading::decode::{Declared, ReadAs, declared_by, read_ending};
 use index_reading::trailer;
 use std::alloc::{AllocError, Global};
 use std::io;
-use std::io::Read;
 
 /// How many bytes are read at once.
 const WINDOW_LEN: usize = 262_144;
@@ -115,8 +115,8 @@ fn take_entries(
 
 /// Reads all entries behind the header. Gives the place from which on the window isn't decoded, and how many bytes of
 /// the file are left to read; None where an entry lacks, or where the file is longer than it said.
-fn read_entries<R: Read>(
-    reader: &mut R,
+fn read_entries<S: Source>(
+    file: &mut S,
     plan: Plan,
     hasher: &mut Hasher,
     window: &mut Vec<u8>,
@@ -134,20 +134,22 @@ fn read_entries<R: Read>(
     ensures read { IfOk result (λ o. IfSome o (λ x. (count : ℕ) × (count + x.1 ≡ left)
         × IsReadOn plan
         (record {
-          left = R.remaining reader.old;
+          left = S.remaining file.old;
           hasher = hasher.old;
           window = window.old.items;
           decoded = 12;
           records = first.old.list.records;
         })
         (record {
-          left = R.remaining reader.new;
+          left = S.remaining file.new;
           hasher = hasher.new;
           window = window.new.items;
           decoded = x.0;
           records = first.new.list.records;
         })
         count)) }
+    ensures stored { S.stored file.new ≡ S.stored file.old }
+    ensures works { S.works file.new ≡ S.works file.old }
 {
     let mut start = HEADER_LEN;
     'windows: loop {
@@ -156,7 +158,7 @@ fn read_entries<R: Read>(
             return Ok(Some((start, left)));
         }
         let wanted = window.len().saturating_mul(2).max(WINDOW_LEN);
-        let came = fill(reader, window, wanted)?;
+        let came = fill(file, window, wanted)?;
         if came == 0 || came as u64 > left {
             return Ok(None);
         }
@@ -292,18 +294,18 @@ fn room_for(alloc: Global, declared: Declared) -> Result<FirstEntries, AllocErro
     })
 }
 
-/// The index that a reader of so many bytes gives. None where it isn't a sound index whose end marker names the offset,
+/// The index that a file of so many bytes gives. None where it isn't a sound index whose end marker names the offset,
 /// or which has none where there is no offset. Where its digest will have to be compared, it has to be hashed.
-pub fn windowed<R: Read>(
+pub fn windowed<S: Source>(
     alloc: Global,
-    reader: &mut R,
+    file: &mut S,
     len: u64,
     is_hashed: bool,
     offset: Option<usize>,
     reading: ReadOptions,
 ) -> io::Result<Option<WindowedIndex>>
     ensures read { IfOk result (λ o. IfSome o (λ x. (bytes : List ℕ)
-        × IfSome (R.remaining reader.old) (λ left. bytes ≡ left) × AreBytes bytes
+        × IfSome (S.remaining file.old) (λ left. bytes ≡ left) × AreBytes bytes
         × IsIntact reading.skip_hash reading.object_hash bytes
         × IsAnswer reading.object_hash reading.timestamp reading.options bytes
         (Ok (parts_contents x.parts, x.checksum))
@@ -314,10 +316,12 @@ pub fn windowed<R: Read>(
     ensures storable { IfOk result (λ o. IfSome o (λ x. IsStorable (parts_contents x.parts))) }
     ensures extension_ids { IfOk result (λ o. IfSome o
         (λ x. ExtensionIdsAreOf reading.object_hash (parts_contents x.parts).extensions)) }
+    ensures stored { S.stored file.new ≡ S.stored file.old }
+    ensures works { S.works file.new ≡ S.works file.old }
 {
     let kind = reading.object_hash;
     let mut window = Vec::with_capacity(alloc, WINDOW_LEN)?;
-    let came = fill(reader, &mut window, WINDOW_LEN)?;
+    let came = fill(file, &mut window, WINDOW_LEN)?;
     if came as u64 > len {
         return Ok(None);
     }
@@ -335,19 +339,12 @@ pub fn windowed<R: Read>(
     };
     let mut hasher = Hasher::new(kind);
     let mut first = room_for(alloc, declared)?;
-    let Some((start, left)) = read_entries(
-        reader,
-        plan,
-        &mut hasher,
-        &mut window,
-        &mut first,
-        left,
-    )?
+    let Some((start, left)) = read_entries(file, plan, &mut hasher, &mut window, &mut first, left)?
     else {
         return Ok(None);
     };
     window.reserve(left.saturating_add(1) as usize)?;
-    let more = reader.read_to_end(&mut window)?;
+    let more = fill(file, &mut window, usize::MAX)?;
     if more as u64 != left {
         return Ok(None);
     }

@@ -6,72 +6,20 @@ ghost use Rattle.index_format.specs.Storable.{IsStorable};
 ghost use Rattle.index_format.specs.Contents.{ExtensionIdsAreOf};
 ghost use Rattle.index_state.specs.State.{PathsInStorage, contents, entries_of};
 ghost use Rattle.index_entries.specs.Record.{IdsAreOf};
-ghost use Rattle.gix_index.specs.Checked.{digest_fault, IsFileAnswer, error_of, link_error_of, SaysFile};
+ghost use Rattle.gix_index.specs.Checked.{digest_fault, IsFileAnswer, SaysFile};
 ghost use Rattle.index_window.specs.Intact.{digest_id, IsIntact, IsBroken};
-ghost use Rattle.gix_index.specs.declared.file.init.Error.TheVariants.{Memory};
 ghost use Rattle.gix_index.specs.File.{state_of, path_of};
 
 use super::File;
-use index_folder::fault::PathError;
+pub use index_file_faults::init::Error;
 use index_format::decode;
 use index_metadata::entry::FileTime;
 use index_parts::hash::{Kind, ObjectId, digest};
 use index_reading::trailer;
-use index_split::link;
 use index_state::State;
 use index_window::ReadOptions;
-use std::alloc::{AllocError, Global};
+use std::alloc::Global;
 use std::path::PathBuf;
-use thiserror::Error;
-
-/// Why there is no index in a file, or none could be made of it.
-#[derive(Debug, Drop, Error)]
-pub enum Error {
-    /// The file can't be opened or read.
-    #[error("the index file can't be opened or read: {0}")]
-    Io(PathError),
-    /// The bytes are no index, or they aren't those that were once written.
-    #[error("{0}")]
-    Decode(decode::Error),
-    /// The shared index that a split index links to can't be used.
-    #[error("the link to a shared index can't be followed: {0}")]
-    LinkExtension(link::decode::Error),
-    /// A growth was refused.
-    #[error("out of memory while reading an index file")]
-    Memory,
-}
-
-/// Want of memory is told by the variant of its own.
-impl From<decode::Error> for Error {
-    ghost from_gives = { λ e error. error ≡ error_of e };
-
-    fn from(e: decode::Error) -> Error {
-        match e {
-            decode::Error::Memory => Error::Memory,
-            e => Error::Decode(e),
-        }
-    }
-}
-
-/// Want of memory is told by the variant of its own here too.
-impl From<link::decode::Error> for Error {
-    ghost from_gives = { λ e error. error ≡ link_error_of e };
-
-    fn from(e: link::decode::Error) -> Error {
-        match e {
-            link::decode::Error::Memory => Error::Memory,
-            e => Error::LinkExtension(e),
-        }
-    }
-}
-
-impl From<AllocError> for Error {
-    ghost from_gives = { λ _e error. error ≡ Memory };
-
-    fn from(_e: AllocError) -> Error {
-        Error::Memory
-    }
-}
 
 /// Compares the trailer with the digest of all bytes before it, which is taken where it isn't known yet. There is
 /// nothing to compare where the caller doesn't want it, and where there is no trailer or a null one.

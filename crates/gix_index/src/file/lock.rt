@@ -1,58 +1,42 @@
 //! An index that is locked before it is read, so that no other writer comes between its reading and its writing.
 
 ghost use Rattle.std.specs.Path.{path_buf_bytes};
-ghost use Rattle.std.specs.Prelude.{◌≡◌, ◌⊎◌, IfErr, IfOk, IsTrue, None, OnErr, OnOk};
+ghost use Rattle.std.specs.Prelude.{◌≡◌, ◌⊎◌, [], IfErr, IfOk, IsTrue, None, OnErr, OnOk, Some, true};
 ghost use Rattle.index_entries.specs.Record.{IdsAreOf};
-ghost use Rattle.index_folder.specs.Locks.{asked_of};
+ghost use Rattle.index_folder.specs.Locks.{IsReleased, LeadsTo, Restores, asked_of, lock_of, target_of};
+ghost use Rattle.index_folder.specs.World.{Makes, MayBeMissing};
 ghost use Rattle.index_format.specs.Storable.{IsStorable, IsWritable};
 ghost use Rattle.index_metadata.specs.declared.entry.stat.FileTime.{FileTime as Timestamp};
 ghost use Rattle.index_state.specs.State.{PathsInStorage, contents, entries_of};
+ghost use Rattle.gix_index.specs.Disk.{disk_beside};
 ghost use Rattle.gix_index.specs.File.{IsEmptyFile, checksum_of, path_of, state_of};
 ghost use Rattle.gix_index.specs.FileFaults.{SaysOfLocking, SaysOfWrite};
+ghost use Rattle.gix_index.specs.InPlace.{IsPutSince};
 ghost use Rattle.gix_index.specs.Linked.{IsOnDiskSince};
 ghost use Rattle.gix_index.specs.WrittenFile.{IsWrittenTo};
-ghost use Rattle.gix_index.specs.declared.file.lock.Error.TheVariants.{Lock as LockFault};
 
 use super::File;
-use super::at::read_since;
+use super::at::read_from;
 use super::write::{self, committed};
+pub use index_file_faults::lock::Error;
+use index_folder::folder::{Folder, Made};
 use index_folder::lock;
-pub use index_folder::lock::{Error as Fault, Lock};
+pub use index_folder::lock::{Error as Fault, Lock, Place, acquire};
 use index_format::decode;
 use index_format::write::Options;
+use index_metadata::entry::FileTime;
 use index_parts::hash::Kind;
 use index_window::ReadOptions;
 use std::alloc::{AllocError, Global};
 use std::path::PathBuf;
-use std::rt::Files;
-use thiserror::Error;
-
-/// Why an index isn't locked and read.
-#[derive(Debug, Drop, Error)]
-pub enum Error {
-    /// There is no lock.
-    #[error("{0}")]
-    Lock(lock::Error),
-    /// The index can't be read. It isn't locked any more.
-    #[error("{0}")]
-    Read(super::init::Error),
-}
-
-impl From<lock::Error> for Error {
-    ghost from_gives = { λ e error. error ≡ LockFault e };
-
-    fn from(e: lock::Error) -> Error {
-        Error::Lock(e)
-    }
-}
 
 /// An index that is locked: git, and whoever locks as git does, writes no other in its place until it is committed or
 /// released. Where it is only dropped, its lock stays, and has to be removed by hand.
 #[derive(Drop)]
-pub struct Locked<R: Files> {
+pub struct Locked<M: Made> {
     /// The index as it was read under the lock.
     pub file: File,
-    lock: Lock<R>,
+    lock: Lock<M>,
 }
 
 impl File {
@@ -62,44 +46,69 @@ impl File {
     ///
     /// [`Error::Lock`]: it isn't locked, as another process writes it, or as what is at the path is no place for an
     /// index. [`Error::Read`] is that of [`File::open`]; it was tried then to remove the lock.
-    pub fn lock<R: Files>(
-        rt: &R,
+    pub fn lock<D: Folder>(
+        folder: &mut D,
         alloc: Global,
         path: PathBuf,
         object_hash: Kind,
         skip_hash: bool,
         options: decode::Options,
         or_default: bool,
-    ) -> Result<Locked<R>, Error>
-        ensures read { IfOk result
-            (λ locked. IsOnDiskSince skip_hash object_hash options
+    ) -> Result<Locked<D::Made>, Error>
+        ensures read { IfOk result (λ locked. IsOnDiskSince (disk_beside
+            (D.known folder.new (target_of locked.lock.place)) (D.known folder.new)
+            (path_buf_bytes path)) skip_hash object_hash options
             (contents (state_of locked.file)) (checksum_of locked.file)
-            ⊎ (IsTrue or_default × ((time : Timestamp) × IsEmptyFile object_hash time locked.file))) }
+            ⊎ (IsTrue or_default × MayBeMissing (D.known folder.new (target_of locked.lock.place))
+            × ((time : Timestamp) × IsEmptyFile object_hash time locked.file))) }
         ensures path { IfOk result (λ locked. path_of locked.file ≡ path_buf_bytes path) }
-        ensures lock { IfOk result (λ locked. asked_of locked.lock ≡ path_buf_bytes path) }
+        ensures asked { IfOk result (λ locked. asked_of locked.lock.place ≡ path_buf_bytes path) }
+        ensures target { IfOk result (λ locked. LeadsTo (D.known folder.old) 5
+            (path_buf_bytes path) (target_of locked.lock.place)) }
+        ensures made { IfOk result (λ locked. Makes (D.guards folder.old) (D.known folder.old)
+            (D.known folder.new) (lock_of locked.lock.place)) }
+        ensures empty { IfOk result (λ locked. D.alone folder.old ≡ true
+            → D.Made.contents locked.lock.file ≡ Some []) }
         ensures placed { IfOk result (λ locked. PathsInStorage (state_of locked.file)) }
         ensures ids { IfOk result
             (λ locked. IdsAreOf object_hash (entries_of (state_of locked.file))) }
         ensures storable { IfOk result (λ locked. IsStorable (contents (state_of locked.file))) }
         ensures unlinked { IfOk result
             (λ locked. (contents (state_of locked.file)).extensions.link ≡ None) }
-        ensures fault { IfErr result (SaysOfLocking skip_hash object_hash options) }
+        ensures restored { OnErr result (D.alone folder.old ≡ true → Restores (D.works folder.old)
+            (D.known folder.old) (D.known folder.new) (path_buf_bytes path)) }
+        ensures fault { IfErr result (SaysOfLocking (path_buf_bytes path) (D.works folder.old)
+            (D.known folder.old) skip_hash object_hash options) }
+        ensures alone { D.alone folder.new ≡ D.alone folder.old }
+        ensures works { D.works folder.new ≡ D.works folder.old }
     {
         let asked = match path.clone() {
             Ok(asked) => asked,
             Err(AllocError) => return Err(Error::Lock(lock::Error::Memory)),
         };
-        let lock = Lock::acquire(rt, alloc, asked)?;
+        let Lock { place, file: made } = lock::acquire(folder, alloc, asked)?;
         let reading = ReadOptions {
             object_hash,
             skip_hash,
-            timestamp: lock.modified(),
+            timestamp: made.modified().unwrap_or(FileTime::EPOCH),
             options,
         };
-        match read_since(rt, alloc, path, reading, or_default) {
-            Ok(file) => Ok(Locked { file, lock }),
+        match read_from(
+            folder,
+            alloc,
+            place.target(),
+            path,
+            reading,
+            or_default,
+            true,
+        ) {
+            Ok(file) => Ok(Locked {
+                file,
+                lock: Lock { place, file: made },
+            }),
             Err(e) => {
-                lock.release(rt);
+                drop(made);
+                place.release(folder);
                 Err(Error::Read(e))
             }
         }
@@ -110,28 +119,36 @@ impl File {
     ///
     /// What [`File::write_to`] writes goes to the lock through a buffer of 64 KiB. The file gets the permissions of the
     /// one whose place it takes, and [`State::timestamp`](index_state::State::timestamp) as the time of its last
-    /// change, unless its seconds are 0: git trusts what the index says of a file of the work tree only where that file
+    /// change, where that can be told: git trusts what the index says of a file of the work tree only where that file
     /// is older than the index, so that each file which git would have looked at, it still looks at. With `is_synced`
     /// all bytes are on the disk before it takes that place.
     ///
     /// Version and checksum become those that were written; the checksum becomes None with `skip_hash`. All else stays.
     /// The errors are those of [`File::write`], but for [`write::Error::AcquireLock`]. After one this `File` and the
     /// file that was locked are as they were, and it was tried to remove the lock.
-    pub fn commit<R: Files>(
+    pub fn commit<D: Folder>(
         &mut self,
-        rt: &R,
+        folder: &mut D,
         alloc: Global,
-        lock: Lock<R>,
+        lock: Lock<D::Made>,
         options: Options,
         is_synced: bool,
     ) -> Result<(), write::Error>
         requires { PathsInStorage (state_of self.old) }
-        ensures ok { OnOk result (IsWrittenTo (asked_of lock) self.old self.new options) }
+        ensures ok { OnOk result (IsWrittenTo (asked_of lock.place) self.old self.new options) }
         ensures err { OnErr result (self.new ≡ self.old) }
         ensures writable { OnOk result (IsWritable (contents (state_of self.old)) options) }
+        ensures put { OnOk result (D.alone folder.old ≡ true → D.Made.contents lock.file ≡ Some []
+            → IsPutSince (D.known folder.old) (D.known folder.new) lock.place
+            (contents (state_of self.old)) options) }
+        ensures released { OnErr result (D.alone folder.old ≡ true
+            → IsReleased (D.works folder.old) (D.known folder.old) (D.known folder.new)
+            (lock_of lock.place)) }
         ensures fault { IfErr result (SaysOfWrite (contents (state_of self.old)) options) }
+        ensures alone { D.alone folder.new ≡ D.alone folder.old }
+        ensures works { D.works folder.new ≡ D.works folder.old }
     {
-        let (path, version, id) = committed(self, rt, alloc, lock, options, is_synced)?;
+        let (path, version, id) = committed(self, folder, alloc, lock, options, is_synced)?;
         self.path = path;
         self.state.set_version(version);
         self.checksum = if options.skip_hash { None } else { Some(id) };
@@ -139,9 +156,9 @@ impl File {
     }
 }
 
-impl<R: Files> Locked<R> {
+impl<M: Made> Locked<M> {
     /// The index, and its lock.
-    pub fn into_parts(self) -> (File, Lock<R>)
+    pub fn into_parts(self) -> (File, Lock<M>)
         ensures file { result.0 ≡ self.file }
         ensures lock { result.1 ≡ self.lock }
     {
@@ -151,30 +168,41 @@ impl<R: Files> Locked<R> {
 
     /// Writes the index, as it is now, in the place of the file that was locked, by [`File::commit`], and gives it as
     /// it is there. After an error that file is as it was, and it was tried to remove the lock.
-    pub fn commit(
+    pub fn commit<D: Folder<Made = M>>(
         self,
-        rt: &R,
+        folder: &mut D,
         alloc: Global,
         options: Options,
         is_synced: bool,
     ) -> Result<File, write::Error>
         requires { PathsInStorage (state_of self.file) }
         ensures ok { IfOk result
-            (λ file. IsWrittenTo (asked_of self.lock) self.file file options) }
+            (λ file. IsWrittenTo (asked_of self.lock.place) self.file file options) }
         ensures writable { OnOk result (IsWritable (contents (state_of self.file)) options) }
+        ensures put { OnOk result (D.alone folder.old ≡ true → M.contents self.lock.file ≡ Some []
+            → IsPutSince (D.known folder.old) (D.known folder.new) self.lock.place
+            (contents (state_of self.file)) options) }
+        ensures released { OnErr result (D.alone folder.old ≡ true
+            → IsReleased (D.works folder.old) (D.known folder.old) (D.known folder.new)
+            (lock_of self.lock.place)) }
         ensures fault { IfErr result (SaysOfWrite (contents (state_of self.file)) options) }
     {
-        let (mut file, lock) = self.into_parts();
-        file.commit(rt, alloc, lock, options, is_synced)?;
-        Ok(file)
+        let Locked { mut file, lock } = self;
+        match file.commit(folder, alloc, lock, options, is_synced) {
+            Ok(()) => Ok(file),
+            Err(e) => Err(e),
+        }
     }
 
     /// Gives the lock up, which it is tried to remove, and gives the index as it is in memory.
-    pub fn release(self, rt: &R) -> File
-        ensures { result ≡ self.file }
+    pub fn release<D: Folder>(self, folder: &mut D) -> File
+        ensures file { result ≡ self.file }
+        ensures released { D.alone folder.old ≡ true → IsReleased (D.works folder.old)
+            (D.known folder.old) (D.known folder.new) (lock_of self.lock.place) }
     {
-        let (file, lock) = self.into_parts();
-        lock.release(rt);
+        let (file, Lock { place, file: made }) = self.into_parts();
+        drop(made);
+        place.release(folder);
         file
     }
 }

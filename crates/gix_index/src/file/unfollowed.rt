@@ -3,6 +3,7 @@
 ghost use Rattle.std.specs.Prelude.{◌≡◌, Bool, Option, IfErr, IfNone, IfOk, IfSome, Ok};
 ghost use Rattle.std.specs.Path.{path_buf_bytes};
 ghost use Rattle.index_entries.specs.Record.{IdsAreOf};
+ghost use Rattle.index_folder.specs.World.{Known, whole_of};
 ghost use Rattle.index_format.specs.Contents.{Contents};
 ghost use Rattle.index_format.specs.Storable.{IsStorable};
 ghost use Rattle.index_format.specs.declared.decode.Options.{Options};
@@ -12,6 +13,7 @@ ghost use Rattle.index_state.specs.State.{PathsInStorage, contents, entries_of};
 ghost use Rattle.index_window.specs.Behind.{FollowEntries};
 ghost use Rattle.index_window.specs.Intact.{digest_id};
 ghost use Rattle.gix_index.specs.Checked.{IsFileAnswer};
+ghost use Rattle.gix_index.specs.Disk.{MayHave, known_of};
 ghost use Rattle.gix_index.specs.File.{path_of, state_of};
 ghost use Rattle.gix_index.specs.FileFaults.{SaysOfFile};
 ghost use Rattle.gix_index.specs.Linked.{IsReadAlone, IsReadAloneIn};
@@ -19,6 +21,7 @@ ghost use Rattle.gix_index.specs.Linked.{IsReadAlone, IsReadAloneIn};
 use super::File;
 use super::at::read_fault;
 use super::init::{Error, decoded};
+use index_folder::folder::{Folder, Source};
 use index_format::decode;
 use index_metadata::entry::FileTime;
 use index_parts::hash::{Kind, ObjectId};
@@ -29,11 +32,7 @@ use index_window::disk::bytes_of;
 use index_window::large::in_windows;
 use index_window::passed::pass_entries;
 use std::alloc::Global;
-use std::fs;
-use std::fs::OpenFile;
-use std::io::{Read, Seek};
 use std::path::PathBuf;
-use std::rt::Files;
 
 /// An index that was read by itself, and the end of its file.
 #[derive(Drop)]
@@ -77,8 +76,9 @@ fn decoded_whole(
     ensures ids { IfOk result
         (λ read. IdsAreOf reading.object_hash (entries_of (state_of read.index))) }
     ensures storable { IfOk result (λ read. IsStorable (contents (state_of read.index))) }
-    ensures fault { IfErr result (SaysOfFile reading.skip_hash reading.object_hash
-        reading.timestamp reading.options) }
+    ensures fault { IfErr result (λ e. (works : Bool) (known : Known) → MayHave known bytes.now
+        → SaysOfFile (path_buf_bytes path) works known reading.skip_hash reading.object_hash
+        reading.timestamp reading.options e) }
 {
     let index = decoded(alloc, bytes, known, path, reading)?;
     let Some(rest) = behind_entries(reading.object_hash, bytes) else {
@@ -90,21 +90,23 @@ fn decoded_whole(
 }
 
 /// The same of an opened file: read in windows, or else whole.
-fn read_alone<F: OpenFile + Read + Seek + Drop>(
+fn read_alone<S: Source>(
     alloc: Global,
-    mut file: F,
+    mut file: S,
     path: PathBuf,
     reading: ReadOptions,
 ) -> Result<Unfollowed, Error>
-    ensures read { IfOk result (λ read. IsReadAlone reading.skip_hash reading.object_hash
-        reading.timestamp reading.options read) }
+    requires { S.remaining file ≡ whole_of (S.stored file) }
+    ensures read { IfOk result (IsReadAlone (known_of (S.stored file)) reading.skip_hash
+        reading.object_hash reading.timestamp reading.options) }
     ensures path { IfOk result (λ read. path_of read.index ≡ path_buf_bytes path) }
     ensures placed { IfOk result (λ read. PathsInStorage (state_of read.index)) }
     ensures ids { IfOk result
         (λ read. IdsAreOf reading.object_hash (entries_of (state_of read.index))) }
     ensures storable { IfOk result (λ read. IsStorable (contents (state_of read.index))) }
-    ensures fault { IfErr result (SaysOfFile reading.skip_hash reading.object_hash
-        reading.timestamp reading.options) }
+    ensures fault { IfErr result (SaysOfFile (path_buf_bytes path) (S.works file)
+        (known_of (S.stored file)) reading.skip_hash reading.object_hash reading.timestamp
+        reading.options) }
 {
     match in_windows(alloc, &mut file, reading) {
         Ok(Some(read)) => {
@@ -133,8 +135,8 @@ impl File {
     ///
     /// [`Error::Io`] names the file, which can't be opened or read. [`Error::Decode`] and [`Error::Memory`] are those
     /// of [`File::decode`].
-    pub fn unfollowed_at<R: Files>(
-        rt: &R,
+    pub fn unfollowed_at<D: Folder>(
+        folder: &D,
         alloc: Global,
         path: PathBuf,
         object_hash: Kind,
@@ -142,13 +144,14 @@ impl File {
         timestamp: FileTime,
         options: decode::Options,
     ) -> Result<Unfollowed, Error>
-        // The file's bytes can't be named: the index is what some bytes are read as, and they end so.
-        ensures read { IfOk result (IsReadAlone skip_hash object_hash timestamp options) }
+        ensures read { IfOk result (IsReadAlone (D.known folder.now (path_buf_bytes path))
+            skip_hash object_hash timestamp options) }
         ensures path { IfOk result (λ read. path_of read.index ≡ path_buf_bytes path) }
         ensures placed { IfOk result (λ read. PathsInStorage (state_of read.index)) }
         ensures ids { IfOk result (λ read. IdsAreOf object_hash (entries_of (state_of read.index))) }
         ensures storable { IfOk result (λ read. IsStorable (contents (state_of read.index))) }
-        ensures fault { IfErr result (SaysOfFile skip_hash object_hash timestamp options) }
+        ensures fault { IfErr result (SaysOfFile (path_buf_bytes path) (D.works folder.now)
+            (D.known folder.now (path_buf_bytes path)) skip_hash object_hash timestamp options) }
     {
         let reading = ReadOptions {
             object_hash,
@@ -156,7 +159,7 @@ impl File {
             timestamp,
             options,
         };
-        match fs::open(rt, path.as_path()) {
+        match folder.open(path.as_path()) {
             Ok(file) => read_alone(alloc, file, path, reading),
             Err(e) => Err(read_fault(path, e)),
         }

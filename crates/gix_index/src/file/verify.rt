@@ -4,52 +4,17 @@ ghost use Rattle.std.specs.Prelude.{◌≡◌, ◌≤◌, ◌<◌, ◌↔◌, le
 ghost use Rattle.index_parts.specs.Id.{id_kind, id_len};
 ghost use Rattle.index_parts.specs.declared.hash.ObjectId.{ObjectId};
 ghost use Rattle.index_window.specs.Intact.{digest_id};
-ghost use Rattle.gix_index.specs.File.{checksum_of};
-ghost use Rattle.gix_index.specs.VerifiedFile.{FitsSomeBytes, SaysOfBytes, SaysOfSomeBytes};
-ghost use Rattle.gix_index.specs.declared.file.verify.Error.TheVariants.{Memory, Verify};
+ghost use Rattle.gix_index.specs.File.{checksum_of, path_of};
+ghost use Rattle.gix_index.specs.VerifiedFile.{FitsFile, SaysOfBytes, SaysOfFileBytes};
 
 use super::File;
+pub use index_file_faults::verify::Error;
 use index_folder::fault::PathError;
-use index_parts::hash::{self, ObjectId, digest};
+use index_folder::folder::Folder;
+use index_parts::hash::{ObjectId, digest};
 use index_window::disk::hashed_at;
-use std::alloc::{AllocError, Global};
+use std::alloc::Global;
 use std::io::ErrorKind;
-use std::rt::Files;
-use thiserror::Error;
-
-/// Why a file isn't what it was.
-#[derive(Debug, Drop, Error)]
-pub enum Error {
-    /// The file can't be opened or read.
-    #[error("the index file can't be opened or read: {0}")]
-    Io(PathError),
-    /// It has fewer bytes than an id.
-    #[error("the index file has fewer bytes than the checksum at its end")]
-    TooShort,
-    /// The digest of its bytes isn't the checksum.
-    #[error("the index file has changed since it was read or written: \
-         its digest is {}, and was {}", .0.actual, .0.expected)]
-    Verify(hash::verify::Error),
-    /// A growth was refused.
-    #[error("out of memory while reading an index file again")]
-    Memory,
-}
-
-impl From<hash::verify::Error> for Error {
-    ghost from_gives = { λ e error. error ≡ Verify e };
-
-    fn from(e: hash::verify::Error) -> Error {
-        Error::Verify(e)
-    }
-}
-
-impl From<AllocError> for Error {
-    ghost from_gives = { λ _e error. error ≡ Memory };
-
-    fn from(_e: AllocError) -> Error {
-        Error::Memory
-    }
-}
 
 /// The same as [`bytes`], where the digest was taken already.
 fn compare(data: &[u8], digest: ObjectId, checksum: ObjectId) -> Result<(), Error>
@@ -89,18 +54,19 @@ impl File {
     /// is Ok, and nothing is read.
     ///
     /// [`Error::Io`] names the path. Room is asked for as many bytes as the file's metadata says. Nothing is changed.
-    pub fn verify_integrity<R: Files>(&self, rt: &R, alloc: Global) -> Result<(), Error>
+    pub fn verify_integrity<D: Folder>(&self, folder: &D, alloc: Global) -> Result<(), Error>
         ensures nothing { checksum_of self.now ≡ None → IsOk result }
-        // The file's bytes can't be named: the answer is that for some bytes.
-        ensures ok { OnOk result (IfSome (checksum_of self.now) FitsSomeBytes) }
+        ensures ok { OnOk result (IfSome (checksum_of self.now)
+            (FitsFile (D.known folder.now (path_of self.now)))) }
         ensures fault { IfErr result (λ e. (checksum : ObjectId)
             × (checksum_of self.now ≡ Some checksum)
-            × SaysOfSomeBytes checksum e) }
+            × SaysOfFileBytes (path_of self.now) (D.works folder.now)
+            (D.known folder.now (path_of self.now)) checksum e) }
     {
         let Some(checksum) = self.checksum else {
             return Ok(());
         };
-        match hashed_at(rt, alloc, self.path.as_path(), checksum.kind()) {
+        match hashed_at(folder, alloc, self.path.as_path(), checksum.kind()) {
             Ok((data, digest)) => compare(&data, digest, checksum),
             Err(error) => {
                 if error.kind() == ErrorKind::OutOfMemory {

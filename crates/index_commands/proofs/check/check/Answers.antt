@@ -1,5 +1,6 @@
 use Rattle.std.proofs.Common.{refl}
 use Rattle.std.proofs.KnownBytes.{Keeps-refl}
+use Rattle.gix_index.specs.Disk.{disk_at}
 use Rattle.gix_index.specs.State.{contents}
 use Rattle.gix_index.specs.File.{checksum_of, state_of}
 use Rattle.index_commands.proofs.Endings.{verify_fails}
@@ -7,8 +8,8 @@ use Rattle.index_commands.proofs.check.check.Goals as goal
 
 pub returns-in-Err-verify_contents-clause-refused : goal.returns-in-Err-verify_contents-clause-refused
 returns-in-Err-verify_contents-clause-refused g c =
-    verify_fails c.in-Err-verify_contents.failure c.args.ids c.args.kind c.args.path.now
-    (g.W.Write.contents c.args.out.now) c.in-Err-verify_contents.ensures.fault
+    verify_fails c.in-Err-verify_contents.failure c.args.ids (disk_at (g.D.Folder.known c.args.folder.now) c.args.path.now)
+    c.args.kind c.args.path.now (g.W.Write.contents c.args.out.now) c.in-Err-verify_contents.ensures.fault
 
 pub returns-in-Err-verify_integrity-clause-refused : goal.returns-in-Err-verify_integrity-clause-refused
 returns-in-Err-verify_integrity-clause-refused g c = (refl, Keeps-refl (g.W.Write.contents c.args.out.now))
@@ -22,7 +23,7 @@ returns-in-Ok-put_all-clause-checked g c = record {
     ordered = c.in_default.ensures.ordered;
     tree = c.in_default.ensures.tree;
     trees = c.in_default.ensures.right;
-    intact = c.in_default-verify_integrity.ensures.ok;
+    intact = rw c.in-Ok.ensures.path at c.in_default-verify_integrity.ensures.ok;
   };
   grew = c.in-Ok-put_all.ensures.ok;
 }
@@ -36,7 +37,7 @@ returns-clause-refused g c = record {
     ordered = c.in_default.ensures.ordered;
     tree = c.in_default.ensures.tree;
     trees = c.in_default.ensures.right;
-    intact = c.in_default-verify_integrity.ensures.ok;
+    intact = rw c.in-Ok.ensures.path at c.in_default-verify_integrity.ensures.ok;
   };
   grew = c.in-Err-put_all.ensures.err;
 }

@@ -3,13 +3,27 @@ use Rattle.gix_index.specs.State.{contents}
 use Rattle.gix_index.specs.StateType.{State}
 use Rattle.index_commands.specs.Rewriting.{chosen}
 use Rattle.index_commands.specs.declared.rewrite.Form.TheVariants.{AsRead}
+use Rattle.index_failures.proofs.Restored.{restored_so}
 use Rattle.index_commands.proofs.Writings.{retreed_so}
 use Rattle.index_commands.proofs.rewrite_trees.retreed.Goals as goal
 
 pub returns-in-Ok-made-clause-written : goal.returns-in-Ok-made-clause-written
 returns-in-Ok-made-clause-written g c =
-    retreed_so c.args.kind _ c.args.to.now c.in-Ok-made.index c.choice-version.result c.in-Ok.ensures.asked
-    c.commit_at.result c.in-Ok-made.ensures.made
+    retreed_so (g.D.Folder.alone c.lock_at.new.folder) (g.D.Folder.alone c.args.folder.now)
+    (g.D.Folder.guards c.args.folder.now) c.args.kind (g.D.Folder.known c.args.folder.now)
+    (g.D.Folder.known c.lock_at.new.folder) (g.D.Folder.known c.commit_at.new.folder) c.args.path.now c.args.to.now
+    c.in-Ok.lock.place c.in-Ok-made.index c.choice-version.result (g.D.Made.Write.contents c.in-Ok.lock.file)
+    c.in-Ok.ensures.locked c.lock_at.ensures.alone c.in-Ok.ensures.empty c.args.counts c.commit_at.result
+    c.in-Ok-made.ensures.made
     (c.choice-version.ensures
     ∙ ap (chosen AsRead) (c.version.ensures ∙ ap (λ (s : State). (contents s).version) c.deref.ensures))
-    c.commit_at.ensures.written
+    c.commit_at.ensures.written c.commit_at.ensures.put
+
+pub returns-in-Ok-made-clause-restored : goal.returns-in-Ok-made-clause-restored
+returns-in-Ok-made-clause-restored g c =
+    restored_so (g.D.Folder.guards c.args.folder.now) (g.D.Folder.works c.args.folder.now)
+    (g.D.Folder.known c.args.folder.now) (g.D.Folder.known c.lock_at.new.folder)
+    (g.D.Folder.known c.commit_at.new.folder) c.args.to.now c.in-Ok.lock.place c.in-Ok.ensures.locked
+    c.in-Ok.ensures.beside (g.D.Folder.alone c.lock_at.new.folder) (g.D.Folder.works c.lock_at.new.folder)
+    (g.D.Folder.alone c.args.folder.now) c.commit_at.result c.lock_at.ensures.alone c.lock_at.ensures.works
+    c.commit_at.ensures.released

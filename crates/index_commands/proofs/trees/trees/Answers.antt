@@ -1,4 +1,5 @@
 use Rattle.gix_index.specs.File.{checksum_of, state_of}
+use Rattle.gix_index.specs.Disk.{disk_at}
 use Rattle.gix_index.specs.State.{contents}
 use Rattle.gix_index.specs.Tree.{node_of}
 use Rattle.index_commands.proofs.Endings.{tree_fails}
@@ -6,8 +7,8 @@ use Rattle.index_commands.proofs.trees.trees.Goals as goal
 
 pub returns-in-Err-tree_of-clause-refused : goal.returns-in-Err-tree_of-clause-refused
 returns-in-Err-tree_of-clause-refused g c =
-    tree_fails c.in-Err-tree_of.failure c.args.kind c.args.path.now (g.W.Write.contents c.args.out.now)
-    c.in-Err-tree_of.ensures.fault
+    tree_fails c.in-Err-tree_of.failure (disk_at (g.D.Folder.known c.args.folder.now) c.args.path.now) c.args.kind
+    c.args.path.now (g.W.Write.contents c.args.out.now) c.in-Err-tree_of.ensures.fault
 
 pub returns-in-Ok-write_trees-clause-told : goal.returns-in-Ok-write_trees-clause-told
 returns-in-Ok-write_trees-clause-told g c = record {

@@ -18,7 +18,7 @@ returns-clause-consumes g c =
     let items : c.truncate.new.self.items ≡ take (at + count) (put_mid at (length xs - at) xs room) =
     c.truncate.ensures.items ∙ ap (take (at + count))
     (with_items_is c.resize.new.self (put_mid at (length xs - at) xs room) (search (rules, places))) in
-    subst (Consumes (g.R.Read.remaining c.args.reader.now) (g.R.Read.remaining c.read_once.new.reader))
+    subst (Consumes (g.S.Source.remaining c.args.file.now) (g.S.Source.remaining c.read_once.new.file))
     (sym (ap (appended_bytes old) items
     ∙ piece_read old xs room (post_of at (length xs - at) xs) at count is within c.in_ok-count.ensures.bound.0))
     c.in_ok-count.ensures.bytes.0

@@ -1,4 +1,4 @@
-use Rattle.std.proofs.Common.{rules}
+use Rattle.std.proofs.Common.{rules, ◌∙◌}
 use Rattle.std.proofs.KnownBytes.{Consumes-more}
 use Rattle.index_folder.proofs.Readers.{starts_trans}
 use Rattle.index_folder.proofs.pieces.fill.Goals as goal
@@ -17,4 +17,6 @@ pieces-preserved g c = record {
   consumed = Consumes-more _ _ _ c.args.bytes.now.items c.pieces.bytes.items c.append_piece.new.bytes.items
       c.pieces.invariant.appends c.in_ok-count.ensures.appends c.pieces.invariant.consumed
       c.in_ok-count.ensures.consumes;
+  stored = c.append_piece.ensures.stored ∙ c.pieces.invariant.stored;
+  works = c.append_piece.ensures.works ∙ c.pieces.invariant.works;
 }

@@ -1,5 +1,11 @@
+use Rattle.std.proofs.Common.{◌≡◌, true}
 use Rattle.std.specs.Io.KnownBytes.{Keeps}
 use Rattle.index_folder.proofs.pieces.read_once.Given as goal
 
 abbrev pub invariant-loop : goal.invariant-loop
-invariant-loop g l = Keeps (g.R.Read.remaining l.fn.reader) (g.R.Read.remaining l.reader)
+invariant-loop g l = record {
+  keeps : Keeps (g.S.Source.remaining l.fn.file) (g.S.Source.remaining l.file);
+  stored : g.S.Source.stored l.file ≡ g.S.Source.stored l.fn.file;
+  works : g.S.Source.works l.file ≡ g.S.Source.works l.fn.file;
+  first : g.S.Source.works l.fn.file ≡ true → l.counter ≡ 0;
+}

@@ -1,7 +1,7 @@
 use Rattle.std.proofs.Common.{◌≡◌, Some, inl, inr, refl, subst, sym, ◌∙◌}
 use Rattle.gix_index.specs.Link.{link_of}
 use Rattle.gix_index.specs.State.{contents}
-use Rattle.gix_index.specs.declared.file.init.Error.{Error}
+use Rattle.gix_index.specs.FileFaults.ReadError.{Error}
 use Rattle.index_table.specs.Faults.{IsNumbered, read_status}
 use Rattle.index_table.proofs.Refusals.{lacks_from, link_refused, of_kind, shared_refused}
 use Rattle.index_table.proofs.split.join.Goals as goal

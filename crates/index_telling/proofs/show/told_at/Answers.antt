@@ -1,4 +1,5 @@
-use Rattle.std.proofs.Common.{refl}
+use Rattle.std.proofs.Common.{ℕ, List, refl, subst}
+use Rattle.gix_index.specs.Disk.{MayHave}
 use Rattle.index_telling.proofs.Readings.{in_bytes}
 use Rattle.index_failures.proofs.Readings.{options_are}
 use Rattle.index_telling.proofs.show.told_at.Goals as goal
@@ -7,6 +8,7 @@ pub returns-in-Ok-marks_of-clause-told : goal.returns-in-Ok-marks_of-clause-told
 returns-in-Ok-marks_of-clause-told g c =
     let default = c.default-options.ensures in
     let is = c.in-Ok-unfollowed_at.ensures.read in
-    in_bytes c.args.kind is.0 _ _ _ _ _ _ (refl, refl)
-    (options_are _ default.0 default.1.0 default.1.1.0 default.1.1.1) is.1.read is.1.ending
+    in_bytes (g.D.Folder.known c.args.folder.now c.args.path.now) c.args.kind is.0 _ _ _ _ _ _
+    (subst (λ (p : List ℕ). MayHave (g.D.Folder.known c.args.folder.now p) is.0) c.in-Ok.ensures is.1) (refl, refl)
+    (options_are _ default.0 default.1.0 default.1.1.0 default.1.1.1) is.2.read is.2.ending
     (rw c.deref.ensures.value at c.in-Ok-marks_of.ensures)

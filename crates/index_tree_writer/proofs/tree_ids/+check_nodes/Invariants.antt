@@ -2,16 +2,18 @@ use Rattle.std.proofs.Common.{◌≡◌, ℕ, List, All, map, take}
 use Rattle.std.specs.Option.{option_map}
 use Rattle.index_parts.specs.declared.hash.Kind.{Kind}
 use Rattle.index_cached_tree.specs.Tree.{node_of, nodes_from}
-use Rattle.index_tree_writer.specs.Staged.{Staged}
+use Rattle.index_entries.specs.Record.{Record}
+use Rattle.index_tree_writer.specs.Staged.{merged_in, staged_in, unmerged_in}
 use Rattle.index_tree_writer.specs.TreeIds.{IsRight, spots_below}
-use Rattle.index_tree_writer.specs.TreeIdsSteps.{GivesAt}
+use Rattle.index_tree_writer.specs.TreeIdsSteps.{GivesAt, parent_path}
 use Rattle.index_tree_writer.proofs.tree_ids.+check_nodes.Given as goal
 
 -- the path is as it was, and the children so far are right with all below them
 abbrev pub invariant-loop-child : goal.invariant-loop-child
 invariant-loop-child l = record {
   parent : l.parent.items ≡ l.initial.parent.items;
-  right : (kind : Kind) (staged : List Staged) (names : List (List ℕ))
-      → GivesAt kind staged names (option_map (λ t. node_of t.now) l.given)
-      → All (IsRight kind staged) (spots_below names (nodes_from (map node_of (take l.child-index l.child-items))));
+  right : (kind : Kind) (rs : List Record) (names : List (List ℕ)) → l.unmerged ≡ unmerged_in rs
+      → l.initial.parent.items ≡ parent_path names
+      → GivesAt kind (staged_in (merged_in rs)) names (option_map (λ t. node_of t.now) l.given)
+      → All (IsRight kind rs) (spots_below names (nodes_from (map node_of (take l.child-index l.child-items))));
 }

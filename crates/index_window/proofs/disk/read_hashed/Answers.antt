@@ -13,7 +13,8 @@ pieces-init g c = record {
   kind = search rules;
   end = search rules;
   holds = search rules;
-  read = subst (Consumes (g.R.Read.remaining c.args.reader.now) (g.R.Read.remaining c.args.reader.now)) (sym c.requires)
+  works = refl;
+  read = subst (Consumes (g.S.Source.remaining c.args.file.now) (g.S.Source.remaining c.args.file.now)) (sym c.requires)
       (Consumes-nil _);
 }
 
@@ -33,6 +34,7 @@ pieces-preserved g c =
       end = is_end;
       holds = subst P (front_grown old new hashed end c.in_ok-count.ensures.appends within ordered)
           (subst Q c.deref.ensures.value (c.update.ensures.more (take hashed old) c.pieces.invariant.holds));
+      works = c.append_piece.ensures.works ∙ c.pieces.invariant.works;
       read =
           read_more _ _ _ old new c.in_ok-count.ensures.appends c.pieces.invariant.read c.in_ok-count.ensures.consumes;
     }
@@ -43,5 +45,5 @@ returns-then-count-eq0-clause-whole g c =
     let new = c.append_piece.new.bytes.items in
     let all =
     read_more _ _ _ old new c.in_ok-count.ensures.appends c.pieces.invariant.read c.in_ok-count.ensures.consumes in
-    Consumes-whole (g.R.Read.remaining c.args.reader.now) (g.R.Read.remaining c.append_piece.new.reader) new
+    Consumes-whole (g.S.Source.remaining c.args.file.now) (g.S.Source.remaining c.append_piece.new.file) new
     (λ left. new ≡ left) all (c.in_ok-count.ensures.end c.if-count-eq0.true) refl

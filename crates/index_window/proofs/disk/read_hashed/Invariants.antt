@@ -10,7 +10,8 @@ invariant-pieces g l =
       kind : hasher_kind l.hasher ≡ l.kind;
       end : l.hashed ≡ length l.bytes.items - id_len l.kind;
       holds : Holds l.hasher (take l.hashed l.bytes.items);
-      read : Consumes (g.R.Read.remaining l.fn.reader) (g.R.Read.remaining l.reader) l.bytes.items;
+      works : g.S.Source.works l.file ≡ g.S.Source.works l.fn.file;
+      read : Consumes (g.S.Source.remaining l.fn.file) (g.S.Source.remaining l.file) l.bytes.items;
     }
 
 abbrev pub decreases-pieces : goal.decreases-pieces

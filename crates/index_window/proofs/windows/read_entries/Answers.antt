@@ -1,4 +1,4 @@
-use Rattle.std.proofs.Common.{◌≡◌, ◌+◌, ◌++◌, List, ℕ, length, drop, arith, length-drop}
+use Rattle.std.proofs.Common.{◌≡◌, ◌+◌, ◌++◌, List, ℕ, length, drop, arith, length-drop, refl, ◌∙◌}
 use Rattle.std.proofs.KnownBytes.{starts_with_rest}
 use Rattle.index_window.proofs.Steps.{on_none, on_trans, on_fill}
 use Rattle.index_window.proofs.windows.read_entries.Goals as goal
@@ -8,6 +8,8 @@ windows-init g c = record {
   ids = c.requires.ids;
   sparse = c.requires.sparse;
   count = c.requires.count;
+  stored = refl;
+  works = refl;
   read = (0, omega arith, on_none c.args.plan _ (omega (arith, c.requires.header, c.args.window.now.ok.0)));
 }
 
@@ -23,7 +25,7 @@ pub windows-preserved : goal.windows-preserved
 windows-preserved g c =
     let so-far = c.windows.invariant.read in
     let took = on_trans c.args.plan _ _ _ so-far.0 0 so-far.2
-    (c.in_ok-start.ensures.read (g.R.Read.remaining c.windows.reader)) in
+    (c.in_ok-start.ensures.read (g.S.Source.remaining c.windows.file)) in
     let old = c.take_entries.new.window.items in
     let new = c.fill.new.bytes.items in
     let more : List ℕ = drop (length old) new in
@@ -35,11 +37,13 @@ windows-preserved g c =
       c.take_entries.new.window.ok.0,
       c.fill.new.bytes.ok.0,
     ) in
-    let came = on_fill c.args.plan (g.R.Read.remaining c.windows.reader)
-    (g.R.Read.remaining c.fill.new.reader) c.take_entries.new.hasher old new more c.in_ok-start.start
+    let came = on_fill c.args.plan (g.S.Source.remaining c.windows.file)
+    (g.S.Source.remaining c.fill.new.file) c.take_entries.new.hasher old new more c.in_ok-start.start
     c.take_entries.new.first.list.records took.inside grown c.in_ok-came.ensures.consumes in
     record {
       ids = c.in_ok-start.ensures.ids;
+      stored = c.in_ok-came.ensures.stored ∙ c.windows.invariant.stored;
+      works = c.in_ok-came.ensures.works ∙ c.windows.invariant.works;
       sparse = c.in_ok-start.ensures.sparse;
       count = c.in_ok-start.ensures.count;
       read = (

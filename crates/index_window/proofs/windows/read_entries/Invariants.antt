@@ -12,20 +12,22 @@ invariant-windows g l = record {
   count : length l.first.list.records ≤ l.plan.count;
   read : (count : ℕ) × (count + l.left ≡ l.fn.left) × IsReadOn l.plan
       (record {
-        left = g.R.Read.remaining l.fn.reader;
+        left = g.S.Source.remaining l.fn.file;
         hasher = l.fn.hasher;
         window = l.fn.window.items;
         decoded = 12;
         records = l.fn.first.list.records;
       })
       (record {
-        left = g.R.Read.remaining l.reader;
+        left = g.S.Source.remaining l.file;
         hasher = l.hasher;
         window = l.window.items;
         decoded = l.start;
         records = l.first.list.records;
       })
       count;
+  stored : g.S.Source.stored l.file ≡ g.S.Source.stored l.fn.file;
+  works : g.S.Source.works l.file ≡ g.S.Source.works l.fn.file;
 }
 
 abbrev pub decreases-windows : goal.decreases-windows

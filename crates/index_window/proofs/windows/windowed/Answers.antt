@@ -27,20 +27,20 @@ returns-clause-read g c =
     } in
     let first = c.fill.new.bytes.items in
     let w1 = c.read_entries.new.window.items in
-    let tail = c.read_to_end.new.buf.items in
+    let tail = c.fill-2.new.bytes.items in
     let more : List ℕ = drop (length w1) tail in
     let start = c.in-Some-2.start in
     let r = rw c.in-Some-2.is at c.in_ok-start.ensures.read in
     let whole = rw c.in-Some-2.is at c.in_ok-start.ensures.whole in
     let a : Moment = record {
-      left = g.R.Read.remaining c.fill.new.reader;
+      left = g.S.Source.remaining c.fill.new.file;
       hasher = c.new-hasher.result;
       window = first;
       decoded = 12;
       records = c.in_ok-first.first.list.records;
     } in
     let b : Moment = record {
-      left = g.R.Read.remaining c.read_entries.new.reader;
+      left = g.S.Source.remaining c.read_entries.new.file;
       hasher = c.read_entries.new.hasher;
       window = w1;
       decoded = start;
@@ -48,9 +48,9 @@ returns-clause-read g c =
     } in
     let grown : tail ≡ w1 ++ more =
     starts_with_rest tail w1 (rw c.in_ok-reserve.ensures.items at c.in_ok-more.ensures.appends) in
-    let rest : Consumes b.left (g.R.Read.remaining c.read_to_end.new.self) more =
-    rw c.in_ok-reserve.ensures.items at c.in_ok-more.ensures.none_lost in
-    let front : Consumes (g.R.Read.remaining c.args.reader.now) a.left first =
+    let rest : Consumes b.left (g.S.Source.remaining c.fill-2.new.file) more =
+    rw c.in_ok-reserve.ensures.items at c.in_ok-more.ensures.consumes in
+    let front : Consumes (g.S.Source.remaining c.args.file.now) a.left first =
     rw c.in_ok-window.ensures.items at c.in_ok-came.ensures.consumes in
     let got : length first ≡ c.in_ok-came.came = omega (
       arith,
@@ -63,8 +63,8 @@ returns-clause-read g c =
     omega (
       arith,
       length-drop (length w1) tail,
-      c.in_ok-more.ensures.ok,
-      c.read_to_end.new.buf.ok.0,
+      c.in_ok-more.ensures.len,
+      c.fill-2.new.bytes.ok.0,
       c.read_entries.new.window.ok.0,
       c.reserve.new.self.ok.0,
       ap length c.in_ok-reserve.ensures.items,
@@ -88,8 +88,8 @@ returns-clause-read g c =
     ) in
     some_with c.ending_of.result _ _ _ _ _ (λ x ending intact marker bytes. (
       step.taken ++ tail,
-      whole_of_windows plan a b r.0 tail more (g.R.Read.remaining c.args.reader.now)
-          (g.R.Read.remaining c.read_to_end.new.self) step grown front rest c.in_ok-more.ensures.end,
+      whole_of_windows plan a b r.0 tail more (g.S.Source.remaining c.args.file.now)
+          (g.S.Source.remaining c.fill-2.new.file) step grown front rest (c.in_ok-more.ensures.end (search rules)),
       All-append (λ b. b < 256) step.taken tail step.are_bytes bytes.0,
       intact (step.kind_stays ∙ c.new-hasher.ensures.kind) step.taken
           (λ is. step.hashed is [] c.new-hasher.ensures.empty),

@@ -6,32 +6,31 @@ use Rattle.index_state.specs.Dissolve.{IsDissolved, SaysDissolve}
 use Rattle.index_format.specs.Contents.{Contents}
 use Rattle.index_state.specs.State.{contents}
 use Rattle.index_format.specs.Storable.{IsStorable}
-use Rattle.gix_index.specs.File.{state_of, checksum_of}
+use Rattle.gix_index.specs.Disk.{disk_beside}
+use Rattle.gix_index.specs.File.{path_of, state_of, checksum_of}
 use Rattle.gix_index.specs.Linked.{IsUnfollowed, own, joined}
 use Rattle.gix_index.proofs.FileFaults.{of_link, of_shared}
 use Rattle.gix_index.proofs.Joined.{read_kind, unlinked_storable}
 use Rattle.gix_index.proofs.file.at.follow.Goals as goal
 
 pub returns-in_default-clause-read : goal.returns-in_default-clause-read
-returns-in_default-clause-read g c =
+returns-in_default-clause-read g c = λ known read.
     let t = c.take_link.ensures in
     let none = sym t.given ∙ ap (option_map link_of) c.in_default.is in
     own (record {
-      bytes = c.requires.read.0;
       split = contents (state_of c.args.file);
-      read = c.requires.read.1;
+      read = read;
       unfollowed = subst IsUnfollowed (sym none) tt;
       is = t.removed;
     })
 
 pub returns-then-is_null-clause-read : goal.returns-then-is_null-clause-read
-returns-then-is_null-clause-read g c =
+returns-then-is_null-clause-read g c = λ known read.
     let t = c.take_link.ensures in
     let some = sym t.given ∙ ap (option_map link_of) c.in-Some.is in
     own (record {
-      bytes = c.requires.read.0;
       split = contents (state_of c.args.file);
-      read = c.requires.read.1;
+      read = read;
       unfollowed = subst IsUnfollowed (sym some) (sym c.is_null.ensures ∙ c.if-is_null.true);
       is = t.removed;
     })
@@ -41,54 +40,52 @@ returns-in_err-shared-clause-fault g c =
     let t = c.take_link.ensures in
     let r = c.args.reading in
     let p = err_from_is_err_and c.from_residual.result c.from_residual.ensures.1 in
-    rw (p.1, p.2) (of_shared r.skip_hash r.object_hash r.timestamp r.options (contents (state_of c.args.file))
+    rw (p.1, p.2) (λ known read. of_shared r.skip_hash r.object_hash r.timestamp r.options (path_of c.args.file)
+    (g.D.Folder.works c.args.folder.now) (disk_beside known (g.D.Folder.known c.args.folder.now) (path_of c.args.file)) (contents (state_of c.args.file))
     (checksum_of c.args.file) (link_of c.in-Some.link) c.in_err-shared.field-0.0
     (record {
-      bytes = c.requires.read.0;
-      read = c.requires.read.1;
+      read = read;
       has_link = sym t.given ∙ ap (option_map link_of) c.in-Some.is;
       followed = sym c.is_null.ensures ∙ c.if-is_null.false;
     })
-    c.in_err-shared.ensures.fault)
+    (rw c.as_path.ensures at c.in_err-shared.ensures.fault))
 
 pub returns-in_err-dissolve_into-clause-fault : goal.returns-in_err-dissolve_into-clause-fault
 returns-in_err-dissolve_into-clause-fault g c =
     let t = c.take_link.ensures in
     let r = c.args.reading in
-    let s = c.in_ok-shared.ensures.read in
+    let s = rw c.as_path.ensures at c.in_ok-shared.ensures.read in
     let e = c.in_err-dissolve_into.field-0.0 in
     let p = err_from_is_err_and c.from_residual-in_err-dissolve_into.result
     c.from_residual-in_err-dissolve_into.ensures.1 in
-    rw (p.1, p.2) (of_link r.skip_hash r.object_hash r.timestamp r.options (contents (state_of c.args.file))
-    (checksum_of c.args.file) (link_of c.in-Some.link) s.0 (contents c.in_ok-shared.shared) s.1 e
+    rw (p.1, p.2) (λ known read. of_link r.skip_hash r.object_hash r.timestamp r.options (path_of c.args.file)
+    (g.D.Folder.works c.args.folder.now) (disk_beside known (g.D.Folder.known c.args.folder.now) (path_of c.args.file)) (contents (state_of c.args.file))
+    (checksum_of c.args.file) (link_of c.in-Some.link) (contents c.in_ok-shared.shared) s.0 e
     (record {
-      bytes = c.requires.read.0;
-      read = c.requires.read.1;
+      read = read;
       has_link = sym t.given ∙ ap (option_map link_of) c.in-Some.is;
       followed = sym c.is_null.ensures ∙ c.if-is_null.false;
     })
-    s.2
+    s.1
     (subst (λ (v : Contents). SaysDissolve e (link_of c.in-Some.link) (contents c.in_ok-shared.shared) v) t.removed
     c.in_err-dissolve_into.ensures.fault))
 
 pub returns-clause-read : goal.returns-clause-read
-returns-clause-read g c =
+returns-clause-read g c = λ known read.
     let t = c.take_link.ensures in
-    let s = c.in_ok-shared.ensures.read in
+    let s = rw c.as_path.ensures at c.in_ok-shared.ensures.read in
     let d = c.in_ok-dissolve_into.ensures.dissolved in
     joined (record {
       split = contents (state_of c.args.file);
       link = link_of c.in-Some.link;
       is_split = record {
-        bytes = c.requires.read.0;
-        read = c.requires.read.1;
+        read = read;
         has_link = sym t.given ∙ ap (option_map link_of) c.in-Some.is;
         followed = sym c.is_null.ensures ∙ c.if-is_null.false;
       };
-      shared_bytes = s.0;
       shared = contents c.in_ok-shared.shared;
-      shared_checksum = s.1;
-      read_shared = s.2;
+      shared_checksum = s.0;
+      read_shared = s.1;
       dissolved = subst (λ (v : Contents). IsDissolved (link_of c.in-Some.link) (contents c.in_ok-shared.shared) v
           (contents c.dissolve_into.new.split)) t.removed d;
     })
@@ -103,7 +100,7 @@ returns-clause-storable g c =
     let t = c.take_link.ensures in
     let s = c.in_ok-shared.ensures.read in
     let mine = read_kind _ _ _ _ c.requires.read.0 (contents (state_of c.args.file)) _ c.requires.read.1 in
-    let theirs = read_kind _ _ _ _ s.0 (contents c.in_ok-shared.shared) s.1 s.2 in
+    let theirs = read_kind _ _ _ _ s.1.bytes (contents c.in_ok-shared.shared) s.0 s.1.read in
     let same = theirs ∙ sym mine ∙ sym (ap (λ (v : Contents). v.kind) t.removed) in
     c.dissolve_into.ensures.storable (subst IsStorable (sym t.removed)
     (unlinked_storable (contents (state_of c.args.file)) c.requires.storable)) c.in_ok-shared.ensures.storable same

@@ -1,4 +1,8 @@
+use Rattle.std.proofs.Common.{Option, inl, subst, ◌∙◌}
+use Rattle.index_folder.specs.World.{Stored}
+use Rattle.gix_index.specs.Disk.{MayHave, known_of}
 use Rattle.gix_index.proofs.Checks.{to_file}
+use Rattle.gix_index.proofs.FileFaults.{held_by}
 use Rattle.gix_index.proofs.file.unfollowed.read_alone.Goals as goal
 
 pub returns-in-Ok-Some-clause-read : goal.returns-in-Ok-Some-clause-read
@@ -6,14 +10,16 @@ returns-in-Ok-Some-clause-read g c =
     let h = rw c.in-Ok-Some.field-0-is at c.in-Ok-Some.ensures.read in
     let r = c.args.reading in (
       h.0,
+      held_by (g.S.Source.stored c.args.file) h.0 h.1,
       record {
-        read = rw c.from.ensures (to_file r.skip_hash r.object_hash r.timestamp r.options h.0 _ h.1 h.2);
-        ending = h.3;
+        read = rw c.from.ensures (to_file r.skip_hash r.object_hash r.timestamp r.options h.0 _ h.2 h.3);
+        ending = h.4;
       },
     )
 
 pub returns-in-Err-clause-fault : goal.returns-in-Err-clause-fault
-returns-in-Err-clause-fault g c = c.read_fault.ensures _ _ _ _
+returns-in-Err-clause-fault g c = c.read_fault.ensures _ _ (λ is. inl (c.in-Err.ensures.fault is)) _ _ _ _
 
 pub returns-in-Err-bytes_of-clause-fault : goal.returns-in-Err-bytes_of-clause-fault
-returns-in-Err-bytes_of-clause-fault g c = c.read_fault-in-Err-bytes_of.ensures _ _ _ _
+returns-in-Err-bytes_of-clause-fault g c = c.read_fault-in-Err-bytes_of.ensures _ _
+    (λ is. inl (c.in-Err-bytes_of.ensures.fault (c.in_windows.ensures.works ∙ is))) _ _ _ _

@@ -1,3 +1,6 @@
+use Rattle.index_state.specs.State.{contents}
+use Rattle.gix_index.specs.File.{state_of}
+use Rattle.gix_index.proofs.Puts.{put_since}
 use Rattle.gix_index.proofs.file.write.committed.Goals as goal
 
 pub returns-in-Err-clause-fault : goal.returns-in-Err-clause-fault
@@ -8,3 +11,10 @@ returns-in-Err-Lock-clause-fault g c = c.fault_of.ensures _ _
 
 pub returns-in-Err-Rename-clause-fault : goal.returns-in-Err-Rename-clause-fault
 returns-in-Err-Rename-clause-fault g c = c.fault_of-in-Err-Rename.ensures _ _
+
+pub returns-in-Ok-commit-clause-put : goal.returns-in-Ok-commit-clause-put
+returns-in-Ok-commit-clause-put g c = λ alone empty.
+    put_since (g.D.Folder.known c.args.folder.now) (g.D.Folder.known c.commit.new.folder) c.args.lock.place
+    (contents (state_of c.args.index.now)) c.args.options (g.D.Made.Write.contents c.args.lock.file)
+    (g.D.Made.Write.contents c.in-Ok.filled.file) c.timestamp.result c.timestamp.ensures empty c.in-Ok.ensures.bytes
+    (c.in-Ok-commit.ensures.committed alone)

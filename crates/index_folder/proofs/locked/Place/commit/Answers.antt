@@ -1,0 +1,7 @@
+use Rattle.index_folder.proofs.Moved.{committed_so}
+use Rattle.index_folder.proofs.locked.Place.commit.Goals as goal
+
+pub returns-in-Ok-clause-committed : goal.returns-in-Ok-clause-committed
+returns-in-Ok-clause-committed g c = λ alone.
+    committed_so _ _ c.args.self _ _ _ _ _ c.args.time c.args.self.beside (c.in-Ok.ensures.moved alone) c.as_path.ensures
+    c.as_path-2.ensures c.finish.ensures.contents c.in_default.ensures.given

@@ -1,0 +1,22 @@
+use Rattle.std.proofs.Common.{rules}
+use Rattle.std.specs.Path.{path_bytes}
+use Rattle.index_shelf.proofs.Worlds.{moved, stayed, taken_out, told_apart, told_same}
+use Rattle.index_shelf.specs.Shelf.{world_in}
+use Rattle.index_shelf.proofs.shelf.ShelfFolder.put.Goals as goal
+
+pub returns-then-ne-clause-moved : goal.returns-then-ne-clause-moved
+returns-then-ne-clause-moved c = λ _.
+    moved (world_in c.args.self.now.files) (world_in c.keep.new.self.files) (world_in c.remove.new.self)
+    (path_bytes c.args.from) (path_bytes c.args.to)
+    (record { bytes = c.args.made.bytes.items; time = c.args.made.time })
+    (told_apart c.as_str.result.now c.as_str-2.result.now (path_bytes c.args.from) (path_bytes c.args.to)
+    c.as_str.ensures c.as_str-2.ensures (search rules)) c.in_ok-keep.ensures.here c.in_ok-keep.ensures.others
+    (taken_out c.as_str-then-ne.result.now (path_bytes c.args.from) c.keep.new.self.files c.remove.new.self
+    c.as_str-then-ne.ensures c.remove.ensures.updates)
+
+pub returns-else-ne-clause-moved : goal.returns-else-ne-clause-moved
+returns-else-ne-clause-moved c = λ _.
+    stayed (world_in c.args.self.now.files) (world_in c.keep.new.self.files) (path_bytes c.args.from)
+    (path_bytes c.args.to) (record { bytes = c.args.made.bytes.items; time = c.args.made.time })
+    (told_same c.as_str.result.now c.as_str-2.result.now (path_bytes c.args.from) (path_bytes c.args.to)
+    c.as_str.ensures c.as_str-2.ensures (search rules)) c.in_ok-keep.ensures.here c.in_ok-keep.ensures.others

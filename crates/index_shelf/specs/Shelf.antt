@@ -1,0 +1,56 @@
+-- What a shelf and its files have, and whether their steps may fail (the library's own).
+use Rattle.std.specs.Prelude.{ℕ, List, Bool, true, false, Option, Some, None, String}
+use Rattle.std.specs.BTreeMap.{BTreeMap, get_by_text}
+use Rattle.std.specs.Io.Cursor.{cursor_inner, cursor_remaining}
+use Rattle.index_folder.specs.World.{Absent, Holds, Known, Stored, World}
+use Rattle.index_metadata.specs.declared.entry.stat.FileTime.{FileTime}
+use Rattle.index_shelf.specs.declared.file.ShelfFile.{ShelfFile}
+use Rattle.index_shelf.specs.declared.made.ShelfMade.{ShelfMade}
+use Rattle.index_shelf.specs.declared.shelf.Kept.{Kept}
+use Rattle.index_shelf.specs.declared.shelf.Shelf.{Shelf}
+use Rattle.index_shelf.specs.declared.steps.Fault.{Fault}
+use Rattle.index_shelf.specs.declared.steps.Fault.TheVariants as faults
+
+-- no step fails
+abbrev pub works_with : Fault → Bool
+works_with faults.Never = true
+works_with (faults.At step) = false
+works_with (faults.Since step) = false
+
+-- ---- a shelf
+
+-- what is known of a path of which this is kept
+abbrev pub known_as : Option Kept → Known
+known_as None = Absent
+known_as (Some kept) = Holds (record { bytes = kept.bytes.items; time = kept.time })
+
+-- what is at each path
+abbrev pub world_in : {A : Type 0} → BTreeMap (String A) Kept → World
+world_in files path = known_as (get_by_text files path)
+
+abbrev pub world_of : Shelf → World
+world_of shelf = world_in shelf.files
+
+abbrev pub fault_of : Shelf → Fault
+fault_of shelf = shelf.steps.fault
+
+-- ---- its open files
+
+-- the file as it was when it was opened
+abbrev pub stored_of : ShelfFile → Stored
+stored_of file = record { bytes = (cursor_inner file.bytes).items; time = file.time }
+
+-- the bytes that are left to be read
+abbrev pub rest_of : ShelfFile → Option (List ℕ)
+rest_of file = cursor_remaining (λ bytes. Some bytes.items) file.bytes
+
+abbrev pub file_fault : ShelfFile → Fault
+file_fault file = file.steps.fault
+
+-- what was written
+abbrev pub bytes_of : ShelfMade → List ℕ
+bytes_of made = made.bytes.items
+
+-- the time of its last change
+abbrev pub time_of : ShelfMade → FileTime
+time_of made = made.time

@@ -1,0 +1,272 @@
+//! Locking, writing and reading over a folder in memory, of which each step fails in turn.
+
+use gix_index::entry::{FileTime, Flags, Mode, Stage, Stat};
+use gix_index::file::init;
+use gix_index::hash::{Kind, ObjectId};
+use gix_index::write::Options;
+use gix_index::{File, State, decode};
+use index_shelf::{Fault, Kept, Shelf, Steps};
+use std::alloc::{AllocError, Global};
+use std::cell::Cell;
+use std::path::{Path, PathBuf};
+use std::test::Fail;
+
+/// The flags of the entries before a change.
+const OLD: Flags = Flags::INTENT_TO_ADD;
+
+/// The flags of the entries behind it.
+const NEW: Flags = Flags::ASSUME_VALID;
+
+/// A split index without entries, with the link to the shared index that is named by twenty bytes 1, of which nothing
+/// is deleted or replaced.
+const SPLIT: &[u8] = b"DIRC\0\0\0\x02\0\0\0\0link\0\0\0\x3c\
+    \x01\x01\x01\x01\x01\x01\x01\x01\x01\x01\x01\x01\x01\x01\x01\x01\x01\x01\x01\x01\
+    \0\0\0\0\0\0\0\x01\0\0\0\0\0\0\0\0\0\0\0\0\
+    \0\0\0\0\0\0\0\x01\0\0\0\0\0\0\0\0\0\0\0\0\
+    \0\0\0\0\0\0\0\0\0\0\0\0\0\0\0\0\0\0\0\0";
+
+/// The name of that shared index.
+const SHARED: &str = "sharedindex.0101010101010101010101010101010101010101";
+
+/// What is tried.
+#[derive(Clone, Copy)]
+enum Call {
+    /// The index is locked, changed and committed.
+    Commit,
+    /// It is locked, changed and released.
+    Release,
+    /// Another is written in its place.
+    Write,
+}
+
+/// How often a call was tried with a fault, and what it left.
+#[derive(Clone, Copy, Debug, Default, PartialEq, Eq)]
+struct Tally {
+    /// How often the index wasn't replaced.
+    kept: u32,
+    /// How often a lock stayed.
+    locks: u32,
+    /// How often the index was neither as before, where it wasn't replaced, nor else as it was to become.
+    torn: u32,
+}
+
+impl Tally {
+    /// Counts what one try left.
+    fn count(&mut self, is_kept: bool, is_locked: bool, is_torn: bool) {
+        self.kept = self.kept.saturating_add(u32::from(is_kept));
+        self.locks = self.locks.saturating_add(u32::from(is_locked));
+        self.torn = self.torn.saturating_add(u32::from(is_torn));
+    }
+}
+
+/// A time of whole seconds.
+fn at(seconds: i64) -> FileTime {
+    FileTime::new(seconds, 0).unwrap_or(FileTime::EPOCH)
+}
+
+/// An index with two entries, which belongs to the file `index`.
+fn file_of(alloc: Global, flags: Flags) -> Result<File, AllocError> {
+    let mut state = State::new(alloc, Kind::Sha1, FileTime::EPOCH);
+    let id = ObjectId::Sha1([1; 20]);
+    state.dangerously_push_entry(Stat::default(), id, flags, Mode::FILE, b"a")?;
+    state.dangerously_push_entry(Stat::default(), id, flags, Mode::FILE, b"b")?;
+    Ok(File::from_state(state, PathBuf::from_str(alloc, "index")?))
+}
+
+/// Whether an index with these flags is written to its file.
+fn is_written(shelf: &mut Shelf<'_>, alloc: Global, flags: Flags, options: Options) -> bool {
+    let Ok(mut file) = file_of(alloc, flags) else {
+        return false;
+    };
+    file.paths_in_storage() && file.write(shelf, alloc, options).is_ok()
+}
+
+/// Whether the index, which is locked and changed, is committed.
+fn is_committed(shelf: &mut Shelf<'_>, alloc: Global, is_wanted: bool) -> bool {
+    let Ok(path) = PathBuf::from_str(alloc, "index") else {
+        return false;
+    };
+    let options = decode::Options::default();
+    let Ok(mut locked) = File::lock(shelf, alloc, path, Kind::Sha1, false, options, false) else {
+        return false;
+    };
+    locked.file.set_timestamp(at(3));
+    for entry in locked.file.entries_mut() {
+        entry.flags = NEW;
+    }
+    if !is_wanted || !locked.file.paths_in_storage() {
+        locked.release(shelf);
+        return false;
+    }
+    locked
+        .commit(shelf, alloc, Options::default(), true)
+        .is_ok()
+}
+
+/// Whether the index is replaced.
+fn is_replaced(call: Call, shelf: &mut Shelf<'_>, alloc: Global) -> bool {
+    match call {
+        Call::Commit => is_committed(shelf, alloc, true),
+        Call::Release => is_committed(shelf, alloc, false),
+        Call::Write => is_written(shelf, alloc, NEW, Options::default()),
+    }
+}
+
+/// A shelf with these bytes as an index of the first second, on which files are written in the second.
+fn shelf_with<'a>(alloc: Global, steps: Steps<'a>, bytes: &[u8]) -> Result<Shelf<'a>, AllocError> {
+    let mut shelf = Shelf::new(alloc, at(2), steps);
+    let bytes = bytes.to_vec(alloc)?;
+    shelf.keep(Path::new("index"), Kept { bytes, time: at(1) })?;
+    Ok(shelf)
+}
+
+/// Whether the index on a shelf has these bytes and this time.
+fn is_as(shelf: &Shelf<'_>, bytes: &[u8], time: FileTime) -> bool {
+    match shelf.file(Path::new("index")) {
+        Some(kept) => kept.bytes.as_slice() == bytes && kept.time == time,
+        None => false,
+    }
+}
+
+/// Calls with a fault at each step, or since each, until no step is left for it.
+fn tried(
+    alloc: Global,
+    call: Call,
+    lasts: bool,
+    old: &[u8],
+    new: &[u8],
+) -> Result<Tally, AllocError> {
+    let mut tally = Tally::default();
+    let changed = if matches!(call, Call::Write) { 2 } else { 3 };
+    for step in 1..100 {
+        let taken = Cell::new(0);
+        let steps = Steps {
+            taken: &taken,
+            fault: if lasts {
+                Fault::Since(step)
+            } else {
+                Fault::At(step)
+            },
+        };
+        let mut shelf = shelf_with(alloc, steps, old)?;
+        let is_new = is_replaced(call, &mut shelf, alloc);
+        let is_whole = if is_new {
+            is_as(&shelf, new, at(changed))
+        } else {
+            is_as(&shelf, old, at(1))
+        };
+        let is_locked = shelf.file(Path::new("index.lock")).is_some();
+        tally.count(!is_new, is_locked, !is_whole);
+        if taken.get() < step {
+            break;
+        }
+    }
+    Ok(tally)
+}
+
+/// The bytes of an index with these flags.
+fn bytes_of(alloc: Global, flags: Flags, options: Options) -> Result<Vec<u8>, AllocError> {
+    let taken = Cell::new(0);
+    let steps = Steps {
+        taken: &taken,
+        fault: Fault::Never,
+    };
+    let mut shelf = shelf_with(alloc, steps, b"")?;
+    is_written(&mut shelf, alloc, flags, options);
+    match shelf.file(Path::new("index")) {
+        Some(kept) => kept.bytes.clone(),
+        None => Ok(Vec::new(alloc)),
+    }
+}
+
+/// How often reading a split index was refused.
+#[derive(Clone, Copy, Debug, Default, PartialEq, Eq)]
+struct Refusals {
+    /// How often a fault named its own file.
+    own: u32,
+    /// How often one named the shared index.
+    shared: u32,
+    /// How often it was refused otherwise.
+    others: u32,
+    /// How many entries it had in the end.
+    entries: usize,
+}
+
+impl Refusals {
+    /// Counts one more.
+    fn count(&mut self, error: &init::Error) {
+        let count = match error {
+            init::Error::Io(fault) if fault.path.as_path().as_str() == "index" => &mut self.own,
+            init::Error::Io(fault) if fault.path.as_path().as_str() == SHARED => &mut self.shared,
+            _ => &mut self.others,
+        };
+        *count = count.saturating_add(1);
+    }
+}
+
+/// Reads a split index with a fault at each step, until it is read.
+fn read_split(alloc: Global, shared: &[u8]) -> Result<Refusals, AllocError> {
+    let mut refusals = Refusals::default();
+    let options = decode::Options::default();
+    for step in 1..100 {
+        let taken = Cell::new(0);
+        let steps = Steps {
+            taken: &taken,
+            fault: Fault::At(step),
+        };
+        let mut shelf = shelf_with(alloc, steps, SPLIT)?;
+        let bytes = shared.to_vec(alloc)?;
+        shelf.keep(Path::new(SHARED), Kept { bytes, time: at(1) })?;
+        let path = PathBuf::from_str(alloc, "index")?;
+        match File::at(&shelf, alloc, path, Kind::Sha1, false, at(1), options) {
+            Ok(file) => {
+                refusals.entries = file.entries().len();
+                break;
+            }
+            Err(e) => refusals.count(&e),
+        }
+    }
+    Ok(refusals)
+}
+
+#[test]
+fn no_fault_tears_an_index(rt: HostRuntime) -> Result<(), Fail> {
+    let alloc = rt.alloc();
+    let old = bytes_of(alloc, OLD, Options::default())?;
+    let new = bytes_of(alloc, NEW, Options::default())?;
+    // (a fault that lasts from the step behind the making of a lock on keeps that from being removed)
+    let wanted = [
+        (Call::Commit, false, 17, 0),
+        (Call::Commit, true, 18, 16),
+        (Call::Release, false, 15, 1),
+        (Call::Release, true, 15, 12),
+        (Call::Write, false, 3, 0),
+        (Call::Write, true, 3, 2),
+    ];
+    for (call, lasts, kept, locks) in wanted {
+        let tally = Tally {
+            kept,
+            locks,
+            torn: 0,
+        };
+        assert_eq!(rt; tried(alloc, call, lasts, &old, &new)?, tally);
+    }
+    Ok(())
+}
+
+#[test]
+fn a_fault_names_the_file_that_is_read(rt: HostRuntime) -> Result<(), Fail> {
+    let options = Options {
+        skip_hash: true,
+        ..Options::default()
+    };
+    let shared = bytes_of(rt.alloc(), OLD, options)?;
+    let wanted = Refusals {
+        own: 9,
+        shared: 9,
+        others: 0,
+        entries: 2,
+    };
+    assert_eq!(rt; read_split(rt.alloc(), &shared)?, wanted);
+    Ok(())
+}
