@@ -1,8 +1,10 @@
 -- Where symbolic links lead, one after another.
-use Rattle.std.proofs.Common.{◌≡◌, ◌+◌, ◌-◌, ◌<◌, ℕ, zero, suc, List, refl, sym, ap, subst, ◌∙◌, arith}
+use Rattle.std.proofs.Common.{◌≡◌, ◌+◌, ◌<◌, ◌≤◌, ℕ, suc, List, [], refl, sym, ap, subst, ◌∙◌, arith, inl, inr}
+use Rattle.std.specs.Prelude.{◌⊎◌}
 use Rattle.std.specs.Path.{path_with_file_name}
-use Rattle.index_folder.specs.Locks.{LeadsTo, MayEnd, here, on}
-use Rattle.index_folder.specs.World.{Absent, Directory, Holds, IsSeen, Known, Leads, MayLead, Special, Unknown, World}
+use Rattle.index_folder.specs.Locks.{Follows, LeadsTo, MayEnd, Meets, on}
+use Rattle.index_folder.specs.World.{Absent, Directory, Holds, IsSeen, Known, Leads, MayBeNoLink, MayLead, Special, Unknown}
+use Rattle.index_folder.specs.World.{World}
 use Rattle.index_folder.specs.declared.folder.Standing.{Standing}
 use Rattle.index_folder.specs.declared.folder.Standing.TheVariants as standings
 
@@ -22,37 +24,47 @@ seen_nothing (Leads to) e = absurd cc
 seen_nothing Directory e = absurd cc
 seen_nothing Special e = absurd cc
 
-module _ (world : World) (path target : List ℕ) (links : ℕ)
-    (leads : (left : ℕ) → left + links ≡ 5 → (end : List ℕ) → LeadsTo world left target end → LeadsTo world 5 path end)
-  where
-    ends : links < 6 → MayEnd (world target) → LeadsTo world 5 path target
-    ends few may = leads (5 - links) (omega (arith, few)) target (here (5 - links) target may)
+-- what is seen as a link, and may be none, isn't known
+seen_link : (k : Known) → IsSeen k standings.Link → MayBeNoLink k → k ≡ Unknown
+seen_link Unknown e may = refl
+seen_link Absent e may = absurd cc
+seen_link (Holds file) e may = absurd cc
+seen_link (Leads to) e may = absurd (may to refl)
+seen_link Directory e may = absurd cc
+seen_link Special e may = absurd cc
 
-    pub ends_at_file : (seen : List ℕ) (s : Standing) → seen ≡ target → links < 6 → IsSeen (world seen) s
-        → s ≡ standings.File → LeadsTo world 5 path target
-    ends_at_file seen s e few h is = ends few (seen_file (world target)
-        (subst (λ (x : List ℕ). IsSeen (world x) standings.File) e (subst (IsSeen (world seen)) is h)))
+module _ (world : World) (path target seen : List ℕ) (links : ℕ) (follows : Follows world path links target)
+    (e : seen ≡ target) where
+  pub meets : (s standing : Standing) → s ≡ standing → links < 6 → IsSeen (world seen) s
+      → Meets world path standing links target
+  meets s standing is few h = record {
+    few = omega (arith, few);
+    follows = follows;
+    seen = subst (IsSeen (world target)) is (subst (λ (x : List ℕ). IsSeen (world x) s) e h);
+  }
 
-    pub ends_at_nothing : (seen : List ℕ) (s : Standing) → seen ≡ target → links < 6 → IsSeen (world seen) s
-        → s ≡ standings.Nothing → LeadsTo world 5 path target
-    ends_at_nothing seen s e few h is = ends few (seen_nothing (world target)
-        (subst (λ (x : List ℕ). IsSeen (world x) standings.Nothing) e (subst (IsSeen (world seen)) is h)))
+  pub ends_at_file : (s : Standing) → s ≡ standings.File → links < 6 → IsSeen (world seen) s
+      → LeadsTo world 5 path target
+  ends_at_file s is few h =
+      let m = meets s standings.File is few h in
+      record { links = links; few = m.few; follows = follows; ends = seen_file (world target) m.seen }
 
-    pub leads_on : (link text next : List ℕ) → link ≡ target → MayLead (world link) text
-        → next ≡ path_with_file_name link text → (left : ℕ) → left + (links + 1) ≡ 5 → (end : List ℕ)
-        → LeadsTo world left next end → LeadsTo world 5 path end
-    leads_on link text next e may is left n end h =
-        leads (suc left) (omega (arith, n)) end
-        (on left target text end (subst (λ (x : List ℕ). MayLead (world x) text) e may)
-        (subst (λ (x : List ℕ). LeadsTo world left x end) (is ∙ ap (λ (x : List ℕ). path_with_file_name x text) e) h))
+  pub ends_at_nothing : (s : Standing) → s ≡ standings.Nothing → links < 6 → IsSeen (world seen) s
+      → LeadsTo world 5 path target
+  ends_at_nothing s is few h =
+      let m = meets s standings.Nothing is few h in
+      record { links = links; few = m.few; follows = follows; ends = seen_nothing (world target) m.seen }
 
--- the first of them stands at the path
-pub first_link : (world : World) (path target : List ℕ) (links : ℕ) → (links ≡ 0 → target ≡ path)
-    → (0 < links → IsSeen (world path) standings.Link) → (seen : List ℕ) (s : Standing) → seen ≡ target
-    → IsSeen (world seen) s → s ≡ standings.Link → IsSeen (world path) standings.Link
-first_link world path target zero first more seen s e h is =
-    subst (λ (x : List ℕ). IsSeen (world x) standings.Link) (e ∙ first refl) (subst (IsSeen (world seen)) is h)
-first_link world path target (suc links) first more seen s e h is = more (omega arith)
+  pub leads_on : (text next : List ℕ) → MayLead (world seen) text → next ≡ path_with_file_name seen text
+      → Follows world path (links + 1) next
+  leads_on text next may is =
+      subst (λ (n : ℕ). Follows world path n next) (omega arith) (on links target text next follows
+      (subst (λ (x : List ℕ). MayLead (world x) text) e may)
+      (is ∙ ap (λ (x : List ℕ). path_with_file_name x text) e))
 
-pub no_suc : (n : ℕ) → n + 1 ≡ 0 → ⊥
-no_suc n e = omega (arith, e)
+  -- the text of a link can't be told only where memory is refused, or others may have changed it
+  pub untold : {Memory : Type 0} (s : Standing) → s ≡ standings.Link → links < 6 → IsSeen (world seen) s
+      → Memory ⊎ MayBeNoLink (world seen) → Memory ⊎ ((path ≡ []) ⊎ (world target ≡ Unknown))
+  untold s is few h (inl m) = inl m
+  untold s is few h (inr may) = inr (inr (seen_link (world target) (meets s standings.Link is few h).seen
+      (subst (λ (x : List ℕ). MayBeNoLink (world x)) e may)))

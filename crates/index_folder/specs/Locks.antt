@@ -1,5 +1,5 @@
 -- A lock as a value, which file it stands for, and why there is none (the library's own).
-use Rattle.std.specs.Prelude.{◌≡◌, ◌≢◌, ◌⊎◌, ℕ, suc, List, ◌++◌, codes, Bool, true, Option, IfSome}
+use Rattle.std.specs.Prelude.{◌≡◌, ◌≢◌, ◌⊎◌, ◌<◌, ◌≤◌, ℕ, zero, suc, List, [], ◌++◌, codes, Bool, true, Option, IfSome}
 use Rattle.std.specs.IoError.{error_kind}
 use Rattle.std.specs.Path.{path_buf_bytes, path_with_file_name}
 use Rattle.std.specs.declared.io.ErrorKind.TheVariants.{OutOfMemory}
@@ -7,8 +7,11 @@ use Rattle.index_folder.specs.Times.{is_told}
 use Rattle.index_folder.specs.World.{Known, World, Unknown, Absent, Holds, Leads, Directory, Special, IsSeen, MayBeTaken}
 use Rattle.index_folder.specs.World.{MayLead, Removes, StaysBut, Stored}
 use Rattle.index_folder.specs.declared.fault.PathError.{PathError}
+use Rattle.index_folder.specs.declared.folder.Standing.{Standing}
 use Rattle.index_folder.specs.declared.folder.Standing.TheVariants as standings
 use Rattle.index_folder.specs.declared.lock.Error.{Error}
+use Rattle.index_folder.specs.declared.lock.CommitError.{CommitError}
+use Rattle.index_folder.specs.declared.lock.CommitError.TheVariants as commits
 use Rattle.index_folder.specs.declared.lock.Error.TheVariants as errors
 use Rattle.index_folder.specs.declared.locked.Place.{Place}
 use Rattle.index_metadata.specs.declared.entry.stat.FileTime.{FileTime}
@@ -34,11 +37,25 @@ MayEnd (Leads to) = ⊥
 MayEnd Directory = ⊥
 MayEnd Special = ⊥
 
--- A path leads to another by so many symbolic links at most. The text of each is seen from the folder that it is in.
-pub data LeadsTo (world : World) : ℕ → List ℕ → List ℕ → Type 0 where
-  here : (links : ℕ) (path : List ℕ) → MayEnd (world path) → LeadsTo world links path path
-  on : (links : ℕ) (path text target : List ℕ) → MayLead (world path) text
-      → LeadsTo world links (path_with_file_name path text) target → LeadsTo world (suc links) path target
+-- So many symbolic links, one after another, lead from a path to another. The text of each is seen from the folder that
+-- it is in.
+pub data Follows (world : World) (path : List ℕ) : ℕ → List ℕ → Type 0 where
+  here : (at : List ℕ) → at ≡ path → Follows world path zero at
+  on : (links : ℕ) (at text next : List ℕ) → Follows world path links at → MayLead (world at) text
+      → next ≡ path_with_file_name at text → Follows world path (suc links) next
+
+-- a path leads to another by so many links at most
+pub record LeadsTo (world : World) (most : ℕ) (path target : List ℕ) : Type 0 where
+  pub links : ℕ
+  pub few : links ≤ most
+  pub follows : Follows world path links target
+  pub ends : MayEnd (world target)
+
+-- so many links, at most five, lead from a path to one at which this is seen
+pub record Meets (world : World) (path : List ℕ) (standing : Standing) (links : ℕ) (at : List ℕ) : Type 0 where
+  pub few : links ≤ 5
+  pub follows : Follows world path links at
+  pub seen : IsSeen (world at) standing
 
 -- ---- faults
 
@@ -46,18 +63,40 @@ pub data LeadsTo (world : World) : ℕ → List ℕ → List ℕ → Type 0 wher
 abbrev pub IsOfDisk : PathError → Type 0
 IsOfDisk fault = error_kind fault.error ≢ OutOfMemory
 
+-- the lock of the file that a path leads to
+abbrev pub IsLockOf : World → List ℕ → List ℕ → Type 0
+IsLockOf world path lock = (target : List ℕ) × LeadsTo world 5 path target × (lock ≡ target ++ codes ".lock")
+
+-- A fault of the disk for a file that a path leads to, or for its lock. Where the place works, the path has no bytes, or
+-- what is there isn't known, as others may have changed it.
+pub record IsFaultOfLock (works : Bool) (world : World) (path : List ℕ) (fault : PathError) : Type 0 where
+  pub disk : IsOfDisk fault
+  pub named : ((links : ℕ) × Follows world path links (path_buf_bytes fault.path))
+      ⊎ IsLockOf world path (path_buf_bytes fault.path)
+  pub fails : works ≡ true → (path ≡ []) ⊎ (world (path_buf_bytes fault.path) ≡ Unknown)
+
 -- Why the file that a path leads to has no lock: what stands at the path that is named. Want of memory has a variant of
 -- its own.
-abbrev pub SaysOfLock : World → List ℕ → Error → Type 0
-SaysOfLock world path (errors.Io fault) = IsOfDisk fault
-SaysOfLock world path (errors.Held lock) = MayBeTaken (world (path_buf_bytes lock))
-SaysOfLock world path (errors.IsFolder at) = IsSeen (world (path_buf_bytes at)) standings.Folder
-SaysOfLock world path (errors.IsSpecial at) = IsSeen (world (path_buf_bytes at)) standings.Special
-SaysOfLock world path (errors.LeadsNowhere at) =
-    (path_buf_bytes at ≡ path) × IsSeen (world path) standings.Link
-SaysOfLock world path (errors.TooManyLinks at) =
-    (path_buf_bytes at ≡ path) × IsSeen (world path) standings.Link
-SaysOfLock world path errors.Memory = Unit {0}
+abbrev pub SaysOfLock : Bool → World → List ℕ → Error → Type 0
+SaysOfLock works world path (errors.Io fault) = IsFaultOfLock works world path fault
+SaysOfLock works world path (errors.Held lock) =
+    IsLockOf world path (path_buf_bytes lock) × MayBeTaken (world (path_buf_bytes lock))
+SaysOfLock works world path (errors.IsFolder at) =
+    (links : ℕ) × Meets world path standings.Folder links (path_buf_bytes at)
+SaysOfLock works world path (errors.IsSpecial at) =
+    (links : ℕ) × Meets world path standings.Special links (path_buf_bytes at)
+SaysOfLock works world path (errors.LeadsNowhere at) = (path_buf_bytes at ≡ path)
+    × ((links : ℕ) × (end : List ℕ) × (0 < links) × Meets world path standings.Nothing links end)
+SaysOfLock works world path (errors.TooManyLinks at) = (path_buf_bytes at ≡ path)
+    × ((end : List ℕ) × Follows world path 6 end)
+SaysOfLock works world path errors.Memory = Unit {0}
+
+-- Why what was written to a lock isn't at the path of its file: a fault of the disk for the lock, or for that path; and
+-- of a place that works want of memory alone.
+abbrev pub SaysOfCommit : Bool → Place → CommitError → Type 0
+SaysOfCommit works place (commits.Lock fault) = (path_buf_bytes fault.path ≡ lock_of place) × (works ≢ true)
+SaysOfCommit works place (commits.Rename fault) = (path_buf_bytes fault.path ≡ target_of place)
+    × (works ≡ true → error_kind fault.error ≡ OutOfMemory)
 
 -- ---- the end of a lock
 

@@ -48,6 +48,10 @@ MayLead (Holds file) text = ⊥
 MayLead Directory text = ⊥
 MayLead Special text = ⊥
 
+-- it may be no link: others may have changed it
+abbrev pub MayBeNoLink : Known → Type 0
+MayBeNoLink known = (text : List ℕ) → known ≢ Leads text
+
 -- ---- open files
 
 -- what an open file says of itself

@@ -6,7 +6,7 @@ ghost use Rattle.std.specs.Io.KnownBytes.{ReadConsumes};
 ghost use Rattle.std.specs.IoError.{error_kind};
 ghost use Rattle.std.specs.Path.{path_buf_bytes, path_bytes};
 ghost use Rattle.index_metadata.specs.declared.entry.stat.FileTime.{FileTime as Time};
-ghost use Rattle.index_folder.specs.World.{IsFaultOf, IsOwnFault, IsSeen, IsStatusOf, Makes, MayBe, MayBeMissing, MayBeTaken, MayLead, Moves};
+ghost use Rattle.index_folder.specs.World.{IsFaultOf, IsSeen, IsStatusOf, Makes, MayBe, MayBeMissing, MayBeNoLink, MayBeTaken, MayLead, Moves};
 ghost use Rattle.index_folder.specs.World.{Removes, Stored, World, from_place, whole_of};
 
 use index_metadata::entry::FileTime;
@@ -79,16 +79,6 @@ pub trait Made: io::Write + Drop {
     // It was given this time of its last change, and nothing was written since.
     ghost given: { Self → Time → Type 0 };
 
-    /// Gives it the time of its last change.
-    fn set_time(&mut self, time: FileTime) -> io::Result<()>
-        ensures contents { Self.contents self.new ≡ Self.contents self.old }
-        ensures given { OnOk result (given self.new time) };
-
-    /// Has all its bytes, and what is told of it, brought to the disk.
-    fn sync(&mut self) -> io::Result<()>
-        ensures contents { Self.contents self.new ≡ Self.contents self.old }
-        ensures given { (time : Time) → given self.old time → given self.new time };
-
     /// When it was changed last: when it was made, as long as nothing was written to it.
     fn modified(&self) -> io::Result<FileTime>;
 }
@@ -118,8 +108,11 @@ pub trait Folder {
 
     /// The text of the symbolic link at a path.
     fn read_link(&self, alloc: Global, path: Path<'_>) -> io::Result<PathBuf>
-        ensures { IfOk result
-            (λ to. MayLead (known self.now (path_bytes path.entry)) (path_buf_bytes to)) };
+        ensures leads { IfOk result
+            (λ to. MayLead (known self.now (path_bytes path.entry)) (path_buf_bytes to)) }
+        ensures fault { works self.now ≡ true → IfErr result
+            (λ e. (error_kind e ≡ ErrorKind.OutOfMemory)
+            ⊎ MayBeNoLink (known self.now (path_bytes path.entry))) };
 
     /// Opens the file that a path leads to, which then stands at its start.
     fn open(&self, path: Path<'_>) -> io::Result<Self::File>
@@ -144,7 +137,7 @@ pub trait Folder {
         ensures taken { IfErr result (λ e. error_kind e ≡ ErrorKind.AlreadyExists
             → MayBeTaken (known self.old (path_bytes path.entry))) }
         ensures fault { works self.old ≡ true → IfErr result
-            (λ e. IsOwnFault e ⊎ (error_kind e ≡ ErrorKind.AlreadyExists)) }
+            (λ e. (error_kind e ≡ ErrorKind.OutOfMemory) ⊎ (error_kind e ≡ ErrorKind.AlreadyExists)) }
         ensures alone { alone self.new ≡ alone self.old }
         ensures works { works self.new ≡ works self.old };
 
@@ -152,7 +145,21 @@ pub trait Folder {
     fn copy_permissions(&self, made: &mut Self::Made, path: Path<'_>) -> io::Result<()>
         ensures contents { Self.Made.contents made.new ≡ Self.Made.contents made.old }
         ensures given { (time : Time) → Self.Made.given made.old time
-            → Self.Made.given made.new time };
+            → Self.Made.given made.new time }
+        ensures succeeds { works self.now ≡ true → IsOk result };
+
+    /// Gives a file that was made the time of its last change.
+    fn set_time(&self, made: &mut Self::Made, time: FileTime) -> io::Result<()>
+        ensures contents { Self.Made.contents made.new ≡ Self.Made.contents made.old }
+        ensures given { OnOk result (Self.Made.given made.new time) }
+        ensures succeeds { works self.now ≡ true → IsOk result };
+
+    /// Has all bytes of a file that was made, and what is told of it, brought to the disk.
+    fn sync(&self, made: &mut Self::Made) -> io::Result<()>
+        ensures contents { Self.Made.contents made.new ≡ Self.Made.contents made.old }
+        ensures given { (time : Time) → Self.Made.given made.old time
+            → Self.Made.given made.new time }
+        ensures succeeds { works self.now ≡ true → IsOk result };
 
     /// Closes a file that was made at one path, and moves it to another, in place of what is there.
     fn put(&mut self, made: Self::Made, from: Path<'_>, to: Path<'_>) -> io::Result<()>
@@ -160,6 +167,8 @@ pub trait Folder {
             → Moves (known self.old) (known self.new) (path_bytes from.entry)
             (path_bytes to.entry) (Self.Made.contents made) (Self.Made.given made)) }
         ensures unmoved { OnErr result (known self.new ≡ known self.old) }
+        ensures fault { works self.old ≡ true
+            → IfErr result (λ e. error_kind e ≡ ErrorKind.OutOfMemory) }
         ensures alone { alone self.new ≡ alone self.old }
         ensures works { works self.new ≡ works self.old };
 

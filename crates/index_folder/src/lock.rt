@@ -1,12 +1,12 @@
 //! The lock under which a file is replaced: a file beside it, made new, which takes its place or is removed.
 
-ghost use Rattle.std.specs.Prelude.{◌≡◌, ◌++◌, codes, ℕ, List, [], Some, true, IfErr, IfOk, OnErr, OnOk};
+ghost use Rattle.std.specs.Prelude.{◌≡◌, ◌⊎◌, ◌++◌, codes, ℕ, List, [], Bool, Some, true, IfErr, IfOk, IsOk, OnErr, OnOk};
 ghost use Rattle.std.specs.IoError.{error_kind};
 ghost use Rattle.std.specs.Path.{path_buf_bytes, path_bytes};
-ghost use Rattle.index_folder.specs.Locks.{IsCommitted, IsOfDisk, IsReleased, LeadsTo, SaysOfLock, asked_of, lock_of};
-ghost use Rattle.index_folder.specs.Locks.{target_of};
+ghost use Rattle.index_folder.specs.Locks.{Follows, IsCommitted, IsLockOf, IsReleased, LeadsTo, SaysOfCommit, SaysOfLock};
+ghost use Rattle.index_folder.specs.Locks.{asked_of, lock_of, target_of};
 ghost use Rattle.index_folder.specs.Times.{is_told};
-ghost use Rattle.index_folder.specs.World.{Makes, World};
+ghost use Rattle.index_folder.specs.World.{Makes, Unknown, World};
 
 use crate::fault::{OneLine, PathError};
 use crate::folder::{Folder, Made};
@@ -50,7 +50,12 @@ pub enum Error {
 impl Error {
     /// What it says that a call of the system failed for a file.
     pub(crate) fn of(path: PathBuf, error: io::Error) -> Error
-        ensures fault { (world : World) (bytes : List ℕ) → SaysOfLock world bytes result }
+        ensures fault { (works : Bool) (world : World) (from : List ℕ)
+            → ((links : ℕ) × Follows world from links (path_buf_bytes path))
+            ⊎ IsLockOf world from (path_buf_bytes path)
+            → (works ≡ true → (error_kind error ≡ ErrorKind.OutOfMemory)
+            ⊎ ((from ≡ []) ⊎ (world (path_buf_bytes path) ≡ Unknown)))
+            → SaysOfLock works world from result }
     {
         if error.kind() == ErrorKind::OutOfMemory {
             return Error::Memory;
@@ -129,13 +134,14 @@ impl Place {
     ) -> io::Result<()>
         ensures contents { D.Made.contents file.new ≡ D.Made.contents file.old }
         ensures given { OnOk result (is_told time ≡ true → D.Made.given file.new time) }
+        ensures succeeds { D.works folder.now ≡ true → IsOk result }
     {
         folder.copy_permissions(file, self.target.as_path())?;
         if is_told(time) {
-            file.set_time(time)?;
+            folder.set_time(file, time)?;
         }
         if is_synced {
-            file.sync()?;
+            folder.sync(file)?;
         }
         Ok(())
     }
@@ -157,6 +163,7 @@ impl Place {
             → IsCommitted (D.known folder.old) (D.known folder.new) self (D.Made.contents file) time) }
         ensures released { OnErr result (D.alone folder.old ≡ true → IsReleased (D.works folder.old)
             (D.known folder.old) (D.known folder.new) (lock_of self)) }
+        ensures fault { IfErr result (SaysOfCommit (D.works folder.old) self) }
         ensures alone { D.alone folder.new ≡ D.alone folder.old }
         ensures works { D.works folder.new ≡ D.works folder.old }
     {
@@ -217,7 +224,8 @@ pub fn acquire<D: Folder>(
     ensures empty { IfOk result
         (λ lock. D.alone folder.old ≡ true → D.Made.contents lock.file ≡ Some []) }
     ensures unmade { OnErr result (D.known folder.new ≡ D.known folder.old) }
-    ensures fault { IfErr result (SaysOfLock (D.known folder.old) (path_buf_bytes path)) }
+    ensures fault { IfErr result
+        (SaysOfLock (D.works folder.old) (D.known folder.old) (path_buf_bytes path)) }
     ensures alone { D.alone folder.new ≡ D.alone folder.old }
     ensures works { D.works folder.new ≡ D.works folder.old }
 {

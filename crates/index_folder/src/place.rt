@@ -1,14 +1,16 @@
 //! Which file a path leads to.
 
-ghost use Rattle.std.specs.Prelude.{◌≡◌, ℕ, List, IfErr, IfOk};
+ghost use Rattle.std.specs.Prelude.{◌≡◌, ◌⊎◌, ℕ, List, true, IfErr, IfOk};
+ghost use Rattle.std.specs.IoError.{error_kind};
 ghost use Rattle.std.specs.Path.{path_buf_bytes, path_bytes, path_with_file_name};
 ghost use Rattle.index_folder.specs.Locks.{LeadsTo, SaysOfLock};
-ghost use Rattle.index_folder.specs.World.{MayLead};
+ghost use Rattle.index_folder.specs.World.{MayBeNoLink, MayLead};
 
 use crate::folder::{Folder, Standing};
 use crate::lock::Error;
 use std::alloc::Global;
 use std::io;
+use std::io::ErrorKind;
 use std::path::{Path, PathBuf};
 
 /// How many links are followed, one after another: as many as git follows to an index.
@@ -16,9 +18,12 @@ const MAX_LINKS: u32 = 5;
 
 /// Where the link at a path leads, seen from the folder that it is in.
 fn followed<D: Folder>(folder: &D, alloc: Global, link: Path<'_>) -> io::Result<PathBuf>
-    ensures { IfOk result (λ next. (text : List ℕ)
+    ensures next { IfOk result (λ next. (text : List ℕ)
         × MayLead (D.known folder.now (path_bytes link.entry)) text
         × (path_buf_bytes next ≡ path_with_file_name (path_bytes link.entry) text)) }
+    ensures fault { D.works folder.now ≡ true → IfErr result
+        (λ e. (error_kind e ≡ ErrorKind.OutOfMemory)
+        ⊎ MayBeNoLink (D.known folder.now (path_bytes link.entry))) }
 {
     let to = folder.read_link(alloc, link)?;
     Ok(link.with_file_name(alloc, to.as_path().as_str())?)
@@ -31,7 +36,8 @@ fn followed<D: Folder>(folder: &D, alloc: Global, link: Path<'_>) -> io::Result<
 pub fn target_of<D: Folder>(folder: &D, alloc: Global, path: PathBuf) -> Result<PathBuf, Error>
     ensures leads { IfOk result
         (λ target. LeadsTo (D.known folder.now) 5 (path_buf_bytes path) (path_buf_bytes target)) }
-    ensures fault { IfErr result (SaysOfLock (D.known folder.now) (path_buf_bytes path)) }
+    ensures fault { IfErr result
+        (SaysOfLock (D.works folder.now) (D.known folder.now) (path_buf_bytes path)) }
 {
     let mut target = path.clone()?;
     for links in 0..MAX_LINKS + 1 {

@@ -75,18 +75,6 @@ impl<F: OpenFile + Write + Drop> Write for SystemMade<F> {
 impl<F: OpenFile + Write + Drop> Made for SystemMade<F> {
     ghost given = { λ _ _. ⊤ };
 
-    fn set_time(&mut self, time: FileTime) -> io::Result<()> {
-        let Some(modified) = system_time(time) else {
-            return Err(io::Error::from(ErrorKind::InvalidInput));
-        };
-        self.inner
-            .set_times(FileTimes::new().set_modified(modified))
-    }
-
-    fn sync(&mut self) -> io::Result<()> {
-        self.inner.sync_all()
-    }
-
     fn modified(&self) -> io::Result<FileTime> {
         Ok(modified_of(&self.inner.metadata()?))
     }
@@ -136,6 +124,18 @@ impl<R: Files> Folder for System<'_, R> {
             Err(e) if e.kind() == ErrorKind::NotFound => Ok(()),
             Err(e) => Err(e),
         }
+    }
+
+    fn set_time(&self, made: &mut SystemMade<R::File>, time: FileTime) -> io::Result<()> {
+        let Some(modified) = system_time(time) else {
+            return Err(io::Error::from(ErrorKind::InvalidInput));
+        };
+        made.inner
+            .set_times(FileTimes::new().set_modified(modified))
+    }
+
+    fn sync(&self, made: &mut SystemMade<R::File>) -> io::Result<()> {
+        made.inner.sync_all()
     }
 
     fn put(&mut self, made: SystemMade<R::File>, from: Path<'_>, to: Path<'_>) -> io::Result<()> {
