@@ -1,15 +1,16 @@
 -- What is read of a file, by what was wanted of it.
-use Rattle.std.proofs.Common.{◌≡◌, ℕ, Bool, true, false, List, Option, Some, inl, inr, sym, subst, arith}
-use Rattle.std.specs.Prelude.{◌⊎◌, pos, Result, Ok, Err, IfErr, IfOk, IsTrue}
+use Rattle.std.proofs.Common.{◌≡◌, ◌++◌, ℕ, Bool, true, false, List, Option, Some, inl, inr, sym, subst, arith}
+use Rattle.std.specs.Prelude.{◌⊎◌, codes, pos, Result, Ok, Err, IfErr, IfOk, IsTrue}
 use Rattle.index_parts.specs.declared.hash.Kind.{Kind}
 use Rattle.index_parts.specs.declared.hash.ObjectId.{ObjectId}
 use Rattle.index_metadata.specs.declared.entry.stat.FileTime.{FileTime}
-use Rattle.index_folder.specs.World.{Known, MayBe, MayBeMissing, Stored, World}
+use Rattle.index_folder.specs.Locks.{LeadsTo}
+use Rattle.index_folder.specs.World.{Known, Makes, MayBe, MayBeMissing, Stored, World}
 use Rattle.index_format.specs.declared.decode.Options.{Options}
 use Rattle.index_state.specs.State.{contents}
 use Rattle.gix_index.specs.Disk.{Disk, IsTimeFor, disk_at, disk_beside, known_of}
 use Rattle.gix_index.specs.File.{IsEmptyFile, checksum_of, state_of}
-use Rattle.gix_index.specs.FileFaults.{SaysOfFiles}
+use Rattle.gix_index.specs.FileFaults.{FailsUnderLock, SaysOfFiles}
 use Rattle.gix_index.specs.Linked.{IsOnDisk, IsOnDiskSince}
 use Rattle.gix_index.specs.declared.file.File.{File}
 use Rattle.index_file_faults.specs.declared.init.Error.{Error}
@@ -97,6 +98,21 @@ module _ (skip : Bool) (kind : Kind) (options : Options) where
       (checksum_of f) h.1 h.2))
   locked_read given world at target path f default same (inr h) =
       inr (h.0, subst (λ (x : List ℕ). MayBeMissing (world x)) same h.1, (given, h.2))
+
+  pub locked_fault : (works then : Bool) (guards : Bool) (W : FileTime → Type 0) (old behind : World)
+      (path target at lock : List ℕ) (e : Error) → then ≡ works → at ≡ target → LeadsTo old 5 path target
+      → lock ≡ target ++ codes ".lock" → Makes guards old behind lock
+      → (t : FileTime) × W t × SaysOfFiles path then (disk_beside (behind at) behind path) skip kind t options e
+      → FailsUnderLock path works guards old skip kind options e
+  locked_fault works then guards W old behind path target at lock e still same leads beside made h = record {
+    target = target;
+    behind = behind;
+    leads = leads;
+    made = subst (Makes guards old behind) beside made;
+    time = h.0;
+    says = subst (λ (x : List ℕ). SaysOfFiles path works (disk_beside (behind x) behind path) skip kind h.0 options e) same
+        (subst (λ (b : Bool). SaysOfFiles path b (disk_beside (behind at) behind path) skip kind h.0 options e) still h.2);
+  }
 
 -- the begin of 1970
 begin : FileTime

@@ -1,34 +1,28 @@
--- Why an index isn't read from a file or written to one (gitformat-index, "Split index"; the library's own).
+-- Why an index isn't read from a file (gitformat-index, "Split index"; the library's own).
 pub use Rattle.index_file_faults.specs.ReadErrors
 pub use Rattle.index_file_faults.specs.declared.init.Error as ReadError
-use Rattle.std.specs.Prelude.{◌≡◌, ◌⊎◌, ℕ, Bool, true, List, Option, Some, Ok, Err}
+use Rattle.std.specs.Prelude.{◌≡◌, ◌⊎◌, ◌++◌, codes, ℕ, Bool, true, List, Option, Some, Ok, Err}
 use Rattle.index_parts.specs.declared.hash.Kind.{Kind}
 use Rattle.index_parts.specs.declared.hash.ObjectId.{ObjectId}
 use Rattle.index_metadata.specs.declared.entry.stat.FileTime.{FileTime}
 use Rattle.index_split.specs.Link.{LinkFault, LinkValue, link_fault}
 use Rattle.index_split.specs.declared.link.decode.Error.{Error as LinkError}
 use Rattle.index_format.specs.Contents.{Contents}
-use Rattle.index_format.specs.Writing.{RefusedWith}
 use Rattle.index_format.specs.declared.decode.Options.{Options as ReadOptions}
 use Rattle.index_format.specs.declared.error.Error.{Error as DecodeError}
-use Rattle.index_format.specs.declared.write.Error.{Error as PutError}
-use Rattle.index_format.specs.declared.write.Error.TheVariants as puts
-use Rattle.index_format.specs.declared.write.Options.{Options as WriteOptions}
 use Rattle.index_state.specs.Dissolve.{IsDissolveFault}
 use Rattle.index_state.specs.Edits.{without_link}
 use Rattle.gix_index.specs.Checked.{IsFileAnswer, SaysFile}
-use Rattle.gix_index.specs.Disk.{Disk, MayHave, shared_path}
+use Rattle.gix_index.specs.Disk.{Disk, MayHave, disk_beside, shared_path}
 use Rattle.gix_index.specs.Linked.{IsReadAs, IsSplit, expecting}
-use Rattle.index_folder.specs.Locks.{IsOfDisk, SaysOfLock}
-use Rattle.index_folder.specs.World.{IsFaultOf, Known, World}
+use Rattle.index_folder.specs.Locks.{IsOfDisk, LeadsTo, SaysOfLock}
+use Rattle.index_folder.specs.World.{IsFaultOf, Known, Makes, World}
 use Rattle.index_folder.specs.declared.fault.PathError.{PathError}
 use Rattle.std.specs.Path.{path_buf_bytes}
 use Rattle.index_file_faults.specs.declared.lock.Error.{Error as LockingError}
 use Rattle.index_file_faults.specs.declared.lock.Error.TheVariants as locks
 use Rattle.index_file_faults.specs.declared.init.Error.{Error as ReadFault}
 use Rattle.index_file_faults.specs.declared.init.Error.TheVariants as reads
-use Rattle.index_file_faults.specs.declared.write.Error.{Error as WriteError}
-use Rattle.index_file_faults.specs.declared.write.Error.TheVariants as writes
 
 -- ---- reading
 
@@ -93,27 +87,18 @@ SaysOfFiles path works disk skip kind time options (reads.LinkExtension e) =
     RefusesLink disk skip kind time options e
 SaysOfFiles path works disk skip kind time options reads.Memory = Unit {0}
 
+-- the file that a path leads to was locked, and what stood there behind that isn't read, by this error
+pub record FailsUnderLock (path : List ℕ) (works guards : Bool) (world : World) (skip : Bool) (kind : Kind)
+    (options : ReadOptions) (e : ReadFault) : Type 0 where
+  pub target : List ℕ
+  pub behind : World
+  pub leads : LeadsTo world 5 path target
+  pub made : Makes guards world behind (target ++ codes ".lock")
+  pub time : FileTime
+  pub says : SaysOfFiles path works (disk_beside (behind target) behind path) skip kind time options e
+
 -- what it says that an index isn't locked and read
-abbrev pub SaysOfLocking : List ℕ → Bool → World → Bool → Kind → ReadOptions → LockingError → Type 0
-SaysOfLocking path works world skip kind options (locks.Lock fault) = SaysOfLock world path fault
-SaysOfLocking path works world skip kind options (locks.Read e) =
-    (time : FileTime) × (disk : Disk) × SaysOfFiles path works disk skip kind time options e
-
--- ---- writing
-
--- a refusal comes only where the index is refused so; a writer's fault says nothing
-abbrev pub SaysOfPut : Contents → WriteOptions → PutError → Type 0
-SaysOfPut v options (puts.Io e) = Unit {0}
-SaysOfPut v options puts.TooManyEntries = RefusedWith v options puts.TooManyEntries
-SaysOfPut v options puts.NulInPath = RefusedWith v options puts.NulInPath
-SaysOfPut v options puts.TooLarge = RefusedWith v options puts.TooLarge
-
--- the same of a file; want of memory says nothing
-abbrev pub SaysOfWrite : Contents → WriteOptions → WriteError → Type 0
-SaysOfWrite v options (writes.Io fault) = IsOfDisk fault
-SaysOfWrite v options (writes.AcquireLock fault) = IsOfDisk fault
-SaysOfWrite v options (writes.CommitLock fault) = IsOfDisk fault
-SaysOfWrite v options writes.TooManyEntries = RefusedWith v options puts.TooManyEntries
-SaysOfWrite v options writes.NulInPath = RefusedWith v options puts.NulInPath
-SaysOfWrite v options writes.TooLarge = RefusedWith v options puts.TooLarge
-SaysOfWrite v options writes.Memory = Unit {0}
+abbrev pub SaysOfLocking : List ℕ → Bool → Bool → World → Bool → Kind → ReadOptions → LockingError → Type 0
+SaysOfLocking path works guards world skip kind options (locks.Lock fault) = SaysOfLock works world path fault
+SaysOfLocking path works guards world skip kind options (locks.Read e) =
+    FailsUnderLock path works guards world skip kind options e

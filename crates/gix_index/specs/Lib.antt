@@ -11,6 +11,7 @@ pub mod Outlined
 pub mod Searching
 pub mod Trees
 pub mod VerifiedFile
+pub mod WriteFaults
 pub mod WrittenFile
 pub use Rattle.bstr.specs.Owned
 pub use Rattle.hex.specs.Hex

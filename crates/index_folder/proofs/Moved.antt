@@ -1,8 +1,8 @@
 -- A lock that took the place of its file.
-use Rattle.std.proofs.Common.{◌≡◌, ◌+◌, ℕ, List, ◌++◌, length, Bool, true, Option, inl, inr, sym, ap, subst, ◌∙◌, arith}
+use Rattle.std.proofs.Common.{◌≡◌, ℕ, List, ◌++◌, length, true, Option, inl, inr, sym, ap, subst, ◌∙◌, arith}
 use Rattle.std.specs.Prelude.{◌⊎◌, IfSome, codes}
 use Rattle.std.proofs.lemmas.List.{length-append}
-use Rattle.index_folder.specs.World.{Absent, Holds, Moves, StaysBut, Stored, World}
+use Rattle.index_folder.specs.World.{Absent, Holds, Moves, World}
 use Rattle.index_folder.specs.Locks.{IsCommitted, lock_of, target_of}
 use Rattle.index_folder.specs.Times.{is_told}
 use Rattle.index_folder.specs.declared.locked.Place.{Place}

@@ -37,16 +37,6 @@ impl Write for ShelfMade<'_> {
 impl Made for ShelfMade<'_> {
     ghost given = { λ made time. time_of made ≡ time };
 
-    fn set_time(&mut self, time: FileTime) -> io::Result<()> {
-        self.steps.take()?;
-        self.time = time;
-        Ok(())
-    }
-
-    fn sync(&mut self) -> io::Result<()> {
-        self.steps.take()
-    }
-
     fn modified(&self) -> io::Result<FileTime> {
         self.steps.take()?;
         Ok(self.time)

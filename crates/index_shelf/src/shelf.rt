@@ -1,10 +1,10 @@
 //! A folder in memory.
 
-ghost use Rattle.std.specs.Prelude.{◌≡◌, ◌≢◌, List, ℕ, OnErr, OnOk, Some, false, true};
+ghost use Rattle.std.specs.Prelude.{◌≡◌, ◌≢◌, List, ℕ, OnErr, OnOk, Some, true};
 ghost use Rattle.std.specs.Option.{option_copied};
 ghost use Rattle.std.specs.Path.{path_bytes};
 ghost use Rattle.index_folder.specs.World.{Absent};
-ghost use Rattle.index_shelf.specs.Shelf.{fault_of, known_as, world_of};
+ghost use Rattle.index_shelf.specs.Shelf.{fault_of, known_as, works_with, world_of};
 
 use crate::file::ShelfFile;
 use crate::made::ShelfMade;
@@ -89,8 +89,7 @@ impl<'a> Folder for Shelf<'a> {
 
     ghost guards = { λ _. true };
 
-    // (memory may be refused)
-    ghost works = { λ _. false };
+    ghost works = { λ shelf. works_with (fault_of shelf) };
 
     fn look(&self, path: Path<'_>) -> io::Result<Standing> {
         self.steps.take()?;
@@ -106,7 +105,7 @@ impl<'a> Folder for Shelf<'a> {
 
     fn open(&self, path: Path<'_>) -> io::Result<ShelfFile<'a>> {
         self.steps.take()?;
-        let Some(kept) = self.files.get(path.as_str()) else {
+        let Some(kept) = self.file(path) else {
             return Err(io::Error::from(ErrorKind::NotFound));
         };
         let bytes = kept.bytes.to_vec(self.alloc)?;
@@ -136,6 +135,16 @@ impl<'a> Folder for Shelf<'a> {
     }
 
     fn copy_permissions(&self, _made: &mut ShelfMade<'a>, _path: Path<'_>) -> io::Result<()> {
+        self.steps.take()
+    }
+
+    fn set_time(&self, made: &mut ShelfMade<'a>, time: FileTime) -> io::Result<()> {
+        self.steps.take()?;
+        made.time = time;
+        Ok(())
+    }
+
+    fn sync(&self, _made: &mut ShelfMade<'a>) -> io::Result<()> {
         self.steps.take()
     }
 

@@ -10,9 +10,10 @@ ghost use Rattle.index_metadata.specs.declared.entry.stat.FileTime.{FileTime as 
 ghost use Rattle.index_state.specs.State.{PathsInStorage, contents, entries_of};
 ghost use Rattle.gix_index.specs.Disk.{disk_beside};
 ghost use Rattle.gix_index.specs.File.{IsEmptyFile, checksum_of, path_of, state_of};
-ghost use Rattle.gix_index.specs.FileFaults.{SaysOfLocking, SaysOfWrite};
+ghost use Rattle.gix_index.specs.FileFaults.{SaysOfLocking};
 ghost use Rattle.gix_index.specs.InPlace.{IsPutSince};
 ghost use Rattle.gix_index.specs.Linked.{IsOnDiskSince};
+ghost use Rattle.gix_index.specs.WriteFaults.{SaysOfCommitting};
 ghost use Rattle.gix_index.specs.WrittenFile.{IsWrittenTo};
 
 use super::File;
@@ -78,7 +79,7 @@ impl File {
         ensures restored { OnErr result (D.alone folder.old ≡ true → Restores (D.works folder.old)
             (D.known folder.old) (D.known folder.new) (path_buf_bytes path)) }
         ensures fault { IfErr result (SaysOfLocking (path_buf_bytes path) (D.works folder.old)
-            (D.known folder.old) skip_hash object_hash options) }
+            (D.guards folder.old) (D.known folder.old) skip_hash object_hash options) }
         ensures alone { D.alone folder.new ≡ D.alone folder.old }
         ensures works { D.works folder.new ≡ D.works folder.old }
     {
@@ -144,7 +145,8 @@ impl File {
         ensures released { OnErr result (D.alone folder.old ≡ true
             → IsReleased (D.works folder.old) (D.known folder.old) (D.known folder.new)
             (lock_of lock.place)) }
-        ensures fault { IfErr result (SaysOfWrite (contents (state_of self.old)) options) }
+        ensures fault { IfErr result (SaysOfCommitting (D.works folder.old) lock.place
+            (contents (state_of self.old)) options) }
         ensures alone { D.alone folder.new ≡ D.alone folder.old }
         ensures works { D.works folder.new ≡ D.works folder.old }
     {
@@ -185,7 +187,8 @@ impl<M: Made> Locked<M> {
         ensures released { OnErr result (D.alone folder.old ≡ true
             → IsReleased (D.works folder.old) (D.known folder.old) (D.known folder.new)
             (lock_of self.lock.place)) }
-        ensures fault { IfErr result (SaysOfWrite (contents (state_of self.file)) options) }
+        ensures fault { IfErr result (SaysOfCommitting (D.works folder.old) self.lock.place
+            (contents (state_of self.file)) options) }
     {
         let Locked { mut file, lock } = self;
         match file.commit(folder, alloc, lock, options, is_synced) {

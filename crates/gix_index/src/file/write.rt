@@ -1,9 +1,10 @@
 //! Writing a `File` to its path, by way of a lock file.
 
 ghost use Rattle.std.specs.Path.{path_buf_bytes};
-ghost use Rattle.std.specs.Prelude.{◌≡◌, ◌++◌, [], Some, true, codes, IfErr, IfOk, OnErr, OnOk};
+ghost use Rattle.std.specs.Prelude.{◌≡◌, ◌++◌, ℕ, List, [], Bool, Option, Some, true, codes, IfErr, IfOk, OnErr, OnOk};
 ghost use Rattle.std.specs.Io.KnownBytes.{Appends};
 ghost use Rattle.index_folder.specs.Locks.{IsReleased, asked_of, lock_of};
+ghost use Rattle.index_folder.specs.World.{Known};
 ghost use Rattle.index_parts.specs.Id.{make_id};
 ghost use Rattle.index_format.specs.Contents.{Contents};
 ghost use Rattle.index_format.specs.Image.{image, image_version, trailer};
@@ -11,8 +12,8 @@ ghost use Rattle.index_format.specs.Storable.{IsWritable};
 ghost use Rattle.index_format.specs.declared.write.Options.{Options as WriteOptions};
 ghost use Rattle.index_state.specs.State.{PathsInStorage, contents};
 ghost use Rattle.gix_index.specs.File.{path_of, state_of};
-ghost use Rattle.gix_index.specs.FileFaults.{SaysOfPut, SaysOfWrite};
 ghost use Rattle.gix_index.specs.InPlace.{IsPut, IsPutSince, LeavesLock};
+ghost use Rattle.gix_index.specs.WriteFaults.{MayFail, SaysOfCommitting, SaysOfPut, SaysOfReplacing, SaysOfWrite};
 ghost use Rattle.gix_index.specs.WrittenFile.{IsWritten};
 
 use super::File;
@@ -43,7 +44,9 @@ enum Step {
 
 /// What it says that a step failed, with the file that it concerns.
 fn fault_of(step: Step, path: PathBuf, error: io::Error) -> Error
-    ensures { (v : Contents) (options : WriteOptions) → SaysOfWrite v options result }
+    ensures { (before : Option Known) (works : Bool) (lock target : List ℕ) (v : Contents)
+        (options : WriteOptions) → MayFail step before works lock target (path_buf_bytes path) error
+        → SaysOfReplacing before works lock target v options result }
 {
     if error.kind() == ErrorKind::OutOfMemory {
         return Error::Memory;
@@ -58,8 +61,9 @@ fn fault_of(step: Step, path: PathBuf, error: io::Error) -> Error
 
 /// What it says that the bytes didn't go to the lock file.
 fn put_fault(lock: PathBuf, error: write::Error) -> Error
-    ensures { (v : Contents) (options : WriteOptions) → SaysOfPut v options error
-        → SaysOfWrite v options result }
+    ensures { (before : Option Known) (works : Bool) (target : List ℕ) (v : Contents)
+        (options : WriteOptions) → SaysOfPut v options error
+        → SaysOfReplacing before works (path_buf_bytes lock) target v options result }
 {
     match error {
         write::Error::Io(e) => fault_of(Step::Put, lock, e),
@@ -92,7 +96,8 @@ pub(super) fn committed<D: Folder>(
         (contents (state_of index.now)) options) }
     ensures released { OnErr result (D.alone folder.old ≡ true → IsReleased (D.works folder.old)
         (D.known folder.old) (D.known folder.new) (lock_of lock.place)) }
-    ensures fault { IfErr result (SaysOfWrite (contents (state_of index.now)) options) }
+    ensures fault { IfErr result (SaysOfCommitting (D.works folder.old) lock.place
+        (contents (state_of index.now)) options) }
     ensures alone { D.alone folder.new ≡ D.alone folder.old }
     ensures works { D.works folder.new ≡ D.works folder.old }
 {
@@ -164,7 +169,8 @@ impl File {
             (contents (state_of self.now)) options) }
         ensures left { OnErr result (D.alone folder.old ≡ true → LeavesLock (D.works folder.old)
             (D.known folder.old) (D.known folder.new) (path_of self.now ++ codes ".lock")) }
-        ensures fault { IfErr result (SaysOfWrite (contents (state_of self.now)) options) }
+        ensures fault { IfErr result (SaysOfWrite (D.works folder.old) (D.known folder.old)
+            (path_of self.now) (contents (state_of self.now)) options) }
     {
         let lock = lock_path(alloc, &self.path)?;
         let path = self.path.clone()?;
@@ -213,7 +219,8 @@ impl File {
             (contents (state_of self.old)) options) }
         ensures left { OnErr result (D.alone folder.old ≡ true → LeavesLock (D.works folder.old)
             (D.known folder.old) (D.known folder.new) (path_of self.old ++ codes ".lock")) }
-        ensures fault { IfErr result (SaysOfWrite (contents (state_of self.old)) options) }
+        ensures fault { IfErr result (SaysOfWrite (D.works folder.old) (D.known folder.old)
+            (path_of self.old) (contents (state_of self.old)) options) }
     {
         let (version, id) = self.replace(folder, alloc, options)?;
         self.state.set_version(version);

@@ -1,4 +1,4 @@
-use Rattle.std.proofs.Common.{rules, ◌≡◌, zero, refl, inl, inr}
+use Rattle.std.proofs.Common.{rules, zero, refl, inl, inr}
 use Rattle.std.proofs.lemmas.List.{nil_from_length}
 use Rattle.std.specs.Path.{path_buf_bytes}
 use Rattle.index_folder.specs.Locks.{here}

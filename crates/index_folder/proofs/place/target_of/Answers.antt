@@ -1,12 +1,11 @@
-use Rattle.std.proofs.Common.{rules, ◌≡◌, refl, inl, inr}
-use Rattle.std.specs.Prelude.{◌⊎◌}
+use Rattle.std.proofs.Common.{rules, ◌≡◌, inl}
 use Rattle.std.specs.Path.{path_buf_bytes, path_bytes}
 use Rattle.index_folder.specs.Locks.{here}
 use Rattle.index_folder.proofs.Links.{leads_on, untold}
 use Rattle.index_folder.proofs.place.target_of.Goals as goal
 
 pub loop-links-init : goal.loop-links-init
-loop-links-init g c = record { follows = here (path_buf_bytes c.in_ok-target.target) (search rules); }
+loop-links-init g c = record { follows = here (path_buf_bytes c.in_ok-target.target) (search rules) }
 
 pub returns-in-Err-followed-clause-fault : goal.returns-in-Err-followed-clause-fault
 returns-in-Err-followed-clause-fault g c =

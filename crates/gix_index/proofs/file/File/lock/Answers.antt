@@ -1,6 +1,7 @@
 use Rattle.std.specs.Path.{path_bytes, path_buf_bytes}
-use Rattle.gix_index.specs.Disk.{disk_beside}
-use Rattle.gix_index.proofs.ReadsBy.{locked_read}
+use Rattle.std.proofs.Common.{rules}
+use Rattle.index_folder.specs.Locks.{lock_of, target_of}
+use Rattle.gix_index.proofs.ReadsBy.{locked_fault, locked_read}
 use Rattle.gix_index.proofs.file.File.lock.Goals as goal
 
 pub returns-in-Ok-read_from-clause-read : goal.returns-in-Ok-read_from-clause-read
@@ -11,9 +12,8 @@ returns-in-Ok-read_from-clause-read g c =
 
 pub returns-in-Err-read_from-clause-fault : goal.returns-in-Err-read_from-clause-fault
 returns-in-Err-read_from-clause-fault g c =
-    let f = c.in-Err-read_from.ensures.fault in
-    let world = g.D.Folder.known c.acquire.new.folder in (
-      f.0,
-      disk_beside (world (path_bytes c.target.result)) world (path_buf_bytes c.args.path),
-      rw c.acquire.ensures.works at f.2,
-    )
+    locked_fault c.args.skip_hash c.args.object_hash c.args.options (g.D.Folder.works c.args.folder.now) _
+    (g.D.Folder.guards c.args.folder.now) _ (g.D.Folder.known c.args.folder.now)
+    (g.D.Folder.known c.acquire.new.folder) (path_buf_bytes c.args.path) (target_of c.in_ok.place)
+    (path_bytes c.target.result) (lock_of c.in_ok.place) c.in-Err-read_from.e c.acquire.ensures.works c.target.ensures (search rules) (search rules) (search rules)
+    c.in-Err-read_from.ensures.fault

@@ -1,16 +1,25 @@
+use Rattle.std.proofs.Common.{rules, ℕ, List, None, subst}
+use Rattle.index_folder.specs.Locks.{lock_of, target_of}
 use Rattle.index_state.specs.State.{contents}
 use Rattle.gix_index.specs.File.{state_of}
+use Rattle.gix_index.specs.WriteFaults.{SaysOfReplacing}
 use Rattle.gix_index.proofs.Puts.{put_since}
 use Rattle.gix_index.proofs.file.write.committed.Goals as goal
 
 pub returns-in-Err-clause-fault : goal.returns-in-Err-clause-fault
-returns-in-Err-clause-fault g c = c.put_fault.ensures _ _ c.in-Err.ensures.fault
+returns-in-Err-clause-fault g c = subst (λ (l : List ℕ). SaysOfReplacing None (g.D.Folder.works c.args.folder.now) l
+    (target_of c.args.lock.place) (contents (state_of c.args.index.now)) c.args.options c.put_fault.result)
+    c.release.ensures.path (c.put_fault.ensures _ _ _ _ _ c.in-Err.ensures.fault)
 
 pub returns-in-Err-Lock-clause-fault : goal.returns-in-Err-Lock-clause-fault
-returns-in-Err-Lock-clause-fault g c = c.fault_of.ensures _ _
+returns-in-Err-Lock-clause-fault g c =
+    c.fault_of.ensures None (g.D.Folder.works c.args.folder.now) (lock_of c.args.lock.place) (target_of c.args.lock.place)
+    _ _ (search rules)
 
 pub returns-in-Err-Rename-clause-fault : goal.returns-in-Err-Rename-clause-fault
-returns-in-Err-Rename-clause-fault g c = c.fault_of-in-Err-Rename.ensures _ _
+returns-in-Err-Rename-clause-fault g c =
+    c.fault_of-in-Err-Rename.ensures None (g.D.Folder.works c.args.folder.now) (lock_of c.args.lock.place)
+    (target_of c.args.lock.place) _ _ (search rules)
 
 pub returns-in-Ok-commit-clause-put : goal.returns-in-Ok-commit-clause-put
 returns-in-Ok-commit-clause-put g c = λ alone empty.

@@ -1,4 +1,4 @@
 use Rattle.gix_index.proofs.file.write.put_fault.Goals as goal
 
 pub returns-in-Io : goal.returns-in-Io
-returns-in-Io c = λ v options h. c.fault_of.ensures v options
+returns-in-Io c = λ before works target v options h. c.fault_of.ensures before works _ target v options refl
