@@ -11,7 +11,7 @@ use Rattle.index_metadata.specs.declared.entry.stat.FileTime.{FileTime}
 use Rattle.index_entries.specs.Record.{IdsAreOf, IsPlaced, IsSized, Record, record_in, records_in}
 use Rattle.index_entries.specs.declared.Entry.{Entry}
 use Rattle.index_state.specs.Edits.{with_records}
-use Rattle.index_state.specs.Racy.{MayBeTrusted, is_racy, smudged, smudged_entry}
+use Rattle.index_state.specs.Racy.{MayBeTrusted, is_smudged, smudged, smudged_entry}
 use Rattle.index_format.specs.Contents.{Contents}
 use Rattle.index_format.specs.Storable.{IsStorable}
 
@@ -92,7 +92,7 @@ smudged_storable time v h = record {
   paths = all_mapped (λ r. 4095 ≤ length r.path → All (λ b. b ≢ 0) r.path)
       (λ r. 4095 ≤ length r.path → All (λ b. b ≢ 0) r.path) (smudged time) (λ r p. p) v.records h.paths;
   fits = all_mapped IsSized IsSized (smudged time)
-      (λ r p. sized_so (is_racy time r.mode r.stat) r p) v.records h.fits;
+      (λ r p. sized_so (is_smudged time r.mode r.stat) r p) v.records h.fits;
   tree = h.tree;
 }
 
@@ -108,10 +108,10 @@ smudged_ids time kind es h =
     all_mapped (λ e. id_kind e.id ≡ kind) (λ e. id_kind e.id ≡ kind) (smudged_entry time) (λ e p. p) es h
 
 -- what may be trusted then, may have been before
-trusted_so : (b : Bool) (time : FileTime) (r : Record) → is_racy time r.mode r.stat ≡ b
+trusted_so : (b : Bool) (time : FileTime) (r : Record) → is_smudged time r.mode r.stat ≡ b
     → (cond b (record r.stat { size = 0 }) r.stat).size ≢ 0 → MayBeTrusted time r
 trusted_so true time r is h = absurd (h refl)
 trusted_so false time r is h = record { in_time = inr is; sized = h }
 
 pub trusted_before : (time later : FileTime) (r : Record) → MayBeTrusted later (smudged time r) → MayBeTrusted time r
-trusted_before time later r h = trusted_so (is_racy time r.mode r.stat) time r refl h.sized
+trusted_before time later r h = trusted_so (is_smudged time r.mode r.stat) time r refl h.sized
