@@ -1,8 +1,8 @@
 //! The time at which a file was changed last, as the system gives it and as it takes it.
 
-ghost use Rattle.std.specs.Prelude.{◌≡◌, ◌*◌, ◌+◌, pos, IfSome, ℕ};
+ghost use Rattle.std.specs.Prelude.{◌≡◌, ◌*◌, ◌+◌, pos, IfSome, None, ℕ};
 ghost use Rattle.std.specs.Time.{system_time_nanos};
-ghost use Rattle.index_metadata.specs.Stat.{nanoseconds_of, seconds_of};
+ghost use Rattle.index_metadata.specs.Stat.{nanoseconds_of, seconds_of, whole};
 ghost use Rattle.index_folder.specs.Times.{IsTimeOf, is_told};
 
 use index_metadata::entry::FileTime;
@@ -30,7 +30,8 @@ pub fn is_told(time: FileTime) -> bool
 
 /// A time as the system takes it; None of each before 1970.
 pub fn system_time(time: FileTime) -> Option<SystemTime>
-    ensures { IfSome result (IsTimeOf time) }
+    ensures kept { IfSome result (IsTimeOf time) }
+    ensures none { result ≡ None → whole (seconds_of time) ≡ None }
 {
     let seconds = u64::try_from(time.unix_seconds()).ok()?;
     SystemTime::UNIX_EPOCH.checked_add(Duration::new(seconds, time.nanoseconds()))
