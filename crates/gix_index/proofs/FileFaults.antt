@@ -19,7 +19,7 @@ use Rattle.gix_index.specs.declared.file.File.{File}
 use Rattle.gix_index.specs.File.{state_of, checksum_of}
 use Rattle.gix_index.specs.Checked.{IsFileAnswer, SaysFile}
 use Rattle.index_file_faults.specs.ReadErrors.{link_error_of}
-use Rattle.gix_index.specs.Disk.{Disk, MayHave, disk_beside, known_of, shared_path}
+use Rattle.gix_index.specs.Disk.{Disk, MayHave, known_of, shared_path}
 use Rattle.gix_index.specs.FileFaults.{IsOfFile, SaysOfFile, SaysOfFiles}
 use Rattle.gix_index.specs.Linked.{IsOnDisk, IsReadAs, IsSplit, expecting, own, joined}
 use Rattle.index_file_faults.specs.declared.init.Error.{Error}

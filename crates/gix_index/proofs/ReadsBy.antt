@@ -1,5 +1,5 @@
 -- What is read of a file, by what was wanted of it.
-use Rattle.std.proofs.Common.{◌≡◌, ◌++◌, ℕ, Bool, true, false, List, Option, Some, inl, inr, sym, subst, arith}
+use Rattle.std.proofs.Common.{◌≡◌, ◌++◌, ℕ, Bool, true, false, List, Option, Some, inl, inr, subst, arith}
 use Rattle.std.specs.Prelude.{◌⊎◌, codes, pos, Result, Ok, Err, IfErr, IfOk, IsTrue}
 use Rattle.index_parts.specs.declared.hash.Kind.{Kind}
 use Rattle.index_parts.specs.declared.hash.ObjectId.{ObjectId}
@@ -8,7 +8,7 @@ use Rattle.index_folder.specs.Locks.{LeadsTo}
 use Rattle.index_folder.specs.World.{Known, Makes, MayBe, MayBeMissing, Stored, World}
 use Rattle.index_format.specs.declared.decode.Options.{Options}
 use Rattle.index_state.specs.State.{contents}
-use Rattle.gix_index.specs.Disk.{Disk, IsTimeFor, disk_at, disk_beside, known_of}
+use Rattle.gix_index.specs.Disk.{IsTimeFor, disk_at, disk_beside, known_of}
 use Rattle.gix_index.specs.File.{IsEmptyFile, checksum_of, state_of}
 use Rattle.gix_index.specs.FileFaults.{FailsUnderLock, SaysOfFiles}
 use Rattle.gix_index.specs.Linked.{IsOnDisk, IsOnDiskSince}

@@ -1,6 +1,5 @@
 -- The time of an index that was read is that for which it was read.
-use Rattle.std.proofs.Common.{◌≡◌, ℕ, Bool, List, inl, inr, Option, Some, None, Result, Ok, Err, sym, ap, subst, ◌∙◌}
-use Rattle.std.specs.Prelude.{◌⊎◌, IfErr, IfOk, IsErrAnd, IsTrue, OnErr, true, false}
+use Rattle.std.proofs.Common.{◌≡◌, ℕ, Bool, List, Option, Some, None, Ok, sym, ap, subst, ◌∙◌}
 use Rattle.index_parts.specs.declared.hash.Kind.{Kind}
 use Rattle.index_parts.specs.declared.hash.ObjectId.{ObjectId}
 use Rattle.index_metadata.specs.declared.entry.stat.FileTime.{FileTime}
@@ -8,17 +7,13 @@ use Rattle.index_format.specs.declared.decode.Options.{Options}
 use Rattle.index_split.specs.Link.{BitmapPair}
 use Rattle.index_state.specs.Dissolve.{MergesBy}
 use Rattle.index_state.specs.Edits.{without_link}
-use Rattle.index_state.specs.State.{contents}
 use Rattle.index_format.specs.Contents.{Contents}
 use Rattle.index_format.proofs.ReadValues.{value_is}
 use Rattle.gix_index.proofs.Joined.{answer_read}
 use Rattle.gix_index.specs.Checked.{IsFileAnswer}
-use Rattle.gix_index.specs.File.{IsEmptyFile, checksum_of, state_of}
 use Rattle.index_folder.specs.World.{MayBe}
 use Rattle.gix_index.specs.Disk.{Disk}
 use Rattle.gix_index.specs.Linked.{IsOnDisk, IsOnDiskSince, own, joined}
-use Rattle.gix_index.specs.declared.file.File.{File}
-use Rattle.index_file_faults.specs.declared.init.Error.{Error}
 
 module _ (skip : Bool) (kind : Kind) (options : Options) where
   answer_time : (time : FileTime) (bytes : List ℕ) (v : Contents) (c : Option ObjectId)

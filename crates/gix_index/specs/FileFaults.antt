@@ -1,7 +1,7 @@
 -- Why an index isn't read from a file (gitformat-index, "Split index"; the library's own).
 pub use Rattle.index_file_faults.specs.ReadErrors
 pub use Rattle.index_file_faults.specs.declared.init.Error as ReadError
-use Rattle.std.specs.Prelude.{◌≡◌, ◌⊎◌, ◌++◌, codes, ℕ, Bool, true, List, Option, Some, Ok, Err}
+use Rattle.std.specs.Prelude.{◌≡◌, ◌⊎◌, ◌++◌, codes, ℕ, Bool, true, List, Option, Some, Err}
 use Rattle.index_parts.specs.declared.hash.Kind.{Kind}
 use Rattle.index_parts.specs.declared.hash.ObjectId.{ObjectId}
 use Rattle.index_metadata.specs.declared.entry.stat.FileTime.{FileTime}

@@ -2,7 +2,7 @@
 pub use Rattle.index_folder.specs.Locks
 pub use Rattle.index_folder.specs.Times as FileTimes
 pub use Rattle.index_folder.specs.declared.lock.Place
-use Rattle.std.specs.Prelude.{◌≡◌, ◌≢◌, ◌⊎◌, ◌++◌, ℕ, List, Bool, true, codes}
+use Rattle.std.specs.Prelude.{◌≡◌, ◌≢◌, ◌⊎◌, ℕ, List, Bool, true}
 use Rattle.index_folder.specs.Locks.{lock_of, target_of}
 use Rattle.index_folder.specs.Times.{is_told}
 use Rattle.index_folder.specs.World.{Absent, Holds, StaysBut, Stored, World}

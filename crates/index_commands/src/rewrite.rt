@@ -8,7 +8,6 @@ ghost use Rattle.gix_index.specs.File.{checksum_of};
 ghost use Rattle.index_commands.specs.Rewriting.{FailsToRewrite, Rewrites, chosen};
 
 use gix_index::file::folder::Folder;
-use gix_index::file::lock::Lock;
 use gix_index::hash::Kind;
 use gix_index::write::VersionChoice;
 use gix_index::{File, Version};
@@ -68,9 +67,7 @@ pub fn rewritten<'a, D: Folder>(
             commit_at(folder, alloc, index, lock, version, to)
         }
         Err(failure) => {
-            let Lock { place, file } = lock;
-            drop(file);
-            place.release(folder);
+            lock.release(folder);
             Err(failure)
         }
     }

@@ -13,7 +13,6 @@ use crate::rewrite::{Form, choice};
 use crate::trees::tree_of;
 use gix_index::extension::Tree;
 use gix_index::file::folder::Folder;
-use gix_index::file::lock::Lock;
 use gix_index::hash::Kind;
 use gix_index::{File, State};
 use index_failures::failure::Failure;
@@ -99,9 +98,7 @@ pub fn retreed<'a, D: Folder>(
             commit_at(folder, alloc, index, lock, version, to)
         }
         Err(failure) => {
-            let Lock { place, file } = lock;
-            drop(file);
-            place.release(folder);
+            lock.release(folder);
             Err(failure)
         }
     }

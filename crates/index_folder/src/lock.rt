@@ -92,6 +92,21 @@ pub struct Lock<M: Made> {
     pub file: M,
 }
 
+impl<M: Made> Lock<M> {
+    /// Gives the lock up, as [`Place::release`] does, once its file is closed.
+    pub fn release<D: Folder<Made = M>>(self, folder: &mut D) -> PathBuf
+        ensures path { path_buf_bytes result ≡ lock_of self.place }
+        ensures released { D.alone folder.old ≡ true → IsReleased (D.works folder.old)
+            (D.known folder.old) (D.known folder.new) (lock_of self.place) }
+        ensures alone { D.alone folder.new ≡ D.alone folder.old }
+        ensures works { D.works folder.new ≡ D.works folder.old }
+    {
+        let Lock { place, file } = self;
+        drop(file);
+        place.release(folder)
+    }
+}
+
 /// The path with `.lock` behind it.
 pub fn lock_path(alloc: Global, path: &PathBuf) -> Result<PathBuf, AllocError>
     ensures { IfOk result (λ lock. path_buf_bytes lock ≡ path_buf_bytes path.now ++ codes ".lock") }

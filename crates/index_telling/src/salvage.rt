@@ -16,7 +16,6 @@ use crate::shared::shared_beside;
 use gix_index::entry::FileTime;
 use gix_index::file::OneLine;
 use gix_index::file::folder::Folder;
-use gix_index::file::lock::Lock;
 use gix_index::hash::Kind;
 use gix_index::write::VersionChoice;
 use gix_index::{File, decode, file};
@@ -180,9 +179,7 @@ pub fn salvaged<'a, D: Folder>(
     let (saved, time) = match saved_at(folder, alloc, kind, path) {
         Ok(found) => found,
         Err(failure) => {
-            let Lock { place, file } = lock;
-            drop(file);
-            place.release(folder);
+            lock.release(folder);
             return Err(failure);
         }
     };

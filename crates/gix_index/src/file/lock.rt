@@ -198,14 +198,13 @@ impl<M: Made> Locked<M> {
     }
 
     /// Gives the lock up, which it is tried to remove, and gives the index as it is in memory.
-    pub fn release<D: Folder>(self, folder: &mut D) -> File
+    pub fn release<D: Folder<Made = M>>(self, folder: &mut D) -> File
         ensures file { result ≡ self.file }
         ensures released { D.alone folder.old ≡ true → IsReleased (D.works folder.old)
             (D.known folder.old) (D.known folder.new) (lock_of self.lock.place) }
     {
-        let (file, Lock { place, file: made }) = self.into_parts();
-        drop(made);
-        place.release(folder);
+        let (file, lock) = self.into_parts();
+        lock.release(folder);
         file
     }
 }

@@ -14,6 +14,6 @@ pub returns-in-Err-read_from-clause-fault : goal.returns-in-Err-read_from-clause
 returns-in-Err-read_from-clause-fault g c =
     locked_fault c.args.skip_hash c.args.object_hash c.args.options (g.D.Folder.works c.args.folder.now) _
     (g.D.Folder.guards c.args.folder.now) _ (g.D.Folder.known c.args.folder.now)
-    (g.D.Folder.known c.acquire.new.folder) (path_buf_bytes c.args.path) (target_of c.in_ok.place)
-    (path_bytes c.target.result) (lock_of c.in_ok.place) c.in-Err-read_from.e c.acquire.ensures.works c.target.ensures (search rules) (search rules) (search rules)
+    (g.D.Folder.known c.acquire.new.folder) (path_buf_bytes c.args.path) (target_of c.in_ok-place.field-0.place)
+    (path_bytes c.target.result) (lock_of c.in_ok-place.field-0.place) c.in-Err-read_from.e c.acquire.ensures.works c.target.ensures (search rules) (search rules) (search rules)
     c.in-Err-read_from.ensures.fault

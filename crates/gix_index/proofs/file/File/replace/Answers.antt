@@ -1,4 +1,4 @@
-use Rattle.std.proofs.Common.{rules, ℕ, List, ◌++◌, Some, subst, sym, ◌∙◌}
+use Rattle.std.proofs.Common.{rules, ℕ, List, ◌++◌, Some, subst, ◌∙◌}
 use Rattle.std.specs.Prelude.{codes}
 use Rattle.std.specs.Path.{path_bytes, path_buf_bytes}
 use Rattle.index_state.specs.State.{contents}
@@ -8,17 +8,25 @@ use Rattle.gix_index.proofs.Puts.{put_over}
 use Rattle.gix_index.proofs.file.File.replace.Goals as goal
 
 pub returns-in-Err-clause-fault : goal.returns-in-Err-clause-fault
-returns-in-Err-clause-fault g c = c.fault_of.ensures (Some (g.D.Folder.known c.args.folder.now _)) (g.D.Folder.works c.args.folder.now) _
-    (path_of c.args.self.now) _ _ (search rules, search rules)
+returns-in-Err-clause-fault g c =
+    let path = path_of c.args.self.now in
+    c.fault_of.ensures (Some (g.D.Folder.known c.args.folder.now (path ++ codes ".lock"))) (g.D.Folder.works c.args.folder.now)
+    (path ++ codes ".lock") path (contents (state_of c.args.self.now)) c.args.options (search rules, search rules)
 
 pub returns-in-Err-fill-clause-fault : goal.returns-in-Err-fill-clause-fault
-returns-in-Err-fill-clause-fault g c = subst (λ (l : List ℕ). SaysOfReplacing (Some (g.D.Folder.known c.args.folder.now (path_of c.args.self.now ++ codes ".lock")))
-    (g.D.Folder.works c.args.folder.now) l (path_of c.args.self.now) (contents (state_of c.args.self.now)) c.args.options
-    c.put_fault.result) c.in_ok-lock.ensures (c.put_fault.ensures _ _ _ _ _ c.in-Err-fill.ensures.fault)
+returns-in-Err-fill-clause-fault g c =
+    let works = g.D.Folder.works c.args.folder.now in
+    let path = path_of c.args.self.now in
+    let before = Some (g.D.Folder.known c.args.folder.now (path ++ codes ".lock")) in
+    let v = contents (state_of c.args.self.now) in
+    subst (λ (l : List ℕ). SaysOfReplacing before works l path v c.args.options c.put_fault.result) c.in_ok-lock.ensures
+    (c.put_fault.ensures before works path v c.args.options c.in-Err-fill.ensures.fault)
 
 pub returns-clause-fault : goal.returns-clause-fault
-returns-clause-fault g c = c.fault_of-in-Err-put.ensures (Some (g.D.Folder.known c.args.folder.now _)) (g.D.Folder.works c.args.folder.now) _
-    (path_of c.args.self.now) _ _ (search rules, search rules)
+returns-clause-fault g c =
+    let path = path_of c.args.self.now in
+    c.fault_of-in-Err-put.ensures (Some (g.D.Folder.known c.args.folder.now (path ++ codes ".lock"))) (g.D.Folder.works c.args.folder.now)
+    (path ++ codes ".lock") path (contents (state_of c.args.self.now)) c.args.options (search rules, search rules)
 
 pub returns-in-Ok-put-clause-put : goal.returns-in-Ok-put-clause-put
 returns-in-Ok-put-clause-put g c = λ alone.

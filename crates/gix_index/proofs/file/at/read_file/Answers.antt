@@ -1,4 +1,4 @@
-use Rattle.std.proofs.Common.{List, ℕ, Option, inl, subst, ◌∙◌}
+use Rattle.std.proofs.Common.{Option, inl, subst, ◌∙◌}
 use Rattle.index_folder.specs.World.{Stored}
 use Rattle.gix_index.specs.Disk.{MayHave, known_of}
 use Rattle.gix_index.proofs.Checks.{to_file}

@@ -1,6 +1,4 @@
-use Rattle.std.proofs.Common.{Option, inl, subst, ◌∙◌}
-use Rattle.index_folder.specs.World.{Stored}
-use Rattle.gix_index.specs.Disk.{MayHave, known_of}
+use Rattle.std.proofs.Common.{inl, ◌∙◌}
 use Rattle.gix_index.proofs.Checks.{to_file}
 use Rattle.gix_index.proofs.FileFaults.{held_by}
 use Rattle.gix_index.proofs.file.unfollowed.read_alone.Goals as goal

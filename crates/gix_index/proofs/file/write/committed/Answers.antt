@@ -7,9 +7,12 @@ use Rattle.gix_index.proofs.Puts.{put_since}
 use Rattle.gix_index.proofs.file.write.committed.Goals as goal
 
 pub returns-in-Err-clause-fault : goal.returns-in-Err-clause-fault
-returns-in-Err-clause-fault g c = subst (λ (l : List ℕ). SaysOfReplacing None (g.D.Folder.works c.args.folder.now) l
-    (target_of c.args.lock.place) (contents (state_of c.args.index.now)) c.args.options c.put_fault.result)
-    c.release.ensures.path (c.put_fault.ensures _ _ _ _ _ c.in-Err.ensures.fault)
+returns-in-Err-clause-fault g c =
+    let works = g.D.Folder.works c.args.folder.now in
+    let to = target_of c.args.lock.place in
+    let v = contents (state_of c.args.index.now) in
+    subst (λ (l : List ℕ). SaysOfReplacing None works l to v c.args.options c.put_fault.result) c.release.ensures.path
+    (c.put_fault.ensures None works to v c.args.options c.in-Err.ensures.fault)
 
 pub returns-in-Err-Lock-clause-fault : goal.returns-in-Err-Lock-clause-fault
 returns-in-Err-Lock-clause-fault g c =

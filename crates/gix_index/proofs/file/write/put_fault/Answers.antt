@@ -1,3 +1,4 @@
+use Rattle.std.proofs.Common.{refl}
 use Rattle.gix_index.proofs.file.write.put_fault.Goals as goal
 
 pub returns-in-Io : goal.returns-in-Io
