@@ -1,8 +1,9 @@
 //! `examples repair INDEX OUT`: what is wrong with an index, or the index written again.
 //!
 //! INDEX is an index of SHA-1. Where its bytes are none, the name of their first fault is printed, and what it says.
-//! Else the index is written to OUT, with its cached tree and a digest that fits, also where that of INDEX doesn't, and
-//! the number of bytes of both is printed.
+//! Else the index is written to OUT, a new file, with its cached tree and a digest that fits, also where that of INDEX
+//! doesn't, and the number of bytes of both is printed. (What is there already may be an index that git works with: that
+//! is locked before it is read, as `tree-builder` has it.)
 
 ghost use Rattle.std.specs.Prelude.{◌≡◌, IfOk};
 ghost use Rattle.examples.specs.Repaired.{IsRepaired, name_of};
@@ -16,6 +17,7 @@ use gix_index::write::{Extensions, Options, VersionChoice};
 use gix_index::{File, State, decode, laws, write};
 use std::alloc::Global;
 use std::fs;
+use std::io::Write as _;
 use std::path::PathBuf;
 use thiserror::Error;
 
@@ -95,7 +97,7 @@ pub fn run(rt: &HostRuntime, words: &[&str]) -> anyhow::Result<()> {
     match repair(rt.alloc(), &bytes, Kind::Sha1, OPTIONS)? {
         Repaired::Faulty(name, fault) => println!(rt; "{name}: {fault}")?,
         Repaired::Again(again) => {
-            fs::write(rt, out, &again)?;
+            fs::File::create_new(rt, out)?.write_all(&again)?;
             println!(rt; "{} bytes, and again {}", bytes.len(), again.len())?;
         }
     }
