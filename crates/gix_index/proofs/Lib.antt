@@ -10,6 +10,7 @@ pub use Rattle.index_entries.proofs.ReadRecords
 pub use Rattle.index_entries.proofs.Storing
 pub use Rattle.index_extensions.proofs.Walks
 pub use Rattle.index_extensions.proofs.MarkerReadings
+pub use Rattle.index_folder.proofs.Moved
 pub use Rattle.index_format.proofs.OnceAnswers
 pub use Rattle.index_format.proofs.Outcomes
 pub use Rattle.index_lookups.proofs.RunFilters

@@ -12,6 +12,7 @@ use Rattle.index_format.specs.Contents.{Contents}
 use Rattle.index_format.specs.Image.{image}
 use Rattle.index_format.specs.declared.write.Options.{Options}
 use Rattle.index_metadata.specs.declared.entry.stat.FileTime.{FileTime}
+use Rattle.index_folder.proofs.Moved.{not_itself, stays_then}
 use Rattle.gix_index.specs.InPlace.{IsPut, IsPutSince}
 
 -- what was written to no bytes is all of them
@@ -36,12 +37,6 @@ put_since old new place v options empty filled time since e a h = record {
   };
   is_time = λ told. h.is_time (subst (λ t. is_told t ≡ true) (sym since) told) ∙ since;
 }
-
-not_itself : (target lock : List ℕ) → lock ≡ target ++ codes ".lock" → lock ≡ target → ⊥
-not_itself target lock is e = omega (arith, length-append target (codes ".lock"), ap length (sym is ∙ e))
-
-stays_then : (a b c : Known) → Stays a b → Stays b c → Stays a c
-stays_then a b c s t n = t (λ e. n (sym (s n) ∙ e)) ∙ s n
 
 pub put_over : (guards : Bool) (old mid new : World) (path lock made from to : List ℕ) (v : Contents)
     (options : Options) (empty filled : Option (List ℕ)) (Given : FileTime → Type 0) → lock ≡ path ++ codes ".lock"

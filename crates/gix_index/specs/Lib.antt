@@ -48,6 +48,7 @@ pub use Rattle.index_lookups.specs.Lookup
 pub use Rattle.index_lookups.specs.Range
 pub use Rattle.index_tree_writer.specs.Cached
 pub use Rattle.index_tree_writer.specs.Directory as TreeDirectory
+pub use Rattle.index_tree_writer.specs.Kept as KeptCounts
 pub use Rattle.index_laws.specs.Laws
 pub use Rattle.index_laws.specs.Reading
 pub use Rattle.index_tree_writer.specs.Refusals

@@ -6,6 +6,7 @@ use Rattle.gix_index.specs.InPlace.Locks.{IsReleased, Restores, lock_of, target_
 use Rattle.gix_index.specs.InPlace.Place.{Place}
 use Rattle.gix_index.specs.Disk.World.{Absent, Directory, Holds, Known, Leads, Makes, MayBeFree, Removes, Special, Stays, Unknown}
 use Rattle.gix_index.specs.Disk.World.{World}
+use Rattle.gix_index.proofs.Moved.{stays_then}
 use Rattle.index_failures.specs.Storing.{IsUnderLock}
 
 number_is : (a b : ℕ) → (a ≡ b) ⊎ (a ≢ b)
@@ -37,9 +38,6 @@ free_stays (Holds file) l free gone n = absurd free
 free_stays (Leads to) l free gone n = absurd free
 free_stays Directory l free gone n = absurd free
 free_stays Special l free gone n = absurd free
-
-stays_then : (a b c : Known) → Stays a b → Stays b c → Stays a c
-stays_then a b c s t n = t (λ e. n (sym (s n) ∙ e)) ∙ s n
 
 module _ (guards works : Bool) (old mid new : World) (to : List ℕ) (place : Place)
     (locked : IsUnderLock guards old mid to place) (beside : lock_of place ≡ target_of place ++ codes ".lock") where

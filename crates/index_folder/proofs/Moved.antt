@@ -2,16 +2,20 @@
 use Rattle.std.proofs.Common.{◌≡◌, ℕ, List, ◌++◌, length, true, Option, inl, inr, sym, ap, subst, ◌∙◌, arith}
 use Rattle.std.specs.Prelude.{◌⊎◌, IfSome, codes}
 use Rattle.std.proofs.lemmas.List.{length-append}
-use Rattle.index_folder.specs.World.{Absent, Holds, Moves, World}
+use Rattle.index_folder.specs.World.{Absent, Holds, Known, Moves, Stays, World}
 use Rattle.index_folder.specs.Locks.{IsCommitted, lock_of, target_of}
 use Rattle.index_folder.specs.Times.{is_told}
 use Rattle.index_folder.specs.declared.locked.Place.{Place}
 use Rattle.index_metadata.specs.declared.entry.stat.FileTime.{FileTime}
 
 -- a lock has another path than its file
-not_itself : (target lock : List ℕ) → lock ≡ target ++ codes ".lock" → lock ≡ target → ⊥
+pub not_itself : (target lock : List ℕ) → lock ≡ target ++ codes ".lock" → lock ≡ target → ⊥
 not_itself target lock is e =
     omega (arith, length-append target (codes ".lock"), ap length (sym is ∙ e))
+
+-- what stays twice stays
+pub stays_then : (a b c : Known) → Stays a b → Stays b c → Stays a c
+stays_then a b c s t n = t (λ e. n (sym (s n) ∙ e)) ∙ s n
 
 pub committed_so : (old new : World) (place : Place) (from to : List ℕ) (b c : Option (List ℕ))
     (Given : FileTime → Type 0) (time : FileTime) → lock_of place ≡ target_of place ++ codes ".lock"

@@ -4,4 +4,5 @@ mod ReadBack
 mod RecordFaults
 mod TreeNames
 mod TreesAnswers
+mod TreesInOrder
 mod TreesMade

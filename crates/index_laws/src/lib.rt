@@ -2,7 +2,7 @@
 //! of `File` cite. A law computes nothing.
 #![tactic(auto)]
 
-ghost use Rattle.std.specs.Prelude.{◌≡◌, ℕ, List, Bool, Option, Result, Ok};
+ghost use Rattle.std.specs.Prelude.{◌≡◌, ℕ, List, Bool, IfSome, Option, Result, Ok};
 ghost use Rattle.index_parts.specs.declared.hash.Kind.{Kind};
 ghost use Rattle.index_metadata.specs.declared.entry.stat.FileTime.{FileTime};
 ghost use Rattle.index_extensions.specs.EndMarker.{EndsInMarker};
@@ -16,6 +16,7 @@ ghost use Rattle.index_objects.specs.Object.{Found};
 ghost use Rattle.index_parts.specs.declared.hash.ObjectId.{ObjectId};
 ghost use Rattle.index_entries.specs.Record.{Record};
 ghost use Rattle.index_trees.specs.Leaves.{LeavesFault, AreLeaves};
+ghost use Rattle.index_tree_writer.specs.Kept.{HasNamesInOrder};
 ghost use Rattle.index_format.specs.declared.decode.Options.{Options};
 ghost use Rattle.index_format.specs.declared.write.Options.{Options as WriteOptions};
 ghost use Rattle.index_format.specs.Answer.{Answer, IsAnswer, trailer_checksum};
@@ -94,6 +95,14 @@ pub fn rewrite_is_canonical()
 pub fn version_change_loses_nothing()
     ensures { (v w : Contents) (options chosen : WriteOptions) → IsReread v options w
         → chosen.extensions ≡ options.extensions → image w chosen ≡ image v chosen }
+{}
+
+/// In the cached tree of an index that was read, the names of siblings increase, below each node. So it keeps each count
+/// that the entries still give, where a cached tree is made anew (`State::renew_tree`).
+pub fn read_trees_are_in_order()
+    ensures { (kind : Kind) (time : FileTime) (options : Options) (bytes : List ℕ) (v : Contents)
+        (id : Option ObjectId) → IsAnswer kind time options bytes (Ok (v, id))
+        → IfSome v.extensions.tree HasNamesInOrder }
 {}
 
 /// What is written of a list is read back as what stands in trees, where the store has each tree that was written, by
