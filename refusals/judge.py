@@ -15,7 +15,6 @@ PROOF_FAULT = re.compile(r"(?:\./)?(proofs/\S+/\w+\.antt):(\d+):\d+: error: (?:`
 VERDICT = re.compile(r"fn (\S+): (.*)")
 TEXT_FAULT = re.compile(r"(src/\S+?):(\d+):\d+: error\S*: (.*)")
 MISSING_NAME = re.compile(r"can be named from here|is not in scope|has no field|has no `|is no name|was not admitted")
-RENAMED_GOAL = re.compile(r"(?:Goals|Given)` has no `")
 NOT_CHECKED = re.compile(r"declarations? that depends? on .* not checked")
 
 # Where in a function a goal stands, as its name says it: behind a call, a case or a condition.
@@ -32,7 +31,7 @@ Item = collections.namedtuple("Item", "name first last")
 Goal = collections.namedtuple("Goal", "file line name why")
 Fault = collections.namedtuple("Fault", "path item name why")
 # Whether an edit is refused (or proved, where it is right), what to say, and the faults of answers that may be taken
-# out for a closer look.
+# out for another look.
 Answer = collections.namedtuple("Answer", "well why stale")
 
 
@@ -239,9 +238,9 @@ class Try:
 class Said:
     """What a check printed, read: the verdict of each function, its open goals, and the faults of its proof files."""
 
-    def __init__(self, crate, status, text, proofs, is_close):
-        """The proofs are the texts of proof files, as the check read them, and whether to look closely at them."""
-        self.crate, self.status, self.text, self.proofs, self.is_close = crate, status, text, proofs, is_close
+    def __init__(self, crate, status, text, proofs):
+        """The proofs are the texts of proof files, as the check read them."""
+        self.crate, self.status, self.text, self.proofs = crate, status, text, proofs
         self.verdicts, self.goals, self.faults, open_goals = {}, {}, [], []
         for line in text.split("\n"):
             goal, fault, verdict = GOAL.match(line), PROOF_FAULT.match(line), VERDICT.match(line)
@@ -303,7 +302,7 @@ class Said:
 
         It has to be unproved, and a goal has to be open for its value. What is open for its proof file alone doesn't
         count: where an invariant doesn't fit, or answers name what is gone, a right change of the same shape would
-        leave the same clauses open, maybe at other places. An answer that doesn't fit counts unless one looks closely.
+        leave the same clauses open, maybe at other places. Answers that don't fit are given back, to be taken out.
         """
         verdict = self.verdicts.get(name, "")
         if not re.match(r"not proved|no proof", verdict):
@@ -315,8 +314,6 @@ class Said:
             return Answer(True, f"`{false[0].name}` is false for some values", [])
         faults = [it for it in self.faults if self.is_proof_of(it.path, it.name, name)]
         held = [it for it in faults if not it.path.endswith("/Answers.antt")]
-        if not self.is_close:
-            return self.evidence_at_once(goals, faults, verdict)
         gone, lost = (
             {item for path, items in found.items() for item in items if self.is_proof_of(path, item, name)}
             for found in (tried.gone, tried.lost)
@@ -334,17 +331,6 @@ class Said:
         if lost or any(MISSING_NAME.search(it.why) for it in faults):
             verdict = "its proof names what the edit took away, which says little: change a value and keep the shape"
         return Answer(False, verdict, [it for it in faults if it.item and not held])
-
-    def evidence_at_once(self, goals, faults, verdict):
-        """The same where a proof that doesn't fit counts by itself."""
-        misfits = [it for it in faults if not MISSING_NAME.search(it.why)]
-        if misfits:
-            return Answer(True, f"the proof of `{misfits[0].name}` doesn't fit", [])
-        if goals and not any(RENAMED_GOAL.search(it.why) for it in faults):
-            return Answer(True, f"`{goals[0].name}` has no proof", [])
-        if faults:
-            verdict = "its proof names what the edit took away, which says little: change a value and keep the shape"
-        return Answer(False, verdict, [])
 
 
 def judged(said, tried, places, is_alone):
