@@ -11,7 +11,6 @@ pub mod Outlined
 pub mod Searching
 pub mod Trees
 pub mod VerifiedFile
-pub mod WriteFaults
 pub mod WrittenFile
 pub use Rattle.bstr.specs.Owned
 pub use Rattle.hex.specs.Hex
@@ -86,6 +85,7 @@ pub use Rattle.index_format.specs.Outcome
 pub use Rattle.index_format.specs.Storable
 pub use Rattle.index_format.specs.Stored
 pub use Rattle.index_format.specs.Writing
+pub use Rattle.index_file_faults.specs.WriteFaults
 pub use Rattle.index_window.specs.Behind
 pub use Rattle.index_window.specs.Intact
 pub use Rattle.index_state.specs.Dissolve

@@ -1,1 +1,2 @@
 pub mod ReadErrors
+pub mod WriteFaults

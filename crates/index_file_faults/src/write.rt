@@ -1,10 +1,19 @@
 //! Why an index wasn't written to its path.
 
-ghost use Rattle.std.specs.Prelude.{◌≡◌};
+ghost use Rattle.std.specs.Prelude.{◌≡◌, ℕ, List, Bool, Option};
+ghost use Rattle.std.specs.Path.{path_buf_bytes};
+ghost use Rattle.index_folder.specs.World.{Known};
+ghost use Rattle.index_format.specs.Contents.{Contents};
+ghost use Rattle.index_format.specs.declared.write.Options.{Options as WriteOptions};
+ghost use Rattle.index_file_faults.specs.WriteFaults.{MayFail, SaysOfPut, SaysOfReplacing};
 ghost use Rattle.index_file_faults.specs.declared.write.Error.TheVariants.{Memory};
 
 use index_folder::fault::PathError;
+use index_format::write::Error as PutError;
 use std::alloc::AllocError;
+use std::io;
+use std::io::ErrorKind;
+use std::path::PathBuf;
 use thiserror::Error;
 
 /// Why an index wasn't written to its path. Each but [`Error::CommitLock`] names the lock file, where it names a file.
@@ -38,5 +47,47 @@ impl From<AllocError> for Error {
 
     fn from(_e: AllocError) -> Error {
         Error::Memory
+    }
+}
+
+/// What is done, in turn, where an index is written in the place of a file.
+#[derive(Clone, Copy, Debug, PartialEq, Eq)]
+pub enum Step {
+    /// The lock file is made.
+    Lock,
+    /// All bytes go to it.
+    Put,
+    /// It takes the place of the index.
+    Commit,
+}
+
+/// What it says that a step failed, with the file that it concerns.
+pub fn fault_of(step: Step, path: PathBuf, error: io::Error) -> Error
+    ensures { (before : Option Known) (works : Bool) (lock target : List ℕ) (v : Contents)
+        (options : WriteOptions) → MayFail step before works lock target (path_buf_bytes path) error
+        → SaysOfReplacing before works lock target v options result }
+{
+    if error.kind() == ErrorKind::OutOfMemory {
+        return Error::Memory;
+    }
+    let fault = PathError { path, error };
+    match step {
+        Step::Lock => Error::AcquireLock(fault),
+        Step::Put => Error::Io(fault),
+        Step::Commit => Error::CommitLock(fault),
+    }
+}
+
+/// What it says that the bytes didn't go to the lock file.
+pub fn put_fault(lock: PathBuf, error: PutError) -> Error
+    ensures { (before : Option Known) (works : Bool) (target : List ℕ) (v : Contents)
+        (options : WriteOptions) → SaysOfPut v options error
+        → SaysOfReplacing before works (path_buf_bytes lock) target v options result }
+{
+    match error {
+        PutError::Io(e) => fault_of(Step::Put, lock, e),
+        PutError::TooManyEntries => Error::TooManyEntries,
+        PutError::NulInPath => Error::NulInPath,
+        PutError::TooLarge => Error::TooLarge,
     }
 }

@@ -13,7 +13,7 @@ ghost use Rattle.gix_index.specs.File.{IsEmptyFile, checksum_of, path_of, state_
 ghost use Rattle.gix_index.specs.FileFaults.{SaysOfLocking};
 ghost use Rattle.gix_index.specs.InPlace.{IsPutSince};
 ghost use Rattle.gix_index.specs.Linked.{IsOnDiskSince};
-ghost use Rattle.gix_index.specs.WriteFaults.{SaysOfCommitting};
+ghost use Rattle.index_file_faults.specs.WriteFaults.{SaysOfCommitting};
 ghost use Rattle.gix_index.specs.WrittenFile.{IsWrittenTo};
 
 use super::File;

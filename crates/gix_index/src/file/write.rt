@@ -5,6 +5,7 @@ ghost use Rattle.std.specs.Prelude.{◌≡◌, ◌++◌, ℕ, List, [], Bool, Op
 ghost use Rattle.std.specs.Io.KnownBytes.{Appends};
 ghost use Rattle.index_folder.specs.Locks.{IsReleased, asked_of, lock_of};
 ghost use Rattle.index_folder.specs.World.{Known};
+ghost use Rattle.index_file_faults.specs.WriteFaults.{SaysOfCommitting, SaysOfPut, SaysOfWrite};
 ghost use Rattle.index_parts.specs.Id.{make_id};
 ghost use Rattle.index_format.specs.Contents.{Contents};
 ghost use Rattle.index_format.specs.Image.{image, image_version, trailer};
@@ -13,12 +14,12 @@ ghost use Rattle.index_format.specs.declared.write.Options.{Options as WriteOpti
 ghost use Rattle.index_state.specs.State.{PathsInStorage, contents};
 ghost use Rattle.gix_index.specs.File.{path_of, state_of};
 ghost use Rattle.gix_index.specs.InPlace.{IsPut, IsPutSince, LeavesLock};
-ghost use Rattle.gix_index.specs.WriteFaults.{MayFail, SaysOfCommitting, SaysOfPut, SaysOfReplacing, SaysOfWrite};
 ghost use Rattle.gix_index.specs.WrittenFile.{IsWritten};
 
 use super::File;
 use index_entries::Version;
 pub use index_file_faults::write::Error;
+use index_file_faults::write::{Step, fault_of, put_fault};
 use index_folder::fault::PathError;
 use index_folder::folder::Folder;
 use index_folder::lock::{CommitError, Lock, lock_path};
@@ -33,45 +34,6 @@ use std::path::PathBuf;
 
 /// How many bytes go to the file at once.
 const BUFFER_LEN: usize = 65536;
-
-/// What a step does.
-#[derive(Clone, Copy)]
-enum Step {
-    Lock,
-    Put,
-    Commit,
-}
-
-/// What it says that a step failed, with the file that it concerns.
-fn fault_of(step: Step, path: PathBuf, error: io::Error) -> Error
-    ensures { (before : Option Known) (works : Bool) (lock target : List ℕ) (v : Contents)
-        (options : WriteOptions) → MayFail step before works lock target (path_buf_bytes path) error
-        → SaysOfReplacing before works lock target v options result }
-{
-    if error.kind() == ErrorKind::OutOfMemory {
-        return Error::Memory;
-    }
-    let fault = PathError { path, error };
-    match step {
-        Step::Lock => Error::AcquireLock(fault),
-        Step::Put => Error::Io(fault),
-        Step::Commit => Error::CommitLock(fault),
-    }
-}
-
-/// What it says that the bytes didn't go to the lock file.
-fn put_fault(lock: PathBuf, error: write::Error) -> Error
-    ensures { (before : Option Known) (works : Bool) (target : List ℕ) (v : Contents)
-        (options : WriteOptions) → SaysOfPut v options error
-        → SaysOfReplacing before works (path_buf_bytes lock) target v options result }
-{
-    match error {
-        write::Error::Io(e) => fault_of(Step::Put, lock, e),
-        write::Error::TooManyEntries => Error::TooManyEntries,
-        write::Error::NulInPath => Error::NulInPath,
-        write::Error::TooLarge => Error::TooLarge,
-    }
-}
 
 /// Writes all bytes of an index to a lock, and lets that take the place of the file that was locked. Gives the path
 /// that was asked for there, and the version and the id that were written. After a failure it was tried to remove the

@@ -3,7 +3,7 @@ use Rattle.std.specs.Prelude.{codes}
 use Rattle.std.specs.Path.{path_bytes, path_buf_bytes}
 use Rattle.index_state.specs.State.{contents}
 use Rattle.gix_index.specs.File.{path_of, state_of}
-use Rattle.gix_index.specs.WriteFaults.{SaysOfReplacing}
+use Rattle.index_file_faults.specs.WriteFaults.{SaysOfReplacing}
 use Rattle.gix_index.proofs.Puts.{put_over}
 use Rattle.gix_index.proofs.file.File.replace.Goals as goal
 

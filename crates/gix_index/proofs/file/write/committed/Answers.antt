@@ -2,7 +2,7 @@ use Rattle.std.proofs.Common.{rules, ℕ, List, None, subst}
 use Rattle.index_folder.specs.Locks.{lock_of, target_of}
 use Rattle.index_state.specs.State.{contents}
 use Rattle.gix_index.specs.File.{state_of}
-use Rattle.gix_index.specs.WriteFaults.{SaysOfReplacing}
+use Rattle.index_file_faults.specs.WriteFaults.{SaysOfReplacing}
 use Rattle.gix_index.proofs.Puts.{put_since}
 use Rattle.gix_index.proofs.file.write.committed.Goals as goal
 

@@ -15,8 +15,8 @@ use Rattle.index_format.specs.declared.write.Error.TheVariants as puts
 use Rattle.index_format.specs.declared.write.Options.{Options}
 use Rattle.index_file_faults.specs.declared.write.Error.{Error}
 use Rattle.index_file_faults.specs.declared.write.Error.TheVariants as writes
-use Rattle.gix_index.specs.declared.file.write.Step.{Step}
-use Rattle.gix_index.specs.declared.file.write.Step.TheVariants as steps
+use Rattle.index_file_faults.specs.declared.write.Step.{Step}
+use Rattle.index_file_faults.specs.declared.write.Step.TheVariants as steps
 
 -- a refusal comes only where the index is refused so; a writer's fault says nothing
 abbrev pub SaysOfPut : Contents → Options → PutError → Type 0
