@@ -1,0 +1,201 @@
+//! The commands of the program with their arguments, as `clap` takes them.
+
+ghost use Rattle.std.specs.Prelude.{◌≡◌, IfOk, false, map, codes, Some, None, [], option_map};
+ghost use Rattle.clap.specs.Simple.{app_of};
+ghost use Rattle.clap.specs.Walk.{rule_of};
+ghost use Rattle.clap.specs.declared.builder.command.Command.TheViews.{out-Command};
+ghost use Rattle.index_words.specs.Table.{command_app, flag, has_lines, is_writing, no_commands, program, with_command, with_inputs, with_lines, with_missing, with_out, written_app};
+
+use clap::{Arg, ArgAction, Command};
+use std::alloc::{AllocError, Global};
+
+/// The name of the program.
+pub const PROGRAM: &str = "index-tool";
+
+/// What the program does, on one line.
+const ABOUT: &str = "List, check, repair and rewrite git's index files";
+
+/// The version of the program.
+const VERSION: &str = "0.55.0";
+
+/// What the help says of a command.
+fn about(name: &str) -> &'static str {
+    match name {
+        "list" => "List the entries, as `git ls-files --stage` does",
+        "check" => "Check the order of the entries, the cached tree and the digest",
+        "check-trees" => "Check also that the cached tree fits the entries",
+        "map" => "Name each part of the file, up to its first fault",
+        "map-svg" => "Draw these parts as a picture (SVG)",
+        "show" => "Show all that the file holds",
+        "show-json" => "Show the same as JSON",
+        "trees" => "List the trees that the entries make, as `git write-tree` would",
+        "rewrite" => "Write the index again",
+        "rewrite4" => "Write the index again in version 4",
+        "rewrite-trees" => "Write the index with a cached tree made anew",
+        _ => "Write what can be saved of a damaged index",
+    }
+}
+
+/// The usage line of a command that writes.
+fn usage(name: &str) -> &'static str {
+    match name {
+        "rewrite" => "index-tool rewrite [KIND] <FILE> <OUT>",
+        "rewrite4" => "index-tool rewrite4 [KIND] <FILE> <OUT>",
+        "rewrite-trees" => "index-tool rewrite-trees [OPTIONS] [KIND] <FILE> <OUT>",
+        _ => "index-tool salvage [KIND] <FILE> <OUT>",
+    }
+}
+
+/// Whether the command of this name writes an index.
+fn is_writing(name: &str) -> bool
+    ensures { result ≡ is_writing name.now }
+{
+    name == "rewrite" || name == "rewrite4" || name == "rewrite-trees" || name == "salvage"
+}
+
+/// Whether the command of this name writes lines with paths.
+fn has_lines(name: &str) -> bool
+    ensures { result ≡ has_lines name.now }
+{
+    name == "list" || name == "map" || name == "trees"
+}
+
+/// An option without a value.
+fn flag<'a>(alloc: Global, id: &'a str, help: &'a str) -> Arg<'a>
+    ensures rule { rule_of result ≡ flag id.entry.now }
+    ensures global { result.global ≡ false }
+{
+    Arg::new(alloc, id).action(ArgAction::SetTrue).help(help)
+}
+
+/// With `-z` and `--quote`.
+fn with_lines<'a>(alloc: Global, command: Command<'a>) -> Result<Command<'a>, AllocError>
+    ensures app { IfOk result (λ c. app_of c ≡ with_lines (app_of command.entry)) }
+    ensures local { IfOk result (λ c. (out-Command command.entry).has_globals ≡ false
+        → (out-Command c).has_globals ≡ false) }
+{
+    let nul = flag(
+        alloc,
+        "z",
+        "End each line with a NUL byte in place of a newline",
+    )
+    .short('z');
+    let quote = flag(
+        alloc,
+        "quote",
+        "Quote paths with unusual bytes, as git does",
+    )
+    .long("quote");
+    command.arg(nul)?.arg(quote)
+}
+
+/// With `--missing-ok`.
+fn with_missing<'a>(alloc: Global, command: Command<'a>) -> Result<Command<'a>, AllocError>
+    ensures app { IfOk result (λ c. app_of c ≡ with_missing (app_of command.entry)) }
+    ensures local { IfOk result (λ c. (out-Command command.entry).has_globals ≡ false
+        → (out-Command c).has_globals ≡ false) }
+{
+    let missing = flag(
+        alloc,
+        "missing-ok",
+        "Give each tree its id, also where no object store has it",
+    );
+    command.arg(missing.long("missing-ok"))
+}
+
+/// With the word OUT, and the usage that it makes.
+fn with_out<'a>(
+    alloc: Global,
+    command: Command<'a>,
+    usage: &'a str,
+) -> Result<Command<'a>, AllocError>
+    ensures app { IfOk result (λ c. app_of c ≡ with_out (app_of command.entry)) }
+    ensures local { IfOk result (λ c. (out-Command command.entry).has_globals ≡ false
+        → (out-Command c).has_globals ≡ false) }
+{
+    let out = Arg::new(alloc, "OUT").help("The path that is written to");
+    command.override_usage(usage).arg(out)
+}
+
+/// With the words KIND and FILE.
+fn with_inputs<'a>(alloc: Global, command: Command<'a>) -> Result<Command<'a>, AllocError>
+    ensures app { IfOk result (λ c. app_of c ≡ with_inputs (app_of command.entry)) }
+    ensures local { IfOk result (λ c. (out-Command command.entry).has_globals ≡ false
+        → (out-Command c).has_globals ≡ false) }
+{
+    let kind = Arg::new(alloc, "KIND").help(
+        "How ids are made, `sha1` or `sha256`, where the file doesn't tell it",
+    );
+    let file = Arg::new(alloc, "FILE").help("The index: a path, or `-` for the standard input");
+    command.arg(kind)?.arg(file)
+}
+
+/// The command of this name that writes, with its arguments behind the words KIND and FILE.
+fn written<'a>(
+    alloc: Global,
+    name: &'a str,
+    command: Command<'a>,
+) -> Result<Command<'a>, AllocError>
+    ensures app { IfOk result (λ c. app_of c ≡ written_app name.entry.now (app_of command.entry)) }
+    ensures local { IfOk result (λ c. (out-Command command.entry).has_globals ≡ false
+        → (out-Command c).has_globals ≡ false) }
+{
+    let command = with_out(alloc, command, usage(name))?;
+    if name == "rewrite-trees" {
+        return with_missing(alloc, command);
+    }
+    Ok(command)
+}
+
+/// The command of this name, with its arguments.
+pub fn command<'a>(alloc: Global, name: &'a str) -> Result<Command<'a>, AllocError>
+    ensures app { IfOk result (λ c. app_of c ≡ command_app name.entry.now) }
+    ensures local { IfOk result (λ c. (out-Command c).has_globals ≡ false) }
+{
+    let command = with_inputs(alloc, Command::new(alloc, name).about(about(name)))?;
+    if is_writing(name) {
+        return written(alloc, name, command);
+    }
+    if has_lines(name) {
+        return with_lines(alloc, command);
+    }
+    Ok(command)
+}
+
+/// The program without its commands.
+fn no_commands<'a>(alloc: Global) -> Result<Command<'a>, AllocError>
+    ensures { IfOk result (λ c. app_of c ≡ no_commands) }
+{
+    let program = Command::new(alloc, PROGRAM)
+        .version(VERSION)
+        .about(ABOUT)
+        .no_binary_name(true)
+        .subcommand_required(true)
+        .arg_required_else_help(true);
+    program.bin_name(PROGRAM)
+}
+
+/// With the command of this name.
+fn with<'a>(alloc: Global, program: Command<'a>, name: &'a str) -> Result<Command<'a>, AllocError>
+    ensures { IfOk result (λ c. app_of c ≡ with_command (app_of program.entry) name.entry.now) }
+{
+    program.subcommand(command(alloc, name)?)
+}
+
+/// The program with all its commands, in the order of the help.
+pub fn program<'a>(alloc: Global) -> Result<Command<'a>, AllocError>
+    ensures { IfOk result (λ c. app_of c ≡ program) }
+{
+    let program = with(alloc, no_commands(alloc)?, "list")?;
+    let program = with(alloc, program, "check")?;
+    let program = with(alloc, program, "check-trees")?;
+    let program = with(alloc, program, "map")?;
+    let program = with(alloc, program, "map-svg")?;
+    let program = with(alloc, program, "show")?;
+    let program = with(alloc, program, "show-json")?;
+    let program = with(alloc, program, "trees")?;
+    let program = with(alloc, program, "rewrite")?;
+    let program = with(alloc, program, "rewrite4")?;
+    let program = with(alloc, program, "rewrite-trees")?;
+    with(alloc, program, "salvage")
+}
