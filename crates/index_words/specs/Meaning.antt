@@ -1,5 +1,5 @@
 -- What words mean: a command with its values, or what is said in its place (the program's own).
-use Rattle.std.specs.Prelude.{ℕ, Bool, false, List, [], ◌∷◌, codes, Option, Some, None, if◌then◌else◌, option_map}
+use Rattle.std.specs.Prelude.{ℕ, Bool, false, List, [], ◌∷◌, ◌++◌, codes, Option, Some, None, if◌then◌else◌, option_map}
 use Rattle.std.specs.Option.{option_map_or}
 use Rattle.std.specs.Str.{bytes_eq}
 use Rattle.index_parts.specs.declared.hash.Kind.{Kind}
@@ -133,13 +133,21 @@ meant name rows = meant_so (reading_named name rows) (writing_named name rows) r
 
 -- ---- all words
 
-abbrev pub entered_meant : Option (Text × List Row) → Meaning
-entered_meant (Some p) = meant p.0 p.1
-entered_meant None = Says (MissingSubcommand ∷ [])
-
 abbrev pub unless_faulty : Kinds → Meaning → Meaning
 unless_faulty [] meaning = meaning
 unless_faulty (kind ∷ kinds) meaning = Says (kind ∷ kinds)
+
+-- `help NAME` is `NAME --help`, and `help` is `--help`
+abbrev pub help_words : List Row → List Text
+help_words rows = listed (first_of (codes "COMMAND") rows) [] ++ codes "--help" ∷ []
+
+abbrev pub help_meant : List Text → Meaning
+help_meant words = unless_faulty (fault_of program words) (Says (InvalidSubcommand ∷ []))
+
+abbrev pub entered_meant : Option (Text × List Row) → Meaning
+entered_meant (Some p) =
+    if bytes_eq p.0 (codes "help") then help_meant (help_words p.1) else meant p.0 p.1
+entered_meant None = Says (MissingSubcommand ∷ [])
 
 -- what the words behind the program's name mean: the matches of the program, where they have no fault
 abbrev pub meaning : List Text → Meaning

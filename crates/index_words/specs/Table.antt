@@ -5,11 +5,12 @@ use Rattle.clap.specs.Walk.{Rule, Text}
 use Rattle.clap.specs.Simple.{App, new_app, new_rule, with_rule, with_subcommand}
 use Rattle.clap.specs.declared.builder.action.ArgAction.TheVariants.{SetTrue}
 
--- the names of the commands
+-- the names of the commands that read or write an index
 abbrev pub names : List Text
 names =
-    codes "list" ∷ codes "check" ∷ codes "check-trees" ∷ codes "map" ∷ codes "map-svg" ∷ codes "show" ∷ codes "show-json"
-    ∷ codes "trees" ∷ codes "rewrite" ∷ codes "rewrite4" ∷ codes "rewrite-trees" ∷ codes "salvage" ∷ []
+    codes "list" ∷ codes "check" ∷ codes "check-trees" ∷ codes "map" ∷ codes "map-svg" ∷ codes "show"
+    ∷ codes "show-json" ∷ codes "trees" ∷ codes "rewrite" ∷ codes "rewrite4" ∷ codes "rewrite-trees"
+    ∷ codes "salvage" ∷ []
 
 -- the commands that write an index, and those that write lines with paths
 abbrev pub is_writing : Text → Bool
@@ -57,16 +58,21 @@ command_app name =
 abbrev pub with_command : App → Text → App
 with_command a name = with_subcommand a (command_app name).top
 
+-- `help`, with the name of a command
+abbrev pub help_app : App
+help_app = with_rule (new_app (codes "help")) (new_rule (codes "COMMAND"))
+
 abbrev pub no_commands : App
 no_commands = record (new_app (codes "index-tool")) {
   top = record (new_app (codes "index-tool")).top {
     has_version = true;
     no_binary_name = true;
+    disable_help_subcommand = true;
     subcommand_required = true;
     arg_required_else_help = true;
   };
 }
 
--- the program with all its commands
+-- the program with all its commands, `help` the last
 abbrev pub program : App
-program = fold with_command no_commands names
+program = with_subcommand (fold with_command no_commands names) help_app.top

@@ -11,6 +11,9 @@ use crate::table;
 use clap::error::ErrorKind;
 use std::alloc::{AllocError, Global};
 
+/// What is said of a name that no command has.
+pub const NO_COMMAND: &str = "there is no such command";
+
 /// The answer of this kind and text to words behind a command's name, with the command's usage.
 pub fn refusal(alloc: Global, name: &str, kind: ErrorKind, text: &str) -> Answer
     ensures { Answers (Says (kind ∷ [])) result }

@@ -1,10 +1,10 @@
 //! The commands of the program with their arguments, as `clap` takes them.
 
-ghost use Rattle.std.specs.Prelude.{◌≡◌, IfOk, false, map, codes, Some, None, [], option_map};
+ghost use Rattle.std.specs.Prelude.{◌≡◌, IfOk, false, map, codes, Some, None, [], option_map, fold};
 ghost use Rattle.clap.specs.Simple.{app_of};
 ghost use Rattle.clap.specs.Walk.{rule_of};
 ghost use Rattle.clap.specs.declared.builder.command.Command.TheViews.{out-Command};
-ghost use Rattle.index_words.specs.Table.{command_app, flag, has_lines, is_writing, no_commands, program, with_command, with_inputs, with_lines, with_missing, with_out, written_app};
+ghost use Rattle.index_words.specs.Table.{command_app, flag, has_lines, help_app, is_writing, names, no_commands, program, with_command, with_inputs, with_lines, with_missing, with_out, written_app};
 
 use clap::{Arg, ArgAction, Command};
 use std::alloc::{AllocError, Global};
@@ -12,8 +12,19 @@ use std::alloc::{AllocError, Global};
 /// The name of the program.
 pub const PROGRAM: &str = "index-tool";
 
+/// The name of the command that prints help.
+pub const HELP: &str = "help";
+
 /// What the program does, on one line.
 const ABOUT: &str = "List, check, repair and rewrite git's index files";
+
+/// What the help says behind the list of commands.
+const STATUS: &str =
+    "The status is 0 where all was done, 1 at a fault of a file or of the output, and 2 at wrong words.";
+
+/// What the help says of the word KIND.
+const KIND_HELP: &str =
+    "How ids are made: `sha1` or `sha256` [default: as the file's own digest tells]";
 
 /// The version of the program.
 const VERSION: &str = "0.55.0";
@@ -118,15 +129,17 @@ fn with_out<'a>(
 }
 
 /// With the words KIND and FILE.
-fn with_inputs<'a>(alloc: Global, command: Command<'a>) -> Result<Command<'a>, AllocError>
+fn with_inputs<'a>(
+    alloc: Global,
+    command: Command<'a>,
+    file_help: &'a str,
+) -> Result<Command<'a>, AllocError>
     ensures app { IfOk result (λ c. app_of c ≡ with_inputs (app_of command.entry)) }
     ensures local { IfOk result (λ c. (out-Command command.entry).has_globals ≡ false
         → (out-Command c).has_globals ≡ false) }
 {
-    let kind = Arg::new(alloc, "KIND").help(
-        "How ids are made, `sha1` or `sha256`, where the file doesn't tell it",
-    );
-    let file = Arg::new(alloc, "FILE").help("The index: a path, or `-` for the standard input");
+    let kind = Arg::new(alloc, "KIND").help(KIND_HELP);
+    let file = Arg::new(alloc, "FILE").help(file_help);
     command.arg(kind)?.arg(file)
 }
 
@@ -152,10 +165,23 @@ pub fn command<'a>(alloc: Global, name: &'a str) -> Result<Command<'a>, AllocErr
     ensures app { IfOk result (λ c. app_of c ≡ command_app name.entry.now) }
     ensures local { IfOk result (λ c. (out-Command c).has_globals ≡ false) }
 {
-    let command = with_inputs(alloc, Command::new(alloc, name).about(about(name)))?;
+    let command = Command::new(alloc, name).about(about(name));
     if is_writing(name) {
-        return written(alloc, name, command);
+        return written(
+            alloc,
+            name,
+            with_inputs(
+                alloc,
+                command,
+                "The index that is read, or `-` for the standard input",
+            )?,
+        );
     }
+    let command = with_inputs(
+        alloc,
+        command,
+        "The index, or `-` for the standard input [default: that of the work tree]",
+    )?;
     if has_lines(name) {
         return with_lines(alloc, command);
     }
@@ -169,7 +195,9 @@ fn no_commands<'a>(alloc: Global) -> Result<Command<'a>, AllocError>
     let program = Command::new(alloc, PROGRAM)
         .version(VERSION)
         .about(ABOUT)
+        .after_help(STATUS)
         .no_binary_name(true)
+        .disable_help_subcommand(true)
         .subcommand_required(true)
         .arg_required_else_help(true);
     program.bin_name(PROGRAM)
@@ -182,9 +210,9 @@ fn with<'a>(alloc: Global, program: Command<'a>, name: &'a str) -> Result<Comman
     program.subcommand(command(alloc, name)?)
 }
 
-/// The program with all its commands, in the order of the help.
-pub fn program<'a>(alloc: Global) -> Result<Command<'a>, AllocError>
-    ensures { IfOk result (λ c. app_of c ≡ program) }
+/// The program with all commands that read or write an index, in the order of the help.
+fn commands<'a>(alloc: Global) -> Result<Command<'a>, AllocError>
+    ensures { IfOk result (λ c. app_of c ≡ fold with_command no_commands names) }
 {
     let program = with(alloc, no_commands(alloc)?, "list")?;
     let program = with(alloc, program, "check")?;
@@ -198,4 +226,22 @@ pub fn program<'a>(alloc: Global) -> Result<Command<'a>, AllocError>
     let program = with(alloc, program, "rewrite4")?;
     let program = with(alloc, program, "rewrite-trees")?;
     with(alloc, program, "salvage")
+}
+
+/// The command that prints help.
+fn help<'a>(alloc: Global) -> Result<Command<'a>, AllocError>
+    ensures app { IfOk result (λ c. app_of c ≡ help_app) }
+    ensures local { IfOk result (λ c. (out-Command c).has_globals ≡ false) }
+{
+    let name = Arg::new(alloc, "COMMAND").help("The command that it is on");
+    Command::new(alloc, HELP)
+        .about("Print this help, or that of a command")
+        .arg(name)
+}
+
+/// The program with all its commands.
+pub fn program<'a>(alloc: Global) -> Result<Command<'a>, AllocError>
+    ensures { IfOk result (λ c. app_of c ≡ program) }
+{
+    commands(alloc)?.subcommand(help(alloc)?)
 }

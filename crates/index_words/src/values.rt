@@ -9,7 +9,7 @@ ghost use Rattle.index_words.specs.Meaning.{Says, is_set, kind_named, lines_of, 
 
 use crate::answer::Answer;
 use crate::command::{Command, Input, Lines, Reading, Writing};
-use crate::refusal::{missing, no_kind, refusal};
+use crate::refusal::{NO_COMMAND, missing, no_kind, refusal};
 use clap::ArgMatches;
 use clap::error::ErrorKind;
 use index_parts::hash::Kind;
@@ -38,7 +38,7 @@ fn input_of(word: &str) -> Input<'_>
 }
 
 /// The word that stands for an argument, if one does.
-fn word_of<'a>(given: &ArgMatches<'a>, id: &str) -> Option<&'a str>
+pub fn word_of<'a>(given: &ArgMatches<'a>, id: &str) -> Option<&'a str>
     ensures { option_map (λ w. w.now) result ≡ first_of id.now (rows_of (found_of given.now)) }
 {
     given.get_str(id)
@@ -141,12 +141,12 @@ fn write_of<'a>(
         result }
 {
     let Some(first) = first else {
-        return Err(missing(alloc, name, "FILE and OUT"));
+        return Err(missing(alloc, name, "<FILE>\n  <OUT>"));
     };
     let kind = kind_of(first);
     let (word, to) = match (kind, second, third) {
-        (Some(_), None, _) => return Err(missing(alloc, name, "FILE and OUT")),
-        (Some(_), Some(_), None) | (None, None, _) => return Err(missing(alloc, name, "OUT")),
+        (Some(_), None, _) => return Err(missing(alloc, name, "<FILE>\n  <OUT>")),
+        (Some(_), Some(_), None) | (None, None, _) => return Err(missing(alloc, name, "<OUT>")),
         (None, Some(_), Some(_)) => return Err(no_kind(alloc, name, first)),
         (Some(_), Some(word), Some(to)) => (word, to),
         (None, Some(to), None) => (first, to),
@@ -173,11 +173,6 @@ pub fn command_of<'a>(
     }
     match writing_of(name, given) {
         Some(what) => write_of(alloc, name, what, first, second, word_of(given, "OUT")),
-        None => Err(refusal(
-            alloc,
-            name,
-            ErrorKind::InvalidSubcommand,
-            "there is no such command",
-        )),
+        None => Err(refusal(alloc, name, ErrorKind::InvalidSubcommand, NO_COMMAND)),
     }
 }

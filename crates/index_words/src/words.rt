@@ -2,16 +2,18 @@
 
 ghost use Rattle.std.specs.Prelude.{◌≡◌, [], IfErr, IfOk, map};
 ghost use Rattle.clap.specs.Faults.{fault_of};
+ghost use Rattle.clap.specs.Matches.{found_of};
 ghost use Rattle.clap.specs.Simple.{subcommand_of, subcommand_rows_of};
+ghost use Rattle.clap.specs.Walk.{rows_of};
 ghost use Rattle.index_words.specs.Answers.{Answers, IsMeant};
-ghost use Rattle.index_words.specs.Meaning.{Runs, Says, command_value, meaning};
+ghost use Rattle.index_words.specs.Meaning.{Runs, Says, command_value, help_meant, help_words, meaning};
 ghost use Rattle.index_words.specs.Table.{program};
 
 use crate::answer::Answer;
 use crate::command::Command;
-use crate::refusal::refusal;
+use crate::refusal::{NO_COMMAND, refusal};
 use crate::table;
-use crate::values::command_of;
+use crate::values::{command_of, word_of};
 use clap::ArgMatches;
 use clap::error::ErrorKind;
 use std::alloc::Global;
@@ -25,6 +27,26 @@ fn matched<'a, S: AsStr>(alloc: Global, words: &'a [S]) -> Result<ArgMatches<'a>
     ensures answer { IfErr result (Answers (Says (fault_of program (map S.text words.now)))) }
 {
     Ok(table::program(alloc)?.try_get_matches_from(words)?)
+}
+
+/// The answer to words that ask for help.
+fn help_by(alloc: Global, words: &[&str]) -> Answer
+    ensures { Answers (help_meant (map (λ w. w.now) words.now)) result }
+{
+    match matched(alloc, words) {
+        Ok(_) => refusal(alloc, table::HELP, ErrorKind::InvalidSubcommand, NO_COMMAND),
+        Err(answer) => answer,
+    }
+}
+
+/// The answer to `help` with what is given behind it: that of the words NAME `--help`, or of `--help` alone.
+fn help(alloc: Global, given: &ArgMatches<'_>) -> Answer
+    ensures { Answers (help_meant (help_words (rows_of (found_of given.now)))) result }
+{
+    match word_of(given, "COMMAND") {
+        Some(name) => help_by(alloc, &[name, "--help"]),
+        None => help_by(alloc, &["--help"]),
+    }
 }
 
 /// The command that the words behind the program's name are, or what is said in its place.
@@ -41,10 +63,13 @@ pub fn parse<'a, S: AsStr>(alloc: Global, words: &'a [S]) -> Result<Command<'a>,
     let Some((name, given)) = matches.subcommand() else {
         return Err(refusal(
             alloc,
-            "",
+            table::HELP,
             ErrorKind::MissingSubcommand,
             "a command is missing",
         ));
     };
+    if name == table::HELP {
+        return Err(help(alloc, given));
+    }
     command_of(alloc, name, given)
 }

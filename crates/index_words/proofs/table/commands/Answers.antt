@@ -1,7 +1,7 @@
 use Rattle.std.proofs.Common.{codes}
 use Rattle.std.proofs.lemmas.Result.{IfOk-weaker}
 use Rattle.index_words.proofs.Tables.{command_with}
-use Rattle.index_words.proofs.table.program.Goals as goal
+use Rattle.index_words.proofs.table.commands.Goals as goal
 
 pub returns : goal.returns
 returns c =
