@@ -1,7 +1,7 @@
 -- What a command is after an argument or a subcommand was added.
-use Rattle.std.proofs.Common.{◌≡◌, ◌∙◌, ap, ap₂, Bool, false, refl}
-use Rattle.clap.specs.Built.{AddsArg, AddsSubcommand}
-use Rattle.clap.specs.Simple.{App, app_of, with_rule, with_subcommand}
+use Rattle.std.proofs.Common.{◌≡◌, ◌∙◌, ap, false, refl}
+use Rattle.clap.specs.Built.{AddsArg}
+use Rattle.clap.specs.Simple.{App, app_of, with_rule}
 use Rattle.clap.specs.Walk.{Rule, Text, rule_of}
 use Rattle.clap.specs.declared.builder.arg.Arg.{Arg}
 use Rattle.clap.specs.declared.builder.command.Command.{Command}

@@ -1,8 +1,7 @@
 //! What words come to, and what is said of wrong ones.
 
 use crate::answer::{DONE, WRONG_WORDS};
-use crate::{Command, Input, Lines, Reading, Writing, parse};
-use index_parts::hash::Kind;
+use crate::parse;
 use std::alloc::Global;
 use std::test::Fail;
 
@@ -104,6 +103,62 @@ const ANSWERS: [Row; 24] = [
     ),
 ];
 
+/// Words that are a command.
+const COMMANDS: [(&[&str], &str); 13] = [
+    (
+        &["list", "sha1", "x"],
+        "Some(Read { what: List(Lines { nul: false, quote: false }), kind: Some(Sha1), input: Some(File(\"x\")) })",
+    ),
+    (
+        &["list"],
+        "Some(Read { what: List(Lines { nul: false, quote: false }), kind: None, input: None })",
+    ),
+    (
+        &["map", "x"],
+        "Some(Read { what: Map(Lines { nul: false, quote: false }), kind: None, input: Some(File(\"x\")) })",
+    ),
+    (
+        &["show", "sha256"],
+        "Some(Read { what: Show, kind: Some(Sha256), input: None })",
+    ),
+    (
+        &["check", "./sha1"],
+        "Some(Read { what: Check, kind: None, input: Some(File(\"./sha1\")) })",
+    ),
+    (
+        &["show-json", "-"],
+        "Some(Read { what: ShowJson, kind: None, input: Some(Stdin) })",
+    ),
+    (
+        &["map-svg", "sha1", "-"],
+        "Some(Read { what: MapSvg, kind: Some(Sha1), input: Some(Stdin) })",
+    ),
+    (
+        &["trees", "-z", "x", "--quote"],
+        "Some(Read { what: Trees(Lines { nul: true, quote: true }), kind: None, input: Some(File(\"x\")) })",
+    ),
+    (
+        &["check-trees", "--", "-z"],
+        "Some(Read { what: CheckTrees, kind: None, input: Some(File(\"-z\")) })",
+    ),
+    (
+        &["rewrite", "sha1", "x", "y"],
+        "Some(Write { what: Rewrite, kind: Some(Sha1), input: File(\"x\"), to: \"y\" })",
+    ),
+    (
+        &["rewrite4", "x", "y"],
+        "Some(Write { what: Rewrite4, kind: None, input: File(\"x\"), to: \"y\" })",
+    ),
+    (
+        &["rewrite-trees", "--missing-ok", "sha256", "x", "y"],
+        "Some(Write { what: RewriteTrees { missing_ok: true }, kind: Some(Sha256), input: File(\"x\"), to: \"y\" })",
+    ),
+    (
+        &["salvage", "sha256", "-", "y"],
+        "Some(Write { what: Salvage, kind: Some(Sha256), input: Stdin, to: \"y\" })",
+    ),
+];
+
 /// What words come to that are no command: the status, whether it was asked for, and the text.
 fn said(alloc: Global, words: &[&str]) -> Result<(u8, bool, String), Fail> {
     match parse(alloc, words) {
@@ -130,75 +185,13 @@ fn answers(rt: HostRuntime) -> Result<(), Fail> {
 
 #[test]
 fn commands(rt: HostRuntime) -> Result<(), Fail> {
-    let plain = Lines {
-        nul: false,
-        quote: false,
-    };
-    let x = Input::File("x");
-    let read = |what, kind, input| Some(Command::Read { what, kind, input });
-    let write = |what, kind| Some(Command::Write {
-        what,
-        kind,
-        input: x,
-        to: "y",
-    });
-    let rows: [(&[&str], Option<Command<'_>>); 13] = [
-        (
-            &["list", "sha1", "x"],
-            read(Reading::List(plain), Some(Kind::Sha1), Some(x)),
-        ),
-        (&["list"], read(Reading::List(plain), None, None)),
-        (&["map", "x"], read(Reading::Map(plain), None, Some(x))),
-        (
-            &["show", "sha256"],
-            read(Reading::Show, Some(Kind::Sha256), None),
-        ),
-        (
-            &["check", "./sha1"],
-            read(Reading::Check, None, Some(Input::File("./sha1"))),
-        ),
-        (
-            &["show-json", "-"],
-            read(Reading::ShowJson, None, Some(Input::Stdin)),
-        ),
-        (
-            &["map-svg", "sha1", "-"],
-            read(Reading::MapSvg, Some(Kind::Sha1), Some(Input::Stdin)),
-        ),
-        (
-            &["trees", "-z", "x", "--quote"],
-            read(
-                Reading::Trees(Lines {
-                    nul: true,
-                    quote: true,
-                }),
-                None,
-                Some(x),
-            ),
-        ),
-        (
-            &["check-trees", "--", "-z"],
-            read(Reading::CheckTrees, None, Some(Input::File("-z"))),
-        ),
-        (
-            &["rewrite", "sha1", "x", "y"],
-            write(Writing::Rewrite, Some(Kind::Sha1)),
-        ),
-        (&["rewrite4", "x", "y"], write(Writing::Rewrite4, None)),
-        (
-            &["rewrite-trees", "--missing-ok", "sha256", "x", "y"],
-            write(
-                Writing::RewriteTrees { missing_ok: true },
-                Some(Kind::Sha256),
-            ),
-        ),
-        (
-            &["salvage", "sha256", "x", "y"],
-            write(Writing::Salvage, Some(Kind::Sha256)),
-        ),
-    ];
-    for (words, command) in rows {
-        assert_eq!(rt; parse(rt.alloc(), words).ok(), command, "{words:?}");
+    for (words, text) in COMMANDS {
+        let command = parse(rt.alloc(), words).ok();
+        assert_eq!(rt;
+            format!(in rt.alloc(); "{command:?}")?.as_str(),
+            text,
+            "{words:?}"
+        );
     }
     Ok(())
 }
