@@ -7,7 +7,8 @@ use Rattle.clap.specs.Lexer.{long_of, short_of}
 use Rattle.clap.specs.Walk.{Text}
 use Rattle.clap.specs.declared.error.kind.ErrorKind.TheVariants as kind
 use Rattle.clap.proofs.OnLiterals.{clap_on_literals}
-use Rattle.index_words.specs.Meaning.{Reads, Runs, Says, Writes, file, meaning, place_named}
+use Rattle.index_words.specs.Commands.{Reads, Writes, file, place_named}
+use Rattle.index_words.specs.Meaning.{Runs, Says, meaning}
 use Rattle.index_words.specs.declared.command.Lines.{Lines}
 use Rattle.index_words.specs.declared.command.Reading.{Reading}
 use Rattle.index_words.specs.declared.command.Reading.TheVariants as readings

@@ -4,8 +4,10 @@ use Rattle.clap.specs.Kinds.{IsAmong}
 use Rattle.clap.specs.Values.{kind_of}
 use Rattle.clap.specs.declared.error.Error.{Error}
 use Rattle.clap.specs.declared.error.kind.ErrorKind.{ErrorKind}
-use Rattle.clap.specs.declared.error.kind.ErrorKind.TheVariants.{DisplayHelp, DisplayVersion, OutOfMemory}
-use Rattle.index_words.specs.Meaning.{Meaning, Runs, Says, command_value}
+use Rattle.clap.specs.declared.error.kind.ErrorKind.TheVariants.{DisplayHelp, DisplayVersion}
+use Rattle.clap.specs.declared.error.kind.ErrorKind.TheVariants.{OutOfMemory}
+use Rattle.index_words.specs.Commands.{command_value}
+use Rattle.index_words.specs.Meaning.{Meaning, Runs, Says}
 use Rattle.index_words.specs.declared.answer.Answer.{Answer}
 use Rattle.index_words.specs.declared.command.Command.{Command}
 use Rattle.index_words.specs.declared.answer.Answer.TheVariants as answers
@@ -20,13 +22,14 @@ answer_by kind e = answers.WrongWords e
 abbrev pub answer_of : Error → Answer
 answer_of e = answer_by (kind_of e) e
 
--- the answer of an error says what the words mean: help or the version where they ask for it, and else their fault; or
--- memory is wanting
+-- the answer of an error says what the words mean: help or the version where they ask for it, and
+-- else their fault; or memory is wanting
 abbrev pub Answers : Meaning → Answer → Type 0
 Answers (Runs command) answer = answer ≡ answers.OutOfMemory
 Answers (Says kinds) answers.OutOfMemory = ⊤
 Answers (Says kinds) (answers.Help e) = (kind_of e ≡ DisplayHelp) × IsAmong DisplayHelp kinds
-Answers (Says kinds) (answers.Version e) = (kind_of e ≡ DisplayVersion) × IsAmong DisplayVersion kinds
+Answers (Says kinds) (answers.Version e) =
+    (kind_of e ≡ DisplayVersion) × IsAmong DisplayVersion kinds
 Answers (Says kinds) (answers.WrongWords e) =
     (kind_of e ≢ DisplayHelp) × (kind_of e ≢ DisplayVersion) × IsAmong (kind_of e) kinds
 

@@ -8,9 +8,9 @@ use Rattle.clap.specs.declared.builder.action.ArgAction.TheVariants.{SetTrue}
 -- the names of the commands that read or write an index
 abbrev pub names : List Text
 names =
-    codes "list" ∷ codes "check" ∷ codes "check-trees" ∷ codes "map" ∷ codes "map-svg" ∷ codes "show"
-    ∷ codes "show-json" ∷ codes "trees" ∷ codes "rewrite" ∷ codes "rewrite4" ∷ codes "rewrite-trees"
-    ∷ codes "salvage" ∷ []
+    codes "list" ∷ codes "check" ∷ codes "check-trees" ∷ codes "map" ∷ codes "map-svg"
+    ∷ codes "show" ∷ codes "show-json" ∷ codes "trees" ∷ codes "rewrite" ∷ codes "rewrite4"
+    ∷ codes "rewrite-trees" ∷ codes "salvage" ∷ []
 
 -- the commands that write an index, and those that write lines with paths
 abbrev pub is_writing : Text → Bool
@@ -44,7 +44,8 @@ with_out a = with_rule a (new_rule (codes "OUT"))
 abbrev pub with_inputs : App → App
 with_inputs a = with_rule (with_rule a (new_rule (codes "KIND"))) (new_rule (codes "FILE"))
 
--- the command of a name that writes, behind the words KIND and FILE: with the word OUT, and its option
+-- the command of a name that writes, behind the words KIND and FILE: with the word OUT, and its
+-- option
 abbrev pub written_app : Text → App → App
 written_app name a =
     if bytes_eq name (codes "rewrite-trees") then with_missing (with_out a) else with_out a
@@ -53,7 +54,8 @@ written_app name a =
 abbrev pub command_app : Text → App
 command_app name =
     if is_writing name then written_app name (with_inputs (new_app name))
-    else (if has_lines name then with_lines (with_inputs (new_app name)) else with_inputs (new_app name))
+    else (if has_lines name then with_lines (with_inputs (new_app name))
+    else with_inputs (new_app name))
 
 abbrev pub with_command : App → Text → App
 with_command a name = with_subcommand a (command_app name).top

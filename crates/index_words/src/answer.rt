@@ -40,8 +40,8 @@ impl Answer {
         matches!(self, Answer::Help(_) | Answer::Version(_))
     }
 
-    /// What the program ends with: [`DONE`] for what was asked for, [`WRONG_WORDS`] for wrong words, and [`REFUSED`] for
-    /// want of memory.
+    /// What the program ends with: [`DONE`] for what was asked for, [`WRONG_WORDS`] for wrong words, and [`REFUSED`]
+    /// for want of memory.
     pub fn status(&self) -> u8
         ensures { result ≡ status_of self.now }
     {

@@ -4,7 +4,9 @@ ghost use Rattle.std.specs.Prelude.{◌≡◌, IfOk, false, map, codes, Some, No
 ghost use Rattle.clap.specs.Simple.{app_of};
 ghost use Rattle.clap.specs.Walk.{rule_of};
 ghost use Rattle.clap.specs.declared.builder.command.Command.TheViews.{out-Command};
-ghost use Rattle.index_words.specs.Table.{command_app, flag, has_lines, help_app, is_writing, names, no_commands, program, with_command, with_inputs, with_lines, with_missing, with_out, written_app};
+ghost use Rattle.index_words.specs.Table.{command_app, flag, has_lines, help_app, is_writing, names, no_commands};
+ghost use Rattle.index_words.specs.Table.{program, with_command, with_inputs, with_lines, with_missing, with_out};
+ghost use Rattle.index_words.specs.Table.{written_app};
 
 use clap::{Arg, ArgAction, Command};
 use std::alloc::{AllocError, Global};
@@ -149,7 +151,8 @@ fn written<'a>(
     name: &'a str,
     command: Command<'a>,
 ) -> Result<Command<'a>, AllocError>
-    ensures app { IfOk result (λ c. app_of c ≡ written_app name.entry.now (app_of command.entry)) }
+    ensures app { IfOk result
+        (λ c. app_of c ≡ written_app name.entry.now (app_of command.entry)) }
     ensures local { IfOk result (λ c. (out-Command command.entry).has_globals ≡ false
         → (out-Command c).has_globals ≡ false) }
 {

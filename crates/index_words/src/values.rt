@@ -5,7 +5,9 @@ ghost use Rattle.clap.specs.Matches.{found_of};
 ghost use Rattle.clap.specs.Walk.{first_of, rows_of};
 ghost use Rattle.clap.specs.declared.error.kind.ErrorKind.{ErrorKind};
 ghost use Rattle.index_words.specs.Answers.{Answers, IsMeant};
-ghost use Rattle.index_words.specs.Meaning.{Says, is_set, kind_named, lines_of, meant, on_taken, place_named, place_of, read_meant, reading_named, write_meant, writing_named, listed};
+ghost use Rattle.index_words.specs.Commands.{is_set, kind_named, lines_of, place_named, place_of, reading_named};
+ghost use Rattle.index_words.specs.Commands.{text_of, writing_named};
+ghost use Rattle.index_words.specs.Meaning.{listed, meant, on_taken, read_meant, write_meant};
 
 use crate::answer::Answer;
 use crate::command::{Command, Input, Lines, Reading, Writing};
@@ -39,7 +41,7 @@ fn input_of(word: &str) -> Input<'_>
 
 /// The word that stands for an argument, if one does.
 pub fn word_of<'a>(given: &ArgMatches<'a>, id: &str) -> Option<&'a str>
-    ensures { option_map (λ w. w.now) result ≡ first_of id.now (rows_of (found_of given.now)) }
+    ensures { text_of result ≡ first_of id.now (rows_of (found_of given.now)) }
 {
     given.get_str(id)
 }
@@ -104,8 +106,8 @@ fn read_of<'a>(
     first: Option<&'a str>,
     second: Option<&'a str>,
 ) -> Result<Command<'a>, Answer>
-    ensures { IsMeant (on_taken (read_meant what) (listed (option_map (λ w. w.now) first.entry)
-        (listed (option_map (λ w. w.now) second.entry) []))) result }
+    ensures { IsMeant (on_taken (read_meant what) (listed (text_of first.entry)
+        (listed (text_of second.entry) []))) result }
 {
     let Some(first) = first else {
         return Ok(Command::Read {
@@ -136,8 +138,8 @@ fn write_of<'a>(
     second: Option<&'a str>,
     third: Option<&'a str>,
 ) -> Result<Command<'a>, Answer>
-    ensures { IsMeant (on_taken (write_meant what) (listed (option_map (λ w. w.now) first.entry)
-        (listed (option_map (λ w. w.now) second.entry) (listed (option_map (λ w. w.now) third.entry) []))))
+    ensures { IsMeant (on_taken (write_meant what) (listed (text_of first.entry)
+        (listed (text_of second.entry) (listed (text_of third.entry) []))))
         result }
 {
     let Some(first) = first else {

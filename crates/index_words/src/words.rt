@@ -6,7 +6,8 @@ ghost use Rattle.clap.specs.Matches.{found_of};
 ghost use Rattle.clap.specs.Simple.{subcommand_of, subcommand_rows_of};
 ghost use Rattle.clap.specs.Walk.{rows_of};
 ghost use Rattle.index_words.specs.Answers.{Answers, IsMeant};
-ghost use Rattle.index_words.specs.Meaning.{Runs, Says, command_value, help_meant, help_words, meaning};
+ghost use Rattle.index_words.specs.Commands.{command_value};
+ghost use Rattle.index_words.specs.Meaning.{Runs, Says, help_meant, help_words, meaning};
 ghost use Rattle.index_words.specs.Table.{program};
 
 use crate::answer::Answer;
@@ -51,9 +52,9 @@ fn help(alloc: Global, given: &ArgMatches<'_>) -> Answer
 
 /// The command that the words behind the program's name are, or what is said in its place.
 ///
-/// The words are those of `index-tool --help`: a command's name and, in any order with its options, [KIND] [FILE] where
-/// it tells something, and [KIND] FILE OUT where it writes. A first word that is `sha1` or `sha256` is the KIND, and FILE
-/// may be `-` for the standard input; `./sha1` and `./-` are files of these names.
+/// The words are those of `index-tool --help`: a command's name and, in any order with its options, [KIND] [FILE]
+/// where it tells something, and [KIND] FILE OUT where it writes. A first word that is `sha1` or `sha256` is the KIND,
+/// and FILE may be `-` for the standard input; `./sha1` and `./-` are files of these names. Nothing is opened or printed.
 pub fn parse<'a, S: AsStr>(alloc: Global, words: &'a [S]) -> Result<Command<'a>, Answer>
     ensures command { IfOk result
         (λ command. meaning (map S.text words.now) ≡ Runs (command_value command)) }
