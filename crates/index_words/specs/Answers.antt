@@ -1,0 +1,52 @@
+-- What is said in place of a command (the program's own).
+use Rattle.std.specs.Prelude.{◌≡◌, ◌≢◌, ⊤, ℕ, Bool, true, false, Result, Ok, Err}
+use Rattle.clap.specs.Kinds.{IsAmong}
+use Rattle.clap.specs.Values.{kind_of}
+use Rattle.clap.specs.declared.error.Error.{Error}
+use Rattle.clap.specs.declared.error.kind.ErrorKind.{ErrorKind}
+use Rattle.clap.specs.declared.error.kind.ErrorKind.TheVariants.{DisplayHelp, DisplayVersion}
+use Rattle.clap.specs.declared.error.kind.ErrorKind.TheVariants.{OutOfMemory}
+use Rattle.index_words.specs.Commands.{command_value}
+use Rattle.index_words.specs.Meaning.{Meaning, Runs, Says}
+use Rattle.index_words.specs.declared.answer.Answer.{Answer}
+use Rattle.index_words.specs.declared.command.Command.{Command}
+use Rattle.index_words.specs.declared.answer.Answer.TheVariants as answers
+
+-- the answer that a parse's error is
+abbrev pub answer_by : ErrorKind → Error → Answer
+answer_by DisplayHelp e = answers.Help e
+answer_by DisplayVersion e = answers.Version e
+answer_by OutOfMemory e = answers.OutOfMemory
+answer_by kind e = answers.WrongWords e
+
+abbrev pub answer_of : Error → Answer
+answer_of e = answer_by (kind_of e) e
+
+-- the answer of an error says what the words mean: help or the version where they ask for it, and
+-- else their fault; or memory is wanting
+abbrev pub Answers : Meaning → Answer → Type 0
+Answers (Runs command) answer = answer ≡ answers.OutOfMemory
+Answers (Says kinds) answers.OutOfMemory = ⊤
+Answers (Says kinds) (answers.Help e) = (kind_of e ≡ DisplayHelp) × IsAmong DisplayHelp kinds
+Answers (Says kinds) (answers.Version e) =
+    (kind_of e ≡ DisplayVersion) × IsAmong DisplayVersion kinds
+Answers (Says kinds) (answers.WrongWords e) =
+    (kind_of e ≢ DisplayHelp) × (kind_of e ≢ DisplayVersion) × IsAmong (kind_of e) kinds
+
+-- the words asked for it
+abbrev pub is_asked_for : Answer → Bool
+is_asked_for (answers.Help e) = true
+is_asked_for (answers.Version e) = true
+is_asked_for _ = false
+
+-- what the program ends with: 0 for what was asked for, 1 for want of memory, and 2 for wrong words
+abbrev pub status_of : Answer → ℕ
+status_of (answers.Help e) = 0
+status_of (answers.Version e) = 0
+status_of answers.OutOfMemory = 1
+status_of (answers.WrongWords e) = 2
+
+-- a call's result is what is meant
+abbrev pub IsMeant : Meaning → Result Command Answer → Type 0
+IsMeant meaning (Ok command) = meaning ≡ Runs (command_value command)
+IsMeant meaning (Err answer) = Answers meaning answer

@@ -1,0 +1,91 @@
+-- What words mean: a command with its values, or what is said in its place (the program's own).
+use Rattle.std.specs.Prelude.{◌∷◌, ◌++◌, codes, List, [], Option, Some, None, if◌then◌else◌}
+use Rattle.std.specs.Str.{bytes_eq}
+use Rattle.index_parts.specs.declared.hash.Kind.{Kind}
+use Rattle.clap.specs.Kinds.{Kinds}
+use Rattle.clap.specs.Faults.{fault_of}
+use Rattle.clap.specs.Simple.{subcommand_of}
+use Rattle.clap.specs.Walk.{Row, Text, first_of}
+use Rattle.clap.specs.declared.error.kind.ErrorKind.TheVariants.{InvalidSubcommand, InvalidValue}
+use Rattle.clap.specs.declared.error.kind.ErrorKind.TheVariants.{MissingRequiredArgument}
+use Rattle.clap.specs.declared.error.kind.ErrorKind.TheVariants.{MissingSubcommand}
+use Rattle.index_words.specs.Commands.{CommandValue, Reads, Writes, kind_named, place_named}
+use Rattle.index_words.specs.Commands.{reading_named, writing_named}
+use Rattle.index_words.specs.Table.{program}
+use Rattle.index_words.specs.declared.command.Reading.{Reading}
+use Rattle.index_words.specs.declared.command.Writing.{Writing}
+
+-- what words come to: a command, or what is said in its place, of one of these kinds
+pub data Meaning : Type 0 where
+  Runs : CommandValue → Meaning
+  Says : Kinds → Meaning
+
+-- ---- the words behind a command's name
+
+-- a word where there is one, with those behind it
+abbrev pub listed : Option Text → List Text → List Text
+listed (Some word) rest = word ∷ rest
+listed None rest = []
+
+-- the words at these places, up to the first that has none
+abbrev pub words_at : List Text → List Row → List Text
+words_at [] rows = []
+words_at (id ∷ ids) rows = listed (first_of id rows) (words_at ids rows)
+
+-- a first word that names a kind is the KIND
+abbrev pub kind_in_front : Option Kind → Text → List Text → Option Kind × List Text
+kind_in_front (Some kind) word rest = (Some kind, rest)
+kind_in_front None word rest = (None, word ∷ rest)
+
+abbrev pub kind_taken : List Text → Option Kind × List Text
+kind_taken [] = (None, [])
+kind_taken (word ∷ rest) = kind_in_front (kind_named word) word rest
+
+-- [KIND] [FILE]
+abbrev pub read_meant : Reading → Option Kind → List Text → Meaning
+read_meant what kind [] = Runs (Reads what kind None)
+read_meant what kind (word ∷ []) = Runs (Reads what kind (Some (place_named word)))
+read_meant what kind (word ∷ next ∷ rest) = Says (InvalidValue ∷ [])
+
+-- [KIND] FILE OUT
+abbrev pub write_meant : Writing → Option Kind → List Text → Meaning
+write_meant what kind [] = Says (MissingRequiredArgument ∷ [])
+write_meant what kind (word ∷ []) = Says (MissingRequiredArgument ∷ [])
+write_meant what kind (word ∷ to ∷ []) = Runs (Writes what kind (place_named word) to)
+write_meant what kind (word ∷ to ∷ next ∷ rest) = Says (InvalidValue ∷ [])
+
+abbrev pub on_taken : (Option Kind → List Text → Meaning) → List Text → Meaning
+on_taken meant words = meant (kind_taken words).0 (kind_taken words).1
+
+abbrev pub meant_so : Option Reading → Option Writing → List Row → Meaning
+meant_so (Some what) other rows =
+    on_taken (read_meant what) (words_at (codes "KIND" ∷ codes "FILE" ∷ []) rows)
+meant_so None (Some what) rows =
+    on_taken (write_meant what) (words_at (codes "KIND" ∷ codes "FILE" ∷ codes "OUT" ∷ []) rows)
+meant_so None None rows = Says (InvalidSubcommand ∷ [])
+
+abbrev pub meant : Text → List Row → Meaning
+meant name rows = meant_so (reading_named name rows) (writing_named name rows) rows
+
+-- ---- all words
+
+abbrev pub unless_faulty : Kinds → Meaning → Meaning
+unless_faulty [] meaning = meaning
+unless_faulty (kind ∷ kinds) meaning = Says (kind ∷ kinds)
+
+-- `help NAME` is `NAME --help`, and `help` is `--help`
+abbrev pub help_words : List Row → List Text
+help_words rows = listed (first_of (codes "COMMAND") rows) [] ++ codes "--help" ∷ []
+
+abbrev pub help_meant : List Text → Meaning
+help_meant words = unless_faulty (fault_of program words) (Says (InvalidSubcommand ∷ []))
+
+abbrev pub entered_meant : Option (Text × List Row) → Meaning
+entered_meant (Some p) =
+    if bytes_eq p.0 (codes "help") then help_meant (help_words p.1) else meant p.0 p.1
+entered_meant None = Says (MissingSubcommand ∷ [])
+
+-- what the words behind the program's name mean: what they match, where they have no fault
+abbrev pub meaning : List Text → Meaning
+meaning words =
+    unless_faulty (fault_of program words) (entered_meant (subcommand_of program words))

@@ -1,0 +1,83 @@
+//! The commands as values.
+
+use index_parts::hash::Kind;
+
+/// A command with its words. A kind of None is that which the file tells by itself.
+#[derive(Clone, Copy, Debug, PartialEq, Eq)]
+pub enum Command<'a> {
+    /// What is told of an index.
+    Read {
+        /// What is told.
+        what: Reading,
+        /// The kind of its ids.
+        kind: Option<Kind>,
+        /// Where it is: with None, in the work tree around the program.
+        input: Option<Input<'a>>,
+    },
+    /// What is written of an index.
+    Write {
+        /// What is written.
+        what: Writing,
+        /// The kind of its ids.
+        kind: Option<Kind>,
+        /// Where it is.
+        input: Input<'a>,
+        /// The path that is written to.
+        to: &'a str,
+    },
+}
+
+/// Where an index is read.
+#[derive(Clone, Copy, Debug, PartialEq, Eq)]
+pub enum Input<'a> {
+    /// The standard input, which the word `-` names.
+    Stdin,
+    /// The file at this path.
+    File(&'a str),
+}
+
+/// What is told of an index.
+#[derive(Clone, Copy, Debug, PartialEq, Eq)]
+pub enum Reading {
+    /// `list`: a line for each entry.
+    List(Lines),
+    /// `check`: whether it is sound.
+    Check,
+    /// `check-trees`: the same, and whether its cached tree fits the entries.
+    CheckTrees,
+    /// `map`: a line for each part of the file, up to its first fault.
+    Map(Lines),
+    /// `map-svg`: a picture of these parts.
+    MapSvg,
+    /// `show`: what the file holds.
+    Show,
+    /// `show-json`: the same as JSON.
+    ShowJson,
+    /// `trees`: a line for each directory of the trees that the entries make.
+    Trees(Lines),
+}
+
+/// How lines with paths are written.
+#[derive(Clone, Copy, Debug, PartialEq, Eq)]
+pub struct Lines {
+    /// `-z`: a line ends with a NUL in place of a newline.
+    pub nul: bool,
+    /// `--quote`: a path with unusual bytes is quoted, as git does.
+    pub quote: bool,
+}
+
+/// What is written of an index.
+#[derive(Clone, Copy, Debug, PartialEq, Eq)]
+pub enum Writing {
+    /// `rewrite`: the index again.
+    Rewrite,
+    /// `rewrite4`: the same in version 4.
+    Rewrite4,
+    /// `rewrite-trees`: the index with a cached tree made anew.
+    RewriteTrees {
+        /// `--missing-ok`: each directory has its count and id, also where no object store has the tree yet.
+        missing_ok: bool,
+    },
+    /// `salvage`: what can be saved of a damaged index.
+    Salvage,
+}

@@ -1,0 +1,15 @@
+//! The words of `index-tool`: which command they are, or what is said in its place.
+#![tactic(auto)]
+
+pub mod answer;
+pub mod command;
+mod refusal;
+mod table;
+#[cfg(test)]
+mod tests;
+mod values;
+pub mod words;
+
+pub use answer::Answer;
+pub use command::{Command, Input, Lines, Reading, Writing};
+pub use words::parse;

@@ -1,0 +1,65 @@
+//! What is said of words that a command doesn't take.
+
+ghost use Rattle.std.specs.Prelude.{[], ◌∷◌, ◌≡◌, IfOk};
+ghost use Rattle.clap.specs.Values.{kind_of};
+ghost use Rattle.clap.specs.declared.error.kind.ErrorKind.{ErrorKind};
+ghost use Rattle.index_words.specs.Answers.{Answers};
+ghost use Rattle.index_words.specs.Meaning.{Says};
+
+use crate::answer::Answer;
+use crate::table;
+use clap::error::ErrorKind;
+use std::alloc::{AllocError, Global};
+
+/// What is said of a name that no command has.
+pub const NO_COMMAND: &str = "there is no such command";
+
+/// The answer of this kind and text to words behind a command's name, with the command's usage.
+pub fn refusal(alloc: Global, name: &str, kind: ErrorKind, text: &str) -> Answer
+    ensures { Answers (Says (kind ∷ [])) result }
+{
+    match with_usage(alloc, name, kind, text) {
+        Ok(error) => Answer::from(error),
+        Err(_) => Answer::OutOfMemory,
+    }
+}
+
+fn with_usage(
+    alloc: Global,
+    name: &str,
+    kind: ErrorKind,
+    text: &str,
+) -> Result<clap::Error, AllocError>
+    ensures { IfOk result (λ e. kind_of e ≡ kind) }
+{
+    let full = format!(in alloc; "{} {name}", table::PROGRAM)?;
+    let mut command = table::command(alloc, name)?.bin_name(full.as_str())?;
+    command.error(kind, text)
+}
+
+/// The answer to a word that stands where KIND does and names none.
+pub fn no_kind(alloc: Global, name: &str, word: &str) -> Answer
+    ensures { Answers (Says (ErrorKind.InvalidValue ∷ [])) result }
+{
+    match format!(in alloc;
+        "invalid value '{word}' for '[KIND]'\n  [possible values: sha1, sha256]"
+    ) {
+        Ok(text) => refusal(alloc, name, ErrorKind::InvalidValue, text.as_str()),
+        Err(_) => Answer::OutOfMemory,
+    }
+}
+
+/// The answer where words are missing.
+pub fn missing(alloc: Global, name: &str, words: &str) -> Answer
+    ensures { Answers (Says (ErrorKind.MissingRequiredArgument ∷ [])) result }
+{
+    match format!(in alloc; "the following required arguments were not provided:\n  {words}") {
+        Ok(text) => refusal(
+            alloc,
+            name,
+            ErrorKind::MissingRequiredArgument,
+            text.as_str(),
+        ),
+        Err(_) => Answer::OutOfMemory,
+    }
+}

@@ -1,0 +1,250 @@
+//! The commands of the program with their arguments, as `clap` takes them.
+
+ghost use Rattle.std.specs.Prelude.{◌≡◌, IfOk, false, map, codes, Some, None, [], option_map, fold};
+ghost use Rattle.clap.specs.Simple.{app_of};
+ghost use Rattle.clap.specs.Walk.{rule_of};
+ghost use Rattle.clap.specs.declared.builder.command.Command.TheViews.{out-Command};
+ghost use Rattle.index_words.specs.Table.{command_app, flag, has_lines, help_app, is_writing, names, no_commands};
+ghost use Rattle.index_words.specs.Table.{program, with_command, with_inputs, with_lines, with_missing, with_out};
+ghost use Rattle.index_words.specs.Table.{written_app};
+
+use clap::{Arg, ArgAction, Command};
+use std::alloc::{AllocError, Global};
+
+/// The name of the program.
+pub const PROGRAM: &str = "index-tool";
+
+/// The name of the command that prints help.
+pub const HELP: &str = "help";
+
+/// What the program does, on one line.
+const ABOUT: &str = "List, check, repair and rewrite git's index files";
+
+/// What the help says behind the list of commands.
+const STATUS: &str =
+    "The status is 0 where all was done, 1 at a fault of a file or of the output, and 2 at wrong words.";
+
+/// What the help says of the word KIND.
+const KIND_HELP: &str =
+    "How ids are made: `sha1` or `sha256` [default: as the file's own digest tells]";
+
+/// The version of the program.
+const VERSION: &str = "0.55.0";
+
+/// What the help says of a command.
+fn about(name: &str) -> &'static str {
+    match name {
+        "list" => "List the entries, as `git ls-files --stage` does",
+        "check" => "Check the order of the entries, the cached tree and the digest",
+        "check-trees" => "Check also that the cached tree fits the entries",
+        "map" => "Name each part of the file, up to its first fault",
+        "map-svg" => "Draw these parts as a picture (SVG)",
+        "show" => "Show all that the file holds",
+        "show-json" => "Show the same as JSON",
+        "trees" => "List the trees that the entries make, as `git write-tree` would",
+        "rewrite" => "Write the index again",
+        "rewrite4" => "Write the index again in version 4",
+        "rewrite-trees" => "Write the index with a cached tree made anew",
+        _ => "Write what can be saved of a damaged index",
+    }
+}
+
+/// The usage line of a command that writes.
+fn usage(name: &str) -> &'static str {
+    match name {
+        "rewrite" => "index-tool rewrite [KIND] <FILE> <OUT>",
+        "rewrite4" => "index-tool rewrite4 [KIND] <FILE> <OUT>",
+        "rewrite-trees" => "index-tool rewrite-trees [OPTIONS] [KIND] <FILE> <OUT>",
+        _ => "index-tool salvage [KIND] <FILE> <OUT>",
+    }
+}
+
+/// Whether the command of this name writes an index.
+fn is_writing(name: &str) -> bool
+    ensures { result ≡ is_writing name.now }
+{
+    name == "rewrite" || name == "rewrite4" || name == "rewrite-trees" || name == "salvage"
+}
+
+/// Whether the command of this name writes lines with paths.
+fn has_lines(name: &str) -> bool
+    ensures { result ≡ has_lines name.now }
+{
+    name == "list" || name == "map" || name == "trees"
+}
+
+/// An option without a value.
+fn flag<'a>(alloc: Global, id: &'a str, help: &'a str) -> Arg<'a>
+    ensures rule { rule_of result ≡ flag id.entry.now }
+    ensures global { result.global ≡ false }
+{
+    Arg::new(alloc, id).action(ArgAction::SetTrue).help(help)
+}
+
+/// With `-z` and `--quote`.
+fn with_lines<'a>(alloc: Global, command: Command<'a>) -> Result<Command<'a>, AllocError>
+    ensures app { IfOk result (λ c. app_of c ≡ with_lines (app_of command.entry)) }
+    ensures local { IfOk result (λ c. (out-Command command.entry).has_globals ≡ false
+        → (out-Command c).has_globals ≡ false) }
+{
+    let nul = flag(
+        alloc,
+        "z",
+        "End each line with a NUL byte in place of a newline",
+    )
+    .short('z');
+    let quote = flag(
+        alloc,
+        "quote",
+        "Quote paths with unusual bytes, as git does",
+    )
+    .long("quote");
+    command.arg(nul)?.arg(quote)
+}
+
+/// With `--missing-ok`.
+fn with_missing<'a>(alloc: Global, command: Command<'a>) -> Result<Command<'a>, AllocError>
+    ensures app { IfOk result (λ c. app_of c ≡ with_missing (app_of command.entry)) }
+    ensures local { IfOk result (λ c. (out-Command command.entry).has_globals ≡ false
+        → (out-Command c).has_globals ≡ false) }
+{
+    let missing = flag(
+        alloc,
+        "missing-ok",
+        "Give each tree its id, also where no object store has it",
+    );
+    command.arg(missing.long("missing-ok"))
+}
+
+/// With the word OUT, and the usage that it makes.
+fn with_out<'a>(
+    alloc: Global,
+    command: Command<'a>,
+    usage: &'a str,
+) -> Result<Command<'a>, AllocError>
+    ensures app { IfOk result (λ c. app_of c ≡ with_out (app_of command.entry)) }
+    ensures local { IfOk result (λ c. (out-Command command.entry).has_globals ≡ false
+        → (out-Command c).has_globals ≡ false) }
+{
+    let out = Arg::new(alloc, "OUT").help("The path that is written to");
+    command.override_usage(usage).arg(out)
+}
+
+/// With the words KIND and FILE.
+fn with_inputs<'a>(
+    alloc: Global,
+    command: Command<'a>,
+    file_help: &'a str,
+) -> Result<Command<'a>, AllocError>
+    ensures app { IfOk result (λ c. app_of c ≡ with_inputs (app_of command.entry)) }
+    ensures local { IfOk result (λ c. (out-Command command.entry).has_globals ≡ false
+        → (out-Command c).has_globals ≡ false) }
+{
+    let kind = Arg::new(alloc, "KIND").help(KIND_HELP);
+    let file = Arg::new(alloc, "FILE").help(file_help);
+    command.arg(kind)?.arg(file)
+}
+
+/// The command of this name that writes, with its arguments behind the words KIND and FILE.
+fn written<'a>(
+    alloc: Global,
+    name: &'a str,
+    command: Command<'a>,
+) -> Result<Command<'a>, AllocError>
+    ensures app { IfOk result
+        (λ c. app_of c ≡ written_app name.entry.now (app_of command.entry)) }
+    ensures local { IfOk result (λ c. (out-Command command.entry).has_globals ≡ false
+        → (out-Command c).has_globals ≡ false) }
+{
+    let command = with_out(alloc, command, usage(name))?;
+    if name == "rewrite-trees" {
+        return with_missing(alloc, command);
+    }
+    Ok(command)
+}
+
+/// The command of this name, with its arguments.
+pub fn command<'a>(alloc: Global, name: &'a str) -> Result<Command<'a>, AllocError>
+    ensures app { IfOk result (λ c. app_of c ≡ command_app name.entry.now) }
+    ensures local { IfOk result (λ c. (out-Command c).has_globals ≡ false) }
+{
+    let command = Command::new(alloc, name).about(about(name));
+    if is_writing(name) {
+        return written(
+            alloc,
+            name,
+            with_inputs(
+                alloc,
+                command,
+                "The index that is read, or `-` for the standard input",
+            )?,
+        );
+    }
+    let command = with_inputs(
+        alloc,
+        command,
+        "The index, or `-` for the standard input [default: that of the work tree]",
+    )?;
+    if has_lines(name) {
+        return with_lines(alloc, command);
+    }
+    Ok(command)
+}
+
+/// The program without its commands.
+fn no_commands<'a>(alloc: Global) -> Result<Command<'a>, AllocError>
+    ensures { IfOk result (λ c. app_of c ≡ no_commands) }
+{
+    let program = Command::new(alloc, PROGRAM)
+        .version(VERSION)
+        .about(ABOUT)
+        .after_help(STATUS)
+        .no_binary_name(true)
+        .disable_help_subcommand(true)
+        .subcommand_required(true)
+        .arg_required_else_help(true);
+    program.bin_name(PROGRAM)
+}
+
+/// With the command of this name.
+fn with<'a>(alloc: Global, program: Command<'a>, name: &'a str) -> Result<Command<'a>, AllocError>
+    ensures { IfOk result (λ c. app_of c ≡ with_command (app_of program.entry) name.entry.now) }
+{
+    program.subcommand(command(alloc, name)?)
+}
+
+/// The program with all commands that read or write an index, in the order of the help.
+fn commands<'a>(alloc: Global) -> Result<Command<'a>, AllocError>
+    ensures { IfOk result (λ c. app_of c ≡ fold with_command no_commands names) }
+{
+    let program = with(alloc, no_commands(alloc)?, "list")?;
+    let program = with(alloc, program, "check")?;
+    let program = with(alloc, program, "check-trees")?;
+    let program = with(alloc, program, "map")?;
+    let program = with(alloc, program, "map-svg")?;
+    let program = with(alloc, program, "show")?;
+    let program = with(alloc, program, "show-json")?;
+    let program = with(alloc, program, "trees")?;
+    let program = with(alloc, program, "rewrite")?;
+    let program = with(alloc, program, "rewrite4")?;
+    let program = with(alloc, program, "rewrite-trees")?;
+    with(alloc, program, "salvage")
+}
+
+/// The command that prints help.
+fn help<'a>(alloc: Global) -> Result<Command<'a>, AllocError>
+    ensures app { IfOk result (λ c. app_of c ≡ help_app) }
+    ensures local { IfOk result (λ c. (out-Command c).has_globals ≡ false) }
+{
+    let name = Arg::new(alloc, "COMMAND").help("The command that it is on");
+    Command::new(alloc, HELP)
+        .about("Print this help, or that of a command")
+        .arg(name)
+}
+
+/// The program with all its commands.
+pub fn program<'a>(alloc: Global) -> Result<Command<'a>, AllocError>
+    ensures { IfOk result (λ c. app_of c ≡ program) }
+{
+    commands(alloc)?.subcommand(help(alloc)?)
+}

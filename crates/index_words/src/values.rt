@@ -1,0 +1,180 @@
+//! From the matches of a command to its values.
+
+ghost use Rattle.std.specs.Prelude.{◌≡◌, option_map, [], ◌∷◌, codes, MatchResult};
+ghost use Rattle.clap.specs.Matches.{found_of};
+ghost use Rattle.clap.specs.Walk.{first_of, rows_of};
+ghost use Rattle.clap.specs.declared.error.kind.ErrorKind.{ErrorKind};
+ghost use Rattle.index_words.specs.Answers.{Answers, IsMeant};
+ghost use Rattle.index_words.specs.Commands.{is_set, kind_named, lines_of, place_named, place_of, reading_named};
+ghost use Rattle.index_words.specs.Commands.{text_of, writing_named};
+ghost use Rattle.index_words.specs.Meaning.{listed, meant, on_taken, read_meant, write_meant};
+
+use crate::answer::Answer;
+use crate::command::{Command, Input, Lines, Reading, Writing};
+use crate::refusal::{NO_COMMAND, missing, no_kind, refusal};
+use clap::ArgMatches;
+use clap::error::ErrorKind;
+use index_parts::hash::Kind;
+use std::alloc::Global;
+
+/// The kind that a word names.
+fn kind_of(word: &str) -> Option<Kind>
+    ensures { result ≡ kind_named word.now }
+{
+    match word {
+        "sha1" => Some(Kind::Sha1),
+        "sha256" => Some(Kind::Sha256),
+        _ => None,
+    }
+}
+
+/// The place that a word names.
+fn input_of(word: &str) -> Input<'_>
+    ensures { place_of result ≡ place_named word.now }
+{
+    if word == "-" {
+        Input::Stdin
+    } else {
+        Input::File(word)
+    }
+}
+
+/// The word that stands for an argument, if one does.
+pub fn word_of<'a>(given: &ArgMatches<'a>, id: &str) -> Option<&'a str>
+    ensures { text_of result ≡ first_of id.now (rows_of (found_of given.now)) }
+{
+    given.get_str(id)
+}
+
+/// Whether a flag is set.
+fn is_set(given: &ArgMatches<'_>, id: &str) -> bool
+    ensures { result ≡ is_set id.now (rows_of (found_of given.now)) }
+{
+    match word_of(given, id) {
+        Some(word) => word == "true",
+        None => false,
+    }
+}
+
+/// How lines are written.
+fn lines_of(given: &ArgMatches<'_>) -> Lines
+    ensures { result ≡ lines_of (rows_of (found_of given.now)) }
+{
+    Lines {
+        nul: is_set(given, "z"),
+        quote: is_set(given, "quote"),
+    }
+}
+
+/// What the command of this name tells, if it is one that does.
+fn reading_of(name: &str, given: &ArgMatches<'_>) -> Option<Reading>
+    ensures { result ≡ reading_named name.now (rows_of (found_of given.now)) }
+{
+    match name {
+        "list" => Some(Reading::List(lines_of(given))),
+        "check" => Some(Reading::Check),
+        "check-trees" => Some(Reading::CheckTrees),
+        "map" => Some(Reading::Map(lines_of(given))),
+        "map-svg" => Some(Reading::MapSvg),
+        "show" => Some(Reading::Show),
+        "show-json" => Some(Reading::ShowJson),
+        "trees" => Some(Reading::Trees(lines_of(given))),
+        _ => None,
+    }
+}
+
+/// What the command of this name writes, if it is one that does.
+fn writing_of(name: &str, given: &ArgMatches<'_>) -> Option<Writing>
+    ensures { result ≡ writing_named name.now (rows_of (found_of given.now)) }
+{
+    match name {
+        "rewrite" => Some(Writing::Rewrite),
+        "rewrite4" => Some(Writing::Rewrite4),
+        "rewrite-trees" => Some(Writing::RewriteTrees {
+            missing_ok: is_set(given, "missing-ok"),
+        }),
+        "salvage" => Some(Writing::Salvage),
+        _ => None,
+    }
+}
+
+/// The command of the words [KIND] [FILE] behind this name.
+fn read_of<'a>(
+    alloc: Global,
+    name: &str,
+    what: Reading,
+    first: Option<&'a str>,
+    second: Option<&'a str>,
+) -> Result<Command<'a>, Answer>
+    ensures { IsMeant (on_taken (read_meant what) (listed (text_of first.entry)
+        (listed (text_of second.entry) []))) result }
+{
+    let Some(first) = first else {
+        return Ok(Command::Read {
+            what,
+            kind: None,
+            input: None,
+        });
+    };
+    let kind = kind_of(first);
+    let input = match (kind, second) {
+        (Some(_), second) => second,
+        (None, None) => Some(first),
+        (None, Some(_)) => return Err(no_kind(alloc, name, first)),
+    };
+    Ok(Command::Read {
+        what,
+        kind,
+        input: input.map(input_of),
+    })
+}
+
+/// The command of the words [KIND] FILE OUT behind this name.
+fn write_of<'a>(
+    alloc: Global,
+    name: &str,
+    what: Writing,
+    first: Option<&'a str>,
+    second: Option<&'a str>,
+    third: Option<&'a str>,
+) -> Result<Command<'a>, Answer>
+    ensures { IsMeant (on_taken (write_meant what) (listed (text_of first.entry)
+        (listed (text_of second.entry) (listed (text_of third.entry) []))))
+        result }
+{
+    let Some(first) = first else {
+        return Err(missing(alloc, name, "<FILE>\n  <OUT>"));
+    };
+    let kind = kind_of(first);
+    let (word, to) = match (kind, second, third) {
+        (Some(_), None, _) => return Err(missing(alloc, name, "<FILE>\n  <OUT>")),
+        (Some(_), Some(_), None) | (None, None, _) => return Err(missing(alloc, name, "<OUT>")),
+        (None, Some(_), Some(_)) => return Err(no_kind(alloc, name, first)),
+        (Some(_), Some(word), Some(to)) => (word, to),
+        (None, Some(to), None) => (first, to),
+    };
+    Ok(Command::Write {
+        what,
+        kind,
+        input: input_of(word),
+        to,
+    })
+}
+
+/// The command of this name with what is given behind it.
+pub fn command_of<'a>(
+    alloc: Global,
+    name: &str,
+    given: &ArgMatches<'a>,
+) -> Result<Command<'a>, Answer>
+    ensures { IsMeant (meant name.now (rows_of (found_of given.now))) result }
+{
+    let (first, second) = (word_of(given, "KIND"), word_of(given, "FILE"));
+    if let Some(what) = reading_of(name, given) {
+        return read_of(alloc, name, what, first, second);
+    }
+    match writing_of(name, given) {
+        Some(what) => write_of(alloc, name, what, first, second, word_of(given, "OUT")),
+        None => Err(refusal(alloc, name, ErrorKind::InvalidSubcommand, NO_COMMAND)),
+    }
+}

@@ -1,0 +1,76 @@
+//! From words to a command.
+
+ghost use Rattle.std.specs.Prelude.{◌≡◌, [], IfErr, IfOk, map};
+ghost use Rattle.clap.specs.Faults.{fault_of};
+ghost use Rattle.clap.specs.Matches.{found_of};
+ghost use Rattle.clap.specs.Simple.{subcommand_of, subcommand_rows_of};
+ghost use Rattle.clap.specs.Walk.{rows_of};
+ghost use Rattle.index_words.specs.Answers.{Answers, IsMeant};
+ghost use Rattle.index_words.specs.Commands.{command_value};
+ghost use Rattle.index_words.specs.Meaning.{Runs, Says, help_meant, help_words, meaning};
+ghost use Rattle.index_words.specs.Table.{program};
+
+use crate::answer::Answer;
+use crate::command::Command;
+use crate::refusal::{NO_COMMAND, refusal};
+use crate::table;
+use crate::values::{command_of, word_of};
+use clap::ArgMatches;
+use clap::error::ErrorKind;
+use std::alloc::Global;
+use std::convert::AsStr;
+
+/// What the words behind the program's name match.
+fn matched<'a, S: AsStr>(alloc: Global, words: &'a [S]) -> Result<ArgMatches<'a>, Answer>
+    ensures fault { IfOk result (λ m. fault_of program (map S.text words.now) ≡ []) }
+    ensures matches { IfOk result
+        (λ m. subcommand_rows_of m ≡ subcommand_of program (map S.text words.now)) }
+    ensures answer { IfErr result (Answers (Says (fault_of program (map S.text words.now)))) }
+{
+    Ok(table::program(alloc)?.try_get_matches_from(words)?)
+}
+
+/// The answer to words that ask for help.
+fn help_by(alloc: Global, words: &[&str]) -> Answer
+    ensures { Answers (help_meant (map (λ w. w.now) words.now)) result }
+{
+    match matched(alloc, words) {
+        Ok(_) => refusal(alloc, table::HELP, ErrorKind::InvalidSubcommand, NO_COMMAND),
+        Err(answer) => answer,
+    }
+}
+
+/// The answer to `help` with what is given behind it: that of the words NAME `--help`, or of `--help` alone.
+fn help(alloc: Global, given: &ArgMatches<'_>) -> Answer
+    ensures { Answers (help_meant (help_words (rows_of (found_of given.now)))) result }
+{
+    match word_of(given, "COMMAND") {
+        Some(name) => help_by(alloc, &[name, "--help"]),
+        None => help_by(alloc, &["--help"]),
+    }
+}
+
+/// The command that the words behind the program's name are, or what is said in its place.
+///
+/// The words are those of `index-tool --help`: a command's name and, in any order with its options, [KIND] [FILE]
+/// where it tells something, and [KIND] FILE OUT where it writes. A first word that is `sha1` or `sha256` is the KIND,
+/// and FILE may be `-` for the standard input; `./sha1` and `./-` are files of these names. Nothing is opened or printed.
+pub fn parse<'a, S: AsStr>(alloc: Global, words: &'a [S]) -> Result<Command<'a>, Answer>
+    ensures command { IfOk result
+        (λ command. meaning (map S.text words.now) ≡ Runs (command_value command)) }
+    ensures answer { IfErr result (Answers (meaning (map S.text words.now))) }
+{
+    let matches = matched(alloc, words)?;
+    let Some((name, given)) = matches.subcommand() else {
+        return Err(refusal(
+            alloc,
+            table::HELP,
+            ErrorKind::MissingSubcommand,
+            "a command is missing",
+        ));
+    };
+    if name == table::HELP {
+        return Err(help(alloc, given));
+    }
+    command_of(alloc, name, given)
+}
