@@ -1,8 +1,8 @@
 /* What tests/files asks in one process of the files that gix_index_file.h opens: files KIND FILE SPLIT. FILE and SPLIT
  * are indices, SPLIT beside its shared one; what is written stands at FILE.out.
  *
- * Each call leaves as many files open as were before it, whatever it answers. A line on standard output for each one
- * that doesn't, or 'ok'. */
+ * Each call leaves as many files open as were before it, whatever it answers. One that reads and lacks memory says so,
+ * and its summary tells of no entries. A line on standard output for each thing that isn't so, or 'ok'. */
 #define _POSIX_C_SOURCE 200809L
 #include "gix_index_file.h"
 
@@ -32,8 +32,14 @@ static void closes(const char *what) {
 static void reads(const char *path) {
     gix_index_table t;
     gix_index_summary said;
-    gix_index_read_file(path, kind, text, sizeof text, &t);
+    uint32_t status = gix_index_read_file(path, kind, text, sizeof text, &t);
     closes("gix_index_read_file");
+    bool is_told = status == GIX_INDEX_MEMORY ? !t.said.entries && !t.said.path_bytes && !t.said.has_link
+                                              : status != GIX_INDEX_NO_ROOM;
+    if (!is_told) {
+        faults++;
+        printf("%s: status %u, with %zu entries\n", path, status, t.said.entries);
+    }
     gix_index_drop_table(&t);
     gix_index_check_file(path, kind, text, sizeof text, &said);
     closes("gix_index_check_file");
