@@ -147,12 +147,11 @@ static inline bool gix_index_make_room(gix_index_table *t) {
 }
 
 /* Fills the table from its bytes, which have no link, by the sizes in its summary. Those are zeros where a reading was
- * refused before, as this one is then, or lacked memory, which NO_ROOM tells of here. */
+ * refused before, as this one is then. */
 static inline uint32_t gix_index_fill(gix_index_table *t, uint32_t kind, uint8_t *text, size_t text_len) {
     if (!gix_index_make_room(t)) return GIX_INDEX_MEMORY;
-    uint32_t status = gix_index_read(t->bytes, t->bytes_len, kind, false, t->rows, t->said.entries, t->paths,
-                                     t->said.path_bytes, text, text_len, &t->said);
-    return status == GIX_INDEX_NO_ROOM ? GIX_INDEX_MEMORY : status;
+    return gix_index_read(t->bytes, t->bytes_len, kind, false, t->rows, t->said.entries, t->paths, t->said.path_bytes,
+                          text, text_len, &t->said);
 }
 
 /* Fills the table from its bytes and those of the shared index, of which there may be none where the link has no id.
@@ -174,7 +173,7 @@ static inline uint32_t gix_index_fill_of_both(gix_index_table *t, const uint8_t 
 }
 
 /* The bytes of the shared index that these bytes, of the index at a path, link to, which the caller frees. NULL with
- * DONE where there is none to follow, as the bytes don't link or can't be read. REFUSED, MEMORY: of these bytes, as
+ * DONE where there is none to follow, as the bytes don't link or are refused. REFUSED, MEMORY: of these bytes, as
  * gix_index_read answers; MEMORY also where malloc gives nothing for the path. SYSTEM: the file of the shared index
  * can't be read, and errno says why. */
 static inline uint32_t gix_index_shared_of(const char *path, const uint8_t *bytes, size_t bytes_len, uint32_t kind,
@@ -185,12 +184,13 @@ static inline uint32_t gix_index_shared_of(const char *path, const uint8_t *byte
     *shared = NULL;
     *shared_len = 0;
     uint32_t status = gix_index_read(bytes, bytes_len, kind, true, &no_row, 0, &no_path, 0, text, text_len, said);
-    bool is_read = status == GIX_INDEX_DONE || status == GIX_INDEX_NO_ROOM;
-    if (!is_read || !gix_index_links(said)) return GIX_INDEX_DONE;
+    if (status == GIX_INDEX_MEMORY) return status;
+    if (!gix_index_links(said)) return GIX_INDEX_DONE;
     /* (a wrong digest is told before a shared index is looked for) */
     status = gix_index_read(bytes, bytes_len, kind, false, &no_row, 0, &no_path, 0, text, text_len, said);
     if (status != GIX_INDEX_DONE && status != GIX_INDEX_NO_ROOM) return status;
     char *shared_path = gix_index_shared_path(path, kind, said);
+    if (!shared_path) *said = (gix_index_summary){0};
     if (!shared_path) return GIX_INDEX_MEMORY;
     *shared = gix_index_bytes_of(shared_path, shared_len);
     int error = errno;
