@@ -139,11 +139,26 @@ static inline char *gix_index_shared_path(const char *path, uint32_t kind, const
     return shared;
 }
 
-/* Fills the table from its bytes and those of the shared index, of which there may be none where there is no link. The
- * first call asks for the sizes, and leaves the digests alone; where it refuses, they are looked at too, as a wrong one
- * is told before all other faults. */
-static inline uint32_t gix_index_fill(gix_index_table *t, const uint8_t *shared, size_t shared_len, uint32_t kind,
-                                      uint8_t *text, size_t text_len) {
+/* Whether there is room for as many rows and bytes for paths as the summary has. */
+static inline bool gix_index_make_room(gix_index_table *t) {
+    t->rows = calloc(t->said.entries + 1, sizeof *t->rows);
+    t->paths = malloc(t->said.path_bytes + 1);
+    return t->rows && t->paths;
+}
+
+/* Fills the table from its bytes, which have no link, by the sizes in its summary. Those are zeros where a reading was
+ * refused before, as this one is then. */
+static inline uint32_t gix_index_fill(gix_index_table *t, uint32_t kind, uint8_t *text, size_t text_len) {
+    if (!gix_index_make_room(t)) return GIX_INDEX_MEMORY;
+    return gix_index_read(t->bytes, t->bytes_len, kind, false, t->rows, t->said.entries, t->paths, t->said.path_bytes,
+                          text, text_len, &t->said);
+}
+
+/* Fills the table from its bytes and those of the shared index, of which there may be none where the link has no id.
+ * The first call asks for the sizes, and leaves the digests alone; where it refuses, they are looked at too, as a wrong
+ * one is told before all other faults. */
+static inline uint32_t gix_index_fill_of_both(gix_index_table *t, const uint8_t *shared, size_t shared_len,
+                                              uint32_t kind, uint8_t *text, size_t text_len) {
     gix_index_row no_row;
     uint8_t no_path;
     for (int skip_hash = 1; skip_hash >= 0; skip_hash--) {
@@ -152,16 +167,13 @@ static inline uint32_t gix_index_fill(gix_index_table *t, const uint8_t *shared,
         if (status == GIX_INDEX_DONE || status == GIX_INDEX_NO_ROOM) break;
         if (status != GIX_INDEX_REFUSED || !skip_hash) return status;
     }
-    size_t rows = t->said.entries, paths = t->said.path_bytes;
-    t->rows = calloc(rows + 1, sizeof *t->rows);
-    t->paths = malloc(paths + 1);
-    if (!t->rows || !t->paths) return GIX_INDEX_MEMORY;
-    return gix_index_read_split(t->bytes, t->bytes_len, shared, shared_len, kind, false, t->rows, rows, t->paths, paths,
-                                text, text_len, &t->said);
+    if (!gix_index_make_room(t)) return GIX_INDEX_MEMORY;
+    return gix_index_read_split(t->bytes, t->bytes_len, shared, shared_len, kind, false, t->rows, t->said.entries,
+                                t->paths, t->said.path_bytes, text, text_len, &t->said);
 }
 
 /* The bytes of the shared index that these bytes, of the index at a path, link to, which the caller frees. NULL with
- * DONE where there is none to follow, as the bytes don't link or can't be read. REFUSED, MEMORY: of these bytes, as
+ * DONE where there is none to follow, as the bytes don't link or are refused. REFUSED, MEMORY: of these bytes, as
  * gix_index_read answers; MEMORY also where malloc gives nothing for the path. SYSTEM: the file of the shared index
  * can't be read, and errno says why. */
 static inline uint32_t gix_index_shared_of(const char *path, const uint8_t *bytes, size_t bytes_len, uint32_t kind,
@@ -172,12 +184,13 @@ static inline uint32_t gix_index_shared_of(const char *path, const uint8_t *byte
     *shared = NULL;
     *shared_len = 0;
     uint32_t status = gix_index_read(bytes, bytes_len, kind, true, &no_row, 0, &no_path, 0, text, text_len, said);
-    bool is_read = status == GIX_INDEX_DONE || status == GIX_INDEX_NO_ROOM;
-    if (!is_read || !gix_index_links(said)) return GIX_INDEX_DONE;
+    if (status == GIX_INDEX_MEMORY) return status;
+    if (!gix_index_links(said)) return GIX_INDEX_DONE;
     /* (a wrong digest is told before a shared index is looked for) */
     status = gix_index_read(bytes, bytes_len, kind, false, &no_row, 0, &no_path, 0, text, text_len, said);
     if (status != GIX_INDEX_DONE && status != GIX_INDEX_NO_ROOM) return status;
     char *shared_path = gix_index_shared_path(path, kind, said);
+    if (!shared_path) *said = (gix_index_summary){0};
     if (!shared_path) return GIX_INDEX_MEMORY;
     *shared = gix_index_bytes_of(shared_path, shared_len);
     int error = errno;
@@ -202,9 +215,13 @@ static inline uint32_t gix_index_read_file(const char *path, uint32_t kind, uint
     if (!t->bytes) return GIX_INDEX_SYSTEM;
     uint32_t status = gix_index_shared_of(path, t->bytes, t->bytes_len, kind, text, text_len, &t->said, &shared,
                                           &shared_len);
-    if (status != GIX_INDEX_DONE) return status;
-    status = gix_index_fill(t, shared ? shared : &no_byte, shared_len, kind, text, text_len);
+    if (status == GIX_INDEX_DONE && t->said.has_link)
+        status = gix_index_fill_of_both(t, shared ? shared : &no_byte, shared_len, kind, text, text_len);
+    else if (status == GIX_INDEX_DONE)
+        status = gix_index_fill(t, kind, text, text_len);
     free(shared);
+    if (status == GIX_INDEX_MEMORY)
+        t->said = (gix_index_summary){.text_bytes = t->said.text_bytes, .of_shared = t->said.of_shared};
     return status;
 }
 

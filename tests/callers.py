@@ -29,6 +29,13 @@ def sanitizers(room):
     return SANITIZE if is_there else ()
 
 
+def preload(room):
+    """What refuses memory and calls of the system, put before the C library."""
+    made = room / "refused.so"
+    run(("cc", "-shared", "-fPIC", "-O1", "-o", made, TOP / "tests" / "refused.c", "-ldl"))
+    return made
+
+
 def in_c(room, name, *flags):
     """A caller in C: an example, or one of tests/."""
     example = TOP / "c" / "examples" / f"{name}.c"

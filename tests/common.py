@@ -1,5 +1,7 @@
 """What the tests beside git share: the programs under test, git itself, and their last line."""
 import argparse
+import importlib.machinery
+import importlib.util
 import pathlib
 import subprocess
 import sys
@@ -22,6 +24,14 @@ def program(crate, is_built):
     if is_built and path.is_file():
         return path
     return crates.built(crate)
+
+
+def script(name):
+    """Another test, for its functions."""
+    loader = importlib.machinery.SourceFileLoader(name, str(TOP / "tests" / name))
+    module = importlib.util.module_from_spec(importlib.util.spec_from_loader(name, loader))
+    loader.exec_module(module)
+    return module
 
 
 def answer(words, **options):

@@ -11,8 +11,8 @@
  *                a file count as well
  * REFUSED_ERROR  the number of the error of a call (by default EIO)
  * REFUSED_SIZE   before the REFUSED_NTH reading the file has so many bytes, whatever REFUSED_KIND is
- * REFUSED_COUNTS a file for how many there were of the four kinds, and how many requests were for a block that there
- *                was none of before, as a vector's first one is
+ * REFUSED_COUNTS a file for how many there were of the four kinds, how many requests were for a block that there was
+ *                none of before, as a vector's first one is, and how many bytes the largest request was for
  */
 #define _GNU_SOURCE
 #include <dlfcn.h>
@@ -31,6 +31,7 @@ enum kind { REQUEST, CALL, MOVE, WAIT, KINDS };
 static const char *const names[KINDS] = {"request", "call", "move", "wait"};
 
 static long counts[KINDS], blocks, nth, readings, size = -1;
+static size_t largest;
 static enum kind refused = KINDS;
 static int goes_on, counts_also, is_begun, error_number = EIO;
 
@@ -54,8 +55,8 @@ __attribute__((destructor)) static void end(void) {
   const char *path = getenv("REFUSED_COUNTS");
   char text[128];
   if (!path) return;
-  int len = snprintf(text, sizeof text, "%ld %ld %ld %ld %ld\n", counts[REQUEST], counts[CALL], counts[MOVE],
-                     counts[WAIT], blocks);
+  int len = snprintf(text, sizeof text, "%ld %ld %ld %ld %ld %zu\n", counts[REQUEST], counts[CALL], counts[MOVE],
+                     counts[WAIT], blocks, largest);
   int file = syscall(SYS_open, path, O_WRONLY | O_CREAT | O_TRUNC, 0600);
   if (file >= 0 && syscall(SYS_write, file, text, len) == len) syscall(SYS_close, file);
 }
@@ -69,8 +70,9 @@ static int is_refused(enum kind kind, int error) {
   return 1;
 }
 
-static int no_memory(const void *old) {
+static int no_memory(const void *old, size_t len) {
   blocks += is_begun && !old;
+  if (is_begun && len > largest) largest = len;
   return is_refused(REQUEST, ENOMEM);
 }
 static int fails(void) { return is_refused(CALL, error_number); }
@@ -81,25 +83,25 @@ static size_t moved(size_t len) { return len > 1 && is_refused(MOVE, 0) ? 1 : le
 void *malloc(size_t len) {
   static __typeof__(&malloc) next;
   if (!next) next = NEXT(malloc);
-  return no_memory(NULL) ? NULL : next(len);
+  return no_memory(NULL, len) ? NULL : next(len);
 }
 
 void *realloc(void *old, size_t len) {
   static __typeof__(&realloc) next;
   if (!next) next = NEXT(realloc);
-  return no_memory(old) ? NULL : next(old, len);
+  return no_memory(old, len) ? NULL : next(old, len);
 }
 
 void *aligned_alloc(size_t alignment, size_t len) {
-  return no_memory(NULL) ? NULL : NEXT(aligned_alloc)(alignment, len);
+  return no_memory(NULL, len) ? NULL : NEXT(aligned_alloc)(alignment, len);
 }
 
 int posix_memalign(void **to, size_t alignment, size_t len) {
-  return no_memory(NULL) ? ENOMEM : NEXT(posix_memalign)(to, alignment, len);
+  return no_memory(NULL, len) ? ENOMEM : NEXT(posix_memalign)(to, alignment, len);
 }
 
 void *mmap(void *at, size_t len, int rights, int flags, int file, off_t from) {
-  return no_memory(NULL) ? MAP_FAILED : NEXT(mmap)(at, len, rights, flags, file, from);
+  return no_memory(NULL, len) ? MAP_FAILED : NEXT(mmap)(at, len, rights, flags, file, from);
 }
 
 int open(const char *path, int flags, ...) {
@@ -141,7 +143,12 @@ int lstat(const char *path, struct stat *to) { return also_fails() ? -1 : NEXT(l
 int fstat(int file, struct stat *to) { return also_fails() ? -1 : NEXT(fstat)(file, to); }
 int fchmod(int file, mode_t mode) { return also_fails() ? -1 : NEXT(fchmod)(file, mode); }
 int futimens(int file, const struct timespec times[2]) { return also_fails() ? -1 : NEXT(futimens)(file, times); }
-int close(int file) { return also_fails() ? -1 : NEXT(close)(file); }
+
+/* A file is closed where that fails too, as Linux has it. */
+int close(int file) {
+  int done = NEXT(close)(file);
+  return also_fails() ? -1 : done;
+}
 
 ssize_t readlink(const char *path, char *to, size_t len) {
   return also_fails() ? -1 : NEXT(readlink)(path, to, len);

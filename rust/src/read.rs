@@ -114,10 +114,14 @@ fn beside(path: &Path, id: &[u8]) -> Result<Vec<u8>, Error> {
 }
 
 /// The bytes of the shared index that these bytes, of the index at a path, link to. None where there is none to follow,
-/// as they don't link or can't be read. A wrong digest is told before the shared index is looked for.
+/// as they don't link or are refused. A wrong digest is told before the shared index is looked for.
 pub(crate) fn shared_bytes_of(path: &Path, bytes: &[u8], kind: Kind) -> Result<Option<Vec<u8>>, Error> {
     let own = Files { bytes, shared: None, kind };
-    let Ok((_, Summary { has_link, shared_id, .. })) = own.read(true, &mut [], &mut []) else { return Ok(None) };
+    let Summary { has_link, shared_id, .. } = match own.read(true, &mut [], &mut []) {
+        Ok((_, said)) => said,
+        Err(Error::Memory) => return Err(Error::Memory),
+        Err(_) => return Ok(None),
+    };
     let id = &shared_id[..kind.len_in_bytes()];
     if has_link == 0 || id.iter().all(|byte| *byte == 0) {
         return Ok(None);

@@ -52,6 +52,10 @@ fn time_of(path: &Path) -> SystemTime {
     fs::metadata(path).and_then(|seen| seen.modified()).expect("it is there")
 }
 
+fn mode_of(path: &Path) -> u32 {
+    fs::metadata(path).expect("it is there").mode() & 0o7777
+}
+
 /// Seconds long ago, and some nanoseconds.
 fn past(secs: u64) -> SystemTime {
     UNIX_EPOCH + Duration::new(secs, 123_456_789)
@@ -85,12 +89,15 @@ fn a_commit_keeps_time_and_permissions() {
     let options = Options { sync: true, ..Options::default() };
     Index::lock(&path).and_then(|locked| locked.commit(&index_of(b"made"), options)).expect("it can be written");
     assert_eq!((time_of(&path), paths_at(&path)), (past(1_500_000_000), vec![b"made".to_vec()]));
-    assert_eq!(fs::metadata(&path).expect("it is there").mode() & 0o7777, 0o604);
+    assert_eq!(mode_of(&path), 0o604);
     let locked = Index::lock(&new).expect("it can be locked");
     let (read, bytes) = Index::open_with_bytes(&path, Kind::Sha1).expect("it can be read");
     assert_eq!((read.timestamp(), bytes), (Some(past(1_500_000_000)), fs::read(&path).expect("it is there")));
     locked.commit(&read, options).expect("it can be written");
     assert_eq!((time_of(&new), paths_at(&new)), (past(1_500_000_000), vec![b"made".to_vec()]));
+    // (a new index has what the umask leaves of reading and writing, as any file)
+    File::create(folder.at("any")).expect("it can be made");
+    assert_eq!(mode_of(&new), mode_of(&folder.at("any")));
     make(&new, &index_of(b"old"), past(1_400_000_000));
     read.write(&new, Options::default()).expect("it can be written");
     assert_eq!(time_of(&new), past(1_500_000_000));
