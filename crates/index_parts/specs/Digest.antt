@@ -1,8 +1,9 @@
 -- The digest of a list of bytes (FIPS 180-4), and what a hasher has taken in.
 use Rattle.std.specs.Prelude.{◌≡◌, ℕ, zero, suc, List}
-use Rattle.sha1.specs.Sha1 as S1
+use Rattle.sha1.specs.Sha1.{sha1}
 use Rattle.sha2.specs.Sha256.{sha256}
 use Rattle.sha2.specs.Hashers.{Holds256}
+use Rattle.index_digest.specs.Hasher as hashed
 use Rattle.index_parts.specs.declared.hash.Kind.{Kind}
 use Rattle.index_parts.specs.declared.hash.Kind.TheVariants as kinds
 use Rattle.index_parts.specs.declared.hash.Hasher.{Hasher}
@@ -11,7 +12,7 @@ use Rattle.index_parts.specs.declared.hash.Hasher.TheVariants as hashers
 -- the message digest: SHA-1 (section 6.1) or SHA-256 (section 6.2), which are defined below 2 ^ 64 bits;
 -- of a longer message the padding counts the bits modulo 2 ^ 64
 abbrev pub digest : Kind → List ℕ → List ℕ
-digest kinds.Sha1 message = S1.sha1 message
+digest kinds.Sha1 message = sha1 message
 digest kinds.Sha256 message = sha256 message
 
 -- the kind of digest that a hasher makes
@@ -21,7 +22,7 @@ hasher_kind (hashers.Sha256 state) = kinds.Sha256
 
 -- the hasher has taken in these bytes
 abbrev pub Holds : Hasher → List ℕ → Type 0
-Holds (hashers.Sha1 state) message = S1.Holds state message
+Holds (hashers.Sha1 state) message = hashed.Holds state message
 Holds (hashers.Sha256 state) message = Holds256 state message
 
 -- what a hasher over others has taken in, at depth 0, and what those below it have

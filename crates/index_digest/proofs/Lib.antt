@@ -1,0 +1,5 @@
+mod Absorbing
+mod Compressing
+mod Functions
+mod Lanes
+mod Steps
