@@ -1,4 +1,5 @@
 mod Contents
+mod Passing
 mod PathsApart
 mod ReadBack
 mod RecordFaults

@@ -1,10 +1,11 @@
 -- What is written of a list of staged entries is read back as the list.
-use Rattle.std.proofs.Common.{◌≡◌, ℕ, suc, ◌+◌, ◌-◌, List, [], ◌∷◌, ◌++◌, length, All, map, Bool, false, true, not}
-use Rattle.std.proofs.Common.{Option, None, Ok, Err, refl, sym, ap, subst, ◌∙◌, append_assoc, arith}
+use Rattle.std.proofs.Common.{◌≡◌, ℕ, suc, ◌+◌, ◌-◌, List, [], ◌∷◌, ◌++◌, length, All, map, false, true, not}
+use Rattle.std.proofs.Common.{Some, None, Ok, Err, refl, sym, ap, subst, ◌∙◌, append_assoc, arith}
 use Rattle.std.specs.Prelude.{◌≢◌}
 use Rattle.std.specs.List.{AllByRecursion}
 use Rattle.std.proofs.lemmas.List.{append-nil, length-append, map-append, nil_from_length}
-use Rattle.std.proofs.lemmas.List.Elements.{filter-append, recursion_from_All}
+use Rattle.std.proofs.lemmas.Option.{same_Some}
+use Rattle.std.proofs.lemmas.List.Elements.{All-from_recursion, filter-append, recursion_from_All}
 use Rattle.index_objects.specs.Mode.{mode_of_kind}
 use Rattle.index_objects.specs.Object.{Found, object}
 use Rattle.index_objects.specs.TreeObject.{TreeEntry, IsTreeObject, kind_of_mode}
@@ -21,27 +22,15 @@ use Rattle.index_tree_writer.specs.Directory.{Item, Items, leaf, directory, no_m
 use Rattle.index_tree_writer.specs.Directory.{directory_bytes, item_bytes, items_id, item_leaves, leaves}
 use Rattle.index_tree_writer.specs.Directory.{directory_object, item_objects, objects_below, objects as all_objects}
 use Rattle.index_tree_writer.specs.Directory.{key}
-use Rattle.index_tree_writer.specs.Objects.{tree_id}
-use Rattle.index_laws.specs.Reading.{leaf_record, ReadsBack, standing}
-use Rattle.index_tree_writer.specs.Staged.{Staged}
+use Rattle.index_tree_writer.specs.Objects.{Taken, tree_id, with_objects}
+use Rattle.index_tree_writer.specs.Refusals.{Check}
+use Rattle.index_laws.specs.Reading.{HoldsTrees, ItemPasses, NamesPass, ReadsBack, StoredReadBack, leaf_record}
+use Rattle.index_laws.specs.Reading.{standing}
+use Rattle.index_tree_writer.specs.Staged.{Staged, staged_in}
+use Rattle.index_laws.proofs.Passing.{each_of_both, fit_names}
 use Rattle.index_laws.proofs.Contents.{content_is, kind_again, listed, listed_directory, listed_item, tree_id_kind}
 
--- ---- lists
-
-each_of_both : {X : Type 0} (P : X → Type 0) (xs ys : List X) → AllByRecursion P (xs ++ ys)
-    → AllByRecursion P xs × AllByRecursion P ys
-each_of_both P [] ys h = (tt, h)
-each_of_both P (x ∷ xs) ys h = let m = each_of_both P xs ys h.1 in ((h.0, m.0), m.1)
-
 -- ---- a leaf
-
-passes_as : (check : List ℕ → Bool → Option ℕ) (name : List ℕ) (k : EntryKind)
-    → ((n : List ℕ) (symlink : Bool) → check n symlink ≡ None) → refusal_as check name k ≡ None
-passes_as check name kinds.Tree h = rw (h name false) refl
-passes_as check name kinds.Blob h = rw (h name false) refl
-passes_as check name kinds.BlobExecutable h = rw (h name false) refl
-passes_as check name kinds.Link h = rw (h name false) (h name true)
-passes_as check name kinds.Commit h = rw (h name false) refl
 
 leaf_listed : (front name : List ℕ) (k : EntryKind) (id : ObjectId) → k ≢ kinds.Tree
     → leaf_of front (record { mode = mode_of_kind k; name = name; id = id })
@@ -54,8 +43,7 @@ leaf_listed front name kinds.Commit id h = refl
 
 -- ---- a directory
 
-module _ (find : ObjectId → Found) (check : List ℕ → Bool → Option ℕ) (kind : Kind)
-    (passes : (name : List ℕ) (symlink : Bool) → check name symlink ≡ None) where
+module _ (find : ObjectId → Found) (check : Check) (kind : Kind) where
   abbrev IsThere : ObjectId × List ℕ → Type 0
   IsThere o = find o.0 ≡ object objects.Tree o.1
 
@@ -112,24 +100,26 @@ module _ (find : ObjectId → Found) (check : List ℕ → Bool → Option ℕ) 
 
   mutual
     item_yields : (front : List ℕ) (x : Item) (es : List TreeEntry) (n : ℕ) (r : LeavesAnswer) → IsItem kind x
-        → AllByRecursion IsFile (item_leaves front x) → AllByRecursion IsThere (item_objects kind x)
+        → ItemPasses check x → AllByRecursion IsFile (item_leaves front x)
+        → AllByRecursion IsThere (item_objects kind x)
         → Yields find check kind n (some_entries front es) r
         → Yields find check kind (length (item_objects kind x) + n) (some_entries front (listed_item kind x ++ es))
         (with_leaves (map leaf_record (standing (item_leaves front x))) r)
-    item_yields front (leaf name k id true) es n r made files there y =
+    item_yields front (leaf name k id true) es n r made passes files there y =
         at_number n (0 + n) front es _ (omega arith)
         (subst (Yields find check kind n (some_entries front es)) (sym (nothing_with r)) y)
-    item_yields front (leaf name k id false) es n r made files there y =
+    item_yields front (leaf name k id false) es n r made passes files there y =
         let e : TreeEntry = record { mode = mode_of_kind k; name = name; id = id } in
         let none : refusal_as check name (kind_of_mode (mode_of_kind k)) ≡ None =
-        passes_as check name (kind_of_mode (mode_of_kind k)) passes in
+        ap (refusal_as check name) (kind_again k) ∙ passes in
         let file : kind_of_mode (mode_of_kind k) ≢ kinds.Tree = λ is. files.0 (sym (kind_again k) ∙ is) in
         at_number n (0 + n) front (e ∷ es) _ (omega arith)
         (subst (λ (q : Record). Yields find check kind n (some_entries front (e ∷ es)) (with_leaves (q ∷ []) r))
         (leaf_listed front name k id files.0) (one_leaf n front e es r none file y))
-    item_yields front (directory name items) es n r made files there y =
+    item_yields front (directory name items) es n r made passes files there y =
         let both = each_of_both IsThere (objects_below kind items) (directory_object kind (content kind items)) there in
-        by (content kind items) refl both.1 (items_yields (front ++ key name kinds.Tree) items n made.2 files both.0)
+        by (content kind items) refl both.1
+        (items_yields (front ++ key name kinds.Tree) items n made.2 passes.1 files both.0)
       where
         by : (c : List ℕ) → content kind items ≡ c → AllByRecursion IsThere (directory_object kind (content kind items))
             → Yields find check kind (length (objects_below kind items) + n)
@@ -167,23 +157,24 @@ module _ (find : ObjectId → Found) (check : List ℕ → Bool → Option ℕ) 
             (at_number (suc m) (length (objects_below kind items ++ (tree_id kind (d ∷ ds), d ∷ ds) ∷ []) + n) front (e
             ∷ es) _ (omega (arith, length-append (objects_below kind items) ((tree_id kind (d ∷ ds), d ∷ ds) ∷ [])))
             (below (suc m) n front e es (map leaf_record (standing (leaves (front ++ key name kinds.Tree) items))) r
-            (passes_as check name kinds.Tree passes) refl
+            passes.0 refl
             (subst (λ (p : List ℕ). Yields find check kind (suc m) (whole_tree p (tree_id kind (d ∷ ds)))
             (Ok (map leaf_record (standing (leaves (front ++ key name kinds.Tree) items)), n)))
             (sym (append_assoc front name (47 ∷ []))) whole) y))
 
     pub items_yields : (front : List ℕ) (items : Items) (n : ℕ) → AreItems kind items
-        → AllByRecursion IsFile (leaves front items) → AllByRecursion IsThere (objects_below kind items)
+        → NamesPass check items → AllByRecursion IsFile (leaves front items)
+        → AllByRecursion IsThere (objects_below kind items)
         → Yields find check kind (length (objects_below kind items) + n) (some_entries front (listed kind items))
         (Ok (map leaf_record (standing (leaves front items)), n))
-    items_yields front no_more n made files there =
+    items_yields front no_more n made passes files there =
         at_number n (0 + n) front [] (Ok ([], n)) (omega arith) (ended n front)
-    items_yields front (next x xs) n made files there =
+    items_yields front (next x xs) n made passes files there =
         let f = each_of_both IsFile (item_leaves front x) (leaves front xs) files in
         let t = each_of_both IsThere (item_objects kind x) (objects_below kind xs) there in
-        let rest = items_yields front xs n made.1 f.1 t.1 in
+        let rest = items_yields front xs n made.1 passes.1 f.1 t.1 in
         let first = item_yields front x (listed kind xs) (length (objects_below kind xs) + n)
-        (Ok (map leaf_record (standing (leaves front xs)), n)) made.0 f.0 t.0 rest in
+        (Ok (map leaf_record (standing (leaves front xs)), n)) made.0 passes.0 f.0 t.0 rest in
         let rows : map leaf_record (standing (item_leaves front x)) ++ map leaf_record (standing (leaves front xs))
         ≡ map leaf_record (standing (item_leaves front x ++ leaves front xs)) =
         sym (map-append leaf_record (standing (item_leaves front x)) (standing (leaves front xs)))
@@ -197,20 +188,20 @@ module _ (find : ObjectId → Found) (check : List ℕ → Bool → Option ℕ) 
 
 pub reads_back : ReadsBack
 reads_back find check kind staged items most t files there passes enough =
-    let stored = recursion_from_All (IsThere find check kind passes) (all_objects kind items) there in
-    let both = each_of_both (IsThere find check kind passes) (objects_below kind items)
+    let stored = recursion_from_All (IsThere find check kind) (all_objects kind items) there in
+    let both = each_of_both (IsThere find check kind) (objects_below kind items)
     ((items_id kind items, content kind items) ∷ []) stored in
     let same : map leaf_record (standing (leaves [] items)) ≡ map leaf_record (standing staged) =
     ap (λ (l : List Staged). map leaf_record (standing l)) t.leaves in
-    let file = recursion_from_All (IsFile find check kind passes) (leaves [] items)
-    (subst (λ (l : List Staged). All (IsFile find check kind passes) l) (sym t.leaves) files) in
+    let file = recursion_from_All (IsFile find check kind) (leaves [] items)
+    (subst (λ (l : List Staged). All (IsFile find check kind) l) (sym t.leaves) files) in
     let left : ℕ = most - length (all_objects kind items) in
     let number : suc (length (objects_below kind items) + left) ≡ most = omega (
       arith,
       enough,
       length-append (objects_below kind items) ((items_id kind items, content kind items) ∷ []),
     ) in
-    let inner = items_yields find check kind passes [] items left t.directory.made file both.0 in
+    let inner = items_yields find check kind [] items left t.directory.made passes file both.0 in
     let whole : Yields find check kind (suc (length (objects_below kind items) + left))
     (whole_tree [] (items_id kind items)) (Ok (map leaf_record (standing (leaves [] items)), left)) =
     opened (length (objects_below kind items) + left) [] (items_id kind items) (content kind items)
@@ -223,3 +214,19 @@ reads_back find check kind staged items most t files there passes enough =
           (subst (λ (rs : List Record). Yields find check kind (suc (length (objects_below kind items) + left))
           (whole_tree [] (items_id kind items)) (Ok (rs, left))) same whole)),
     )
+
+-- what was put behind others was taken
+held_of : (find : ObjectId → Found) (before : Taken) (written taken : List (ObjectId × List ℕ))
+    → with_objects before written ≡ Some taken → HoldsTrees find taken → HoldsTrees find written
+held_of find None written taken e held = absurd cc
+held_of find (Some others) written taken e held =
+    let all : List (ObjectId × List ℕ) = others ++ written in
+    let same : all ≡ taken = same_Some all taken e in
+    let P : ObjectId × List ℕ → Type 0 = λ o. find o.0 ≡ object objects.Tree o.1 in
+    All-from_recursion P written (each_of_both P others written
+    (recursion_from_All P all (subst (HoldsTrees find) (sym same) held))).1
+
+pub stored_read_back : StoredReadBack
+stored_read_back find check kind rs items most before taken fit t files put held enough =
+    reads_back find check kind (staged_in rs) items most t files
+    (held_of find before (all_objects kind items) taken put held) (fit_names check kind rs items fit t) enough

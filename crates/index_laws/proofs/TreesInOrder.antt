@@ -1,5 +1,5 @@
 -- A cached tree that was read has its siblings in order.
-use Rattle.std.proofs.Common.{◌≡◌, ℕ, List, Option, Some, None, Ok, subst, sym}
+use Rattle.std.proofs.Common.{ℕ, List, Option, Some, None, Ok, subst, sym}
 use Rattle.std.specs.Prelude.{IfSome}
 use Rattle.index_parts.specs.declared.hash.Kind.{Kind}
 use Rattle.index_parts.specs.declared.hash.ObjectId.{ObjectId}

@@ -45,7 +45,7 @@ name_key name kinds.BlobExecutable h =
 name_key name kinds.Link h = record { component = h; is = inr (refl, refl); rest = []; parts = sym (append-nil name) }
 name_key name kinds.Commit h = record { component = h; is = inr (refl, refl); rest = []; parts = sym (append-nil name) }
 
-file_key : (name : List ℕ) (k : EntryKind) → k ≢ kinds.Tree → key name k ≡ name
+pub file_key : (name : List ℕ) (k : EntryKind) → k ≢ kinds.Tree → key name k ≡ name
 file_key name kinds.Tree h = absurd (h refl)
 file_key name kinds.Blob h = refl
 file_key name kinds.BlobExecutable h = refl

@@ -1,6 +1,7 @@
 -- What a store of objects has, and what is listed of it again (git-read-tree).
-use Rattle.std.specs.Prelude.{◌≡◌, ◌≢◌, ℕ, ◌≤◌, List, All, Bool, not, Option, None, Ok, filter, map, length}
+use Rattle.std.specs.Prelude.{◌≡◌, ◌≢◌, ℕ, ◌≤◌, List, All, not, Some, None, Ok, filter, map, length}
 use Rattle.index_objects.specs.Mode.{mode_of_kind}
+use Rattle.index_objects.specs.NameCheck.{refusal_as}
 use Rattle.index_objects.specs.Object.{Found, object}
 use Rattle.index_parts.specs.declared.hash.Kind.{Kind}
 use Rattle.index_parts.specs.declared.hash.ObjectId.{ObjectId}
@@ -9,7 +10,9 @@ use Rattle.index_objects.specs.declared.object.tree.EntryKind.TheVariants as kin
 use Rattle.index_entries.specs.Record.{Record}
 use Rattle.index_trees.specs.Leaves.{AreLeaves, zero_stat}
 use Rattle.index_tree_writer.specs.Directory as D
-use Rattle.index_tree_writer.specs.Staged.{Staged}
+use Rattle.index_tree_writer.specs.Objects.{Taken, with_objects}
+use Rattle.index_tree_writer.specs.Refusals.{AreFit, Check}
+use Rattle.index_tree_writer.specs.Staged.{Staged, staged_in}
 
 -- A store has each of these trees by its id. Where two of them shared an id, and had other bytes, no store would.
 abbrev pub HoldsTrees : (ObjectId → Found) → List (ObjectId × List ℕ) → Type 0
@@ -23,17 +26,46 @@ standing ss = filter (λ s. not s.later) ss
 abbrev pub leaf_record : Staged → Record
 leaf_record s = record { path = s.path; stat = zero_stat; id = s.id; flags = 0; mode = mode_of_kind s.kind }
 
+-- ---- the names in a directory, as a check judges them
+
+-- the check lets each name in it pass, as that of what it stands for, and below it too
+abbrev mutual
+  pub ItemPasses : Check → D.Item → Type 0
+  ItemPasses check (D.leaf name k id later) = refusal_as check name k ≡ None
+  ItemPasses check (D.directory name items) = (refusal_as check name kinds.Tree ≡ None) × NamesPass check items
+
+  pub NamesPass : Check → D.Items → Type 0
+  NamesPass check D.no_more = Unit {0}
+  NamesPass check (D.next x xs) = ItemPasses check x × NamesPass check xs
+
+-- Where a check finds no fault in records, it lets each name in their directory pass.
+abbrev pub FitNamesPass : Type 0
+FitNamesPass =
+    (check : Check) (kind : Kind) (rs : List Record) (items : D.Items) → AreFit check kind rs
+    → D.IsTreeOf kind (staged_in rs) items → NamesPass check items
+
+-- ---- written and listed again
+
 -- Where a store has the trees that are written of a list, each by its id, where no leaf stands for a whole directory,
--- the check lets each name pass, and as many trees may be read as were written, what is listed of the root is what
--- stands in them.
+-- the check lets each name in them pass, and as many trees may be read as were written, what is listed of the root is
+-- what stands in them.
 abbrev pub ReadsBack : Type 0
 ReadsBack =
-    (find : ObjectId → Found) (check : List ℕ → Bool → Option ℕ) (kind : Kind) (staged : List Staged) (items : D.Items)
-    (most : ℕ)
+    (find : ObjectId → Found) (check : Check) (kind : Kind) (staged : List Staged) (items : D.Items) (most : ℕ)
     → D.IsTreeOf kind staged items → All (λ s. s.kind ≢ kinds.Tree) staged → HoldsTrees find (D.objects kind items)
-    → ((name : List ℕ) (symlink : Bool) → check name symlink ≡ None)
-    → length (D.objects kind items) ≤ most
+    → NamesPass check items → length (D.objects kind items) ≤ most
     → AreLeaves find check (D.items_id kind items) most (Ok (map leaf_record (standing staged)))
+
+-- The same of records that fit, by the check by which they are listed, and of a store that has each tree that it has
+-- taken: these and others before.
+abbrev pub StoredReadBack : Type 0
+StoredReadBack =
+    (find : ObjectId → Found) (check : Check) (kind : Kind) (rs : List Record) (items : D.Items) (most : ℕ)
+    (before : Taken) (taken : List (ObjectId × List ℕ))
+    → AreFit check kind rs → D.IsTreeOf kind (staged_in rs) items → All (λ s. s.kind ≢ kinds.Tree) (staged_in rs)
+    → with_objects before (D.objects kind items) ≡ Some taken → HoldsTrees find taken
+    → length (D.objects kind items) ≤ most
+    → AreLeaves find check (D.items_id kind items) most (Ok (map leaf_record (standing (staged_in rs))))
 
 -- a list has one directory at most
 abbrev pub HasOneTree : Type 0

@@ -23,7 +23,7 @@ ghost use Rattle.index_format.specs.Answer.{Answer, IsAnswer, trailer_checksum};
 ghost use Rattle.index_format.specs.Image.{image, trailer};
 ghost use Rattle.index_format.specs.Contents.{Contents};
 ghost use Rattle.index_format.specs.Stored.{expected, stored};
-ghost use Rattle.index_laws.specs.Reading.{HasOneTree, ReadsBack};
+ghost use Rattle.index_laws.specs.Reading.{FitNamesPass, HasOneTree, ReadsBack, StoredReadBack};
 ghost use Rattle.index_laws.specs.Laws.{HasOneReading, HasOneWalk, HasOneBitmap, IsFaithful, IsReread, TakesAll};
 
 pub mod trees;
@@ -106,9 +106,13 @@ pub fn read_trees_are_in_order()
 {}
 
 /// What is written of a list is read back as what stands in trees, where the store has each tree that was written, by
-/// its id.
+/// its id, and the check lets each name in them pass; as it does where it found no fault in the records that were
+/// written. So what `State::write_trees` put into a store is read back from it by the same check, where the store has
+/// each tree that it has taken.
 pub fn written_trees_read_back()
-    ensures { ReadsBack }
+    ensures read { ReadsBack }
+    ensures names { FitNamesPass }
+    ensures stored { StoredReadBack }
 {}
 
 /// A list has one tree of names at most.

@@ -17,7 +17,7 @@ use index_metadata::entry::{Stage, StageRaw};
 use std::cmp::Ordering;
 
 /// Places that a search can ask: each says where it stands to what is looked for.
-pub(crate) trait Ordered {
+pub trait Ordered {
     // The answers, place by place.
     ghost answers: { Self → List Ordering };
 
@@ -108,7 +108,7 @@ fn gallop<R: Ordered>(places: &R, start: usize) -> (usize, usize)
 
 /// The first place behind what is looked for, where all in front of `start` are known to stand before. It takes few
 /// looks where that place is near.
-pub(crate) fn end_from<R: Ordered>(places: &R, start: usize) -> usize
+pub fn end_from<R: Ordered>(places: &R, start: usize) -> usize
     requires { start ≤ length (R.answers places.now) }
     ensures from { start ≤ result }
     ensures in_range { result ≤ length (R.answers places.now) }

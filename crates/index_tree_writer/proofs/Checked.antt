@@ -11,7 +11,8 @@ use Rattle.std.specs.declared.cmp.Ordering.TheVariants.{Less, Equal, Greater}
 use Rattle.std.proofs.Math.Seq.{drop-cons}
 use Rattle.std.proofs.lemmas.List.{append-nil, get_or-map, get_or-take, length-take, length-map, map-append}
 use Rattle.std.proofs.lemmas.List.{take-append-drop, take_more}
-use Rattle.std.proofs.lemmas.List.Elements.{All-cons, All-head, All-map, All-push, All-tail, filter_map-append}
+use Rattle.std.proofs.lemmas.List.Elements.{All-cons, All-head, All-map, All-nil, All-push, All-tail}
+use Rattle.std.proofs.lemmas.List.Elements.{filter_map-append}
 use Rattle.std.proofs.lemmas.List.Kept.{AllPairs-cons}
 use Rattle.std.proofs.lemmas.Option.{same_Some}
 use Rattle.index_parts.specs.Id.{id_bytes, id_kind, is_null}
@@ -129,7 +130,7 @@ says_weaker errors.Memory S P Q h s = s
 
 -- ---- order
 
-some_staged : (r : Record) (x : Staged) → staged_entry r ≡ Some x → (x.path ≡ r.path) × (is_removed r.flags ≡ false)
+pub some_staged : (r : Record) (x : Staged) → staged_entry r ≡ Some x → (x.path ≡ r.path) × (is_removed r.flags ≡ false)
 some_staged r x e = by (is_removed r.flags) (named_kind r.mode) e
   where
     by : (b : Bool) (k : Option EntryKind) → (if b then None else option_map
@@ -142,6 +143,17 @@ some_staged r x e = by (is_removed r.flags) (named_kind r.mode) e
           (sym (same_Some (record { path = r.path; kind = k; id = r.id; later = is_intended r.flags }) x d)),
       refl,
     )
+
+-- what holds of the records so, holds so of what they stage
+pub staged_each : (Q : Record → Type 0) (P : Staged → Type 0)
+    → ((r : Record) (x : Staged) → Q r → staged_entry r ≡ Some x → P x) → (rs : List Record) → All Q rs
+    → All P (staged_in rs)
+staged_each Q P f [] h = All-nil P
+staged_each Q P f (r ∷ rs) h = by (staged_each Q P f rs (All-tail Q r rs h)) (staged_entry r) refl
+  where
+    by : All P (staged_in rs) → (o : Option Staged) → staged_entry r ≡ o → All P (staged_in (r ∷ rs))
+    by rest None e = rw e rest
+    by rest (Some x) e = rw e (All-cons P x (staged_in rs) (f r x (All-head Q r rs h) e) rest)
 
 less_then : (o : Ordering) (m n : ℕ) → m ≡ 0 → n ≡ 0 → ordering_then o (nat_cmp m n) ≡ Less → o ≡ Less
 less_then Less m n a b e = refl

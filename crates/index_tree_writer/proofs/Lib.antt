@@ -12,7 +12,9 @@ pub mod PathNames
 pub mod Pushes
 pub mod Ranges
 pub mod Ready
+mod RunEnds
 pub mod Searches
+mod SharedPaths
 pub mod Sorting
 pub mod Spots
 pub mod Steps

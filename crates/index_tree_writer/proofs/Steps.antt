@@ -20,7 +20,7 @@ use Rattle.index_tree_writer.specs.Refusals.{BeginsWith, IsInside}
 use Rattle.index_tree_writer.specs.Staged.{Staged, cut, staged_entry, staged_in, staged_of}
 use Rattle.index_tree_writer.specs.Objects.{Taken, with_objects}
 use Rattle.index_tree_writer.specs.WritingSteps.{Ahead, Goes, IsBegunDirectory, IsComponent, IsLeaf, IsMadeNode}
-use Rattle.index_tree_writer.specs.WritingSteps.{IsReady, StopsAt, staged_below}
+use Rattle.index_tree_writer.specs.WritingSteps.{IsReady, staged_below}
 use Rattle.index_tree_writer.specs.declared.leaf.Leaf.{Leaf}
 use Rattle.index_tree_writer.specs.declared.write.Made.{Made}
 use Rattle.index_tree_writer.proofs.Begun.{begun_directory, begun_leaf, begun_same}
@@ -36,16 +36,6 @@ pub node_some : (bytes : List ℕ) (r : Bool) → r ≡ (length bytes == 0) → 
     → IsNodeWhere bytes P (t ∷ [])
 node_some [] r e z P t h = absurd (some_from {X = ℕ} [] r e z (refl))
 node_some (b ∷ bytes) r e z P t h = (t, refl, h)
-
-nat_below_or_same : (a b : ℕ) → a ≤ b → (a < b) ⊎ (a ≡ b)
-nat_below_or_same zero zero le = inr refl
-nat_below_or_same zero (suc b) le = inl (omega arith)
-nat_below_or_same (suc a) zero le = absurd (omega (arith, le))
-nat_below_or_same (suc a) (suc b) le = by (nat_below_or_same a b (omega (arith, le)))
-  where
-    by : (a < b) ⊎ (a ≡ b) → (suc a < suc b) ⊎ (suc a ≡ suc b)
-    by (inl l) = inl (omega (arith, l))
-    by (inr e) = inr (ap suc e)
 
 all_back : (P : Staged → Type 0) (xs ys : List Staged) → All P (xs ++ ys) → All P ys
 all_back P [] ys h = h
@@ -64,39 +54,6 @@ module _ (rs : List Record) (front a : ℕ) (o : Option Leaf) (lt : a < length r
   pub some_below : (leaf : Leaf) → o ≡ Some leaf
       → staged_below front (slice_range rs a (a + 1)) ≡ cut front (staged_of leaf) ∷ []
   some_below leaf z = one_below ∙ ap (λ (p : Option Leaf). map (cut front) (option_to_list (option_map staged_of p))) z
-
--- whether it goes on so
-pub goes_yes : (front : ℕ) (shown : List ℕ) (r : Record) (o : Option Leaf) (leaf : Leaf) → o ≡ Some leaf
-    → option_map staged_of o ≡ staged_entry r → BeginsWith (drop front leaf.path.now) shown
-    → All (Goes front shown) (staged_in (r ∷ []))
-goes_yes front shown r o leaf is e b =
-    let listed : staged_in (r ∷ []) ≡ staged_of leaf ∷ [] =
-    one_of r (option_map staged_of o) e ∙ ap (λ (p : Option Leaf). option_to_list (option_map staged_of p)) is in
-    subst (All (Goes front shown)) (sym listed)
-    (All-cons (Goes front shown) (staged_of leaf) [] b (All-nil (Goes front shown)))
-
--- a run of records that go on alike, one more
-pub run_more : (rs : List Record) (front : ℕ) (shown : List ℕ) (start a : ℕ) → start ≤ a → a < length rs
-    → All (Goes front shown) (staged_in (slice_range rs start a))
-    → HoldsAt (λ r. All (Goes front shown) (staged_in (r ∷ []))) rs a
-    → All (Goes front shown) (staged_in (slice_range rs start (a + 1)))
-run_more rs front shown start a le lt h g =
-    let parts : staged_in (slice_range rs start (a + 1))
-    ≡ staged_in (slice_range rs start a) ++ staged_in (get_or rs a no_record ∷ []) =
-    ap staged_in (range_parts rs start a (a + 1) le (omega arith)) ∙ filter_parts in
-    subst (All (Goes front shown)) (sym parts) (All-append (Goes front shown) (staged_in (slice_range rs start a))
-    (staged_in (get_or rs a no_record ∷ [])) h (g no_record))
-  where
-    filter_parts : staged_in (slice_range rs start a ++ slice_range rs a (a + 1))
-        ≡ staged_in (slice_range rs start a) ++ staged_in (get_or rs a no_record ∷ [])
-    filter_parts = filter_map-append staged_entry (slice_range rs start a) (slice_range rs a (a + 1))
-        ∙ ap (λ (l : List Record). staged_in (slice_range rs start a) ++ staged_in l) (range_one rs a no_record lt)
-
-pub run_one : (rs : List Record) (front : ℕ) (shown : List ℕ) (a : ℕ) → a < length rs
-    → HoldsAt (λ r. All (Goes front shown) (staged_in (r ∷ []))) rs a
-    → All (Goes front shown) (staged_in (slice_range rs a (a + 1)))
-run_one rs front shown a lt g =
-    subst (λ (l : List Record). All (Goes front shown) (staged_in l)) (sym (range_one rs a no_record lt)) (g no_record)
 
 pub cut_under_all : (front : ℕ) (shown : List ℕ) (ss : List Staged) → All (Goes front shown) ss
     → map (under shown) (map (cut (front + length shown)) ss) ≡ map (cut front) ss
@@ -267,23 +224,13 @@ module _ (rs : List Record) (kind : Kind) (front start at end levels : ℕ) (old
       pub front_fits : front + length shown ≤ length leaf.path.now
       front_fits = omega (arith, long, ap length tailed, length-drop front leaf.path.now)
 
-      ahead_stop : (staged_below front (slice_range rs stop end) ≡ []) ⊎ HoldsAt (StopsAt front shown) rs stop
-          → (stop < end) ⊎ (stop ≡ end) → (head : Staged) (more : List Staged)
-          → staged_below front (slice_range rs stop end) ≡ head ∷ more → BeginsWith head.path shown → ⊥
-      ahead_stop (inl z) place head rest e b = absurd (cc (z, e))
-      ahead_stop (inr f) (inr z) head rest e b =
-          absurd (cc (ap (staged_below front) (ap (slice_range rs stop) (sym z) ∙ range_none rs stop), e))
-      ahead_stop (inr f) (inl l) head rest e b =
-          let g = f no_record in
-          let one : staged_in (slice_range rs stop (stop + 1)) ≡ g.0 ∷ [] =
-          ap staged_in (range_one rs stop no_record (omega arith))
-          ∙ one_of (get_or rs stop no_record) (Some g.0) (sym g.1) in
-          let whole : cut front g.0 ∷ staged_below front (slice_range rs (stop + 1) end) ≡ head ∷ rest =
-          sym (below_parts front rs stop (stop + 1) end (omega arith) (omega arith)
-          ∙ ap (λ (l : List Staged). map (cut front) l ++ staged_below front (slice_range rs (stop + 1) end)) one)
-          ∙ e in
-          let same : cut front g.0 ≡ head = cc in
-          g.2 (subst (λ (t : Staged). BeginsWith t.path shown) (sym same) b)
+      ahead_stop : (ss : List Staged) → All (λ s. Goes front shown s → ⊥) ss → (head : Staged) (more : List Staged)
+          → map (cut front) ss ≡ head ∷ more → BeginsWith head.path shown → ⊥
+      ahead_stop [] f head rest e b = absurd cc
+      ahead_stop (s ∷ ss) f head rest e b =
+          let same : cut front s ≡ head = cc in
+          All-head (λ s. Goes front shown s → ⊥) s ss f
+          (subst (λ (t : Staged). BeginsWith t.path shown) (sym same) b)
 
       behind_stop : behind
           ≡ staged_below front (slice_range rs (at + 1) stop) ++ staged_below front (slice_range rs stop end)
@@ -299,23 +246,15 @@ module _ (rs : List Record) (kind : Kind) (front start at end levels : ℕ) (old
           (staged_below front (slice_range rs stop end))
           (subst (All (λ t. path_cmp s.path t.path ≡ Less)) behind_stop above)
 
-      ahead_dir : (stop ≡ end) ⊎ HoldsAt (StopsAt front shown) rs stop
+      ahead_dir : All (λ s. Goes front shown s → ⊥) (staged_in (slice_range rs stop end))
           → All (Ahead shown) (staged_below front (slice_range rs stop end))
       ahead_dir f =
           ahead_directory name shown comp_s.rest (staged_below front (slice_range rs stop end)) slashed comp.component
           (subst (λ (p : List ℕ). All (λ t. path_cmp p t.path ≡ Less) (staged_below front (slice_range rs stop end)))
-          comp_s.parts above_stop) ready_stop.rise (by f)
-        where
-          order : (stop < end) ⊎ (stop ≡ end)
-          order = nat_below_or_same stop end high
+          comp_s.parts above_stop) ready_stop.rise (ahead_stop (staged_in (slice_range rs stop end)) f)
 
-          by : (stop ≡ end) ⊎ HoldsAt (StopsAt front shown) rs stop → (head : Staged) (rest : List Staged)
-              → staged_below front (slice_range rs stop end) ≡ head ∷ rest → BeginsWith head.path shown → ⊥
-          by (inl z) =
-              ahead_stop (inl (ap (staged_below front) (ap (slice_range rs stop) (sym z) ∙ range_none rs stop))) order
-          by (inr g) = ahead_stop (inr g) order
-
-      pub begun_over : (stop ≡ end) ⊎ HoldsAt (StopsAt front shown) rs stop → (i n : Made) (middle newer : Taken)
+      pub begun_over : All (λ s. Goes front shown s → ⊥) (staged_in (slice_range rs stop end))
+          → (i n : Made) (middle newer : Taken)
           → IsBegunDirectory kind (staged_below (front + length shown) (slice_range rs at stop)) [] i new middle
           → n.bytes.items ≡ m.bytes.items ++ directory_bytes kind name i.bytes.items → (us : List Node)
           × (map node_of n.children.items ≡ map node_of m.children.items ++ us) × IsMadeNode kind name i us

@@ -7,7 +7,6 @@ use Rattle.std.specs.Option.{option_map}
 use Rattle.std.specs.declared.cmp.Ordering.TheVariants.{Less}
 use Rattle.std.proofs.lemmas.Cmp.{nat_list_cmp_total, tied_itself}
 use Rattle.std.proofs.lemmas.List.{get_or_default}
-use Rattle.std.proofs.lemmas.List.Elements.{All-cons, All-head, All-nil, All-tail}
 use Rattle.std.proofs.lemmas.Option.{same_Some}
 use Rattle.index_parts.specs.declared.hash.Kind.{Kind}
 use Rattle.index_objects.specs.Mode.{named_kind}
@@ -15,10 +14,10 @@ use Rattle.index_objects.specs.declared.object.tree.EntryKind.{EntryKind}
 use Rattle.index_entries.specs.EntryImage.{is_removed}
 use Rattle.index_entries.specs.Order.{IsStrictlyOrdered, path_cmp}
 use Rattle.index_entries.specs.Record.{Record}
-use Rattle.index_tree_writer.specs.Refusals.{AreFit, Check, IsFit, IsInside, IsTreePath}
+use Rattle.index_tree_writer.specs.Refusals.{AreFit, Check, IsFit, IsIdOf, IsInside, IsTreePath}
 use Rattle.index_tree_writer.specs.Staged.{Staged, cut, is_intended, staged_entry, staged_in}
 use Rattle.index_tree_writer.specs.WritingSteps.{IsLeaf, IsReady, staged_below}
-use Rattle.index_tree_writer.proofs.Checked.{staged_rise}
+use Rattle.index_tree_writer.proofs.Checked.{staged_each, staged_rise}
 use Rattle.index_tree_writer.proofs.Ranges.{range_whole}
 
 cut_none : (ss : List Staged) → map (cut 0) ss ≡ ss
@@ -29,35 +28,32 @@ pub whole_below : (rs : List Record) → staged_below 0 (slice_range rs 0 (lengt
 whole_below rs = ap (staged_below 0) (range_whole rs) ∙ cut_none (staged_in rs)
 
 module _ (check : Check) (kind : Kind) where
-  leaf_fit : (r : Record) (x : Staged) → IsFit check kind r → staged_entry r ≡ Some x → IsLeaf kind 2048 x
+  leaf_fit : (r : Record) (x : Staged) → IsFit check kind r → staged_entry r ≡ Some x
+      → IsTreePath check 2048 x.kind x.path × IsIdOf kind x.id
   leaf_fit r x h e = by (is_removed r.flags) refl (named_kind r.mode) refl e
     where
       by : (b : Bool) → is_removed r.flags ≡ b → (k : Option EntryKind) → named_kind r.mode ≡ k → (if b then None else
           option_map (λ k. record { path = r.path; kind = k; id = r.id; later = is_intended r.flags }) k) ≡ Some x
-          → IsLeaf kind 2048 x
+          → IsTreePath check 2048 x.kind x.path × IsIdOf kind x.id
       by true f k n d = absurd cc
       by false f None n d = absurd cc
       by false f (Some k) n d =
           let fit = h f in
           let kind_is : fit.1.0 ≡ k = same_Some fit.1.0 k (sym fit.1.1.0 ∙ n) in
-          subst (IsLeaf kind 2048)
+          subst (λ (s : Staged). IsTreePath check 2048 s.kind s.path × IsIdOf kind s.id)
           (same_Some (record { path = r.path; kind = k; id = r.id; later = is_intended r.flags }) x d)
-          (record {
-            check = check;
-            path = subst (λ (j : EntryKind). IsTreePath check 2048 j r.path) kind_is fit.1.1.1;
-            of_kind = fit.2.0;
-            len = fit.2.1;
-          })
+          (subst (λ (j : EntryKind). IsTreePath check 2048 j r.path) kind_is fit.1.1.1, (fit.2.0, fit.2.1))
+
+  -- what is staged so far is right
+  pub each_path : (rs : List Record) → All (IsFit check kind) rs
+      → All (λ s. IsTreePath check 2048 s.kind s.path) (staged_in rs)
+  each_path = staged_each (IsFit check kind) (λ s. IsTreePath check 2048 s.kind s.path)
+      (λ r x h e. (leaf_fit r x h e).0)
 
   each_leaf : (rs : List Record) → All (IsFit check kind) rs → All (IsLeaf kind 2048) (staged_in rs)
-  each_leaf [] h = All-nil (IsLeaf kind 2048)
-  each_leaf (r ∷ rs) h = by (each_leaf rs (All-tail (IsFit check kind) r rs h)) (staged_entry r) refl
-    where
-      by : All (IsLeaf kind 2048) (staged_in rs) → (o : Option Staged) → staged_entry r ≡ o
-          → All (IsLeaf kind 2048) (staged_in (r ∷ rs))
-      by rest None e = rw e rest
-      by rest (Some x) e =
-          rw e (All-cons (IsLeaf kind 2048) x (staged_in rs) (leaf_fit r x (All-head (IsFit check kind) r rs h) e) rest)
+  each_leaf = staged_each (IsFit check kind) (IsLeaf kind 2048) (λ r x h e.
+      let f = leaf_fit r x h e in
+      record { check = check; path = f.0; of_kind = f.1.0; len = f.1.1 })
 
   pub ready_whole : (rs : List Record) → IsStrictlyOrdered rs → AreFit check kind rs
       → IsReady kind 2048 (staged_below 0 (slice_range rs 0 (length rs)))

@@ -1,11 +1,13 @@
 pub mod ApartSteps
 pub mod Cached
 pub mod Directory
+pub mod EndSteps
 pub mod Kept
 pub mod KeptSteps
 pub mod MergedSteps
 pub mod Objects
 pub mod Refusals
+pub mod SharedSteps
 pub mod Staged
 pub mod TreeIds
 pub mod TreeIdsSteps

@@ -40,10 +40,6 @@ paths ss = map (λ s. s.path) ss
 abbrev pub Goes : ℕ → List ℕ → Staged → Type 0
 Goes prefix_len shown s = BeginsWith (drop prefix_len s.path) shown
 
--- the record stages what has other bytes there
-abbrev pub StopsAt : ℕ → List ℕ → Record → Type 0
-StopsAt prefix_len shown r = (s : Staged) × (staged_entry r ≡ Some s) × (Goes prefix_len shown s → ⊥)
-
 -- a leaf behind a prefix: its path is made of names, and its id is of the kind
 pub record IsLeaf (kind : Kind) (levels : ℕ) (s : Staged) : Type 0 where
   pub check : Check

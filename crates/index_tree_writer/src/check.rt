@@ -1,18 +1,19 @@
 //! Whether entries have trees.
 
-ghost use Rattle.std.specs.Prelude.{◌≡◌, ◌↔◌, ◌<◌, ◌^◌, ◌++◌, [], ◌∷◌, ℕ, List, IsTrue, IfOk, IfErr, OnOk, length};
+ghost use Rattle.std.specs.Prelude.{◌≡◌, ◌↔◌, ◌<◌, ◌^◌, ◌++◌, ◌⊎◌, [], ◌∷◌, ℕ, List, IsTrue, IfOk, IfErr, OnOk, length};
 ghost use Rattle.std.specs.Prelude.{take};
 ghost use Rattle.std.specs.List.{HoldsAt};
 ghost use Rattle.index_parts.specs.Id.{id_bytes, id_kind, id_len};
 ghost use Rattle.index_entries.specs.Order.{IsStrictlyOrdered};
-ghost use Rattle.index_tree_writer.specs.ApartSteps.{AreBeginnings, LiesInOne};
+ghost use Rattle.index_tree_writer.specs.ApartSteps.{AreBeginnings, EndsWith, LiesInOne};
 ghost use Rattle.index_tree_writer.specs.Refusals.{AreFit, RecordHasFault, IsFit, AreRefused, SaysTreesFault};
+ghost use Rattle.index_tree_writer.specs.SharedSteps.{IsPassed};
 ghost use Rattle.index_tree_writer.specs.Staged.{Staged};
 
 use crate::apart::{beginnings_of, last_above};
 use crate::error::{Error, NameFault};
 use crate::leaf::{Leaf, is_removed, leaf_at};
-use crate::names::fault_of;
+use crate::shared::fault_behind;
 use bstr::BString;
 use index_entries::slice::EntrySlice;
 use index_objects::check::ComponentCheck;
@@ -30,15 +31,17 @@ fn is_of(id: &ObjectId, kind: Kind) -> bool
     id.as_bytes().len() == kind.len_in_bytes()
 }
 
-/// Fails where what the entry at this index says of itself has no place in a tree.
+/// Fails where what the entry at this index says of itself has no place in a tree. The path before it has one.
 fn check_entry<C: ComponentCheck>(
     alloc: Global,
     kind: Kind,
     check: &C,
     entries: &EntrySlice<'_>,
     place: usize,
+    before: &[u8],
 ) -> Result<(), Error>
-    requires { place < length entries.now }
+    requires within { place < length entries.now }
+    requires passed { IsPassed (C.refusal check.now) 2048 before.now }
     ensures fit { IfOk result
         (λ _. HoldsAt (IsFit (C.refusal check.now) kind) entries.now place) }
     ensures fault { IfErr result (λ e. SaysTreesFault e (λ n. ⊥)
@@ -61,7 +64,7 @@ fn check_entry<C: ComponentCheck>(
             mode: entry.mode,
         });
     };
-    if let Some(fault) = fault_of(check, MAX_LEVELS, mode.kind(), path) {
+    if let Some(fault) = fault_behind(check, MAX_LEVELS, mode.kind(), before, path) {
         return Err(Error::Path {
             path: BString::from_slice(alloc, path)?,
             fault,
@@ -99,6 +102,16 @@ fn check_apart<'a>(alloc: Global, files: &mut Vec<Leaf<'a>>, leaf: Leaf<'a>) -> 
     Ok(())
 }
 
+/// The path of the last of these leaves, or none.
+fn last_path<'a>(files: &[Leaf<'a>]) -> &'a [u8]
+    ensures { (result.now ≡ []) ⊎ EndsWith files.now (λ f. f.path.now ≡ result.now) }
+{
+    let Some(file) = files.last().copied() else {
+        return &[];
+    };
+    file.path
+}
+
 /// Fails at the first entry that has no place in the trees of those up to it.
 pub(crate) fn check_entries<C: ComponentCheck>(
     alloc: Global,
@@ -117,7 +130,7 @@ pub(crate) fn check_entries<C: ComponentCheck>(
     }
     let mut files = Vec::new(alloc);
     for place in 0..entries.len() {
-        check_entry(alloc, kind, check, entries, place)?;
+        check_entry(alloc, kind, check, entries, place, last_path(&files))?;
         if let Some(leaf) = leaf_at(entries, place) {
             check_apart(alloc, &mut files, leaf)?;
         }

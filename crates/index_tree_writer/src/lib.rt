@@ -3,12 +3,14 @@
 
 mod apart;
 mod check;
+mod ends;
 mod error;
 pub mod kept;
 mod leaf;
 mod merged;
 mod names;
 mod object;
+mod shared;
 mod sink;
 pub mod tree_ids;
 pub mod write;

@@ -1,6 +1,6 @@
 //! The names that a path is made of.
 
-ghost use Rattle.std.specs.Prelude.{◌≡◌, ◌≢◌, ℕ, All, None, IfSome};
+ghost use Rattle.std.specs.Prelude.{◌≡◌, ◌≢◌, ℕ, All, None, IfSome, drop};
 ghost use Rattle.std.specs.Option.{option_map};
 ghost use Rattle.index_objects.specs.NameCheck.{refusal_as};
 ghost use Rattle.index_tree_writer.specs.Directory.{IsName};
@@ -19,6 +19,14 @@ pub(crate) struct Component<'a> {
     pub(crate) name: &'a [u8],
     /// With it, where there is one.
     pub(crate) shown: &'a [u8],
+}
+
+/// A path without a prefix of so many bytes.
+pub(crate) fn tail_of(path: &[u8], prefix_len: usize) -> &[u8]
+    ensures { result.now ≡ drop prefix_len path.now }
+{
+    let (_, tail) = path.split_at(prefix_len.min(path.len()));
+    tail
 }
 
 /// The first component.

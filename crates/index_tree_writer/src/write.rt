@@ -2,7 +2,6 @@
 
 ghost use Rattle.std.specs.Prelude.{◌≡◌, ◌⊎◌, ◌+◌, ◌<◌, ◌≤◌, ◌^◌, ◌++◌, ◌||◌, [], ◌∷◌, ℕ, List, IsTrue, false, length};
 ghost use Rattle.std.specs.Prelude.{drop, map, All, IfOk, IfErr, OnOk, Some, slice_range};
-ghost use Rattle.std.specs.List.{HoldsAt};
 ghost use Rattle.std.specs.List.Sorted.{IsPermutation, IsSorted};
 ghost use Rattle.index_objects.specs.declared.object.tree.EntryKind.TheVariants as kinds;
 ghost use Rattle.index_entries.specs.Order.{IsStrictlyOrdered};
@@ -11,16 +10,18 @@ ghost use Rattle.index_cached_tree.specs.declared.Tree.TheViews.{out-Tree};
 ghost use Rattle.index_tree_writer.specs.Cached.{IsCached, leaf_nodes};
 ghost use Rattle.index_tree_writer.specs.Directory.{IsTreeOf, Items, directory_bytes, directory_object, leaf_bytes};
 ghost use Rattle.index_tree_writer.specs.Directory.{objects};
+ghost use Rattle.index_tree_writer.specs.EndSteps.{NeverFall};
 ghost use Rattle.index_tree_writer.specs.Objects.{tree_id, with_objects};
-ghost use Rattle.index_tree_writer.specs.Refusals.{AreFit, BeginsWith, AreRefused, SaysTreesFault};
-ghost use Rattle.index_tree_writer.specs.Staged.{Staged, staged_in};
-ghost use Rattle.index_tree_writer.specs.WritingSteps.{Goes, IsBegunDirectory, IsFinished, IsMadeNode, IsReady};
-ghost use Rattle.index_tree_writer.specs.WritingSteps.{StopsAt, staged_below};
+ghost use Rattle.index_tree_writer.specs.Refusals.{AreFit, AreRefused, SaysTreesFault};
+ghost use Rattle.index_tree_writer.specs.Staged.{staged_in};
+ghost use Rattle.index_tree_writer.specs.WritingSteps.{IsBegunDirectory, IsFinished, IsMadeNode, IsReady};
+ghost use Rattle.index_tree_writer.specs.WritingSteps.{staged_below};
 
 use crate::check::{MAX_LEVELS, check_entries};
+use crate::ends::end_of;
 use crate::error::Error;
 use crate::leaf::{Leaf, is_tree, leaf_at};
-use crate::names::component_of;
+use crate::names::{component_of, tail_of};
 use crate::object::{push_entry, tree_id};
 use crate::sink::Sink;
 use index_cached_tree::Tree;
@@ -40,53 +41,6 @@ struct Made {
     children: Vec<Tree>,
     count: u32,
     later: bool,
-}
-
-/// The path of a leaf without a prefix of so many bytes.
-fn tail_of<'a>(leaf: &Leaf<'a>, prefix_len: usize) -> &'a [u8]
-    ensures { result.now ≡ drop prefix_len leaf.now.path.now }
-{
-    let (_, tail) = leaf.path.split_at(prefix_len.min(leaf.path.len()));
-    tail
-}
-
-/// Whether the path of the entry at an index goes on like this behind a prefix, or the entry stages nothing.
-fn goes_on(entries: &EntrySlice<'_>, place: usize, prefix_len: usize, shown: &[u8]) -> bool
-    requires { place < length entries.now }
-    ensures yes { IsTrue result
-        → HoldsAt (λ r. All (Goes prefix_len shown.now) (staged_in (r ∷ []))) entries.now place }
-    ensures no { result ≡ false → HoldsAt (StopsAt prefix_len shown.now) entries.now place }
-{
-    match leaf_at(entries, place) {
-        Some(leaf) => tail_of(&leaf, prefix_len).starts_with(shown),
-        None => true,
-    }
-}
-
-/// Up to where the paths of the entries from an index on go on like this behind a prefix.
-fn end_of(
-    entries: &EntrySlice<'_>,
-    start: usize,
-    end: usize,
-    prefix_len: usize,
-    shown: &[u8],
-) -> usize
-    requires some { start < end }
-    requires within { end ≤ length entries.now }
-    requires first { HoldsAt (λ r. All (Goes prefix_len shown.now) (staged_in (r ∷ [])))
-        entries.now start }
-    ensures more { start < result }
-    ensures within { result ≤ end }
-    ensures run { All (Goes prefix_len shown.now)
-        (staged_in (slice_range entries.now start result)) }
-    ensures stops { (result ≡ end) ⊎ HoldsAt (StopsAt prefix_len shown.now) entries.now result }
-{
-    for place in start + 1..end {
-        if !goes_on(entries, place, prefix_len, shown) {
-            return place;
-        }
-    }
-    end
 }
 
 /// The node of a leaf that stands for a directory.
@@ -245,6 +199,7 @@ fn directory_of<S: Sink>(
     requires order { run.start ≤ run.end }
     requires within { run.end ≤ length entries.now }
     requires few { length entries.now < 2 ^ 31 }
+    requires in_order { NeverFall run.prefix_len entries.now run.start run.end }
     requires ready { IsReady kind levels
         (staged_below run.prefix_len (slice_range entries.now run.start run.end)) }
     ensures made { IfOk result (λ m. IsBegunDirectory kind
@@ -260,7 +215,7 @@ fn directory_of<S: Sink>(
             at += 1;
             continue;
         };
-        let tail = tail_of(&leaf, run.prefix_len);
+        let tail = tail_of(leaf.path, run.prefix_len);
         let component = component_of(tail);
         let shown = component.shown;
         if shown.len() < tail.len() {

@@ -1,11 +1,13 @@
-use Rattle.std.proofs.Common.{◌<◌, ◌^◌, ◌+◌, List, length, map, take, sym, ap, subst, arith}
+use Rattle.std.proofs.Common.{◌≡◌, ◌⊎◌, [], ◌<◌, ◌^◌, ◌+◌, List, length, map, take, sym, ap, subst, arith}
 use Rattle.std.proofs.lemmas.Result.{err_from_is_err_and}
+use Rattle.index_tree_writer.specs.ApartSteps.{EndsWith}
 use Rattle.index_tree_writer.specs.Refusals.{AreRefused, too_many}
 use Rattle.index_tree_writer.specs.Staged.{staged_in, staged_of}
 use Rattle.index_tree_writer.specs.declared.leaf.Leaf.{Leaf}
 use Rattle.index_tree_writer.proofs.Checked.{both_fault, first_fault, fit_more, kept_leaf, kept_none_more, says_weaker}
 use Rattle.index_tree_writer.proofs.Ranges.{no_record}
 use Rattle.index_tree_writer.proofs.Aparts.{MayBegin}
+use Rattle.index_tree_writer.proofs.SharedPaths.{last_passed}
 use Rattle.index_tree_writer.proofs.check.check_entries.Goals as goal
 use Rattle.index_tree_writer.proofs.check.check_entries.Goals.{in-Some+in_ok-check_apart, in_default}
 
@@ -64,3 +66,11 @@ loop-place-preserved g c =
             c.leaf_at.ensures c.loop-place.invariant.kept)
       ];
     }
+
+pub check_entry-requires-clause-passed : goal.check_entry-requires-clause-passed
+check_entry-requires-clause-passed g c =
+    let path = c.last_path.result.now in
+    last_passed (g.C.ComponentCheck.refusal c.args.check.now) c.args.kind (take c.loop-place.place c.args.entries.now)
+    c.loop-place.files.items path c.loop-place.invariant.each c.loop-place.invariant.kept
+    (subst (λ (l : List Leaf). (path ≡ []) ⊎ EndsWith l (λ f. f.path.now ≡ path)) c.deref.ensures.value
+    c.last_path.ensures)

@@ -3,6 +3,7 @@ use Rattle.std.specs.Prelude.{slice_range}
 use Rattle.index_tree_writer.specs.Staged.{Staged}
 use Rattle.index_tree_writer.specs.WritingSteps.{IsBegunDirectory, staged_below}
 use Rattle.index_tree_writer.proofs.Begun.{begun_none}
+use Rattle.index_tree_writer.proofs.RunEnds.{fall_behind, goes_staged, leaf_goes, stops_staged}
 use Rattle.index_tree_writer.proofs.Ranges.{range_none}
 use Rattle.index_tree_writer.proofs.Steps.{a_level, ahead_none, begun_more, begun_over, begun_skip, count_fits}
 use Rattle.index_tree_writer.proofs.Steps.{counts_fit, ready_inner}
@@ -57,7 +58,8 @@ overflow_sub-levels g t c =
     c.requires.ready inv.begun c.leaf_at.result c.leaf_at.ensures c.in-Some.leaf c.in-Some.is
     c.tail_of-tail.result.now c.component_of-component.result.name.now c.component_of-component.result.shown.now
     c.tail_of-tail.ensures c.component_of-component.ensures c.if-shown-tail.true c.end_of-stop.result
-    c.end_of-stop.ensures.more c.end_of-stop.ensures.within c.end_of-stop.ensures.run).1
+    c.end_of-stop.ensures.more c.end_of-stop.ensures.within (goes_staged prefix_len c.component_of-component.result.shown.now rs at c.end_of-stop.result
+    (omega (arith, c.end_of-stop.ensures.within, c.requires.within)) c.end_of-stop.ensures.run)).1
 
 pub directory_of-requires : goal.directory_of-requires
 directory_of-requires g t c = λ κs sub.
@@ -74,7 +76,8 @@ directory_of-requires g t c = λ κs sub.
     c.requires.within c.requires.ready inv.begun c.leaf_at.result c.leaf_at.ensures c.in-Some.leaf c.in-Some.is
     c.tail_of-tail.result.now c.component_of-component.result.name.now c.component_of-component.result.shown.now
     c.tail_of-tail.ensures c.component_of-component.ensures c.if-shown-tail.true c.end_of-stop.result
-    c.end_of-stop.ensures.more c.end_of-stop.ensures.within c.end_of-stop.ensures.run).1 in (
+    c.end_of-stop.ensures.more c.end_of-stop.ensures.within (goes_staged prefix_len c.component_of-component.result.shown.now rs at c.end_of-stop.result
+    (omega (arith, c.end_of-stop.ensures.within, c.requires.within)) c.end_of-stop.ensures.run)).1 in (
       omega (arith, c.decreases, level),
       (
         sub,
@@ -84,13 +87,19 @@ directory_of-requires g t c = λ κs sub.
             omega (arith, c.end_of-stop.ensures.within, c.requires.within),
             (
               c.requires.few,
-              ready_inner rs kind prefix_len c.args.run.start at c.args.run.end c.args.levels old new m inv.low lt
-                  c.requires.within c.requires.ready inv.begun c.leaf_at.result c.leaf_at.ensures c.in-Some.leaf
-                  c.in-Some.is
-                  c.tail_of-tail.result.now c.component_of-component.result.name.now
-                  c.component_of-component.result.shown.now
-                  c.tail_of-tail.ensures c.component_of-component.ensures c.if-shown-tail.true c.end_of-stop.result
-                  c.end_of-stop.ensures.more c.end_of-stop.ensures.within c.end_of-stop.ensures.run,
+              (
+                fall_behind prefix_len c.component_of-component.result.shown.now rs c.args.run.start c.args.run.end at
+                    c.end_of-stop.result c.requires.in_order inv.low c.end_of-stop.ensures.within
+                    c.end_of-stop.ensures.run,
+                ready_inner rs kind prefix_len c.args.run.start at c.args.run.end c.args.levels old new m inv.low lt
+                    c.requires.within c.requires.ready inv.begun c.leaf_at.result c.leaf_at.ensures c.in-Some.leaf
+                    c.in-Some.is
+                    c.tail_of-tail.result.now c.component_of-component.result.name.now
+                    c.component_of-component.result.shown.now
+                    c.tail_of-tail.ensures c.component_of-component.ensures c.if-shown-tail.true c.end_of-stop.result
+                    c.end_of-stop.ensures.more c.end_of-stop.ensures.within (goes_staged prefix_len c.component_of-component.result.shown.now rs at c.end_of-stop.result
+                    (omega (arith, c.end_of-stop.ensures.within, c.requires.within)) c.end_of-stop.ensures.run),
+              ),
             ),
           ),
         ),
@@ -112,7 +121,8 @@ push_directory-requires g t c =
     c.requires.within c.requires.ready inv.begun c.leaf_at.result c.leaf_at.ensures c.in-Some.leaf c.in-Some.is
     c.tail_of-tail.result.now c.component_of-component.result.name.now c.component_of-component.result.shown.now
     c.tail_of-tail.ensures c.component_of-component.ensures c.if-shown-tail.true c.end_of-stop.result
-    c.end_of-stop.ensures.more c.end_of-stop.ensures.within c.end_of-stop.ensures.run c.requires.few
+    c.end_of-stop.ensures.more c.end_of-stop.ensures.within (goes_staged prefix_len c.component_of-component.result.shown.now rs at c.end_of-stop.result
+    (omega (arith, c.end_of-stop.ensures.within, c.requires.within)) c.end_of-stop.ensures.run) c.requires.few
     c.in_ok-inner.inner (g.S.Sink.stored c.directory_of.new.sink) c.in_ok-inner.ensures.made
 
 pub loop-at-preserved-then-shown-tail : goal.loop-at-preserved-then-shown-tail
@@ -134,7 +144,9 @@ loop-at-preserved-then-shown-tail g t c =
           c.requires.within c.requires.ready inv.begun c.leaf_at.result c.leaf_at.ensures c.in-Some.leaf c.in-Some.is
           c.tail_of-tail.result.now c.component_of-component.result.name.now c.component_of-component.result.shown.now
           c.tail_of-tail.ensures c.component_of-component.ensures c.if-shown-tail.true c.end_of-stop.result
-          c.end_of-stop.ensures.more c.end_of-stop.ensures.within c.end_of-stop.ensures.run c.end_of-stop.ensures.stops
+          c.end_of-stop.ensures.more c.end_of-stop.ensures.within (goes_staged prefix_len c.component_of-component.result.shown.now rs at c.end_of-stop.result
+          (omega (arith, c.end_of-stop.ensures.within, c.requires.within)) c.end_of-stop.ensures.run) (stops_staged prefix_len c.component_of-component.result.shown.now rs c.end_of-stop.result c.args.run.end
+          c.requires.within c.end_of-stop.ensures.stops)
           c.in_ok-inner.inner c.push_directory.new.self (g.S.Sink.stored c.directory_of.new.sink)
           (g.S.Sink.stored c.push_directory.new.sink)
           c.in_ok-inner.ensures.made done.bytes done.children done.count done.later done.stored;
