@@ -13,37 +13,38 @@ use Rattle.index_cached_tree.specs.Tree.{Node, node_of, node_step, nodes_from}
 use Rattle.index_cached_tree.specs.declared.Tree.{Tree}
 use Rattle.index_cached_tree.specs.declared.Tree.TheFolds.{fold_out-Tree}
 use Rattle.index_cached_tree.specs.declared.Tree.TheViews.{out-Tree}
+use Rattle.index_text.specs.declared.lines.Lines.{Lines}
 use Rattle.index_lines.specs.Directories.{all_subtree_lines, directory_line, subtree_lines, front_of}
 use Rattle.index_lines.specs.DirectorySteps.{LetsOut}
 
-all_listed : (front : List ℕ) (ts : List Tree)
-    → all_subtree_lines front (nodes_from (map node_of ts)) ≡ flat_map (λ t. subtree_lines front (node_of t)) ts
-all_listed front [] = refl
-all_listed front (t ∷ ts) = ap (λ (l : List ℕ). subtree_lines front (node_of t) ++ l) (all_listed front ts)
-    ∙ sym (flat_map-cons (λ (u : Tree). subtree_lines front (node_of u)) t ts)
+all_listed : (style : Lines) (front : List ℕ) (ts : List Tree)
+    → all_subtree_lines style front (nodes_from (map node_of ts)) ≡ flat_map (λ t. subtree_lines style front (node_of t)) ts
+all_listed style front [] = refl
+all_listed style front (t ∷ ts) = ap (λ (l : List ℕ). subtree_lines style front (node_of t) ++ l) (all_listed style front ts)
+    ∙ sym (flat_map-cons (λ (u : Tree). subtree_lines style front (node_of u)) t ts)
 
 -- a directory's own line, and those below it
-pub lines_out : (front : List ℕ) (t : Tree) → subtree_lines front (node_of t)
-    ≡ directory_line (front ++ (out-Tree t).name.items) (out-Tree t).id (out-Tree t).num_entries
-    ++ flat_map (λ u. subtree_lines (front_of (front ++ (out-Tree t).name.items)) (node_of u))
+pub lines_out : (style : Lines) (front : List ℕ) (t : Tree) → subtree_lines style front (node_of t)
+    ≡ directory_line style (front ++ (out-Tree t).name.items) (out-Tree t).id (out-Tree t).num_entries
+    ++ flat_map (λ u. subtree_lines style (front_of (front ++ (out-Tree t).name.items)) (node_of u))
     (out-Tree t).children.items
-lines_out front t =
+lines_out style front t =
     let o = out-Tree t in
     let path = front ++ o.name.items in
-    ap (subtree_lines front) (fold_out-Tree Node node_step t)
-    ∙ ap (λ (l : List ℕ). directory_line path o.id o.num_entries ++ l) (all_listed (front_of path) o.children.items)
+    ap (subtree_lines style front) (fold_out-Tree Node node_step t)
+    ∙ ap (λ (l : List ℕ). directory_line style path o.id o.num_entries ++ l) (all_listed style (front_of path) o.children.items)
 
 -- the same by what the code has: the directory's path, the front of the names in it, and those
-pub lines_at : (t : Tree) (front path within : List ℕ) (ts : List Tree) → path ≡ front ++ (out-Tree t).name.items
+pub lines_at : (style : Lines) (t : Tree) (front path within : List ℕ) (ts : List Tree) → path ≡ front ++ (out-Tree t).name.items
     → within ≡ front_of path → ts ≡ (out-Tree t).children.items
-    → directory_line path (out-Tree t).id (out-Tree t).num_entries
-    ++ flat_map (λ u. subtree_lines within (node_of u)) ts ≡ subtree_lines front (node_of t)
-lines_at t front path within ts a b c =
+    → directory_line style path (out-Tree t).id (out-Tree t).num_entries
+    ++ flat_map (λ u. subtree_lines style within (node_of u)) ts ≡ subtree_lines style front (node_of t)
+lines_at style t front path within ts a b c =
     let o = out-Tree t in
     let lines : List ℕ → List ℕ → List Tree → List ℕ =
-    λ p f us. directory_line p o.id o.num_entries ++ flat_map (λ u. subtree_lines f (node_of u)) us in
+    λ p f us. directory_line style p o.id o.num_entries ++ flat_map (λ u. subtree_lines style f (node_of u)) us in
     ap (λ (f : List ℕ). lines path f ts) b ∙ ap (λ (us : List Tree). lines path (front_of path) us) c
-    ∙ ap (λ (p : List ℕ). lines p (front_of p) o.children.items) a ∙ sym (lines_out front t)
+    ∙ ap (λ (p : List ℕ). lines p (front_of p) o.children.items) a ∙ sym (lines_out style front t)
 
 -- a line comes behind those that wait, and a front of all goes out
 pub line_let_out : {u v : Option (List ℕ)} (waited line all gone waiting : List ℕ) → all ≡ waited ++ line
@@ -88,31 +89,31 @@ front_of_line {u} {v} waited line all whole below a b p =
     subst (λ (l : List ℕ). AppendsPrefix u v l) parts (prefix_before p below)
 
 -- the lines of one directory more
-pub children_more : {u v w : Option (List ℕ)} (front inner : List ℕ) (ts : List Tree) (i : ℕ) (x : Tree)
+pub children_more : (style : Lines) {u v w : Option (List ℕ)} (front inner : List ℕ) (ts : List Tree) (i : ℕ) (x : Tree)
     {waited between waiting : List ℕ} → i < length ts → x ≡ get_or ts i x → inner ≡ front
-    → LetsOut u v waited (flat_map (λ t. subtree_lines front (node_of t)) (take i ts)) between
-    → LetsOut v w between (subtree_lines inner (node_of x)) waiting
-    → LetsOut u w waited (flat_map (λ t. subtree_lines front (node_of t)) (take (i + 1) ts)) waiting
-children_more {u} {v} {w} front inner ts i x {waited} {between} {waiting} lt is same a b =
-    let f : Tree → List ℕ = λ t. subtree_lines front (node_of t) in
+    → LetsOut u v waited (flat_map (λ t. subtree_lines style front (node_of t)) (take i ts)) between
+    → LetsOut v w between (subtree_lines style inner (node_of x)) waiting
+    → LetsOut u w waited (flat_map (λ t. subtree_lines style front (node_of t)) (take (i + 1) ts)) waiting
+children_more style {u} {v} {w} front inner ts i x {waited} {between} {waiting} lt is same a b =
+    let f : Tree → List ℕ = λ t. subtree_lines style front (node_of t) in
     let own : LetsOut v w between (f x) waiting =
-    subst (λ (l : List ℕ). LetsOut v w between (subtree_lines l (node_of x)) waiting) same b in
+    subst (λ (l : List ℕ). LetsOut v w between (subtree_lines style l (node_of x)) waiting) same b in
     let here : LetsOut v w between (f (get_or ts i x)) waiting =
     subst (λ (y : Tree). LetsOut v w between (f y) waiting) is own in
     subst (λ (l : List ℕ). LetsOut u w waited l waiting)
     (flat_map_more f [] (take i ts) (get_or ts i x) ∙ ap (flat_map f) (sym (take_more ts i x lt))) (let_out_then a here)
 
 -- a front of them
-pub front_of_children : {u v w : Option (List ℕ)} (front inner : List ℕ) (ts : List Tree) (i : ℕ) (x : Tree)
+pub front_of_children : (style : Lines) {u v w : Option (List ℕ)} (front inner : List ℕ) (ts : List Tree) (i : ℕ) (x : Tree)
     {waited between : List ℕ} → i < length ts → x ≡ get_or ts i x → inner ≡ front
-    → LetsOut u v waited (flat_map (λ t. subtree_lines front (node_of t)) (take i ts)) between
-    → AppendsPrefix v w (between ++ subtree_lines inner (node_of x))
-    → AppendsPrefix u w (waited ++ flat_map (λ t. subtree_lines front (node_of t)) ts)
-front_of_children {u} {v} {w} front inner ts i x {waited} {between} lt is same a b =
-    let f : Tree → List ℕ = λ t. subtree_lines front (node_of t) in
+    → LetsOut u v waited (flat_map (λ t. subtree_lines style front (node_of t)) (take i ts)) between
+    → AppendsPrefix v w (between ++ subtree_lines style inner (node_of x))
+    → AppendsPrefix u w (waited ++ flat_map (λ t. subtree_lines style front (node_of t)) ts)
+front_of_children style {u} {v} {w} front inner ts i x {waited} {between} lt is same a b =
+    let f : Tree → List ℕ = λ t. subtree_lines style front (node_of t) in
     let rest = flat_map f (drop (suc i) ts) in
     let own : AppendsPrefix v w (between ++ f x) =
-    subst (λ (l : List ℕ). AppendsPrefix v w (between ++ subtree_lines l (node_of x))) same b in
+    subst (λ (l : List ℕ). AppendsPrefix v w (between ++ subtree_lines style l (node_of x))) same b in
     let here : AppendsPrefix v w (between ++ f (get_or ts i x)) =
     subst (λ (y : Tree). AppendsPrefix v w (between ++ f y)) is own in
     let parts : (waited ++ (flat_map f (take i ts) ++ f (get_or ts i x))) ++ rest ≡ waited ++ flat_map f ts =
@@ -121,22 +122,22 @@ front_of_children {u} {v} {w} front inner ts i x {waited} {between} lt is same a
     subst (λ (l : List ℕ). AppendsPrefix u w l) parts (prefix_before (front_let_out (f (get_or ts i x)) a here) rest)
 
 -- all of them
-pub children_all : {u v : Option (List ℕ)} (front : List ℕ) (ts : List Tree) (i : ℕ)
+pub children_all : (style : Lines) {u v : Option (List ℕ)} (front : List ℕ) (ts : List Tree) (i : ℕ)
     {waited waiting : List ℕ} → length ts ≤ i
-    → LetsOut u v waited (flat_map (λ t. subtree_lines front (node_of t)) (take i ts)) waiting
-    → LetsOut u v waited (flat_map (λ t. subtree_lines front (node_of t)) ts) waiting
-children_all {u} {v} front ts i {waited} {waiting} le a =
-    subst (λ (us : List Tree). LetsOut u v waited (flat_map (λ t. subtree_lines front (node_of t)) us) waiting)
+    → LetsOut u v waited (flat_map (λ t. subtree_lines style front (node_of t)) (take i ts)) waiting
+    → LetsOut u v waited (flat_map (λ t. subtree_lines style front (node_of t)) ts) waiting
+children_all style {u} {v} front ts i {waited} {waiting} le a =
+    subst (λ (us : List Tree). LetsOut u v waited (flat_map (λ t. subtree_lines style front (node_of t)) us) waiting)
     (take_all i ts le) a
 
 -- a front of the last lines of a whole tree goes out
-pub front_of_last : {u v w : Option (List ℕ)} {lines front waiting : List ℕ} (n : Node) → lines ≡ [] → front ≡ []
-    → LetsOut u v lines (subtree_lines front n) waiting → AppendsPrefix v w waiting
-    → AppendsPrefix u w (subtree_lines [] n)
-front_of_last {u} {v} {w} {lines} {front} {waiting} n none root a b =
-    let all : LetsOut u v [] (subtree_lines [] n) waiting =
-    subst (λ (l : List ℕ). LetsOut u v l (subtree_lines [] n) waiting) none
-    (subst (λ (l : List ℕ). LetsOut u v lines (subtree_lines l n) waiting) root a) in
+pub front_of_last : (style : Lines) {u v w : Option (List ℕ)} {lines front waiting : List ℕ} (n : Node) → lines ≡ [] → front ≡ []
+    → LetsOut u v lines (subtree_lines style front n) waiting → AppendsPrefix v w waiting
+    → AppendsPrefix u w (subtree_lines style [] n)
+front_of_last style {u} {v} {w} {lines} {front} {waiting} n none root a b =
+    let all : LetsOut u v [] (subtree_lines style [] n) waiting =
+    subst (λ (l : List ℕ). LetsOut u v l (subtree_lines style [] n) waiting) none
+    (subst (λ (l : List ℕ). LetsOut u v lines (subtree_lines style l n) waiting) root a) in
     subst (λ (l : List ℕ). AppendsPrefix u w l) all.parts (prefix_after u v w all.gone waiting all.grew b)
 
 back : (front name more : List ℕ) → take (length front) ((front ++ name) ++ more) ≡ front

@@ -5,24 +5,23 @@ use Rattle.index_metadata.specs.Flags.{stage_number}
 use Rattle.index_parts.specs.Id.{id_bytes}
 use Rattle.index_entries.specs.Record.{Record}
 use Rattle.index_text.specs.Digits.{digit_character, low_octal}
+use Rattle.index_text.specs.Line.{line_end, shown_path}
+use Rattle.index_text.specs.declared.lines.Lines.{Lines}
 
 -- the characters that stand beside text
 abbrev pub tab : ℕ
 tab = 9
 
-abbrev pub newline : ℕ
-newline = 10
-
 abbrev pub space : ℕ
 space = 32
 
--- mode, space, id in base 16, space, stage, tab, path, newline
-abbrev pub line_of_parts : ℕ → List ℕ → ℕ → List ℕ → List ℕ
-line_of_parts mode id stage path = low_octal mode ++ (space ∷ []) ++ encode_lower id
-    ++ (space ∷ digit_character stage ∷ tab ∷ []) ++ path ++ (newline ∷ [])
+-- mode, space, id in base 16, space, stage, tab, path as it is shown, and the line's end
+abbrev pub line_of_parts : Lines → ℕ → List ℕ → ℕ → List ℕ → List ℕ
+line_of_parts style mode id stage path = low_octal mode ++ (space ∷ []) ++ encode_lower id
+    ++ (space ∷ digit_character stage ∷ tab ∷ []) ++ shown_path style path ++ (line_end style ∷ [])
 
-abbrev pub line_of : Record → List ℕ
-line_of r = line_of_parts r.mode (id_bytes r.id) (stage_number r.flags) r.path
+abbrev pub line_of : Lines → Record → List ℕ
+line_of style r = line_of_parts style r.mode (id_bytes r.id) (stage_number r.flags) r.path
 
-abbrev pub listing : List Record → List ℕ
-listing rs = flat_map line_of rs
+abbrev pub listing : Lines → List Record → List ℕ
+listing style rs = flat_map (line_of style) rs

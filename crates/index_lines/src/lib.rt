@@ -4,5 +4,6 @@
 mod listing;
 mod trees;
 
+pub use index_text::lines::Lines;
 pub use listing::write_listing;
 pub use trees::write_trees;

@@ -1,7 +1,8 @@
 //! The listing of an index: a line for each entry.
 
-ghost use Rattle.std.specs.Prelude.{◌≡◌, ◌<◌, length, OnOk, OnErr, ◌++◌};
+ghost use Rattle.std.specs.Prelude.{◌≡◌, ◌≢◌, ◌<◌, length, IfErr, OnOk, OnErr, ◌++◌, false, true};
 ghost use Rattle.std.specs.Io.KnownBytes.{Appends};
+ghost use Rattle.std.specs.IoError.{error_kind};
 ghost use Rattle.index_parts.specs.Id.{id_bytes};
 ghost use Rattle.index_parts.specs.Taking.{AppendsPrefix};
 ghost use Rattle.index_state.specs.State.{PathsInStorage, contents, storage_of};
@@ -11,57 +12,82 @@ ghost use Rattle.index_lines.specs.Line.{line_of_parts, line_of, listing};
 use bitflags::Flags as _;
 use index_entries::Entry;
 use index_parts::hash::ObjectId;
-use index_parts::hash::io::put_all;
+use index_parts::hash::io::Out;
 use index_state::State;
 use index_text::append::{Appended, append_hex};
-use index_text::block::{BLOCK_LEN, SPARE_LEN, put_block};
+use index_text::block::{BLOCK_LEN, SPARE_LEN, put_block, put_text};
 use index_text::digits::low_octal;
+use index_text::lines::Lines;
 use std::alloc::Global;
 use std::io;
-use std::io::Write;
+use std::io::ErrorKind;
 
 /// Appends the line of these parts.
-fn append_parts(lines: &mut Vec<u8>, mode: u32, id: &ObjectId, stage: u32, path: &[u8]) -> Appended
+fn append_parts(
+    lines: &mut Vec<u8>,
+    style: Lines,
+    mode: u32,
+    id: &ObjectId,
+    stage: u32,
+    path: &[u8],
+) -> Appended
     requires { stage < 4 }
-    ensures { OnOk result
-        (lines.new.items ≡ lines.old.items ++ line_of_parts mode (id_bytes id.now) stage path.now) }
+    ensures { OnOk result (lines.new.items
+        ≡ lines.old.items ++ line_of_parts style mode (id_bytes id.now) stage path.now) }
 {
     lines.extend_from_slice(&low_octal(mode))?;
     lines.extend_from_slice(b" ")?;
     append_hex(lines, id)?;
     lines.extend_from_slice(&[b' ', b'0' + stage as u8, b'\t'])?;
-    lines.extend_from_slice(path)?;
-    lines.extend_from_slice(b"\n")
+    style.append_path(lines, path)?;
+    lines.extend_from_slice(&[style.end()])
 }
 
 /// Appends an entry's line.
-fn append_line(lines: &mut Vec<u8>, state: &State, entry: &Entry) -> Appended
+fn append_line(lines: &mut Vec<u8>, style: Lines, state: &State, entry: &Entry) -> Appended
     requires { IsPlaced (length (storage_of state.now)) entry.now }
     ensures { OnOk result
         (lines.new.items ≡ lines.old.items
-        ++ line_of (record_in (storage_of state.now) entry.now)) }
+        ++ line_of style (record_in (storage_of state.now) entry.now)) }
 {
     let path = entry.path(state);
-    append_parts(lines, entry.mode.bits(), &entry.id, entry.stage_raw(), path)
+    append_parts(
+        lines,
+        style,
+        entry.mode.bits(),
+        &entry.id,
+        entry.stage_raw(),
+        path,
+    )
 }
 
 /// Writes a line for each entry, in the order of the index: the mode in six octal digits, the id, the stage, a
-/// tab and the path's bytes.
+/// tab and the path, as `git ls-files --stage` does where paths are quoted.
 ///
-/// The lines wait in one buffer, which goes out past 64 KiB. An error is the writer's, or want of memory for
-/// that buffer; what was written by then is a prefix of the listing.
-pub fn write_listing<W: io::Write>(alloc: Global, state: &State, out: &mut W) -> io::Result<()>
-    requires { PathsInStorage state.now }
-    ensures ok { OnOk result
-        (Appends (W.contents out.old) (W.contents out.new) (listing (contents state.now).records)) }
-    ensures err { OnErr result
-        (AppendsPrefix (W.contents out.old) (W.contents out.new)
-        (listing (contents state.now).records)) }
+/// The lines wait in one buffer, which goes out past 64 KiB. An error is want of memory for that buffer
+/// ([`ErrorKind::OutOfMemory`]) or the output's, which has failed then; what was written by then is a prefix of the
+/// listing.
+pub fn write_listing<W: Out>(
+    alloc: Global,
+    state: &State,
+    style: Lines,
+    out: &mut W,
+) -> io::Result<()>
+    requires paths { PathsInStorage state.now }
+    requires unfailed { W.failed out.old ≡ false }
+    ensures ok { OnOk result (Appends (W.taken out.old) (W.taken out.new)
+        (listing style (contents state.now).records)) }
+    ensures err { OnErr result (AppendsPrefix (W.taken out.old) (W.taken out.new)
+        (listing style (contents state.now).records)) }
+    ensures cause { IfErr result
+        (λ e. error_kind e ≢ ErrorKind.OutOfMemory → W.failed out.new ≡ true) }
+    ensures unfailed { OnOk result (W.failed out.new ≡ false) }
+    ensures loan { W.loan out.new ≡ W.loan out.old }
 {
     let mut lines = Vec::with_capacity(alloc, BLOCK_LEN + SPARE_LEN)?;
     for entry in state.entries() {
-        append_line(&mut lines, state, entry)?;
+        append_line(&mut lines, style, state, entry)?;
         put_block(&mut lines, out)?;
     }
-    put_all(out, lines.as_slice())
+    put_text(lines.as_slice(), out)
 }

@@ -1,8 +1,9 @@
 //! The lines of trees: one for each directory.
 
-ghost use Rattle.std.specs.Prelude.{◌≡◌, ◌++◌, [], OnOk, OnErr};
+ghost use Rattle.std.specs.Prelude.{◌≡◌, ◌≢◌, ◌++◌, [], IfErr, OnOk, OnErr, false, true};
 ghost use Rattle.std.specs.List.{flat_map};
 ghost use Rattle.std.specs.Io.KnownBytes.{Appends};
+ghost use Rattle.std.specs.IoError.{error_kind};
 ghost use Rattle.index_parts.specs.Taking.{AppendsPrefix};
 ghost use Rattle.index_cached_tree.specs.Tree.{node_of};
 ghost use Rattle.index_cached_tree.specs.TreeImage.{count_bytes};
@@ -11,12 +12,14 @@ ghost use Rattle.index_lines.specs.Directories.{directory_line, subtree_lines, f
 ghost use Rattle.index_lines.specs.DirectorySteps.{LetsOut};
 
 use index_cached_tree::Tree;
-use index_parts::hash::io::put_all;
+use index_parts::hash::io::Out;
 use index_text::append::{Appended, append_hex};
-use index_text::block::put_block;
+use index_text::block::{put_block, put_text};
+use index_text::lines::Lines;
 use itoa::Buffer;
 use std::alloc::Global;
 use std::io;
+use std::io::ErrorKind;
 
 /// Appends the number of entries, or -1 where it isn't known.
 fn append_count(lines: &mut Vec<u8>, count: Option<u32>) -> Appended
@@ -30,16 +33,16 @@ fn append_count(lines: &mut Vec<u8>, count: Option<u32>) -> Appended
 }
 
 /// Appends the line of a directory alone.
-fn append_line(lines: &mut Vec<u8>, path: &[u8], tree: &Tree) -> Appended
+fn append_line(lines: &mut Vec<u8>, style: Lines, path: &[u8], tree: &Tree) -> Appended
     ensures { OnOk result (lines.new.items ≡ lines.old.items
-        ++ directory_line path.now (out-Tree tree.now).id (out-Tree tree.now).num_entries) }
+        ++ directory_line style path.now (out-Tree tree.now).id (out-Tree tree.now).num_entries) }
 {
     append_hex(lines, &tree.id)?;
     lines.extend_from_slice(b" ")?;
     append_count(lines, tree.num_entries)?;
     lines.extend_from_slice(b"\t")?;
-    lines.extend_from_slice(path)?;
-    lines.extend_from_slice(b"\n")
+    style.append_path(lines, path)?;
+    lines.extend_from_slice(&[style.end()])
 }
 
 /// Makes of a directory's path what stands before the names in it.
@@ -55,45 +58,58 @@ fn go_in(path: &mut Vec<u8>) -> Appended
 /// Appends the lines of a directory and of all below it, and lets lines out where they fill a block. Its path is its
 /// name behind the front, which is as it was afterwards.
 #[cycle(directories)]
-fn append_directory<W: io::Write>(
+fn append_directory<W: Out>(
     lines: &mut Vec<u8>,
+    style: Lines,
     front: &mut Vec<u8>,
     tree: &Tree,
     out: &mut W,
 ) -> io::Result<()>
-    ensures lines { OnOk result (LetsOut (W.contents out.old) (W.contents out.new) lines.old.items
-        (subtree_lines front.old.items (node_of tree.now)) lines.new.items) }
+    requires { W.failed out.old ≡ false }
+    ensures lines { OnOk result (LetsOut (W.taken out.old) (W.taken out.new) lines.old.items
+        (subtree_lines style front.old.items (node_of tree.now)) lines.new.items) }
     ensures front { OnOk result (front.new.items ≡ front.old.items) }
-    ensures err { OnErr result (AppendsPrefix (W.contents out.old) (W.contents out.new)
-        (lines.old.items ++ subtree_lines front.old.items (node_of tree.now))) }
+    ensures err { OnErr result (AppendsPrefix (W.taken out.old) (W.taken out.new)
+        (lines.old.items ++ subtree_lines style front.old.items (node_of tree.now))) }
+    ensures cause { IfErr result
+        (λ e. error_kind e ≢ ErrorKind.OutOfMemory → W.failed out.new ≡ true) }
+    ensures unfailed { OnOk result (W.failed out.new ≡ false) }
+    ensures loan { W.loan out.new ≡ W.loan out.old }
 {
     let len = front.len();
     front.extend_from_slice(tree.name.as_slice())?;
-    append_line(lines, front, tree)?;
+    append_line(lines, style, front, tree)?;
     put_block(lines, out)?;
     go_in(front)?;
-    append_directories(lines, front, &tree.children, out)?;
+    append_directories(lines, style, front, &tree.children, out)?;
     front.truncate(len);
     Ok(())
 }
 
 /// Appends the lines of directories that lie in one, and lets lines out so.
 #[cycle(directories)]
-fn append_directories<W: io::Write>(
+fn append_directories<W: Out>(
     lines: &mut Vec<u8>,
+    style: Lines,
     front: &mut Vec<u8>,
     trees: &[Tree],
     out: &mut W,
 ) -> io::Result<()>
-    ensures lines { OnOk result (LetsOut (W.contents out.old) (W.contents out.new) lines.old.items
-        (flat_map (λ t. subtree_lines front.old.items (node_of t)) trees.now) lines.new.items) }
+    requires { W.failed out.old ≡ false }
+    ensures lines { OnOk result (LetsOut (W.taken out.old) (W.taken out.new) lines.old.items
+        (flat_map (λ t. subtree_lines style front.old.items (node_of t)) trees.now)
+        lines.new.items) }
     ensures front { OnOk result (front.new.items ≡ front.old.items) }
-    ensures err { OnErr result (AppendsPrefix (W.contents out.old) (W.contents out.new)
+    ensures err { OnErr result (AppendsPrefix (W.taken out.old) (W.taken out.new)
         (lines.old.items
-        ++ flat_map (λ t. subtree_lines front.old.items (node_of t)) trees.now)) }
+        ++ flat_map (λ t. subtree_lines style front.old.items (node_of t)) trees.now)) }
+    ensures cause { IfErr result
+        (λ e. error_kind e ≢ ErrorKind.OutOfMemory → W.failed out.new ≡ true) }
+    ensures unfailed { OnOk result (W.failed out.new ≡ false) }
+    ensures loan { W.loan out.new ≡ W.loan out.old }
 {
     for tree in trees {
-        append_directory(lines, front, tree, out)?;
+        append_directory(lines, style, front, tree, out)?;
     }
     Ok(())
 }
@@ -101,16 +117,21 @@ fn append_directories<W: io::Write>(
 /// Writes a line for each directory of a tree, in preorder: the id, a space, the number of entries below it or -1 where
 /// one of them is only intended to be added, a tab, and the path, which is empty for the root.
 ///
-/// The lines wait in one buffer, which goes out past 64 KiB. An error is the writer's, or want of memory for that
-/// buffer; what was written by then is a prefix of them.
-pub fn write_trees<W: io::Write>(alloc: Global, tree: &Tree, out: &mut W) -> io::Result<()>
-    ensures ok { OnOk result (Appends (W.contents out.old) (W.contents out.new)
-        (subtree_lines [] (node_of tree.now))) }
-    ensures err { OnErr result (AppendsPrefix (W.contents out.old) (W.contents out.new)
-        (subtree_lines [] (node_of tree.now))) }
+/// The lines wait in one buffer, which goes out past 64 KiB. An error is want of memory for that buffer or for a path
+/// ([`ErrorKind::OutOfMemory`]), or the output's, which has failed then; what was written by then is a prefix of them.
+pub fn write_trees<W: Out>(alloc: Global, tree: &Tree, style: Lines, out: &mut W) -> io::Result<()>
+    requires { W.failed out.old ≡ false }
+    ensures ok { OnOk result (Appends (W.taken out.old) (W.taken out.new)
+        (subtree_lines style [] (node_of tree.now))) }
+    ensures err { OnErr result (AppendsPrefix (W.taken out.old) (W.taken out.new)
+        (subtree_lines style [] (node_of tree.now))) }
+    ensures cause { IfErr result
+        (λ e. error_kind e ≢ ErrorKind.OutOfMemory → W.failed out.new ≡ true) }
+    ensures unfailed { OnOk result (W.failed out.new ≡ false) }
+    ensures loan { W.loan out.new ≡ W.loan out.old }
 {
     let mut lines = Vec::new(alloc);
     let mut front = Vec::new(alloc);
-    append_directory(&mut lines, &mut front, tree, out)?;
-    put_all(out, lines.as_slice())
+    append_directory(&mut lines, style, &mut front, tree, out)?;
+    put_text(lines.as_slice(), out)
 }

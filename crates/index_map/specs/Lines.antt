@@ -1,8 +1,11 @@
 -- The map of a file: a line for each part (the library's own).
-use Rattle.std.specs.Prelude.{ℕ, List, [], ◌∷◌, ◌++◌, codes, decimal, slice_get, Option, Some, None}
+use Rattle.std.specs.Prelude.{ℕ, List, [], ◌∷◌, ◌++◌, codes, decimal, slice_get, Option, Some, None, if◌then◌else◌}
 use Rattle.std.specs.List.{flat_map}
 use Rattle.index_entries.specs.Record.{Record}
 use Rattle.index_text.specs.Escaped.{escaped}
+use Rattle.index_text.specs.Line.{line_end}
+use Rattle.index_text.specs.Quoted.{quoted}
+use Rattle.index_text.specs.declared.lines.Lines.{Lines}
 use Rattle.index_map.specs.declared.part.Part.{Part}
 use Rattle.index_map.specs.declared.part.What.{What}
 use Rattle.index_map.specs.declared.part.What.TheVariants as whats
@@ -15,20 +18,26 @@ path_or_none (Some r) = r.path
 abbrev pub record_path : List Record → ℕ → List ℕ
 record_path rs place = path_or_none (slice_get rs place)
 
+-- a path in a map: quoted; else its bytes as they are where lines end with a NUL, and escaped where they don't
+abbrev pub map_path : Lines → List ℕ → List ℕ
+map_path style path = if style.quote then quoted path else if style.nul then path else escaped path
+
 -- what a part is, in words
-abbrev pub what_text : List Record → What → List ℕ
-what_text rs whats.Header = codes "header"
-what_text rs (whats.Entry number) = codes "entry " ++ decimal number ++ codes " " ++ escaped (record_path rs number)
-what_text rs whats.Padding = codes "padding"
-what_text rs (whats.ExtensionHead signature) = codes "extension " ++ escaped signature ++ codes " head"
-what_text rs (whats.ExtensionContent signature) = codes "extension " ++ escaped signature ++ codes " content"
-what_text rs whats.LeftOver = codes "left over"
-what_text rs whats.Trailer = codes "trailer"
-what_text rs whats.Unread = codes "unread"
+abbrev pub what_text : Lines → List Record → What → List ℕ
+what_text style rs whats.Header = codes "header"
+what_text style rs (whats.Entry number) =
+    codes "entry " ++ decimal number ++ codes " " ++ map_path style (record_path rs number)
+what_text style rs whats.Padding = codes "padding"
+what_text style rs (whats.ExtensionHead signature) = codes "extension " ++ escaped signature ++ codes " head"
+what_text style rs (whats.ExtensionContent signature) = codes "extension " ++ escaped signature ++ codes " content"
+what_text style rs whats.LeftOver = codes "left over"
+what_text style rs whats.Trailer = codes "trailer"
+what_text style rs whats.Unread = codes "unread"
 
--- where it begins, a tab, how many bytes it has, a tab, what it is, and a newline
-abbrev pub map_line : List Record → Part → List ℕ
-map_line rs p = decimal p.offset ++ (9 ∷ []) ++ decimal p.len ++ (9 ∷ []) ++ what_text rs p.what ++ (10 ∷ [])
+-- where it begins, a tab, how many bytes it has, a tab, what it is, and the line's end
+abbrev pub map_line : Lines → List Record → Part → List ℕ
+map_line style rs p = decimal p.offset ++ (9 ∷ []) ++ decimal p.len ++ (9 ∷ []) ++ what_text style rs p.what
+    ++ (line_end style ∷ [])
 
-abbrev pub map_lines : List Record → List Part → List ℕ
-map_lines rs parts = flat_map (map_line rs) parts
+abbrev pub map_lines : Lines → List Record → List Part → List ℕ
+map_lines style rs parts = flat_map (map_line style rs) parts

@@ -4,5 +4,6 @@
 pub mod map;
 pub mod part;
 
+pub use index_text::lines::Lines;
 pub use map::write_map;
 pub use part::{Part, What};

@@ -1,21 +1,24 @@
 //! The map of a file: a line for each part.
 
-ghost use Rattle.std.specs.Prelude.{◌≡◌, ◌++◌, OnOk, OnErr, codes};
+ghost use Rattle.std.specs.Prelude.{◌≡◌, ◌≢◌, ◌++◌, IfErr, OnOk, OnErr, codes, false, true};
 ghost use Rattle.std.specs.Io.KnownBytes.{Appends};
+ghost use Rattle.std.specs.IoError.{error_kind};
 ghost use Rattle.index_parts.specs.Taking.{AppendsPrefix};
 ghost use Rattle.index_text.specs.Escaped.{escaped};
-ghost use Rattle.index_map.specs.Lines.{map_line, map_lines, record_path, what_text};
+ghost use Rattle.index_map.specs.Lines.{map_line, map_lines, map_path, record_path, what_text};
 
 use crate::part::{Part, What};
 use index_entries::list::EntryList;
 use index_entries::slice::EntrySlice;
-use index_parts::hash::io::put_all;
+use index_parts::hash::io::Out;
 use index_text::append::append_decimal;
-use index_text::block::{BLOCK_LEN, SPARE_LEN, put_block};
+use index_text::block::{BLOCK_LEN, SPARE_LEN, put_block, put_text};
 use index_text::escape::append_escaped;
+use index_text::lines::Lines;
+use index_text::quote::append_quoted;
 use std::alloc::{AllocError, Global};
 use std::io;
-use std::io::Write;
+use std::io::ErrorKind;
 
 /// The path of the entry at a place, or nothing where there is none.
 fn record_path<'a>(entries: &EntrySlice<'a>, place: usize) -> &'a [u8]
@@ -37,32 +40,47 @@ fn append_extension(lines: &mut Vec<u8>, signature: &[u8], part: &[u8]) -> Resul
     lines.extend_from_slice(part)
 }
 
+/// Appends an entry's path.
+fn append_path(lines: &mut Vec<u8>, style: Lines, path: &[u8]) -> Result<(), AllocError>
+    ensures { OnOk result (lines.new.items ≡ lines.old.items ++ map_path style path.now) }
+{
+    if style.quote {
+        return append_quoted(lines, path);
+    }
+    if style.nul {
+        return lines.extend_from_slice(path);
+    }
+    append_escaped(lines, path)
+}
+
 /// Appends what an entry's part is.
 fn append_entry(
     lines: &mut Vec<u8>,
+    style: Lines,
     entries: &EntrySlice<'_>,
     number: u32,
 ) -> Result<(), AllocError>
     ensures { OnOk result
-        (lines.new.items ≡ lines.old.items ++ what_text entries.now (What.Entry number)) }
+        (lines.new.items ≡ lines.old.items ++ what_text style entries.now (What.Entry number)) }
 {
     lines.extend_from_slice(b"entry ")?;
     append_decimal(lines, u64::from(number))?;
     lines.extend_from_slice(b" ")?;
-    append_escaped(lines, record_path(entries, number as usize))
+    append_path(lines, style, record_path(entries, number as usize))
 }
 
-/// Appends what a part is, in words: an entry by its number and its path, as text that fits in a line.
+/// Appends what a part is, in words: an entry by its number and its path.
 pub fn append_what(
     lines: &mut Vec<u8>,
+    style: Lines,
     entries: &EntrySlice<'_>,
     what: What,
 ) -> Result<(), AllocError>
-    ensures { OnOk result (lines.new.items ≡ lines.old.items ++ what_text entries.now what) }
+    ensures { OnOk result (lines.new.items ≡ lines.old.items ++ what_text style entries.now what) }
 {
     match what {
         What::Header => lines.extend_from_slice(b"header"),
-        What::Entry { number } => append_entry(lines, entries, number),
+        What::Entry { number } => append_entry(lines, style, entries, number),
         What::Padding => lines.extend_from_slice(b"padding"),
         What::ExtensionHead { signature } => append_extension(lines, &signature, b" head"),
         What::ExtensionContent { signature } => append_extension(lines, &signature, b" content"),
@@ -73,39 +91,51 @@ pub fn append_what(
 }
 
 /// Appends a part's line.
-fn append_line(lines: &mut Vec<u8>, entries: &EntrySlice<'_>, part: Part) -> Result<(), AllocError>
-    ensures { OnOk result (lines.new.items ≡ lines.old.items ++ map_line entries.now part) }
+fn append_line(
+    lines: &mut Vec<u8>,
+    style: Lines,
+    entries: &EntrySlice<'_>,
+    part: Part,
+) -> Result<(), AllocError>
+    ensures { OnOk result (lines.new.items ≡ lines.old.items ++ map_line style entries.now part) }
 {
     append_decimal(lines, part.offset as u64)?;
     lines.extend_from_slice(b"\t")?;
     append_decimal(lines, part.len as u64)?;
     lines.extend_from_slice(b"\t")?;
-    append_what(lines, entries, part.what)?;
-    lines.extend_from_slice(b"\n")
+    append_what(lines, style, entries, part.what)?;
+    lines.extend_from_slice(&[style.end()])
 }
 
 /// Writes a line for each part: its offset and its length in decimal digits, and what it is, with tabs between. An
-/// entry is told by its number and its path, which is text that fits in the line: a byte that isn't plain ASCII is `\x`
-/// and two digits of base 16, and a backslash is doubled.
+/// entry is told by its number and its path. Lines that neither quote paths nor end with a NUL have a path as text of
+/// one line: a byte that isn't plain ASCII is `\x` and two digits of base 16, and a backslash is doubled.
 ///
-/// The lines wait in one buffer, which goes out past 64 KiB. An error is the writer's, or want of memory for that
-/// buffer; what was written by then is a prefix of the lines.
-pub fn write_map<W: io::Write>(
+/// The lines wait in one buffer, which goes out past 64 KiB. An error is want of memory for that buffer
+/// ([`ErrorKind::OutOfMemory`]) or the output's, which has failed then; what was written by then is a prefix of the
+/// lines.
+pub fn write_map<W: Out>(
     alloc: Global,
     entries: &EntryList,
     parts: &[Part],
+    style: Lines,
     out: &mut W,
 ) -> io::Result<()>
-    ensures ok { OnOk result (Appends (W.contents out.old) (W.contents out.new)
-        (map_lines entries.now.records parts.now)) }
-    ensures err { OnErr result (AppendsPrefix (W.contents out.old) (W.contents out.new)
-        (map_lines entries.now.records parts.now)) }
+    requires { W.failed out.old ≡ false }
+    ensures ok { OnOk result (Appends (W.taken out.old) (W.taken out.new)
+        (map_lines style entries.now.records parts.now)) }
+    ensures err { OnErr result (AppendsPrefix (W.taken out.old) (W.taken out.new)
+        (map_lines style entries.now.records parts.now)) }
+    ensures cause { IfErr result
+        (λ e. error_kind e ≢ ErrorKind.OutOfMemory → W.failed out.new ≡ true) }
+    ensures unfailed { OnOk result (W.failed out.new ≡ false) }
+    ensures loan { W.loan out.new ≡ W.loan out.old }
 {
     let entries = entries.as_slice();
     let mut lines = Vec::with_capacity(alloc, BLOCK_LEN + SPARE_LEN)?;
     for part in parts {
-        append_line(&mut lines, &entries, *part)?;
+        append_line(&mut lines, style, &entries, *part)?;
         put_block(&mut lines, out)?;
     }
-    put_all(out, lines.as_slice())
+    put_text(lines.as_slice(), out)
 }

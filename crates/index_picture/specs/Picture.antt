@@ -5,6 +5,7 @@ use Rattle.std.specs.Prelude.{if◌then◌else◌}
 use Rattle.std.specs.List.{flat_map}
 use Rattle.index_entries.specs.Record.{Record}
 use Rattle.index_text.specs.Escaped.{escaped}
+use Rattle.index_text.specs.declared.lines.Lines.{Lines}
 use Rattle.index_map.specs.Lines.{what_text}
 use Rattle.index_map.specs.declared.part.Part.{Part}
 use Rattle.index_map.specs.declared.part.What.{What}
@@ -15,15 +16,19 @@ use Rattle.index_picture.specs.Scale.{box_begin, box_width, drawn_len}
 use Rattle.index_picture.specs.Shade.{ink, shade_of}
 use Rattle.index_picture.specs.Xml.{xml_text}
 
+-- paths are told as the lines of a map without options tell them: as text of one line
+abbrev pub plain_lines : Lines
+plain_lines = record { nul = false; quote = false }
+
 -- what a group is, in words
 abbrev pub group_text : List Record → What → List ℕ
 group_text rs (whats.Entry number) = codes "entries"
 group_text rs (whats.ExtensionHead signature) = codes "extension " ++ escaped signature
-group_text rs what = what_text rs what
+group_text rs what = what_text plain_lines rs what
 
 -- what a box stands for, in words: each for a part, or for a group
 abbrev pub plain_words : Bool → List Record → What → List ℕ
-plain_words each rs what = if each then what_text rs what else group_text rs what
+plain_words each rs what = if each then what_text plain_lines rs what else group_text rs what
 
 abbrev pub words : Bool → List Record → What → List ℕ
 words each rs what = xml_text (plain_words each rs what)

@@ -1,8 +1,9 @@
 //! The whole picture.
 
-ghost use Rattle.std.specs.Prelude.{◌≡◌, ◌++◌, ◌≤◌, OnErr, OnOk, length};
+ghost use Rattle.std.specs.Prelude.{◌≡◌, ◌≢◌, ◌++◌, ◌≤◌, IfErr, OnErr, OnOk, false, length, true};
 ghost use Rattle.std.specs.List.{flat_map};
 ghost use Rattle.std.specs.Io.KnownBytes.{Appends};
+ghost use Rattle.std.specs.IoError.{error_kind};
 ghost use Rattle.index_parts.specs.Taking.{AppendsPrefix};
 ghost use Rattle.index_picture.specs.Picture.{bar_end, box, box_shape, box_title, drawing, front_text, title_text, height, list_begin, middle_text, picture_text, row, row_begin, row_rest, svg_begin, svg_end, totals};
 ghost use Rattle.index_picture.specs.Scale.{drawn_len};
@@ -15,10 +16,11 @@ use crate::text::{append_number, append_piece, append_words};
 use index_entries::list::EntryList;
 use index_entries::slice::EntrySlice;
 use index_map::Part;
-use index_parts::hash::io::put_all;
-use index_text::block::put_block;
+use index_parts::hash::io::Out;
+use index_text::block::{put_block, put_text};
 use std::alloc::{AllocError, Global};
 use std::io;
+use std::io::ErrorKind;
 
 /// How many parts are drawn part by part, at most.
 const MOST_PARTS: usize = 64;
@@ -255,7 +257,7 @@ fn append_middle(lines: &mut Vec<u8>, each: bool, parts: &[Part]) -> Result<(), 
 }
 
 /// Writes the boxes of the bar.
-fn write_boxes<W: io::Write>(
+fn write_boxes<W: Out>(
     alloc: Global,
     entries: &EntrySlice<'_>,
     each: bool,
@@ -263,78 +265,93 @@ fn write_boxes<W: io::Write>(
     boxes: &[Part],
     out: &mut W,
 ) -> io::Result<()>
-    requires { len ≤ 0x1fffffffffffffffe }
-    ensures ok { OnOk result (Appends (W.contents out.old) (W.contents out.new)
+    requires len { len ≤ 0x1fffffffffffffffe }
+    requires unfailed { W.failed out.old ≡ false }
+    ensures ok { OnOk result (Appends (W.taken out.old) (W.taken out.new)
         (flat_map (box each entries.now len) boxes.now)) }
-    ensures err { OnErr result (AppendsPrefix (W.contents out.old) (W.contents out.new)
+    ensures err { OnErr result (AppendsPrefix (W.taken out.old) (W.taken out.new)
         (flat_map (box each entries.now len) boxes.now)) }
+    ensures cause { IfErr result
+        (λ e. error_kind e ≢ ErrorKind.OutOfMemory → W.failed out.new ≡ true) }
+    ensures unfailed { OnOk result (W.failed out.new ≡ false) }
+    ensures loan { W.loan out.new ≡ W.loan out.old }
 {
     let mut lines = Vec::new(alloc);
     for part in boxes {
         append_box(&mut lines, alloc, entries, each, len, *part)?;
         put_block(&mut lines, out)?;
     }
-    put_all(out, lines.as_slice())
+    put_text(lines.as_slice(), out)
 }
 
 /// Writes the rows of the list.
-fn write_rows<W: io::Write>(
+fn write_rows<W: Out>(
     alloc: Global,
     entries: &EntrySlice<'_>,
     each: bool,
     boxes: &[Part],
     out: &mut W,
 ) -> io::Result<()>
-    ensures ok { OnOk result (Appends (W.contents out.old) (W.contents out.new)
+    requires { W.failed out.old ≡ false }
+    ensures ok { OnOk result (Appends (W.taken out.old) (W.taken out.new)
         (flat_map (row each entries.now) boxes.now)) }
-    ensures err { OnErr result (AppendsPrefix (W.contents out.old) (W.contents out.new)
+    ensures err { OnErr result (AppendsPrefix (W.taken out.old) (W.taken out.new)
         (flat_map (row each entries.now) boxes.now)) }
+    ensures cause { IfErr result
+        (λ e. error_kind e ≢ ErrorKind.OutOfMemory → W.failed out.new ≡ true) }
+    ensures unfailed { OnOk result (W.failed out.new ≡ false) }
+    ensures loan { W.loan out.new ≡ W.loan out.old }
 {
     let mut lines = Vec::new(alloc);
     for part in boxes {
         append_row(&mut lines, alloc, entries, each, *part)?;
         put_block(&mut lines, out)?;
     }
-    put_all(out, lines.as_slice())
+    put_text(lines.as_slice(), out)
 }
 
 /// Writes what stands before the boxes.
-fn write_front<W: io::Write>(
+fn write_front<W: Out>(
     alloc: Global,
     entries: &EntrySlice<'_>,
     parts: &[Part],
     boxes: &[Part],
     out: &mut W,
 ) -> io::Result<()>
-    ensures ok { OnOk result (Appends (W.contents out.old) (W.contents out.new)
+    requires { W.failed out.old ≡ false }
+    ensures ok { OnOk result (Appends (W.taken out.old) (W.taken out.new)
         (front_text entries.now parts.now boxes.now)) }
-    ensures err { OnErr result (AppendsPrefix (W.contents out.old) (W.contents out.new)
+    ensures err { OnErr result (AppendsPrefix (W.taken out.old) (W.taken out.new)
         (front_text entries.now parts.now boxes.now)) }
+    ensures cause { IfErr result
+        (λ e. error_kind e ≢ ErrorKind.OutOfMemory → W.failed out.new ≡ true) }
+    ensures unfailed { OnOk result (W.failed out.new ≡ false) }
+    ensures loan { W.loan out.new ≡ W.loan out.old }
 {
     let mut lines = Vec::new(alloc);
     append_front(&mut lines, entries, parts, boxes)?;
-    put_all(out, lines.as_slice())
+    put_text(lines.as_slice(), out)
 }
 
 /// Writes what stands between the boxes and the rows.
-fn write_middle<W: io::Write>(
-    alloc: Global,
-    each: bool,
-    parts: &[Part],
-    out: &mut W,
-) -> io::Result<()>
-    ensures ok { OnOk result (Appends (W.contents out.old) (W.contents out.new)
+fn write_middle<W: Out>(alloc: Global, each: bool, parts: &[Part], out: &mut W) -> io::Result<()>
+    requires { W.failed out.old ≡ false }
+    ensures ok { OnOk result (Appends (W.taken out.old) (W.taken out.new)
         (middle_text each parts.now)) }
-    ensures err { OnErr result (AppendsPrefix (W.contents out.old) (W.contents out.new)
+    ensures err { OnErr result (AppendsPrefix (W.taken out.old) (W.taken out.new)
         (middle_text each parts.now)) }
+    ensures cause { IfErr result
+        (λ e. error_kind e ≢ ErrorKind.OutOfMemory → W.failed out.new ≡ true) }
+    ensures unfailed { OnOk result (W.failed out.new ≡ false) }
+    ensures loan { W.loan out.new ≡ W.loan out.old }
 {
     let mut lines = Vec::new(alloc);
     append_middle(&mut lines, each, parts)?;
-    put_all(out, lines.as_slice())
+    put_text(lines.as_slice(), out)
 }
 
 /// Writes a picture with these boxes, each for a part or for a group.
-fn write_drawing<W: io::Write>(
+fn write_drawing<W: Out>(
     alloc: Global,
     entries: &EntrySlice<'_>,
     each: bool,
@@ -342,16 +359,21 @@ fn write_drawing<W: io::Write>(
     boxes: &[Part],
     out: &mut W,
 ) -> io::Result<()>
-    ensures ok { OnOk result (Appends (W.contents out.old) (W.contents out.new)
+    requires { W.failed out.old ≡ false }
+    ensures ok { OnOk result (Appends (W.taken out.old) (W.taken out.new)
         (drawing each entries.now parts.now boxes.now)) }
-    ensures err { OnErr result (AppendsPrefix (W.contents out.old) (W.contents out.new)
+    ensures err { OnErr result (AppendsPrefix (W.taken out.old) (W.taken out.new)
         (drawing each entries.now parts.now boxes.now)) }
+    ensures cause { IfErr result
+        (λ e. error_kind e ≢ ErrorKind.OutOfMemory → W.failed out.new ≡ true) }
+    ensures unfailed { OnOk result (W.failed out.new ≡ false) }
+    ensures loan { W.loan out.new ≡ W.loan out.old }
 {
     write_front(alloc, entries, parts, boxes, out)?;
     write_boxes(alloc, entries, each, drawn_len(parts), boxes, out)?;
     write_middle(alloc, each, parts, out)?;
     write_rows(alloc, entries, each, boxes, out)?;
-    put_all(out, svg_end())
+    put_text(svg_end(), out)
 }
 
 /// Writes a picture of the parts of a file, as a document of SVG: a bar in which each box is as wide as its part is
@@ -359,18 +381,23 @@ fn write_drawing<W: io::Write>(
 /// [`write_map`](index_map::write_map). More than 64 parts are drawn by kind: all entries with their padding as
 /// one, and an extension's head with its content.
 ///
-/// The text waits in one buffer, which goes out past 64 KiB. An error is the writer's, or want of memory; what was
-/// written by then is a prefix of the picture.
-pub fn write_svg<W: io::Write>(
+/// The text waits in one buffer, which goes out past 64 KiB. An error is want of memory ([`ErrorKind::OutOfMemory`]) or
+/// the output's, which has failed then; what was written by then is a prefix of the picture.
+pub fn write_svg<W: Out>(
     alloc: Global,
     entries: &EntryList,
     parts: &[Part],
     out: &mut W,
 ) -> io::Result<()>
-    ensures ok { OnOk result (Appends (W.contents out.old) (W.contents out.new)
+    requires { W.failed out.old ≡ false }
+    ensures ok { OnOk result (Appends (W.taken out.old) (W.taken out.new)
         (picture_text entries.now.records parts.now)) }
-    ensures err { OnErr result (AppendsPrefix (W.contents out.old) (W.contents out.new)
+    ensures err { OnErr result (AppendsPrefix (W.taken out.old) (W.taken out.new)
         (picture_text entries.now.records parts.now)) }
+    ensures cause { IfErr result
+        (λ e. error_kind e ≢ ErrorKind.OutOfMemory → W.failed out.new ≡ true) }
+    ensures unfailed { OnOk result (W.failed out.new ≡ false) }
+    ensures loan { W.loan out.new ≡ W.loan out.old }
 {
     let entries = entries.as_slice();
     if parts.len() <= MOST_PARTS {

@@ -8,8 +8,15 @@ use index_entries::slice::EntrySlice;
 use index_map::What;
 use index_map::map::append_what;
 use index_text::escape::append_escaped;
+use index_text::lines::Lines;
 use itoa::Buffer;
 use std::alloc::{AllocError, Global};
+
+/// Paths are told as the lines of a map without options tell them.
+const PLAIN_LINES: Lines = Lines {
+    nul: false,
+    quote: false,
+};
 
 /// Appends text.
 pub fn append_piece(lines: &mut Vec<u8>, piece: &[u8]) -> Result<(), AllocError>
@@ -69,7 +76,7 @@ fn append_group(lines: &mut Vec<u8>, entries: &EntrySlice<'_>, what: What) -> Re
             lines.extend_from_slice(b"extension ")?;
             append_escaped(lines, &signature)
         }
-        _ => append_what(lines, entries, what),
+        _ => append_what(lines, PLAIN_LINES, entries, what),
     }
 }
 
@@ -84,7 +91,7 @@ fn append_plain(
         (lines.new.items ≡ lines.old.items ++ plain_words each entries.now what) }
 {
     if each {
-        return append_what(lines, entries, what);
+        return append_what(lines, PLAIN_LINES, entries, what);
     }
     append_group(lines, entries, what)
 }

@@ -1,8 +1,11 @@
-//! Text that waits in a buffer and goes out block by block, and what is appended to it: digits, ids, escaped bytes.
+//! Text that waits in a buffer and goes out block by block, and what is appended to it: digits, ids, escaped bytes and
+//! quoted paths.
 #![tactic(auto)]
 
 pub mod append;
 pub mod block;
 pub mod digits;
 pub mod escape;
+pub mod lines;
 pub mod prepend;
+pub mod quote;

@@ -9,63 +9,68 @@ use Rattle.index_state.specs.State.{storage_of, entries_of}
 use Rattle.index_entries.specs.declared.Entry.{Entry}
 use Rattle.index_state.specs.declared.State.{State}
 use Rattle.index_lines.specs.Line.{line_of}
+use Rattle.index_text.specs.declared.lines.Lines.{Lines}
 use Rattle.index_text.proofs.Printed.{listed_more, listed_all, front_before_line, front_of_block, front_of_rest}
 use Rattle.index_lines.proofs.listing.write_listing.Goals as goal
 
 -- the lines of the entries are those of the records
-lines_of : (s : State) (entries : List Entry) → entries ≡ entries_of s
-    → flat_map (λ e. line_of (record_in (storage_of s) e)) entries
-    ≡ flat_map line_of (records_in (storage_of s) (entries_of s))
-lines_of s entries all =
-    ap (flat_map (λ e. line_of (record_in (storage_of s) e))) all
-    ∙ sym (flat_map-map line_of (record_in (storage_of s)) (entries_of s))
+lines_of : (style : Lines) (s : State) (entries : List Entry) → entries ≡ entries_of s
+    → flat_map (λ e. line_of style (record_in (storage_of s) e)) entries
+    ≡ flat_map (line_of style) (records_in (storage_of s) (entries_of s))
+lines_of style s entries all =
+    ap (flat_map (λ e. line_of style (record_in (storage_of s) e))) all
+    ∙ sym (flat_map-map (line_of style) (record_in (storage_of s)) (entries_of s))
 
 pub loop-entry-preserved : goal.loop-entry-preserved
 loop-entry-preserved g c =
-    let f : Entry → List ℕ = λ e. line_of (record_in (storage_of c.args.state.now) e) in
-    listed_more f _ _ _ c.entries-entry-items.result.now c.loop-entry.entry-index _ _ _ _ _ _ c.loop-entry-test.true
-    c.loop-entry.invariant.1 c.loop-entry.invariant.2 c.in_ok-append_line.ensures c.in_ok-put_block.ensures.ok.1
-    c.in_ok-put_block.ensures.ok.2
+    let f : Entry → List ℕ = λ e. line_of c.args.style (record_in (storage_of c.args.state.now) e) in
+    record {
+      loan = c.in_ok-put_block.ensures.loan ∙ c.loop-entry.invariant.loan;
+      unfailed = c.in_ok-put_block.ensures.has_failed;
+      lines = listed_more f _ _ _ c.entries-entry-items.result.now c.loop-entry.entry-index _ _ _ _ _ _
+          c.loop-entry-test.true c.loop-entry.invariant.lines.1 c.loop-entry.invariant.lines.2
+          c.in_ok-append_line.ensures c.in_ok-put_block.ensures.ok.1 c.in_ok-put_block.ensures.ok.2;
+    }
 
 pub returns-in_err-append_line-clause-err : goal.returns-in_err-append_line-clause-err
 returns-in_err-append_line-clause-err g c =
-    let f : Entry → List ℕ = λ e. line_of (record_in (storage_of c.args.state.now) e) in
+    let f : Entry → List ℕ = λ e. line_of c.args.style (record_in (storage_of c.args.state.now) e) in
     let P : List ℕ → Type 0 =
-    λ t. AppendsPrefix (g.W.Write.contents c.args.out.now) (g.W.Write.contents c.loop-entry.out) t in
+    λ t. AppendsPrefix (g.W.Out.taken c.args.out.now) (g.W.Out.taken c.loop-entry.out) t in
     let front = front_before_line f _ _ c.entries-entry-items.result.now c.loop-entry.entry-index _ _
-    c.loop-entry.invariant.1 c.loop-entry.invariant.2 in
+    c.loop-entry.invariant.lines.1 c.loop-entry.invariant.lines.2 in
     rw (err_from_is_err_and c.from_residual-in_err-append_line.result c.from_residual-in_err-append_line.ensures.1).1
-    (subst P (lines_of c.args.state.now _ c.entries-entry-items.ensures) front)
+    (subst P (lines_of c.args.style c.args.state.now _ c.entries-entry-items.ensures) front)
 
 pub returns-in_err-put_block-clause-err : goal.returns-in_err-put_block-clause-err
 returns-in_err-put_block-clause-err g c =
-    let f : Entry → List ℕ = λ e. line_of (record_in (storage_of c.args.state.now) e) in
+    let f : Entry → List ℕ = λ e. line_of c.args.style (record_in (storage_of c.args.state.now) e) in
     let P : List ℕ → Type 0 =
-    λ t. AppendsPrefix (g.W.Write.contents c.args.out.now) (g.W.Write.contents c.put_block.new.out) t in
+    λ t. AppendsPrefix (g.W.Out.taken c.args.out.now) (g.W.Out.taken c.put_block.new.out) t in
     let front = front_of_block f _ _ _ c.entries-entry-items.result.now c.loop-entry.entry-index _ _ _ _
-    c.loop-entry-test.true c.loop-entry.invariant.1 c.loop-entry.invariant.2 c.in_ok-append_line.ensures
+    c.loop-entry-test.true c.loop-entry.invariant.lines.1 c.loop-entry.invariant.lines.2 c.in_ok-append_line.ensures
     c.in_err-put_block.ensures.err in
     rw (err_from_is_err_and c.from_residual-in_err-put_block.result c.from_residual-in_err-put_block.ensures.1).1
-    (subst P (lines_of c.args.state.now _ c.entries-entry-items.ensures) front)
+    (subst P (lines_of c.args.style c.args.state.now _ c.entries-entry-items.ensures) front)
 
 pub returns-clause-ok : goal.returns-clause-ok
 returns-clause-ok g c =
-    let f : Entry → List ℕ = λ e. line_of (record_in (storage_of c.args.state.now) e) in
+    let f : Entry → List ℕ = λ e. line_of c.args.style (record_in (storage_of c.args.state.now) e) in
     let P : List ℕ → Type 0 =
-    λ t. Appends (g.W.Write.contents c.args.out.now) (g.W.Write.contents c.put_all.new.out) t in
+    λ t. Appends (g.W.Out.taken c.args.out.now) (g.W.Out.taken c.put_text.new.out) t in
     let Q : List ℕ → Type 0 =
-    λ t. Appends (g.W.Write.contents c.loop-entry.out) (g.W.Write.contents c.put_all.new.out) t in
-    on_ok_weaker c.put_all.result (λ h. subst P (lines_of c.args.state.now _ c.entries-entry-items.ensures)
+    λ t. Appends (g.W.Out.taken c.loop-entry.out) (g.W.Out.taken c.put_text.new.out) t in
+    on_ok_weaker c.put_text.result (λ h. subst P (lines_of c.args.style c.args.state.now _ c.entries-entry-items.ensures)
     (listed_all f _ _ _ c.entries-entry-items.result.now c.loop-entry.entry-index _ _ c.loop-entry-test.false
-    c.loop-entry.invariant.1 c.loop-entry.invariant.2 (subst Q c.as_slice.ensures.value h))) c.put_all.ensures.ok
+    c.loop-entry.invariant.lines.1 c.loop-entry.invariant.lines.2 (subst Q c.as_slice.ensures.value h))) c.put_text.ensures.ok
 
 pub returns-clause-err : goal.returns-clause-err
 returns-clause-err g c =
-    let f : Entry → List ℕ = λ e. line_of (record_in (storage_of c.args.state.now) e) in
+    let f : Entry → List ℕ = λ e. line_of c.args.style (record_in (storage_of c.args.state.now) e) in
     let P : List ℕ → Type 0 =
-    λ t. AppendsPrefix (g.W.Write.contents c.args.out.now) (g.W.Write.contents c.put_all.new.out) t in
+    λ t. AppendsPrefix (g.W.Out.taken c.args.out.now) (g.W.Out.taken c.put_text.new.out) t in
     let Q : List ℕ → Type 0 =
-    λ t. AppendsPrefix (g.W.Write.contents c.loop-entry.out) (g.W.Write.contents c.put_all.new.out) t in
-    on_err_weaker c.put_all.result (λ h. subst P (lines_of c.args.state.now _ c.entries-entry-items.ensures)
-    (front_of_rest f _ _ _ c.entries-entry-items.result.now c.loop-entry.entry-index _ _ c.loop-entry.invariant.1
-    c.loop-entry.invariant.2 (subst Q c.as_slice.ensures.value h))) c.put_all.ensures.err
+    λ t. AppendsPrefix (g.W.Out.taken c.loop-entry.out) (g.W.Out.taken c.put_text.new.out) t in
+    on_err_weaker c.put_text.result (λ h. subst P (lines_of c.args.style c.args.state.now _ c.entries-entry-items.ensures)
+    (front_of_rest f _ _ _ c.entries-entry-items.result.now c.loop-entry.entry-index _ _ c.loop-entry.invariant.lines.1
+    c.loop-entry.invariant.lines.2 (subst Q c.as_slice.ensures.value h))) c.put_text.ensures.err

@@ -1,4 +1,4 @@
-use Rattle.std.proofs.Common.{ℕ, List, subst, Result, Ok, Err}
+use Rattle.std.proofs.Common.{◌∙◌, ℕ, List, subst, Result, Ok, Err}
 use Rattle.std.specs.Prelude.{OnOk, OnErr}
 use Rattle.std.specs.Io.KnownBytes.{Appends}
 use Rattle.std.proofs.lemmas.Result.{err_from_is_err_and}
@@ -19,49 +19,53 @@ on_err_then (Err e) f p = f p
 
 pub loop-part-preserved : goal.loop-part-preserved
 loop-part-preserved g c =
-    let f : Part → List ℕ = map_line c.as_slice-entries.result in
-    listed_more f _ _ _ c.args.parts.now c.loop-part.part-index _ _ _ _ _ _ c.loop-part-test.true
-    c.loop-part.invariant.1 c.loop-part.invariant.2 c.in_ok-append_line.ensures c.in_ok-put_block.ensures.ok.1
-    c.in_ok-put_block.ensures.ok.2
+    let f : Part → List ℕ = map_line c.args.style c.as_slice-entries.result in
+    record {
+      loan = c.in_ok-put_block.ensures.loan ∙ c.loop-part.invariant.loan;
+      unfailed = c.in_ok-put_block.ensures.has_failed;
+      lines = listed_more f _ _ _ c.args.parts.now c.loop-part.part-index _ _ _ _ _ _ c.loop-part-test.true
+          c.loop-part.invariant.lines.1 c.loop-part.invariant.lines.2 c.in_ok-append_line.ensures
+          c.in_ok-put_block.ensures.ok.1 c.in_ok-put_block.ensures.ok.2;
+    }
 
 pub returns-in_err-append_line-clause-err : goal.returns-in_err-append_line-clause-err
 returns-in_err-append_line-clause-err g c =
-    let f : Part → List ℕ = map_line c.as_slice-entries.result in
-    let P : List Record → Type 0 = λ rs. AppendsPrefix (g.W.Write.contents c.args.out.now)
-    (g.W.Write.contents c.loop-part.out) (map_lines rs c.args.parts.now) in
-    let front = front_before_line f _ _ c.args.parts.now c.loop-part.part-index _ _ c.loop-part.invariant.1
-    c.loop-part.invariant.2 in
+    let f : Part → List ℕ = map_line c.args.style c.as_slice-entries.result in
+    let P : List Record → Type 0 = λ rs. AppendsPrefix (g.W.Out.taken c.args.out.now)
+    (g.W.Out.taken c.loop-part.out) (map_lines c.args.style rs c.args.parts.now) in
+    let front = front_before_line f _ _ c.args.parts.now c.loop-part.part-index _ _ c.loop-part.invariant.lines.1
+    c.loop-part.invariant.lines.2 in
     rw (err_from_is_err_and c.from_residual-in_err-append_line.result c.from_residual-in_err-append_line.ensures.1).1
     (subst P c.as_slice-entries.ensures front)
 
 pub returns-in_err-put_block-clause-err : goal.returns-in_err-put_block-clause-err
 returns-in_err-put_block-clause-err g c =
-    let f : Part → List ℕ = map_line c.as_slice-entries.result in
-    let P : List Record → Type 0 = λ rs. AppendsPrefix (g.W.Write.contents c.args.out.now)
-    (g.W.Write.contents c.put_block.new.out) (map_lines rs c.args.parts.now) in
+    let f : Part → List ℕ = map_line c.args.style c.as_slice-entries.result in
+    let P : List Record → Type 0 = λ rs. AppendsPrefix (g.W.Out.taken c.args.out.now)
+    (g.W.Out.taken c.put_block.new.out) (map_lines c.args.style rs c.args.parts.now) in
     let front = front_of_block f _ _ _ c.args.parts.now c.loop-part.part-index _ _ _ _ c.loop-part-test.true
-    c.loop-part.invariant.1 c.loop-part.invariant.2 c.in_ok-append_line.ensures c.in_err-put_block.ensures.err in
+    c.loop-part.invariant.lines.1 c.loop-part.invariant.lines.2 c.in_ok-append_line.ensures c.in_err-put_block.ensures.err in
     rw (err_from_is_err_and c.from_residual-in_err-put_block.result c.from_residual-in_err-put_block.ensures.1).1
     (subst P c.as_slice-entries.ensures front)
 
 pub returns-clause-ok : goal.returns-clause-ok
 returns-clause-ok g c =
-    let f : Part → List ℕ = map_line c.as_slice-entries.result in
-    let P : List Record → Type 0 = λ rs. Appends (g.W.Write.contents c.args.out.now)
-    (g.W.Write.contents c.put_all.new.out) (map_lines rs c.args.parts.now) in
+    let f : Part → List ℕ = map_line c.args.style c.as_slice-entries.result in
+    let P : List Record → Type 0 = λ rs. Appends (g.W.Out.taken c.args.out.now)
+    (g.W.Out.taken c.put_text.new.out) (map_lines c.args.style rs c.args.parts.now) in
     let Q : List ℕ → Type 0 =
-    λ t. Appends (g.W.Write.contents c.loop-part.out) (g.W.Write.contents c.put_all.new.out) t in
-    on_ok_then c.put_all.result (λ h. subst P c.as_slice-entries.ensures
-    (listed_all f _ _ _ c.args.parts.now c.loop-part.part-index _ _ c.loop-part-test.false c.loop-part.invariant.1
-    c.loop-part.invariant.2 (subst Q c.as_slice.ensures.value h))) c.put_all.ensures.ok
+    λ t. Appends (g.W.Out.taken c.loop-part.out) (g.W.Out.taken c.put_text.new.out) t in
+    on_ok_then c.put_text.result (λ h. subst P c.as_slice-entries.ensures
+    (listed_all f _ _ _ c.args.parts.now c.loop-part.part-index _ _ c.loop-part-test.false c.loop-part.invariant.lines.1
+    c.loop-part.invariant.lines.2 (subst Q c.as_slice.ensures.value h))) c.put_text.ensures.ok
 
 pub returns-clause-err : goal.returns-clause-err
 returns-clause-err g c =
-    let f : Part → List ℕ = map_line c.as_slice-entries.result in
-    let P : List Record → Type 0 = λ rs. AppendsPrefix (g.W.Write.contents c.args.out.now)
-    (g.W.Write.contents c.put_all.new.out) (map_lines rs c.args.parts.now) in
+    let f : Part → List ℕ = map_line c.args.style c.as_slice-entries.result in
+    let P : List Record → Type 0 = λ rs. AppendsPrefix (g.W.Out.taken c.args.out.now)
+    (g.W.Out.taken c.put_text.new.out) (map_lines c.args.style rs c.args.parts.now) in
     let Q : List ℕ → Type 0 =
-    λ t. AppendsPrefix (g.W.Write.contents c.loop-part.out) (g.W.Write.contents c.put_all.new.out) t in
-    on_err_then c.put_all.result (λ h. subst P c.as_slice-entries.ensures (front_of_rest f _ _ _ c.args.parts.now
-    c.loop-part.part-index _ _ c.loop-part.invariant.1 c.loop-part.invariant.2 (subst Q c.as_slice.ensures.value h)))
-    c.put_all.ensures.err
+    λ t. AppendsPrefix (g.W.Out.taken c.loop-part.out) (g.W.Out.taken c.put_text.new.out) t in
+    on_err_then c.put_text.result (λ h. subst P c.as_slice-entries.ensures (front_of_rest f _ _ _ c.args.parts.now
+    c.loop-part.part-index _ _ c.loop-part.invariant.lines.1 c.loop-part.invariant.lines.2 (subst Q c.as_slice.ensures.value h)))
+    c.put_text.ensures.err

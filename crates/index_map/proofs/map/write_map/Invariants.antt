@@ -1,9 +1,13 @@
-use Rattle.std.proofs.Common.{◌≡◌, ℕ, List, ◌++◌, take}
+use Rattle.std.proofs.Common.{◌≡◌, false, take}
 use Rattle.std.specs.Prelude.{flat_map}
-use Rattle.std.specs.Io.KnownBytes.{Appends}
+use Rattle.index_text.specs.Blocks.{Passes}
 use Rattle.index_map.specs.Lines.{map_line}
 use Rattle.index_map.proofs.map.write_map.Given as goal
 
 abbrev pub invariant-loop-part : goal.invariant-loop-part
-invariant-loop-part g l = (done : List ℕ) × Appends (g.W.Write.contents l.fn.out) (g.W.Write.contents l.out) done
-    × (done ++ l.lines.items ≡ flat_map (map_line l.entries) (take l.part-index l.parts))
+invariant-loop-part g l = record {
+  loan : g.W.Out.loan l.out ≡ g.W.Out.loan l.fn.out;
+  unfailed : g.W.Out.failed l.out ≡ false;
+  lines : Passes (g.W.Out.taken l.fn.out) (g.W.Out.taken l.out) l.lines.items
+      (flat_map (map_line l.style l.entries) (take l.part-index l.parts));
+}

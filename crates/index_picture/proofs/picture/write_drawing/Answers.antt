@@ -28,13 +28,13 @@ returns-in_err-write_boxes-clause-err g c =
     let boxes = flat_map (box each rs (drawn_len c.args.parts.now)) c.args.boxes.now in
     let middle = middle_text each c.args.parts.now in
     let rows = flat_map (row each rs) c.args.boxes.now in
-    let P : ℕ → Type 0 = λ n. AppendsPrefix (g.W.Write.contents c.write_front.new.out)
-    (g.W.Write.contents c.write_boxes.new.out) (flat_map (box each rs n) c.args.boxes.now) in
-    let one : Appends (g.W.Write.contents c.args.out.now) (g.W.Write.contents c.write_front.new.out) front =
+    let P : ℕ → Type 0 = λ n. AppendsPrefix (g.W.Out.taken c.write_front.new.out)
+    (g.W.Out.taken c.write_boxes.new.out) (flat_map (box each rs n) c.args.boxes.now) in
+    let one : Appends (g.W.Out.taken c.args.out.now) (g.W.Out.taken c.write_front.new.out) front =
     c.in_ok-write_front.ensures.ok in
     rw (err_from_is_err_and c.from_residual-in_err-write_boxes.result c.from_residual-in_err-write_boxes.ensures.1).1
-    (prefix_before (prefix_before (prefix_before (prefix_after (g.W.Write.contents c.args.out.now)
-    (g.W.Write.contents c.write_front.new.out) (g.W.Write.contents c.write_boxes.new.out) front boxes one
+    (prefix_before (prefix_before (prefix_before (prefix_after (g.W.Out.taken c.args.out.now)
+    (g.W.Out.taken c.write_front.new.out) (g.W.Out.taken c.write_boxes.new.out) front boxes one
     (subst P c.drawn_len.ensures.value c.in_err-write_boxes.ensures.err)) middle) rows) svg_end)
 
 pub returns-in_err-write_middle-clause-err : goal.returns-in_err-write_middle-clause-err
@@ -45,17 +45,17 @@ returns-in_err-write_middle-clause-err g c =
     let boxes = flat_map (box each rs (drawn_len c.args.parts.now)) c.args.boxes.now in
     let middle = middle_text each c.args.parts.now in
     let rows = flat_map (row each rs) c.args.boxes.now in
-    let P : ℕ → Type 0 = λ n. Appends (g.W.Write.contents c.write_front.new.out)
-    (g.W.Write.contents c.write_boxes.new.out) (flat_map (box each rs n) c.args.boxes.now) in
-    let one : Appends (g.W.Write.contents c.args.out.now) (g.W.Write.contents c.write_front.new.out) front =
+    let P : ℕ → Type 0 = λ n. Appends (g.W.Out.taken c.write_front.new.out)
+    (g.W.Out.taken c.write_boxes.new.out) (flat_map (box each rs n) c.args.boxes.now) in
+    let one : Appends (g.W.Out.taken c.args.out.now) (g.W.Out.taken c.write_front.new.out) front =
     c.in_ok-write_front.ensures.ok in
-    let two : Appends (g.W.Write.contents c.args.out.now) (g.W.Write.contents c.write_boxes.new.out) (front ++ boxes) =
-    Appends-trans (g.W.Write.contents c.args.out.now) (g.W.Write.contents c.write_front.new.out)
-    (g.W.Write.contents c.write_boxes.new.out) front boxes one
+    let two : Appends (g.W.Out.taken c.args.out.now) (g.W.Out.taken c.write_boxes.new.out) (front ++ boxes) =
+    Appends-trans (g.W.Out.taken c.args.out.now) (g.W.Out.taken c.write_front.new.out)
+    (g.W.Out.taken c.write_boxes.new.out) front boxes one
     (subst P c.drawn_len.ensures.value c.in_ok-write_boxes.ensures.ok) in
     rw (err_from_is_err_and c.from_residual-in_err-write_middle.result c.from_residual-in_err-write_middle.ensures.1).1
-    (prefix_before (prefix_before (prefix_after (g.W.Write.contents c.args.out.now)
-    (g.W.Write.contents c.write_boxes.new.out) (g.W.Write.contents c.write_middle.new.out) (front ++ boxes) middle two
+    (prefix_before (prefix_before (prefix_after (g.W.Out.taken c.args.out.now)
+    (g.W.Out.taken c.write_boxes.new.out) (g.W.Out.taken c.write_middle.new.out) (front ++ boxes) middle two
     c.in_err-write_middle.ensures.err) rows) svg_end)
 
 pub returns-in_err-write_rows-clause-err : goal.returns-in_err-write_rows-clause-err
@@ -66,20 +66,20 @@ returns-in_err-write_rows-clause-err g c =
     let boxes = flat_map (box each rs (drawn_len c.args.parts.now)) c.args.boxes.now in
     let middle = middle_text each c.args.parts.now in
     let rows = flat_map (row each rs) c.args.boxes.now in
-    let P : ℕ → Type 0 = λ n. Appends (g.W.Write.contents c.write_front.new.out)
-    (g.W.Write.contents c.write_boxes.new.out) (flat_map (box each rs n) c.args.boxes.now) in
-    let one : Appends (g.W.Write.contents c.args.out.now) (g.W.Write.contents c.write_front.new.out) front =
+    let P : ℕ → Type 0 = λ n. Appends (g.W.Out.taken c.write_front.new.out)
+    (g.W.Out.taken c.write_boxes.new.out) (flat_map (box each rs n) c.args.boxes.now) in
+    let one : Appends (g.W.Out.taken c.args.out.now) (g.W.Out.taken c.write_front.new.out) front =
     c.in_ok-write_front.ensures.ok in
-    let two : Appends (g.W.Write.contents c.args.out.now) (g.W.Write.contents c.write_boxes.new.out) (front ++ boxes) =
-    Appends-trans (g.W.Write.contents c.args.out.now) (g.W.Write.contents c.write_front.new.out)
-    (g.W.Write.contents c.write_boxes.new.out) front boxes one
+    let two : Appends (g.W.Out.taken c.args.out.now) (g.W.Out.taken c.write_boxes.new.out) (front ++ boxes) =
+    Appends-trans (g.W.Out.taken c.args.out.now) (g.W.Out.taken c.write_front.new.out)
+    (g.W.Out.taken c.write_boxes.new.out) front boxes one
     (subst P c.drawn_len.ensures.value c.in_ok-write_boxes.ensures.ok) in
-    let three : Appends (g.W.Write.contents c.args.out.now) (g.W.Write.contents c.write_middle.new.out) (front ++ boxes
-    ++ middle) = Appends-trans (g.W.Write.contents c.args.out.now) (g.W.Write.contents c.write_boxes.new.out)
-    (g.W.Write.contents c.write_middle.new.out) (front ++ boxes) middle two c.in_ok-write_middle.ensures.ok in
+    let three : Appends (g.W.Out.taken c.args.out.now) (g.W.Out.taken c.write_middle.new.out) (front ++ boxes
+    ++ middle) = Appends-trans (g.W.Out.taken c.args.out.now) (g.W.Out.taken c.write_boxes.new.out)
+    (g.W.Out.taken c.write_middle.new.out) (front ++ boxes) middle two c.in_ok-write_middle.ensures.ok in
     rw (err_from_is_err_and c.from_residual-in_err-write_rows.result c.from_residual-in_err-write_rows.ensures.1).1
-    (prefix_before (prefix_after (g.W.Write.contents c.args.out.now) (g.W.Write.contents c.write_middle.new.out)
-    (g.W.Write.contents c.write_rows.new.out) (front ++ boxes ++ middle) rows three c.in_err-write_rows.ensures.err)
+    (prefix_before (prefix_after (g.W.Out.taken c.args.out.now) (g.W.Out.taken c.write_middle.new.out)
+    (g.W.Out.taken c.write_rows.new.out) (front ++ boxes ++ middle) rows three c.in_err-write_rows.ensures.err)
     svg_end)
 
 pub returns-clause-ok : goal.returns-clause-ok
@@ -90,25 +90,25 @@ returns-clause-ok g c =
     let boxes = flat_map (box each rs (drawn_len c.args.parts.now)) c.args.boxes.now in
     let middle = middle_text each c.args.parts.now in
     let rows = flat_map (row each rs) c.args.boxes.now in
-    let P : ℕ → Type 0 = λ n. Appends (g.W.Write.contents c.write_front.new.out)
-    (g.W.Write.contents c.write_boxes.new.out) (flat_map (box each rs n) c.args.boxes.now) in
-    let one : Appends (g.W.Write.contents c.args.out.now) (g.W.Write.contents c.write_front.new.out) front =
+    let P : ℕ → Type 0 = λ n. Appends (g.W.Out.taken c.write_front.new.out)
+    (g.W.Out.taken c.write_boxes.new.out) (flat_map (box each rs n) c.args.boxes.now) in
+    let one : Appends (g.W.Out.taken c.args.out.now) (g.W.Out.taken c.write_front.new.out) front =
     c.in_ok-write_front.ensures.ok in
-    let two : Appends (g.W.Write.contents c.args.out.now) (g.W.Write.contents c.write_boxes.new.out) (front ++ boxes) =
-    Appends-trans (g.W.Write.contents c.args.out.now) (g.W.Write.contents c.write_front.new.out)
-    (g.W.Write.contents c.write_boxes.new.out) front boxes one
+    let two : Appends (g.W.Out.taken c.args.out.now) (g.W.Out.taken c.write_boxes.new.out) (front ++ boxes) =
+    Appends-trans (g.W.Out.taken c.args.out.now) (g.W.Out.taken c.write_front.new.out)
+    (g.W.Out.taken c.write_boxes.new.out) front boxes one
     (subst P c.drawn_len.ensures.value c.in_ok-write_boxes.ensures.ok) in
-    let three : Appends (g.W.Write.contents c.args.out.now) (g.W.Write.contents c.write_middle.new.out) (front ++ boxes
-    ++ middle) = Appends-trans (g.W.Write.contents c.args.out.now) (g.W.Write.contents c.write_boxes.new.out)
-    (g.W.Write.contents c.write_middle.new.out) (front ++ boxes) middle two c.in_ok-write_middle.ensures.ok in
-    let four : Appends (g.W.Write.contents c.args.out.now) (g.W.Write.contents c.write_rows.new.out) (front ++ boxes
-    ++ middle ++ rows) = Appends-trans (g.W.Write.contents c.args.out.now) (g.W.Write.contents c.write_middle.new.out)
-    (g.W.Write.contents c.write_rows.new.out) (front ++ boxes ++ middle) rows three c.in_ok-write_rows.ensures.ok in
+    let three : Appends (g.W.Out.taken c.args.out.now) (g.W.Out.taken c.write_middle.new.out) (front ++ boxes
+    ++ middle) = Appends-trans (g.W.Out.taken c.args.out.now) (g.W.Out.taken c.write_boxes.new.out)
+    (g.W.Out.taken c.write_middle.new.out) (front ++ boxes) middle two c.in_ok-write_middle.ensures.ok in
+    let four : Appends (g.W.Out.taken c.args.out.now) (g.W.Out.taken c.write_rows.new.out) (front ++ boxes
+    ++ middle ++ rows) = Appends-trans (g.W.Out.taken c.args.out.now) (g.W.Out.taken c.write_middle.new.out)
+    (g.W.Out.taken c.write_rows.new.out) (front ++ boxes ++ middle) rows three c.in_ok-write_rows.ensures.ok in
     let Q : List ℕ → Type 0 =
-    λ t. Appends (g.W.Write.contents c.write_rows.new.out) (g.W.Write.contents c.put_all.new.out) t in
-    on_ok_weaker c.put_all.result (λ h. Appends-trans (g.W.Write.contents c.args.out.now)
-    (g.W.Write.contents c.write_rows.new.out) (g.W.Write.contents c.put_all.new.out) (front ++ boxes ++ middle ++ rows)
-    svg_end four (subst Q c.svg_end.ensures h)) c.put_all.ensures.ok
+    λ t. Appends (g.W.Out.taken c.write_rows.new.out) (g.W.Out.taken c.put_text.new.out) t in
+    on_ok_weaker c.put_text.result (λ h. Appends-trans (g.W.Out.taken c.args.out.now)
+    (g.W.Out.taken c.write_rows.new.out) (g.W.Out.taken c.put_text.new.out) (front ++ boxes ++ middle ++ rows)
+    svg_end four (subst Q c.svg_end.ensures h)) c.put_text.ensures.ok
 
 pub returns-clause-err : goal.returns-clause-err
 returns-clause-err g c =
@@ -118,22 +118,22 @@ returns-clause-err g c =
     let boxes = flat_map (box each rs (drawn_len c.args.parts.now)) c.args.boxes.now in
     let middle = middle_text each c.args.parts.now in
     let rows = flat_map (row each rs) c.args.boxes.now in
-    let P : ℕ → Type 0 = λ n. Appends (g.W.Write.contents c.write_front.new.out)
-    (g.W.Write.contents c.write_boxes.new.out) (flat_map (box each rs n) c.args.boxes.now) in
-    let one : Appends (g.W.Write.contents c.args.out.now) (g.W.Write.contents c.write_front.new.out) front =
+    let P : ℕ → Type 0 = λ n. Appends (g.W.Out.taken c.write_front.new.out)
+    (g.W.Out.taken c.write_boxes.new.out) (flat_map (box each rs n) c.args.boxes.now) in
+    let one : Appends (g.W.Out.taken c.args.out.now) (g.W.Out.taken c.write_front.new.out) front =
     c.in_ok-write_front.ensures.ok in
-    let two : Appends (g.W.Write.contents c.args.out.now) (g.W.Write.contents c.write_boxes.new.out) (front ++ boxes) =
-    Appends-trans (g.W.Write.contents c.args.out.now) (g.W.Write.contents c.write_front.new.out)
-    (g.W.Write.contents c.write_boxes.new.out) front boxes one
+    let two : Appends (g.W.Out.taken c.args.out.now) (g.W.Out.taken c.write_boxes.new.out) (front ++ boxes) =
+    Appends-trans (g.W.Out.taken c.args.out.now) (g.W.Out.taken c.write_front.new.out)
+    (g.W.Out.taken c.write_boxes.new.out) front boxes one
     (subst P c.drawn_len.ensures.value c.in_ok-write_boxes.ensures.ok) in
-    let three : Appends (g.W.Write.contents c.args.out.now) (g.W.Write.contents c.write_middle.new.out) (front ++ boxes
-    ++ middle) = Appends-trans (g.W.Write.contents c.args.out.now) (g.W.Write.contents c.write_boxes.new.out)
-    (g.W.Write.contents c.write_middle.new.out) (front ++ boxes) middle two c.in_ok-write_middle.ensures.ok in
-    let four : Appends (g.W.Write.contents c.args.out.now) (g.W.Write.contents c.write_rows.new.out) (front ++ boxes
-    ++ middle ++ rows) = Appends-trans (g.W.Write.contents c.args.out.now) (g.W.Write.contents c.write_middle.new.out)
-    (g.W.Write.contents c.write_rows.new.out) (front ++ boxes ++ middle) rows three c.in_ok-write_rows.ensures.ok in
+    let three : Appends (g.W.Out.taken c.args.out.now) (g.W.Out.taken c.write_middle.new.out) (front ++ boxes
+    ++ middle) = Appends-trans (g.W.Out.taken c.args.out.now) (g.W.Out.taken c.write_boxes.new.out)
+    (g.W.Out.taken c.write_middle.new.out) (front ++ boxes) middle two c.in_ok-write_middle.ensures.ok in
+    let four : Appends (g.W.Out.taken c.args.out.now) (g.W.Out.taken c.write_rows.new.out) (front ++ boxes
+    ++ middle ++ rows) = Appends-trans (g.W.Out.taken c.args.out.now) (g.W.Out.taken c.write_middle.new.out)
+    (g.W.Out.taken c.write_rows.new.out) (front ++ boxes ++ middle) rows three c.in_ok-write_rows.ensures.ok in
     let Q : List ℕ → Type 0 =
-    λ t. AppendsPrefix (g.W.Write.contents c.write_rows.new.out) (g.W.Write.contents c.put_all.new.out) t in
-    on_err_weaker c.put_all.result (λ h. prefix_after (g.W.Write.contents c.args.out.now)
-    (g.W.Write.contents c.write_rows.new.out) (g.W.Write.contents c.put_all.new.out) (front ++ boxes ++ middle ++ rows)
-    svg_end four (subst Q c.svg_end.ensures h)) c.put_all.ensures.err
+    λ t. AppendsPrefix (g.W.Out.taken c.write_rows.new.out) (g.W.Out.taken c.put_text.new.out) t in
+    on_err_weaker c.put_text.result (λ h. prefix_after (g.W.Out.taken c.args.out.now)
+    (g.W.Out.taken c.write_rows.new.out) (g.W.Out.taken c.put_text.new.out) (front ++ boxes ++ middle ++ rows)
+    svg_end four (subst Q c.svg_end.ensures h)) c.put_text.ensures.err
