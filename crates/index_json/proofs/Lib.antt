@@ -1,4 +1,6 @@
+mod Extensions
 mod Listed
+mod Plain
 mod Strings
-mod Texts
+mod Told
 mod TreeTexts

@@ -8,7 +8,6 @@ use Rattle.index_cached_tree.specs.declared.Tree.TheFolds.{fold_out-Tree}
 use Rattle.index_cached_tree.specs.declared.Tree.TheViews.{out-Tree}
 use Rattle.index_json.specs.TreeValues.{directory_members, tree_value, tree_values}
 use Rattle.index_json.specs.Values.{listed, separator}
-use Rattle.index_text.proofs.Appended.{four_more}
 
 all_listed : (k : ℕ) (ts : List Tree)
     → tree_values k (nodes_from (map node_of ts))
@@ -30,16 +29,17 @@ tree_out t =
     (λ (l : List ℕ). directory_members o.name.items o.id o.num_entries ++ codes ",\"children\":[" ++ l ++ codes "]}")
     (all_listed 0 o.children.items)
 
--- what is appended of a directory, one after the other
-pub tree_step : (t : Tree) (name text known begun below all : List ℕ) (ts : List Tree) → name ≡ (out-Tree t).name.items
-    → known ≡ text ++ directory_members name (out-Tree t).id (out-Tree t).num_entries
-    → begun ≡ known ++ codes ",\"children\":[" → ts ≡ (out-Tree t).children.items
-    → below ≡ begun ++ listed (λ (u : Tree). tree_value (node_of u)) ts → all ≡ below ++ codes "]}"
-    → all ≡ text ++ tree_value (node_of t)
-tree_step t name text known begun below all ts a b c d e f =
-    let o = out-Tree t in
-    let named : known ≡ text ++ directory_members o.name.items o.id o.num_entries
-    = b ∙ ap (λ (n : List ℕ). text ++ directory_members n o.id o.num_entries) a in
-    let within : below ≡ begun ++ listed (λ (u : Tree). tree_value (node_of u)) o.children.items
-    = e ∙ ap (λ (us : List Tree). begun ++ listed (λ (u : Tree). tree_value (node_of u)) us) d in
-    four_more text known begun below all _ _ _ _ named c within f ∙ ap (λ (l : List ℕ). text ++ l) (sym (tree_out t))
+-- a directory by itself, with the begin of the array of those in it
+abbrev pub own_text : Tree → List ℕ
+own_text t = directory_members (out-Tree t).name.items (out-Tree t).id (out-Tree t).num_entries
+    ++ codes ",\"children\":["
+
+-- those in it
+abbrev pub children_text : List Tree → List ℕ
+children_text ts = listed (λ (u : Tree). tree_value (node_of u)) ts
+
+pub tree_is : (t : Tree) (ts : List Tree) (text : List ℕ) → ts ≡ (out-Tree t).children.items
+    → text ++ ((own_text t ++ children_text ts) ++ codes "]}") ≡ text ++ tree_value (node_of t)
+tree_is t ts text e =
+    ap (λ (us : List Tree). text ++ ((own_text t ++ children_text us) ++ codes "]}")) e
+    ∙ ap (λ (l : List ℕ). text ++ l) (sym (tree_out t))

@@ -4,7 +4,6 @@ use Rattle.index_format.specs.Contents.{Contents}
 use Rattle.index_entries.specs.EntryImage.{version_code}
 use Rattle.index_format.specs.Outcome.{Outcome}
 use Rattle.index_parts.specs.declared.hash.ObjectId.{ObjectId}
-use Rattle.index_entries.specs.Record.{Record}
 use Rattle.index_marks.specs.declared.Marks.{Marks}
 use Rattle.index_json.specs.BitmapValues.{link_or_null, monitor_or_null}
 use Rattle.index_json.specs.EntryValues.{entry_value}
@@ -21,9 +20,9 @@ head_members c checksum =
     ++ member (codes ",") (codes "checksum") (id_or_null checksum)
     ++ member (codes ",") (codes "is_sparse") (json_bool c.extensions.sparse)
 
--- the entries in their order
-abbrev pub entries_member : List Record → List ℕ
-entries_member rs = codes ",\"entries\":[" ++ listed entry_value rs ++ codes "]"
+-- the begin of the array of entries
+abbrev pub entries_begin : List ℕ
+entries_begin = codes ",\"entries\":["
 
 -- the extensions that hold values, each null where it isn't there
 unfoldable pub extension_members : Outcome → List ℕ
@@ -33,11 +32,15 @@ extension_members o =
     ++ member (codes ",") (codes "untracked") (untracked_or_null o.untracked)
     ++ member (codes ",") (codes "fs_monitor") (monitor_or_null o.fs_monitor)
 
--- what stands behind the entries
-unfoldable pub tail_members : Outcome → Marks → List ℕ
-tail_members o marks = extension_members o ++ mark_members o.had_offset_table o.had_end_marker marks
+-- what an offset table and an end marker say, and the end of the object
+unfoldable pub end_members : Outcome → Marks → List ℕ
+end_members o marks = mark_members o.had_offset_table o.had_end_marker marks ++ codes "}\n"
+
+-- what stands behind the entries, from the end of their array on
+unfoldable pub behind_text : Outcome → Marks → List ℕ
+behind_text o marks = codes "]" ++ extension_members o ++ end_members o marks
 
 -- one object, and a newline
 unfoldable pub json_text : Contents → Option ObjectId → Marks → List ℕ
 json_text c checksum marks =
-    head_members c checksum ++ entries_member c.records ++ tail_members c.extensions marks ++ codes "}\n"
+    head_members c checksum ++ entries_begin ++ listed entry_value c.records ++ behind_text c.extensions marks

@@ -19,12 +19,12 @@ use index_small_extensions::FsMonitor;
 use index_small_extensions::fs_monitor::Token;
 use index_split::link::{Bitmaps, Link};
 use index_state::State;
-use index_text::append::append_decimal;
-use std::alloc::{AllocError, Global};
+use index_text::append::{Appended, append_decimal};
+use std::alloc::Global;
 
 /// Appends a range.
 #[tactic(auto, unfolding(crate::specs::BitmapValues::range_value))]
-fn append_range(text: &mut Vec<u8>, range: Range) -> Result<(), AllocError>
+fn append_range(text: &mut Vec<u8>, range: Range) -> Appended
     ensures { OnOk result (text.new.items ≡ text.old.items ++ range_value range) }
 {
     text.extend_from_slice(b"[")?;
@@ -35,7 +35,7 @@ fn append_range(text: &mut Vec<u8>, range: Range) -> Result<(), AllocError>
 }
 
 /// Appends ranges with commas between them.
-fn append_each(text: &mut Vec<u8>, ranges: &[Range]) -> Result<(), AllocError>
+fn append_each(text: &mut Vec<u8>, ranges: &[Range]) -> Appended
     ensures { OnOk result (text.new.items ≡ text.old.items ++ listed range_value ranges.now) }
 {
     for (place, range) in ranges.iter().enumerate() {
@@ -46,7 +46,7 @@ fn append_each(text: &mut Vec<u8>, ranges: &[Range]) -> Result<(), AllocError>
 }
 
 /// Appends an array of ranges.
-fn append_ranges(text: &mut Vec<u8>, ranges: &[Range]) -> Result<(), AllocError>
+fn append_ranges(text: &mut Vec<u8>, ranges: &[Range]) -> Appended
     ensures { OnOk result (text.new.items ≡ text.old.items ++ array range_value ranges.now) }
 {
     text.extend_from_slice(b"[")?;
@@ -56,7 +56,7 @@ fn append_ranges(text: &mut Vec<u8>, ranges: &[Range]) -> Result<(), AllocError>
 
 /// Appends the member of the bits that are set.
 #[tactic(auto, unfolding(crate::specs::Values::member))]
-fn append_set(text: &mut Vec<u8>, bits: &SetBits) -> Result<(), AllocError>
+fn append_set(text: &mut Vec<u8>, bits: &SetBits) -> Appended
     ensures { OnOk result (text.new.items ≡ text.old.items
         ++ member (codes ",") (codes "set") (array range_value bits.now.ranges.items)) }
 {
@@ -66,7 +66,7 @@ fn append_set(text: &mut Vec<u8>, bits: &SetBits) -> Result<(), AllocError>
 
 /// Appends how many bits there are, and which of them are set.
 #[tactic(auto, unfolding(crate::specs::BitmapValues::bits_value))]
-fn append_bits(text: &mut Vec<u8>, num_bits: u32, bits: &SetBits) -> Result<(), AllocError>
+fn append_bits(text: &mut Vec<u8>, num_bits: u32, bits: &SetBits) -> Appended
     ensures { OnOk result (text.new.items ≡ text.old.items
         ++ bits_value num_bits bits.now.ranges.items bits.now.is_malformed) }
 {
@@ -77,7 +77,7 @@ fn append_bits(text: &mut Vec<u8>, num_bits: u32, bits: &SetBits) -> Result<(), 
 }
 
 /// Appends a bitmap.
-fn append_bitmap(text: &mut Vec<u8>, alloc: Global, map: &ewah::Vec) -> Result<(), AllocError>
+fn append_bitmap(text: &mut Vec<u8>, alloc: Global, map: &ewah::Vec) -> Appended
     ensures { OnOk result (text.new.items ≡ text.old.items ++ bitmap_value (bitmap map.now)) }
 {
     let bits = set_bits(alloc, map)?;
@@ -92,7 +92,7 @@ fn append_bitmap_member(
     before: &[u8],
     name: &[u8],
     map: &ewah::Vec,
-) -> Result<(), AllocError>
+) -> Appended
     ensures { OnOk result (text.new.items ≡ text.old.items
         ++ member before.now name.now (bitmap_value (bitmap map.now))) }
 {
@@ -102,7 +102,7 @@ fn append_bitmap_member(
 
 /// Appends which entries of a shared index are deleted and replaced, or `null`.
 #[tactic(auto, unfolding(crate::specs::BitmapValues::pair_or_null))]
-fn append_pair(text: &mut Vec<u8>, alloc: Global, pair: &Option<Bitmaps>) -> Result<(), AllocError>
+fn append_pair(text: &mut Vec<u8>, alloc: Global, pair: &Option<Bitmaps>) -> Appended
     ensures { OnOk result
         (text.new.items ≡ text.old.items ++ pair_or_null (option_map pair_of pair.now)) }
 {
@@ -118,11 +118,7 @@ fn append_pair(text: &mut Vec<u8>, alloc: Global, pair: &Option<Bitmaps>) -> Res
 
 /// Appends the member of the bitmaps.
 #[tactic(auto, unfolding(crate::specs::Values::member))]
-fn append_pair_member(
-    text: &mut Vec<u8>,
-    alloc: Global,
-    pair: &Option<Bitmaps>,
-) -> Result<(), AllocError>
+fn append_pair_member(text: &mut Vec<u8>, alloc: Global, pair: &Option<Bitmaps>) -> Appended
     ensures { OnOk result (text.new.items ≡ text.old.items
         ++ member (codes ",") (codes "bitmaps") (pair_or_null (option_map pair_of pair.now))) }
 {
@@ -132,7 +128,7 @@ fn append_pair_member(
 
 /// Appends the id of the shared index and the bitmaps, or `null`.
 #[tactic(auto, unfolding(crate::specs::BitmapValues::link_or_null))]
-fn append_shared(text: &mut Vec<u8>, alloc: Global, link: Option<&Link>) -> Result<(), AllocError>
+fn append_shared(text: &mut Vec<u8>, alloc: Global, link: Option<&Link>) -> Appended
     ensures { OnOk result (text.new.items
         ≡ text.old.items ++ link_or_null (option_map (λ l. link_of l.now) link.entry)) }
 {
@@ -153,7 +149,7 @@ fn append_shared(text: &mut Vec<u8>, alloc: Global, link: Option<&Link>) -> Resu
 
 /// Appends the member of the link to a shared index.
 #[tactic(auto, unfolding(crate::specs::Values::member))]
-pub fn append_link(text: &mut Vec<u8>, alloc: Global, state: &State) -> Result<(), AllocError>
+pub fn append_link(text: &mut Vec<u8>, alloc: Global, state: &State) -> Appended
     ensures { OnOk result (text.new.items ≡ text.old.items
         ++ member (codes ",") (codes "link") (link_or_null (contents state.now).extensions.link)) }
 {
@@ -163,7 +159,7 @@ pub fn append_link(text: &mut Vec<u8>, alloc: Global, state: &State) -> Result<(
 
 /// Appends when the monitor was asked.
 #[tactic(auto, unfolding(crate::specs::BitmapValues::token_member))]
-fn append_token(text: &mut Vec<u8>, alloc: Global, token: &Token) -> Result<(), AllocError>
+fn append_token(text: &mut Vec<u8>, alloc: Global, token: &Token) -> Appended
     ensures { OnOk result
         (text.new.items ≡ text.old.items ++ token_member (token_value token.now)) }
 {
@@ -177,12 +173,7 @@ fn append_token(text: &mut Vec<u8>, alloc: Global, token: &Token) -> Result<(), 
 
 /// Appends a token, and which entries may have changed.
 #[tactic(auto, unfolding(crate::specs::BitmapValues::watch_value))]
-fn append_watch(
-    text: &mut Vec<u8>,
-    alloc: Global,
-    token: &Token,
-    dirty: &ewah::Vec,
-) -> Result<(), AllocError>
+fn append_watch(text: &mut Vec<u8>, alloc: Global, token: &Token, dirty: &ewah::Vec) -> Appended
     ensures { OnOk result (text.new.items
         ≡ text.old.items ++ watch_value (token_value token.now) (bitmap dirty.now)) }
 {
@@ -192,11 +183,7 @@ fn append_watch(
 }
 
 /// Appends what a file system monitor said, or `null`.
-fn append_answer(
-    text: &mut Vec<u8>,
-    alloc: Global,
-    monitor: Option<&FsMonitor>,
-) -> Result<(), AllocError>
+fn append_answer(text: &mut Vec<u8>, alloc: Global, monitor: Option<&FsMonitor>) -> Appended
     ensures { OnOk result (text.new.items
         ≡ text.old.items ++ monitor_or_null (option_map (λ m. monitor_of m.now) monitor.entry)) }
 {
@@ -208,7 +195,7 @@ fn append_answer(
 
 /// Appends the member of the file system monitor.
 #[tactic(auto, unfolding(crate::specs::Values::member))]
-pub fn append_monitor(text: &mut Vec<u8>, alloc: Global, state: &State) -> Result<(), AllocError>
+pub fn append_monitor(text: &mut Vec<u8>, alloc: Global, state: &State) -> Appended
     ensures { OnOk result (text.new.items ≡ text.old.items ++ member (codes ",")
         (codes "fs_monitor") (monitor_or_null (contents state.now).extensions.fs_monitor)) }
 {

@@ -1,6 +1,7 @@
 //! The values of entries.
 
-ghost use Rattle.std.specs.Prelude.{◌≡◌, ◌++◌, OnErr, OnOk, codes, length};
+ghost use Rattle.std.specs.Prelude.{◌≡◌, ◌≢◌, ◌++◌, IfErr, OnErr, OnOk, codes, false, length, true};
+ghost use Rattle.std.specs.IoError.{error_kind};
 ghost use Rattle.index_entries.specs.Record.{IsPlaced, record_in};
 ghost use Rattle.index_state.specs.State.{PathsInStorage, contents, storage_of};
 ghost use Rattle.index_parts.specs.Taking.{AppendsPrefix};
@@ -15,13 +16,15 @@ use bitflags::Flags as _;
 use index_entries::Entry;
 use index_metadata::entry::Stat;
 use index_metadata::entry::stat::Time;
+use index_parts::hash::io::Out;
 use index_state::State;
+use index_text::append::Appended;
 use index_text::block::put_block;
-use std::alloc::{AllocError, Global};
-use std::io;
+use std::alloc::Global;
+use std::io::{self, ErrorKind};
 
 /// Appends a time.
-fn append_time(text: &mut Vec<u8>, time: Time) -> Result<(), AllocError>
+fn append_time(text: &mut Vec<u8>, time: Time) -> Appended
     ensures { OnOk result (text.new.items ≡ text.old.items ++ time_value time) }
 {
     append_number_member(text, b"{", b"secs", u64::from(time.secs))?;
@@ -31,12 +34,7 @@ fn append_time(text: &mut Vec<u8>, time: Time) -> Result<(), AllocError>
 
 /// Appends a member that is a time.
 #[tactic(auto, unfolding(crate::specs::Values::member))]
-fn append_time_member(
-    text: &mut Vec<u8>,
-    before: &[u8],
-    name: &[u8],
-    time: Time,
-) -> Result<(), AllocError>
+fn append_time_member(text: &mut Vec<u8>, before: &[u8], name: &[u8], time: Time) -> Appended
     ensures { OnOk result
         (text.new.items ≡ text.old.items ++ member before.now name.now (time_value time)) }
 {
@@ -46,7 +44,7 @@ fn append_time_member(
 
 /// Appends the two times of a stat.
 #[tactic(auto, unfolding(crate::specs::EntryValues::time_members))]
-fn append_times(text: &mut Vec<u8>, stat: Stat) -> Result<(), AllocError>
+fn append_times(text: &mut Vec<u8>, stat: Stat) -> Appended
     ensures { OnOk result (text.new.items ≡ text.old.items ++ time_members stat) }
 {
     append_time_member(text, b"{", b"mtime", stat.mtime)?;
@@ -55,7 +53,7 @@ fn append_times(text: &mut Vec<u8>, stat: Stat) -> Result<(), AllocError>
 
 /// Appends the other numbers of a stat.
 #[tactic(auto, unfolding(crate::specs::EntryValues::file_members))]
-fn append_file(text: &mut Vec<u8>, stat: Stat) -> Result<(), AllocError>
+fn append_file(text: &mut Vec<u8>, stat: Stat) -> Appended
     ensures { OnOk result (text.new.items ≡ text.old.items ++ file_members stat) }
 {
     append_number_member(text, b",", b"dev", u64::from(stat.dev))?;
@@ -67,7 +65,7 @@ fn append_file(text: &mut Vec<u8>, stat: Stat) -> Result<(), AllocError>
 
 /// Appends a stat.
 #[tactic(auto, unfolding(crate::specs::EntryValues::stat_value))]
-pub fn append_stat(text: &mut Vec<u8>, stat: Stat) -> Result<(), AllocError>
+pub fn append_stat(text: &mut Vec<u8>, stat: Stat) -> Appended
     ensures { OnOk result (text.new.items ≡ text.old.items ++ stat_value stat) }
 {
     append_times(text, stat)?;
@@ -77,12 +75,7 @@ pub fn append_stat(text: &mut Vec<u8>, stat: Stat) -> Result<(), AllocError>
 
 /// Appends a member that is a stat.
 #[tactic(auto, unfolding(crate::specs::Values::member))]
-pub fn append_stat_member(
-    text: &mut Vec<u8>,
-    before: &[u8],
-    name: &[u8],
-    stat: Stat,
-) -> Result<(), AllocError>
+pub fn append_stat_member(text: &mut Vec<u8>, before: &[u8], name: &[u8], stat: Stat) -> Appended
     ensures { OnOk result
         (text.new.items ≡ text.old.items ++ member before.now name.now (stat_value stat)) }
 {
@@ -92,12 +85,7 @@ pub fn append_stat_member(
 
 /// Appends what an entry has beside its stat.
 #[tactic(auto, unfolding(crate::specs::EntryValues::entry_members))]
-fn append_entry_members(
-    text: &mut Vec<u8>,
-    alloc: Global,
-    state: &State,
-    entry: &Entry,
-) -> Result<(), AllocError>
+fn append_entry_members(text: &mut Vec<u8>, alloc: Global, state: &State, entry: &Entry) -> Appended
     requires { IsPlaced (length (storage_of state.now)) entry.now }
     ensures { OnOk result (text.new.items
         ≡ text.old.items ++ entry_members (record_in (storage_of state.now) entry.now)) }
@@ -111,12 +99,7 @@ fn append_entry_members(
 
 /// Appends an entry.
 #[tactic(auto, unfolding(crate::specs::EntryValues::entry_value))]
-fn append_entry(
-    text: &mut Vec<u8>,
-    alloc: Global,
-    state: &State,
-    entry: &Entry,
-) -> Result<(), AllocError>
+fn append_entry(text: &mut Vec<u8>, alloc: Global, state: &State, entry: &Entry) -> Appended
     requires { IsPlaced (length (storage_of state.now)) entry.now }
     ensures { OnOk result (text.new.items
         ≡ text.old.items ++ entry_value (record_in (storage_of state.now) entry.now)) }
@@ -133,7 +116,7 @@ fn append_placed(
     state: &State,
     place: usize,
     entry: &Entry,
-) -> Result<(), AllocError>
+) -> Appended
     requires { IsPlaced (length (storage_of state.now)) entry.now }
     ensures { OnOk result (text.new.items ≡ text.old.items
         ++ (separator place ++ entry_value (record_in (storage_of state.now) entry.now))) }
@@ -142,20 +125,22 @@ fn append_placed(
     append_entry(text, alloc, state, entry)
 }
 
-/// Appends all entries with commas between them; what fills a block goes out.
-pub fn write_entries<W: io::Write>(
+/// Writes all entries with commas between them; what fills a block goes out.
+pub fn write_entries<W: Out>(
     text: &mut Vec<u8>,
     alloc: Global,
     state: &State,
     out: &mut W,
 ) -> io::Result<()>
-    requires { PathsInStorage state.now }
-    ensures ok { OnOk result
-        (Passes (W.contents out.old) (W.contents out.new) text.new.items
+    requires placed { PathsInStorage state.now }
+    requires going { W.failed out.old ≡ false }
+    ensures ok { OnOk result (Passes (W.taken out.old) (W.taken out.new) text.new.items
         (text.old.items ++ listed entry_value (contents state.now).records)) }
-    ensures err { OnErr result
-        (AppendsPrefix (W.contents out.old) (W.contents out.new)
+    ensures err { OnErr result (AppendsPrefix (W.taken out.old) (W.taken out.new)
         (text.old.items ++ listed entry_value (contents state.now).records)) }
+    ensures going { OnOk result (W.failed out.new ≡ false) }
+    ensures cause { IfErr result
+        (λ e. error_kind e ≢ ErrorKind.OutOfMemory → W.failed out.new ≡ true) }
 {
     for (place, entry) in state.entries().iter().enumerate() {
         append_placed(text, alloc, state, place, entry)?;

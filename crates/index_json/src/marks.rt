@@ -10,11 +10,11 @@ use crate::values::{
 };
 use index_marks::{EndMark, Marks};
 use index_small_extensions::index_entry_offset_table::Offset;
-use std::alloc::AllocError;
+use index_text::append::Appended;
 
 /// Appends a block of entries.
 #[tactic(auto, unfolding(crate::specs::MarkValues::block_value))]
-fn append_block(text: &mut Vec<u8>, block: Offset) -> Result<(), AllocError>
+fn append_block(text: &mut Vec<u8>, block: Offset) -> Appended
     ensures { OnOk result (text.new.items ≡ text.old.items ++ block_value block) }
 {
     let place = u64::from(block.from_beginning_of_file);
@@ -24,7 +24,7 @@ fn append_block(text: &mut Vec<u8>, block: Offset) -> Result<(), AllocError>
 }
 
 /// Appends blocks with commas between them.
-fn append_each(text: &mut Vec<u8>, blocks: &[Offset]) -> Result<(), AllocError>
+fn append_each(text: &mut Vec<u8>, blocks: &[Offset]) -> Appended
     ensures { OnOk result (text.new.items ≡ text.old.items ++ listed block_value blocks.now) }
 {
     for (place, block) in blocks.iter().enumerate() {
@@ -35,7 +35,7 @@ fn append_each(text: &mut Vec<u8>, blocks: &[Offset]) -> Result<(), AllocError>
 }
 
 /// Appends an array of blocks.
-fn append_array(text: &mut Vec<u8>, blocks: &[Offset]) -> Result<(), AllocError>
+fn append_array(text: &mut Vec<u8>, blocks: &[Offset]) -> Appended
     ensures { OnOk result (text.new.items ≡ text.old.items ++ array block_value blocks.now) }
 {
     text.extend_from_slice(b"[")?;
@@ -45,7 +45,7 @@ fn append_array(text: &mut Vec<u8>, blocks: &[Offset]) -> Result<(), AllocError>
 
 /// Appends the blocks of an offset table, or `null`.
 #[tactic(auto, unfolding(crate::specs::MarkValues::table_or_null))]
-fn append_blocks(text: &mut Vec<u8>, table: &Option<Vec<Offset>>) -> Result<(), AllocError>
+fn append_blocks(text: &mut Vec<u8>, table: &Option<Vec<Offset>>) -> Appended
     ensures { OnOk result (text.new.items
         ≡ text.old.items ++ table_or_null (option_map (λ v. v.items) table.now)) }
 {
@@ -57,7 +57,7 @@ fn append_blocks(text: &mut Vec<u8>, table: &Option<Vec<Offset>>) -> Result<(), 
 
 /// Appends the member of what an offset table says.
 #[tactic(auto, unfolding(crate::specs::Values::member))]
-fn append_table_value(text: &mut Vec<u8>, table: &Option<Vec<Offset>>) -> Result<(), AllocError>
+fn append_table_value(text: &mut Vec<u8>, table: &Option<Vec<Offset>>) -> Appended
     ensures { OnOk result (text.new.items ≡ text.old.items ++ member (codes ",")
         (codes "offset_table") (table_or_null (option_map (λ v. v.items) table.now))) }
 {
@@ -67,11 +67,7 @@ fn append_table_value(text: &mut Vec<u8>, table: &Option<Vec<Offset>>) -> Result
 
 /// Appends whether there was an offset table, and what it says.
 #[tactic(auto, unfolding(crate::specs::MarkValues::table_members))]
-fn append_table(
-    text: &mut Vec<u8>,
-    had: bool,
-    table: &Option<Vec<Offset>>,
-) -> Result<(), AllocError>
+fn append_table(text: &mut Vec<u8>, had: bool, table: &Option<Vec<Offset>>) -> Appended
     ensures { OnOk result (text.new.items
         ≡ text.old.items ++ table_members had (option_map (λ v. v.items) table.now)) }
 {
@@ -81,7 +77,7 @@ fn append_table(
 
 /// Appends the offset and the digest of an end marker, or `null`.
 #[tactic(auto, unfolding(crate::specs::MarkValues::end_or_null))]
-fn append_end_mark(text: &mut Vec<u8>, mark: Option<EndMark>) -> Result<(), AllocError>
+fn append_end_mark(text: &mut Vec<u8>, mark: Option<EndMark>) -> Appended
     ensures { OnOk result (text.new.items ≡ text.old.items ++ end_or_null mark) }
 {
     match mark {
@@ -96,7 +92,7 @@ fn append_end_mark(text: &mut Vec<u8>, mark: Option<EndMark>) -> Result<(), Allo
 
 /// Appends the member of what an end marker says.
 #[tactic(auto, unfolding(crate::specs::Values::member))]
-fn append_end_value(text: &mut Vec<u8>, mark: Option<EndMark>) -> Result<(), AllocError>
+fn append_end_value(text: &mut Vec<u8>, mark: Option<EndMark>) -> Appended
     ensures { OnOk result (text.new.items
         ≡ text.old.items ++ member (codes ",") (codes "end_of_index_marker") (end_or_null mark)) }
 {
@@ -106,7 +102,7 @@ fn append_end_value(text: &mut Vec<u8>, mark: Option<EndMark>) -> Result<(), All
 
 /// Appends whether there was an end marker, and what it says.
 #[tactic(auto, unfolding(crate::specs::MarkValues::end_members))]
-fn append_end(text: &mut Vec<u8>, had: bool, mark: Option<EndMark>) -> Result<(), AllocError>
+fn append_end(text: &mut Vec<u8>, had: bool, mark: Option<EndMark>) -> Appended
     ensures { OnOk result (text.new.items ≡ text.old.items ++ end_members had mark) }
 {
     append_bool_member(text, b",", b"had_end_of_index_marker", had)?;
@@ -115,12 +111,7 @@ fn append_end(text: &mut Vec<u8>, had: bool, mark: Option<EndMark>) -> Result<()
 
 /// Appends whether there were an offset table and an end marker, and what they say.
 #[tactic(auto, unfolding(crate::specs::MarkValues::mark_members))]
-pub fn append_marks(
-    text: &mut Vec<u8>,
-    table: bool,
-    marker: bool,
-    marks: &Marks,
-) -> Result<(), AllocError>
+pub fn append_marks(text: &mut Vec<u8>, table: bool, marker: bool, marks: &Marks) -> Appended
     ensures { OnOk result
         (text.new.items ≡ text.old.items ++ mark_members table marker marks.now) }
 {

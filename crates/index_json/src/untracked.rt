@@ -1,11 +1,14 @@
 //! The value of an untracked cache.
 
-ghost use Rattle.std.specs.Prelude.{◌≡◌, ◌++◌, OnOk, codes, decimal, map};
+ghost use Rattle.std.specs.Prelude.{◌≡◌, ◌≢◌, ◌++◌, IfErr, OnErr, OnOk, codes, decimal, false, map, true};
+ghost use Rattle.std.specs.IoError.{error_kind};
 ghost use Rattle.std.specs.Option.{option_map};
 ghost use Rattle.bstr.specs.Owned.{bstring_bytes};
+ghost use Rattle.index_parts.specs.Taking.{AppendsPrefix};
 ghost use Rattle.index_untracked.specs.Blocks.{directory_value};
 ghost use Rattle.index_state.specs.State.{contents};
 ghost use Rattle.index_untracked.specs.Untracked.{cache_of};
+ghost use Rattle.index_text.specs.Blocks.{Passes};
 ghost use Rattle.index_json.specs.EntryValues.{stat_value};
 ghost use Rattle.index_json.specs.UntrackedValues.{cached_directory, exclude_members, exclude_or_null, name_value, naming_members, own_members, preamble_members, stat_or_null, untracked_or_null};
 ghost use Rattle.index_json.specs.Values.{array, id_or_null, json_bool, listed, member};
@@ -18,14 +21,17 @@ use crate::values::{
 use bstr::BString;
 use index_metadata::entry::Stat;
 use index_parts::hash::ObjectId;
+use index_parts::hash::io::Out;
 use index_state::State;
-use index_text::append::append_decimal;
+use index_text::append::{Appended, append_decimal};
+use index_text::block::put_block;
 use index_untracked::{Directory, OidStat, UntrackedCache};
-use std::alloc::{AllocError, Global};
+use std::alloc::Global;
+use std::io::{self, ErrorKind};
 
 /// Appends the stat and the id of a file of exclude patterns, or `null`.
 #[tactic(auto, unfolding(crate::specs::UntrackedValues::exclude_or_null))]
-fn append_exclude(text: &mut Vec<u8>, file: Option<&OidStat>) -> Result<(), AllocError>
+fn append_exclude(text: &mut Vec<u8>, file: Option<&OidStat>) -> Appended
     ensures { OnOk result (text.new.items
         ≡ text.old.items ++ exclude_or_null (option_map (λ f. f.now) file.entry)) }
 {
@@ -41,11 +47,7 @@ fn append_exclude(text: &mut Vec<u8>, file: Option<&OidStat>) -> Result<(), Allo
 
 /// Appends a member that is a file of exclude patterns.
 #[tactic(auto, unfolding(crate::specs::Values::member))]
-fn append_exclude_member(
-    text: &mut Vec<u8>,
-    name: &[u8],
-    file: Option<&OidStat>,
-) -> Result<(), AllocError>
+fn append_exclude_member(text: &mut Vec<u8>, name: &[u8], file: Option<&OidStat>) -> Appended
     ensures { OnOk result (text.new.items ≡ text.old.items ++ member (codes ",") name.now
         (exclude_or_null (option_map (λ f. f.now) file.entry))) }
 {
@@ -59,7 +61,7 @@ fn append_exclude_files(
     text: &mut Vec<u8>,
     info: Option<&OidStat>,
     excludes: Option<&OidStat>,
-) -> Result<(), AllocError>
+) -> Appended
     ensures { OnOk result (text.new.items ≡ text.old.items
         ++ exclude_members (option_map (λ f. f.now) info.entry)
         (option_map (λ f. f.now) excludes.entry)) }
@@ -77,7 +79,7 @@ fn append_naming(
     identifier: &[u8],
     flags: u32,
     name: &[u8],
-) -> Result<(), AllocError>
+) -> Appended
     ensures { OnOk result
         (text.new.items ≡ text.old.items ++ naming_members identifier.now flags name.now) }
 {
@@ -88,11 +90,7 @@ fn append_naming(
 
 /// Appends what a cache says of itself.
 #[tactic(auto, unfolding(crate::specs::UntrackedValues::preamble_members))]
-fn append_preamble(
-    text: &mut Vec<u8>,
-    alloc: Global,
-    cache: &UntrackedCache,
-) -> Result<(), AllocError>
+fn append_preamble(text: &mut Vec<u8>, alloc: Global, cache: &UntrackedCache) -> Appended
     ensures { OnOk result
         (text.new.items ≡ text.old.items ++ preamble_members (cache_of cache.now).preamble) }
 {
@@ -103,7 +101,7 @@ fn append_preamble(
 
 /// Appends the stat of a directory, or `null`.
 #[tactic(auto, unfolding(crate::specs::UntrackedValues::stat_or_null))]
-fn append_stat_or_null(text: &mut Vec<u8>, stat: Option<&Stat>) -> Result<(), AllocError>
+fn append_stat_or_null(text: &mut Vec<u8>, stat: Option<&Stat>) -> Appended
     ensures { OnOk result
         (text.new.items ≡ text.old.items ++ stat_or_null (option_map (λ s. s.now) stat.entry)) }
 {
@@ -115,7 +113,7 @@ fn append_stat_or_null(text: &mut Vec<u8>, stat: Option<&Stat>) -> Result<(), Al
 
 /// Appends the member of a directory's stat.
 #[tactic(auto, unfolding(crate::specs::Values::member))]
-fn append_stat_of(text: &mut Vec<u8>, stat: Option<&Stat>) -> Result<(), AllocError>
+fn append_stat_of(text: &mut Vec<u8>, stat: Option<&Stat>) -> Appended
     ensures { OnOk result (text.new.items ≡ text.old.items ++ member (codes ",") (codes "stat")
         (stat_or_null (option_map (λ s. s.now) stat.entry))) }
 {
@@ -125,7 +123,7 @@ fn append_stat_of(text: &mut Vec<u8>, stat: Option<&Stat>) -> Result<(), AllocEr
 
 /// Appends the member of the id of a directory's own file of exclude patterns.
 #[tactic(auto, unfolding(crate::specs::Values::member))]
-fn append_exclude_id(text: &mut Vec<u8>, id: Option<ObjectId>) -> Result<(), AllocError>
+fn append_exclude_id(text: &mut Vec<u8>, id: Option<ObjectId>) -> Appended
     ensures { OnOk result (text.new.items ≡ text.old.items
         ++ member (codes ",") (codes "exclude_file_oid") (id_or_null id)) }
 {
@@ -135,7 +133,7 @@ fn append_exclude_id(text: &mut Vec<u8>, id: Option<ObjectId>) -> Result<(), All
 
 /// Appends what is known of a directory by itself.
 #[tactic(auto, unfolding(crate::specs::UntrackedValues::own_members))]
-fn append_own(text: &mut Vec<u8>, alloc: Global, directory: &Directory) -> Result<(), AllocError>
+fn append_own(text: &mut Vec<u8>, alloc: Global, directory: &Directory) -> Appended
     ensures { OnOk result
         (text.new.items ≡ text.old.items ++ own_members (directory_value directory.now)) }
 {
@@ -147,7 +145,7 @@ fn append_own(text: &mut Vec<u8>, alloc: Global, directory: &Directory) -> Resul
 
 /// Appends a name.
 #[tactic(auto, unfolding(crate::specs::UntrackedValues::name_value))]
-fn append_name_value(text: &mut Vec<u8>, alloc: Global, name: &[u8]) -> Result<(), AllocError>
+fn append_name_value(text: &mut Vec<u8>, alloc: Global, name: &[u8]) -> Appended
     ensures { OnOk result (text.new.items ≡ text.old.items ++ name_value name.now) }
 {
     append_text_member(text, alloc, b"{", b"name", name)?;
@@ -155,7 +153,7 @@ fn append_name_value(text: &mut Vec<u8>, alloc: Global, name: &[u8]) -> Result<(
 }
 
 /// Appends names with commas between them.
-fn append_names(text: &mut Vec<u8>, alloc: Global, names: &[BString]) -> Result<(), AllocError>
+fn append_names(text: &mut Vec<u8>, alloc: Global, names: &[BString]) -> Appended
     ensures { OnOk result (text.new.items
         ≡ text.old.items ++ listed name_value (map bstring_bytes names.now)) }
 {
@@ -167,7 +165,7 @@ fn append_names(text: &mut Vec<u8>, alloc: Global, names: &[BString]) -> Result<
 }
 
 /// Appends places with commas between them.
-fn append_places(text: &mut Vec<u8>, places: &[usize]) -> Result<(), AllocError>
+fn append_places(text: &mut Vec<u8>, places: &[usize]) -> Appended
     ensures { OnOk result (text.new.items ≡ text.old.items ++ listed decimal places.now) }
 {
     for (index, place) in places.iter().enumerate() {
@@ -179,11 +177,7 @@ fn append_places(text: &mut Vec<u8>, places: &[usize]) -> Result<(), AllocError>
 
 /// Appends the member of the names of what is untracked in a directory.
 #[tactic(auto, unfolding(crate::specs::Values::member))]
-fn append_names_member(
-    text: &mut Vec<u8>,
-    alloc: Global,
-    names: &[BString],
-) -> Result<(), AllocError>
+fn append_names_member(text: &mut Vec<u8>, alloc: Global, names: &[BString]) -> Appended
     ensures { OnOk result (text.new.items ≡ text.old.items ++ member (codes ",")
         (codes "untracked_entries") (array name_value (map bstring_bytes names.now))) }
 {
@@ -195,7 +189,7 @@ fn append_names_member(
 
 /// Appends the member of the places of the directories in one.
 #[tactic(auto, unfolding(crate::specs::Values::member))]
-fn append_places_member(text: &mut Vec<u8>, places: &[usize]) -> Result<(), AllocError>
+fn append_places_member(text: &mut Vec<u8>, places: &[usize]) -> Appended
     ensures { OnOk result (text.new.items ≡ text.old.items
         ++ member (codes ",") (codes "sub_directories") (array decimal places.now)) }
 {
@@ -207,11 +201,7 @@ fn append_places_member(text: &mut Vec<u8>, places: &[usize]) -> Result<(), Allo
 
 /// Appends a directory.
 #[tactic(auto, unfolding(crate::specs::UntrackedValues::cached_directory))]
-fn append_directory(
-    text: &mut Vec<u8>,
-    alloc: Global,
-    directory: &Directory,
-) -> Result<(), AllocError>
+fn append_directory(text: &mut Vec<u8>, alloc: Global, directory: &Directory) -> Appended
     ensures { OnOk result
         (text.new.items ≡ text.old.items ++ cached_directory (directory_value directory.now)) }
 {
@@ -221,64 +211,107 @@ fn append_directory(
     text.extend_from_slice(b"}")
 }
 
-/// Appends directories with commas between them.
-fn append_directories(
+/// Writes directories with commas between them; what fills a block goes out.
+fn write_directories<W: Out>(
     text: &mut Vec<u8>,
     alloc: Global,
     directories: &[Directory],
-) -> Result<(), AllocError>
-    ensures { OnOk result (text.new.items
-        ≡ text.old.items ++ listed cached_directory (map directory_value directories.now)) }
+    out: &mut W,
+) -> io::Result<()>
+    requires { W.failed out.old ≡ false }
+    ensures ok { OnOk result (Passes (W.taken out.old) (W.taken out.new) text.new.items
+        (text.old.items ++ listed cached_directory (map directory_value directories.now))) }
+    ensures err { OnErr result (AppendsPrefix (W.taken out.old) (W.taken out.new)
+        (text.old.items ++ listed cached_directory (map directory_value directories.now))) }
+    ensures going { OnOk result (W.failed out.new ≡ false) }
+    ensures cause { IfErr result
+        (λ e. error_kind e ≢ ErrorKind.OutOfMemory → W.failed out.new ≡ true) }
 {
     for (place, directory) in directories.iter().enumerate() {
         append_separator(text, place)?;
         append_directory(text, alloc, directory)?;
+        put_block(text, out)?;
     }
     Ok(())
 }
 
-/// Appends the member of a cache's directories.
+/// Writes the member of a cache's directories.
 #[tactic(auto, unfolding(crate::specs::Values::member))]
-fn append_directories_member(
+fn write_directories_member<W: Out>(
     text: &mut Vec<u8>,
     alloc: Global,
     directories: &[Directory],
-) -> Result<(), AllocError>
-    ensures { OnOk result (text.new.items ≡ text.old.items ++ member (codes ",")
-        (codes "directories") (array cached_directory (map directory_value directories.now))) }
+    out: &mut W,
+) -> io::Result<()>
+    requires { W.failed out.old ≡ false }
+    ensures ok { OnOk result (Passes (W.taken out.old) (W.taken out.new) text.new.items
+        (text.old.items
+        ++ member (codes ",") (codes "directories")
+        (array cached_directory (map directory_value directories.now)))) }
+    ensures err { OnErr result (AppendsPrefix (W.taken out.old) (W.taken out.new)
+        (text.old.items
+        ++ member (codes ",") (codes "directories")
+        (array cached_directory (map directory_value directories.now)))) }
+    ensures going { OnOk result (W.failed out.new ≡ false) }
+    ensures cause { IfErr result
+        (λ e. error_kind e ≢ ErrorKind.OutOfMemory → W.failed out.new ≡ true) }
 {
     append_name(text, b",", b"directories")?;
     text.extend_from_slice(b"[")?;
-    append_directories(text, alloc, directories)?;
-    text.extend_from_slice(b"]")
+    write_directories(text, alloc, directories, out)?;
+    Ok(text.extend_from_slice(b"]")?)
 }
 
-/// Appends the untracked cache, or `null`.
+/// Writes the untracked cache, or `null`.
 #[tactic(auto, unfolding(crate::specs::UntrackedValues::untracked_or_null))]
-fn append_cache(
+fn write_cache<W: Out>(
     text: &mut Vec<u8>,
     alloc: Global,
     cache: Option<&UntrackedCache>,
-) -> Result<(), AllocError>
-    ensures { OnOk result (text.new.items
-        ≡ text.old.items ++ untracked_or_null (option_map (λ c. cache_of c.now) cache.entry)) }
+    out: &mut W,
+) -> io::Result<()>
+    requires { W.failed out.old ≡ false }
+    ensures ok { OnOk result (Passes (W.taken out.old) (W.taken out.new) text.new.items
+        (text.old.items
+        ++ untracked_or_null (option_map (λ c. cache_of c.now) cache.entry))) }
+    ensures err { OnErr result (AppendsPrefix (W.taken out.old) (W.taken out.new)
+        (text.old.items
+        ++ untracked_or_null (option_map (λ c. cache_of c.now) cache.entry))) }
+    ensures going { OnOk result (W.failed out.new ≡ false) }
+    ensures cause { IfErr result
+        (λ e. error_kind e ≢ ErrorKind.OutOfMemory → W.failed out.new ≡ true) }
 {
     match cache {
         Some(cache) => {
             append_preamble(text, alloc, cache)?;
-            append_directories_member(text, alloc, cache.directories())?;
-            text.extend_from_slice(b"}")
+            write_directories_member(text, alloc, cache.directories(), out)?;
+            Ok(text.extend_from_slice(b"}")?)
         }
-        None => text.extend_from_slice(b"null"),
+        None => Ok(text.extend_from_slice(b"null")?),
     }
 }
 
-/// Appends the member of the untracked cache.
+/// Writes the member of the untracked cache.
 #[tactic(auto, unfolding(crate::specs::Values::member))]
-pub fn append_untracked(text: &mut Vec<u8>, alloc: Global, state: &State) -> Result<(), AllocError>
-    ensures { OnOk result (text.new.items ≡ text.old.items ++ member (codes ",")
-        (codes "untracked") (untracked_or_null (contents state.now).extensions.untracked)) }
+pub fn write_untracked<W: Out>(
+    text: &mut Vec<u8>,
+    alloc: Global,
+    state: &State,
+    out: &mut W,
+) -> io::Result<()>
+    requires { W.failed out.old ≡ false }
+    ensures ok { OnOk result (Passes (W.taken out.old) (W.taken out.new) text.new.items
+        (text.old.items
+        ++ member (codes ",") (codes "untracked")
+        (untracked_or_null (contents state.now).extensions.untracked))) }
+    ensures err { OnErr result (AppendsPrefix (W.taken out.old) (W.taken out.new)
+        (text.old.items
+        ++ member (codes ",") (codes "untracked")
+        (untracked_or_null (contents state.now).extensions.untracked))) }
+    ensures going { OnOk result (W.failed out.new ≡ false) }
+    ensures cause { IfErr result
+        (λ e. error_kind e ≢ ErrorKind.OutOfMemory → W.failed out.new ≡ true) }
 {
     append_name(text, b",", b"untracked")?;
-    append_cache(text, alloc, state.untracked())
+    write_cache(text, alloc, state.untracked(), out)
 }

@@ -2,17 +2,18 @@
 
 ghost use Rattle.std.specs.Prelude.{◌≡◌, ◌++◌, OnOk, codes, string_bytes};
 ghost use Rattle.index_parts.specs.Id.{id_bytes};
-ghost use Rattle.json.specs.Print.{quoted};
+ghost use Rattle.std.specs.Bool.{OnTrue};
+ghost use Rattle.json.specs.Print.{escape, quoted};
 ghost use Rattle.index_json.specs.Values.{hex_string, id_member, id_or_null, json_bool, json_string, member, number_member, number_or_null, separator, text_member};
 
 use index_parts::hash::ObjectId;
-use index_text::append::{append_decimal, append_hex};
+use index_text::append::{Appended, append_decimal, append_hex};
 use json::Writer;
-use std::alloc::{AllocError, Global};
+use std::alloc::Global;
 use std::{mem, str};
 
 /// Appends what stands before a value: a brace or a comma, the name as a string, and a colon.
-pub fn append_name(text: &mut Vec<u8>, before: &[u8], name: &[u8]) -> Result<(), AllocError>
+pub fn append_name(text: &mut Vec<u8>, before: &[u8], name: &[u8]) -> Appended
     ensures { OnOk result (text.new.items
         ≡ text.old.items ++ (before.now ++ codes "\"" ++ name.now ++ codes "\":")) }
 {
@@ -24,12 +25,7 @@ pub fn append_name(text: &mut Vec<u8>, before: &[u8], name: &[u8]) -> Result<(),
 
 /// Appends a member that is a number.
 #[tactic(auto, unfolding(crate::specs::Values::member))]
-pub fn append_number_member(
-    text: &mut Vec<u8>,
-    before: &[u8],
-    name: &[u8],
-    n: u64,
-) -> Result<(), AllocError>
+pub fn append_number_member(text: &mut Vec<u8>, before: &[u8], name: &[u8], n: u64) -> Appended
     ensures { OnOk result
         (text.new.items ≡ text.old.items ++ number_member before.now name.now n) }
 {
@@ -38,7 +34,7 @@ pub fn append_number_member(
 }
 
 /// Appends a number, or `null`.
-pub fn append_number_or_null(text: &mut Vec<u8>, n: Option<u32>) -> Result<(), AllocError>
+pub fn append_number_or_null(text: &mut Vec<u8>, n: Option<u32>) -> Appended
     ensures { OnOk result (text.new.items ≡ text.old.items ++ number_or_null n) }
 {
     match n {
@@ -48,7 +44,7 @@ pub fn append_number_or_null(text: &mut Vec<u8>, n: Option<u32>) -> Result<(), A
 }
 
 /// Appends `true` or `false`.
-pub fn append_bool(text: &mut Vec<u8>, holds: bool) -> Result<(), AllocError>
+pub fn append_bool(text: &mut Vec<u8>, holds: bool) -> Appended
     ensures { OnOk result (text.new.items ≡ text.old.items ++ json_bool holds) }
 {
     if holds {
@@ -59,12 +55,7 @@ pub fn append_bool(text: &mut Vec<u8>, holds: bool) -> Result<(), AllocError>
 
 /// Appends a member that is `true` or `false`.
 #[tactic(auto, unfolding(crate::specs::Values::member))]
-pub fn append_bool_member(
-    text: &mut Vec<u8>,
-    before: &[u8],
-    name: &[u8],
-    holds: bool,
-) -> Result<(), AllocError>
+pub fn append_bool_member(text: &mut Vec<u8>, before: &[u8], name: &[u8], holds: bool) -> Appended
     ensures { OnOk result
         (text.new.items ≡ text.old.items ++ member before.now name.now (json_bool holds)) }
 {
@@ -73,7 +64,7 @@ pub fn append_bool_member(
 }
 
 /// Appends an id in base 16 as a string.
-pub fn append_id(text: &mut Vec<u8>, id: &ObjectId) -> Result<(), AllocError>
+pub fn append_id(text: &mut Vec<u8>, id: &ObjectId) -> Appended
     ensures { OnOk result (text.new.items ≡ text.old.items ++ hex_string (id_bytes id.now)) }
 {
     text.extend_from_slice(b"\"")?;
@@ -83,12 +74,7 @@ pub fn append_id(text: &mut Vec<u8>, id: &ObjectId) -> Result<(), AllocError>
 
 /// Appends a member that is an id.
 #[tactic(auto, unfolding(crate::specs::Values::member))]
-pub fn append_id_member(
-    text: &mut Vec<u8>,
-    before: &[u8],
-    name: &[u8],
-    id: &ObjectId,
-) -> Result<(), AllocError>
+pub fn append_id_member(text: &mut Vec<u8>, before: &[u8], name: &[u8], id: &ObjectId) -> Appended
     ensures { OnOk result
         (text.new.items ≡ text.old.items ++ id_member before.now name.now id.now) }
 {
@@ -97,7 +83,7 @@ pub fn append_id_member(
 }
 
 /// Appends an id, or `null`.
-pub fn append_id_or_null(text: &mut Vec<u8>, id: Option<ObjectId>) -> Result<(), AllocError>
+pub fn append_id_or_null(text: &mut Vec<u8>, id: Option<ObjectId>) -> Appended
     ensures { OnOk result (text.new.items ≡ text.old.items ++ id_or_null id) }
 {
     match id {
@@ -106,8 +92,20 @@ pub fn append_id_or_null(text: &mut Vec<u8>, id: Option<ObjectId>) -> Result<(),
     }
 }
 
-/// Appends a string. On an error nothing is left of the text.
-fn append_string(text: &mut Vec<u8>, alloc: Global, value: &str) -> Result<(), AllocError>
+/// Whether each byte stands for itself in a string. The look goes over all of them, so that many are looked at at once.
+
+fn stand_for_themselves(bytes: &[u8]) -> bool
+    ensures { OnTrue result (escape bytes.now ≡ bytes.now) }
+{
+    let mut all = true;
+    for byte in bytes {
+        all &= (*byte >= b' ') & (*byte != b'"') & (*byte != b'\\');
+    }
+    all
+}
+
+/// Appends a string with escapes in it. On an error nothing is left of the text.
+fn append_escaped(text: &mut Vec<u8>, alloc: Global, value: &str) -> Appended
     ensures { OnOk result (text.new.items ≡ text.old.items ++ json_string value.now) }
 {
     let mut writer = Writer::new(mem::replace(text, Vec::new(alloc)));
@@ -116,8 +114,20 @@ fn append_string(text: &mut Vec<u8>, alloc: Global, value: &str) -> Result<(), A
     Ok(())
 }
 
+/// Appends a string. On an error nothing may be left of the text.
+fn append_string(text: &mut Vec<u8>, alloc: Global, value: &str) -> Appended
+    ensures { OnOk result (text.new.items ≡ text.old.items ++ json_string value.now) }
+{
+    if !stand_for_themselves(value.as_bytes()) {
+        return append_escaped(text, alloc, value);
+    }
+    text.extend_from_slice(b"\"")?;
+    text.extend_from_slice(value.as_bytes())?;
+    text.extend_from_slice(b"\"")
+}
+
 /// Appends bytes in base 16 as a string.
-fn append_bytes(text: &mut Vec<u8>, alloc: Global, bytes: &[u8]) -> Result<(), AllocError>
+fn append_bytes(text: &mut Vec<u8>, alloc: Global, bytes: &[u8]) -> Appended
     ensures { OnOk result (text.new.items ≡ text.old.items ++ hex_string bytes.now) }
 {
     let digits = hex::encode(alloc, bytes)?;
@@ -134,7 +144,7 @@ fn append_string_member(
     before: &[u8],
     name: &[u8],
     value: &str,
-) -> Result<(), AllocError>
+) -> Appended
     ensures { OnOk result (text.new.items
         ≡ text.old.items ++ member before.now name.now (json_string value.now)) }
 {
@@ -150,7 +160,7 @@ fn append_bytes_member(
     before: &[u8],
     name: &[u8],
     bytes: &[u8],
-) -> Result<(), AllocError>
+) -> Appended
     ensures { OnOk result (text.new.items ≡ text.old.items
         ++ member before.now (name.now ++ codes "_bytes") (hex_string bytes.now)) }
 {
@@ -168,7 +178,7 @@ pub fn append_text_member(
     before: &[u8],
     name: &[u8],
     bytes: &[u8],
-) -> Result<(), AllocError>
+) -> Appended
     ensures { OnOk result
         (text.new.items ≡ text.old.items ++ text_member before.now name.now bytes.now) }
 {
@@ -179,7 +189,7 @@ pub fn append_text_member(
 }
 
 /// Appends the comma before each value of an array but the first.
-pub fn append_separator(text: &mut Vec<u8>, place: usize) -> Result<(), AllocError>
+pub fn append_separator(text: &mut Vec<u8>, place: usize) -> Appended
     ensures { OnOk result (text.new.items ≡ text.old.items ++ separator place) }
 {
     if place != 0 {

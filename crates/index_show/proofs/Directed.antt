@@ -1,46 +1,69 @@
 -- The lines of a directory, and of those in it.
-use Rattle.std.proofs.Common.{◌≡◌, ℕ, List, [], ◌∷◌, ◌++◌, codes, map, refl, sym, ap, ◌∙◌}
+use Rattle.std.proofs.Common.{◌≡◌, ℕ, List, [], ◌∷◌, ◌++◌, Option, append_assoc, map, refl, subst, sym, ap, ◌∙◌}
 use Rattle.std.specs.List.{flat_map}
 use Rattle.std.proofs.lemmas.List.Concat.{flat_map-cons}
 use Rattle.index_cached_tree.specs.Tree.{Node, node_of, node_step, nodes_from}
 use Rattle.index_cached_tree.specs.declared.Tree.{Tree}
 use Rattle.index_cached_tree.specs.declared.Tree.TheFolds.{fold_out-Tree}
 use Rattle.index_cached_tree.specs.declared.Tree.TheViews.{out-Tree}
-use Rattle.index_show.specs.Fields.{text_field}
-use Rattle.index_show.specs.Trees.{all_tree_lines, node_lines, tree_lines, within}
-use Rattle.index_text.proofs.Appended.{two_more}
+use Rattle.index_parts.proofs.Taking.{prefix_before}
+use Rattle.index_parts.specs.Taking.{AppendsPrefix}
+use Rattle.index_show.specs.Trees.{all_tree_lines, below, directory_lines, tree_lines}
+use Rattle.index_show.proofs.Told.{front_of_more, more_out}
+use Rattle.index_text.specs.Blocks.{Passes}
 
-all_shown : (indent : List ℕ) (ts : List Tree)
-    → all_tree_lines indent (nodes_from (map node_of ts)) ≡ flat_map (λ t. tree_lines indent (node_of t)) ts
-all_shown indent [] = refl
-all_shown indent (t ∷ ts) = ap (λ (l : List ℕ). tree_lines indent (node_of t) ++ l) (all_shown indent ts)
-    ∙ sym (flat_map-cons (λ (u : Tree). tree_lines indent (node_of u)) t ts)
+all_shown : (depth : ℕ) (ts : List Tree)
+    → all_tree_lines depth (nodes_from (map node_of ts)) ≡ flat_map (λ t. tree_lines depth (node_of t)) ts
+all_shown depth [] = refl
+all_shown depth (t ∷ ts) = ap (λ (l : List ℕ). tree_lines depth (node_of t) ++ l) (all_shown depth ts)
+    ∙ sym (flat_map-cons (λ (u : Tree). tree_lines depth (node_of u)) t ts)
+
+-- the lines of a directory by itself
+abbrev pub own_lines : ℕ → Tree → List ℕ
+own_lines depth t =
+    directory_lines depth (out-Tree t).name.items (out-Tree t).id (out-Tree t).num_entries
 
 -- a directory's own lines, and those below it
-lines_out : (indent : List ℕ) (t : Tree) → tree_lines indent (node_of t)
-    ≡ (text_field indent (codes "directory") (out-Tree t).name.items
-    ++ node_lines (within indent) (out-Tree t).id (out-Tree t).num_entries)
-    ++ flat_map (λ u. tree_lines (within indent) (node_of u)) (out-Tree t).children.items
-lines_out indent t =
-    let o = out-Tree t in
-    ap (tree_lines indent) (fold_out-Tree Node node_step t)
-    ∙ ap (λ (l : List ℕ). (text_field indent (codes "directory") o.name.items
-    ++ node_lines (within indent) o.id o.num_entries) ++ l)
-    (all_shown (within indent) o.children.items)
+lines_out : (depth : ℕ) (t : Tree) → tree_lines depth (node_of t)
+    ≡ own_lines depth t ++ flat_map (λ u. tree_lines (below depth) (node_of u)) (out-Tree t).children.items
+lines_out depth t =
+    ap (tree_lines depth) (fold_out-Tree Node node_step t)
+    ∙ ap (λ (l : List ℕ). own_lines depth t ++ l) (all_shown (below depth) (out-Tree t).children.items)
 
--- what is appended of a directory, one after the other
-pub lines_step : (t : Tree) (indent deep name lines own known all : List ℕ) (ts : List Tree)
-    → name ≡ (out-Tree t).name.items → own ≡ lines ++ text_field indent (codes "directory") name → deep ≡ within indent
-    → known ≡ own ++ node_lines deep (out-Tree t).id (out-Tree t).num_entries → ts ≡ (out-Tree t).children.items
-    → all ≡ known ++ flat_map (λ u. tree_lines deep (node_of u)) ts → all ≡ lines ++ tree_lines indent (node_of t)
-lines_step t indent deep name lines own known all ts a b d e f g =
-    let o = out-Tree t in
-    let named : own ≡ lines ++ text_field indent (codes "directory") o.name.items
-    = b ∙ ap (λ (n : List ℕ). lines ++ text_field indent (codes "directory") n) a in
-    let told : known ≡ own ++ node_lines (within indent) o.id o.num_entries =
-    e ∙ ap (λ (n : List ℕ). own ++ node_lines n o.id o.num_entries) d in
-    let below : all ≡ known ++ flat_map (λ u. tree_lines (within indent) (node_of u)) o.children.items
-    = g ∙ ap (λ (n : List ℕ). known ++ flat_map (λ u. tree_lines n (node_of u)) ts) d
-    ∙ ap (λ (us : List Tree). known ++ flat_map (λ u. tree_lines (within indent) (node_of u)) us) f in
-    two_more lines known all _ _ (two_more lines own known _ _ named told) below
-    ∙ ap (λ (l : List ℕ). lines ++ l) (sym (lines_out indent t))
+module _ (depth deeper : ℕ) (t : Tree) (ts : List Tree) (lines : List ℕ) (is_below : deeper ≡ below depth)
+    (children : ts ≡ (out-Tree t).children.items) where
+  whole : (lines ++ own_lines depth t) ++ flat_map (λ u. tree_lines deeper (node_of u)) ts
+      ≡ lines ++ tree_lines depth (node_of t)
+  whole = append_assoc lines (own_lines depth t) (flat_map (λ u. tree_lines deeper (node_of u)) ts)
+      ∙ ap (λ (l : List ℕ). lines ++ l)
+      (ap (λ (n : ℕ). own_lines depth t ++ flat_map (λ u. tree_lines n (node_of u)) ts) is_below
+      ∙ ap (λ (us : List Tree). own_lines depth t ++ flat_map (λ u. tree_lines (below depth) (node_of u)) us) children
+      ∙ sym (lines_out depth t))
+
+  -- those in the directory were told behind it
+  pub directory_told : (u v w : Option (List ℕ)) (all waiting new : List ℕ) → all ≡ lines ++ own_lines depth t
+      → Passes u v waiting all → Passes v w new (waiting ++ flat_map (λ u. tree_lines deeper (node_of u)) ts)
+      → Passes u w new (lines ++ tree_lines depth (node_of t))
+  directory_told u v w all waiting new e p q =
+      subst (λ (l : List ℕ). Passes u w new l)
+      (ap (λ (l : List ℕ). l ++ flat_map (λ u. tree_lines deeper (node_of u)) ts) e ∙ whole)
+      (more_out u v w waiting all new (flat_map (λ u. tree_lines deeper (node_of u)) ts) p q)
+
+  -- a prefix of them was
+  pub directory_broken : (u v w : Option (List ℕ)) (all waiting : List ℕ) → all ≡ lines ++ own_lines depth t
+      → Passes u v waiting all → AppendsPrefix v w (waiting ++ flat_map (λ u. tree_lines deeper (node_of u)) ts)
+      → AppendsPrefix u w (lines ++ tree_lines depth (node_of t))
+  directory_broken u v w all waiting e p q =
+      subst (λ (l : List ℕ). AppendsPrefix u w l)
+      (ap (λ (l : List ℕ). l ++ flat_map (λ u. tree_lines deeper (node_of u)) ts) e ∙ whole)
+      (front_of_more u v w waiting all (flat_map (λ u. tree_lines deeper (node_of u)) ts) p q)
+
+-- a prefix of the directory's own lines was
+pub own_broken : (depth : ℕ) (t : Tree) (lines all : List ℕ) (u w : Option (List ℕ))
+    → all ≡ lines ++ own_lines depth t → AppendsPrefix u w all → AppendsPrefix u w (lines ++ tree_lines depth (node_of t))
+own_broken depth t lines all u w e p =
+    let below_it = flat_map (λ u. tree_lines (below depth) (node_of u)) (out-Tree t).children.items in
+    subst (λ (l : List ℕ). AppendsPrefix u w l)
+    (ap (λ (l : List ℕ). l ++ below_it) e ∙ append_assoc lines (own_lines depth t) below_it
+    ∙ ap (λ (l : List ℕ). lines ++ l) (sym (lines_out depth t)))
+    (prefix_before p below_it)

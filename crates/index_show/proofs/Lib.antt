@@ -1,1 +1,3 @@
+mod Behind
 mod Directed
+mod Told

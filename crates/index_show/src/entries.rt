@@ -1,6 +1,7 @@
 //! The lines of entries.
 
-ghost use Rattle.std.specs.Prelude.{◌≡◌, ◌++◌, ◌+◌, ◌<◌, ◌≤◌, OnErr, OnOk, codes, length};
+ghost use Rattle.std.specs.Prelude.{◌≡◌, ◌≢◌, ◌++◌, ◌+◌, ◌<◌, ◌≤◌, IfErr, OnErr, OnOk, codes, false, length, true};
+ghost use Rattle.std.specs.IoError.{error_kind};
 ghost use Rattle.std.specs.List.{enumerate_from, flat_map};
 ghost use Rattle.index_parts.specs.Taking.{AppendsPrefix};
 ghost use Rattle.index_entries.specs.Record.{IsPlaced, record_in};
@@ -16,12 +17,13 @@ use bitflags::Flags as _;
 use index_entries::Entry;
 use index_metadata::entry::stat::Time;
 use index_metadata::entry::{Flags, Mode, Stat};
+use index_parts::hash::io::Out;
 use index_state::State;
 use index_text::append::Appended;
 use index_text::block::put_block;
 use index_text::escape::append_escaped;
 use index_text::prepend::{prepend, prepend_decimal, prepend_octal};
-use std::io;
+use std::io::{self, ErrorKind};
 
 /// How many bytes the lines of a stat take at most, with six spaces of indent.
 const STAT_LEN: usize = 275;
@@ -206,18 +208,16 @@ fn append_entry(lines: &mut Vec<u8>, state: &State, place: usize, entry: &Entry)
 }
 
 /// Appends the number of entries, and the lines of each; what fills a block goes out.
-pub fn write_entries<W: io::Write>(
-    lines: &mut Vec<u8>,
-    state: &State,
-    out: &mut W,
-) -> io::Result<()>
-    requires { PathsInStorage state.now }
-    ensures ok { OnOk result
-        (Passes (W.contents out.old) (W.contents out.new) lines.new.items
+pub fn write_entries<W: Out>(lines: &mut Vec<u8>, state: &State, out: &mut W) -> io::Result<()>
+    requires placed { PathsInStorage state.now }
+    requires going { W.failed out.old ≡ false }
+    ensures ok { OnOk result (Passes (W.taken out.old) (W.taken out.new) lines.new.items
         (lines.old.items ++ entries_lines (contents state.now).records)) }
-    ensures err { OnErr result
-        (AppendsPrefix (W.contents out.old) (W.contents out.new)
+    ensures err { OnErr result (AppendsPrefix (W.taken out.old) (W.taken out.new)
         (lines.old.items ++ entries_lines (contents state.now).records)) }
+    ensures going { OnOk result (W.failed out.new ≡ false) }
+    ensures cause { IfErr result
+        (λ e. error_kind e ≢ ErrorKind.OutOfMemory → W.failed out.new ≡ true) }
 {
     append_number(lines, b"", b"entries", state.entries().len() as u64)?;
     for (place, entry) in state.entries().iter().enumerate() {

@@ -1,11 +1,14 @@
 //! The lines of an untracked cache.
 
-ghost use Rattle.std.specs.Prelude.{◌≡◌, ◌++◌, [], OnOk, codes, length, map};
+ghost use Rattle.std.specs.Prelude.{◌≡◌, ◌≢◌, ◌++◌, IfErr, OnErr, OnOk, codes, false, map, true};
+ghost use Rattle.std.specs.IoError.{error_kind};
 ghost use Rattle.std.specs.List.{enumerate_from, flat_map};
 ghost use Rattle.std.specs.Option.{option_map};
+ghost use Rattle.index_parts.specs.Taking.{AppendsPrefix};
 ghost use Rattle.index_untracked.specs.Blocks.{directory_value};
 ghost use Rattle.index_state.specs.State.{contents};
 ghost use Rattle.index_untracked.specs.Untracked.{cache_of};
+ghost use Rattle.index_text.specs.Blocks.{Passes};
 ghost use Rattle.index_show.specs.Untracked.{cache_lines, directory_lines, exclude_files, exclude_lines, own_lines, naming_lines, placed_directory, preamble_lines, stat_or_none, subdirectory, untracked_lines, untracked_name};
 
 use crate::entries::append_stat;
@@ -13,9 +16,12 @@ use crate::fields::{
     append_answer, append_field, append_id, append_id_or_none, append_number, append_text,
 };
 use index_metadata::entry::Stat;
+use index_parts::hash::io::Out;
 use index_state::State;
 use index_text::append::Appended;
+use index_text::block::put_block;
 use index_untracked::{Directory, OidStat, UntrackedCache};
+use std::io::{self, ErrorKind};
 
 /// Appends the id and the stat of a file of exclude patterns, or `none`.
 #[tactic(auto, unfolding(crate::specs::Untracked::exclude_lines))]
@@ -135,35 +141,61 @@ fn append_directory(lines: &mut Vec<u8>, place: usize, directory: &Directory) ->
     append_subdirectories(lines, directory.sub_directories())
 }
 
-/// Appends the lines of directories.
-fn append_directories(lines: &mut Vec<u8>, directories: &[Directory]) -> Appended
-    ensures { OnOk result (lines.new.items ≡ lines.old.items
-        ++ flat_map placed_directory (enumerate_from 0 (map directory_value directories.now))) }
+/// Writes the lines of directories; what fills a block goes out.
+fn write_directories<W: Out>(
+    lines: &mut Vec<u8>,
+    directories: &[Directory],
+    out: &mut W,
+) -> io::Result<()>
+    requires { W.failed out.old ≡ false }
+    ensures ok { OnOk result (Passes (W.taken out.old) (W.taken out.new) lines.new.items
+        (lines.old.items
+        ++ flat_map placed_directory (enumerate_from 0 (map directory_value directories.now)))) }
+    ensures err { OnErr result (AppendsPrefix (W.taken out.old) (W.taken out.new)
+        (lines.old.items
+        ++ flat_map placed_directory (enumerate_from 0 (map directory_value directories.now)))) }
+    ensures going { OnOk result (W.failed out.new ≡ false) }
+    ensures cause { IfErr result
+        (λ e. error_kind e ≢ ErrorKind.OutOfMemory → W.failed out.new ≡ true) }
 {
     for (place, directory) in directories.iter().enumerate() {
         append_directory(lines, place, directory)?;
+        put_block(lines, out)?;
     }
     Ok(())
 }
 
-/// Appends the lines of a cache.
-fn append_cache(lines: &mut Vec<u8>, cache: &UntrackedCache) -> Appended
-    ensures { OnOk result (lines.new.items ≡ lines.old.items ++ cache_lines (cache_of cache.now)) }
+/// Writes the lines of a cache.
+fn write_cache<W: Out>(lines: &mut Vec<u8>, cache: &UntrackedCache, out: &mut W) -> io::Result<()>
+    requires { W.failed out.old ≡ false }
+    ensures ok { OnOk result (Passes (W.taken out.old) (W.taken out.new) lines.new.items
+        (lines.old.items ++ cache_lines (cache_of cache.now))) }
+    ensures err { OnErr result (AppendsPrefix (W.taken out.old) (W.taken out.new)
+        (lines.old.items ++ cache_lines (cache_of cache.now))) }
+    ensures going { OnOk result (W.failed out.new ≡ false) }
+    ensures cause { IfErr result
+        (λ e. error_kind e ≢ ErrorKind.OutOfMemory → W.failed out.new ≡ true) }
 {
     let directories = cache.directories();
     append_number(lines, b"", b"untracked cache", directories.len() as u64)?;
     append_preamble(lines, cache)?;
-    append_directories(lines, directories)
+    write_directories(lines, directories, out)
 }
 
-/// Appends the lines of the untracked cache, or `none`.
+/// Writes the lines of the untracked cache, or `none`.
 #[tactic(auto, unfolding(crate::specs::Untracked::untracked_lines))]
-pub fn append_untracked(lines: &mut Vec<u8>, state: &State) -> Appended
-    ensures { OnOk result (lines.new.items
-        ≡ lines.old.items ++ untracked_lines (contents state.now).extensions.untracked) }
+pub fn write_untracked<W: Out>(lines: &mut Vec<u8>, state: &State, out: &mut W) -> io::Result<()>
+    requires { W.failed out.old ≡ false }
+    ensures ok { OnOk result (Passes (W.taken out.old) (W.taken out.new) lines.new.items
+        (lines.old.items ++ untracked_lines (contents state.now).extensions.untracked)) }
+    ensures err { OnErr result (AppendsPrefix (W.taken out.old) (W.taken out.new)
+        (lines.old.items ++ untracked_lines (contents state.now).extensions.untracked)) }
+    ensures going { OnOk result (W.failed out.new ≡ false) }
+    ensures cause { IfErr result
+        (λ e. error_kind e ≢ ErrorKind.OutOfMemory → W.failed out.new ≡ true) }
 {
     match state.untracked() {
-        Some(cache) => append_cache(lines, cache),
-        None => append_field(lines, b"", b"untracked cache", b"none"),
+        Some(cache) => write_cache(lines, cache, out),
+        None => Ok(append_field(lines, b"", b"untracked cache", b"none")?),
     }
 }

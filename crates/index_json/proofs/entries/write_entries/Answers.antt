@@ -25,38 +25,40 @@ whole s text entries all =
 
 pub loop-place-preserved : goal.loop-place-preserved
 unfolding placed
-loop-place-preserved g c =
-    written_more (placed c.args.state.now) (g.W.Write.contents c.args.out.now) (g.W.Write.contents c.loop-place.out)
-    (g.W.Write.contents c.put_block.new.out) c.args.text.now.items c.entries-entry-items.result.now c.loop-place.place _
-    c.loop-place.text.items c.append_placed.new.text.items c.put_block.new.text.items
-    (omega (arith, c.loop-place-test.true)) c.loop-place.invariant c.in_ok-append_placed.ensures
-    c.in_ok-put_block.ensures.ok
+loop-place-preserved g c = record {
+  told = written_more (placed c.args.state.now) (g.W.Out.taken c.args.out.now) (g.W.Out.taken c.loop-place.out)
+      (g.W.Out.taken c.put_block.new.out) c.args.text.now.items c.entries-entry-items.result.now c.loop-place.place _
+      c.loop-place.text.items c.append_placed.new.text.items c.put_block.new.text.items
+      (omega (arith, c.loop-place-test.true)) c.loop-place.invariant.told c.in_ok-append_placed.ensures
+      c.in_ok-put_block.ensures.ok;
+  going = c.in_ok-put_block.ensures.has_failed;
+}
 
 pub returns-in_err-append_placed-clause-err : goal.returns-in_err-append_placed-clause-err
 unfolding placed
 returns-in_err-append_placed-clause-err g c =
     rw (err_from_is_err_and c.from_residual.result c.from_residual.ensures.1).1
-    (front_before_entry (placed c.args.state.now) (g.W.Write.contents c.args.out.now)
-    (g.W.Write.contents c.loop-place.out) c.args.text.now.items _
-    c.entries-entry-items.result.now c.loop-place.place c.loop-place.text.items c.loop-place.invariant
+    (front_before_entry (placed c.args.state.now) (g.W.Out.taken c.args.out.now)
+    (g.W.Out.taken c.loop-place.out) c.args.text.now.items _
+    c.entries-entry-items.result.now c.loop-place.place c.loop-place.text.items c.loop-place.invariant.told
     (whole c.args.state.now c.args.text.now.items c.entries-entry-items.result.now c.entries-entry-items.ensures))
 
 pub returns-in_err-put_block-clause-err : goal.returns-in_err-put_block-clause-err
 unfolding placed
 returns-in_err-put_block-clause-err g c =
     rw (err_from_is_err_and c.from_residual-in_err-put_block.result c.from_residual-in_err-put_block.ensures.1).1
-    (front_of_block (placed c.args.state.now) (g.W.Write.contents c.args.out.now) (g.W.Write.contents c.loop-place.out)
-    (g.W.Write.contents c.put_block.new.out) c.args.text.now.items _
+    (front_of_block (placed c.args.state.now) (g.W.Out.taken c.args.out.now) (g.W.Out.taken c.loop-place.out)
+    (g.W.Out.taken c.put_block.new.out) c.args.text.now.items _
     c.entries-entry-items.result.now c.loop-place.place _ c.loop-place.text.items c.append_placed.new.text.items
-    (omega (arith, c.loop-place-test.true)) c.loop-place.invariant c.in_ok-append_placed.ensures
+    (omega (arith, c.loop-place-test.true)) c.loop-place.invariant.told c.in_ok-append_placed.ensures
     c.in_err-put_block.ensures.err
     (whole c.args.state.now c.args.text.now.items c.entries-entry-items.result.now c.entries-entry-items.ensures))
 
 pub returns-clause-ok : goal.returns-clause-ok
 unfolding placed
 returns-clause-ok g c =
-    written_all (placed c.args.state.now) (g.W.Write.contents c.args.out.now)
-    (g.W.Write.contents c.loop-place.out) c.args.text.now.items _
+    written_all (placed c.args.state.now) (g.W.Out.taken c.args.out.now)
+    (g.W.Out.taken c.loop-place.out) c.args.text.now.items _
     c.entries-entry-items.result.now c.loop-place.place c.loop-place.text.items
-    (omega (arith, c.loop-place-test.false)) c.loop-place.invariant
+    (omega (arith, c.loop-place-test.false)) c.loop-place.invariant.told
     (whole c.args.state.now c.args.text.now.items c.entries-entry-items.result.now c.entries-entry-items.ensures)

@@ -25,19 +25,22 @@ pub loop-place-preserved : goal.loop-place-preserved
 loop-place-preserved g c =
     let f : ℕ × Entry → List ℕ = λ p. entry_lines p.0 (record_in (storage_of c.args.state.now) p.1) in
     let base = c.args.lines.now.items ++ number_field [] (codes "entries") (length (entries_of c.args.state.now)) in
-    written_more f (g.W.Write.contents c.args.out.now) (g.W.Write.contents c.loop-place.out)
-    (g.W.Write.contents c.put_block.new.out) base c.entries-entry-items.result.now c.loop-place.place _
-    c.loop-place.lines.items c.append_entry.new.lines.items c.put_block.new.text.items
-    (omega (arith, c.loop-place-test.true)) c.loop-place.invariant c.in_ok-append_entry.ensures
-    c.in_ok-put_block.ensures.ok
+    record {
+      told = written_more f (g.W.Out.taken c.args.out.now) (g.W.Out.taken c.loop-place.out)
+          (g.W.Out.taken c.put_block.new.out) base c.entries-entry-items.result.now c.loop-place.place _
+          c.loop-place.lines.items c.append_entry.new.lines.items c.put_block.new.text.items
+          (omega (arith, c.loop-place-test.true)) c.loop-place.invariant.told c.in_ok-append_entry.ensures
+          c.in_ok-put_block.ensures.ok;
+      going = c.in_ok-put_block.ensures.has_failed;
+    }
 
 pub returns-in_err-append_entry-clause-err : goal.returns-in_err-append_entry-clause-err
 returns-in_err-append_entry-clause-err g c =
     let f : ℕ × Entry → List ℕ = λ p. entry_lines p.0 (record_in (storage_of c.args.state.now) p.1) in
     let base = c.args.lines.now.items ++ number_field [] (codes "entries") (length (entries_of c.args.state.now)) in
     rw (err_from_is_err_and c.from_residual-in_err-append_entry.result c.from_residual-in_err-append_entry.ensures.1).1
-    (front_before_entry f (g.W.Write.contents c.args.out.now) (g.W.Write.contents c.loop-place.out) base _
-    c.entries-entry-items.result.now c.loop-place.place c.loop-place.lines.items c.loop-place.invariant
+    (front_before_entry f (g.W.Out.taken c.args.out.now) (g.W.Out.taken c.loop-place.out) base _
+    c.entries-entry-items.result.now c.loop-place.place c.loop-place.lines.items c.loop-place.invariant.told
     (whole c.args.state.now c.args.lines.now.items c.entries-entry-items.result.now c.entries-entry-items.ensures))
 
 pub returns-in_err-put_block-clause-err : goal.returns-in_err-put_block-clause-err
@@ -45,10 +48,10 @@ returns-in_err-put_block-clause-err g c =
     let f : ℕ × Entry → List ℕ = λ p. entry_lines p.0 (record_in (storage_of c.args.state.now) p.1) in
     let base = c.args.lines.now.items ++ number_field [] (codes "entries") (length (entries_of c.args.state.now)) in
     rw (err_from_is_err_and c.from_residual-in_err-put_block.result c.from_residual-in_err-put_block.ensures.1).1
-    (front_of_block f (g.W.Write.contents c.args.out.now) (g.W.Write.contents c.loop-place.out)
-    (g.W.Write.contents c.put_block.new.out) base _
+    (front_of_block f (g.W.Out.taken c.args.out.now) (g.W.Out.taken c.loop-place.out)
+    (g.W.Out.taken c.put_block.new.out) base _
     c.entries-entry-items.result.now c.loop-place.place _ c.loop-place.lines.items c.append_entry.new.lines.items
-    (omega (arith, c.loop-place-test.true)) c.loop-place.invariant c.in_ok-append_entry.ensures
+    (omega (arith, c.loop-place-test.true)) c.loop-place.invariant.told c.in_ok-append_entry.ensures
     c.in_err-put_block.ensures.err
     (whole c.args.state.now c.args.lines.now.items c.entries-entry-items.result.now c.entries-entry-items.ensures))
 
@@ -56,7 +59,7 @@ pub returns-clause-ok : goal.returns-clause-ok
 returns-clause-ok g c =
     let f : ℕ × Entry → List ℕ = λ p. entry_lines p.0 (record_in (storage_of c.args.state.now) p.1) in
     let base = c.args.lines.now.items ++ number_field [] (codes "entries") (length (entries_of c.args.state.now)) in
-    written_all f (g.W.Write.contents c.args.out.now) (g.W.Write.contents c.loop-place.out) base _
+    written_all f (g.W.Out.taken c.args.out.now) (g.W.Out.taken c.loop-place.out) base _
     c.entries-entry-items.result.now c.loop-place.place c.loop-place.lines.items
-    (omega (arith, c.loop-place-test.false)) c.loop-place.invariant
+    (omega (arith, c.loop-place-test.false)) c.loop-place.invariant.told
     (whole c.args.state.now c.args.lines.now.items c.entries-entry-items.result.now c.entries-entry-items.ensures)
