@@ -1,59 +1,104 @@
 -- An index that is merged with its shared one, or stays as it is.
-use Rattle.std.proofs.Common.{◌≡◌, Bool, false, List, Option, Some, None, refl, sym, ap, subst, ◌∙◌}
+use Rattle.std.proofs.Common.{◌≡◌, ℕ, ◌==◌, ◌||◌, Bool, false, List, [], ◌∷◌, Option, Some, None, refl, sym, ap}
+use Rattle.std.proofs.Common.{subst, ◌∙◌}
+use Rattle.std.specs.List.{list_any}
 use Rattle.gix_index.specs.Contents.{Contents}
 use Rattle.gix_index.specs.Dissolve.{IsDissolved, IsDissolveFault, MergesBy}
 use Rattle.gix_index.specs.Edits.{IsUnchanged, empty_contents, with_records}
+use Rattle.gix_index.specs.EntryType.{Entry}
 use Rattle.gix_index.specs.FileTime.{FileTime}
 use Rattle.gix_index.specs.Id.{id_bytes, is_null}
 use Rattle.gix_index.specs.Kind.{Kind}
 use Rattle.gix_index.specs.Link.{BitmapPair, LinkFault, LinkValue}
-use Rattle.gix_index.specs.Record.{Record}
-use Rattle.gix_index.specs.State.{PathsInStorage, contents, records}
+use Rattle.gix_index.specs.Mode.{directory_mode}
+use Rattle.gix_index.specs.Record.{Record, has_directory, records_in}
+use Rattle.gix_index.specs.Outcome.{Outcome, no_extension}
+use Rattle.gix_index.specs.State.{PathsInStorage, contents, entries_of, records, storage_of}
 use Rattle.gix_index.specs.StateType.{State}
 use Rattle.gix_index.specs.Storable.{IsStorable}
-use Rattle.index_inspect.specs.Remains.{IsPlainIndex}
+use Rattle.gix_index.specs.Version.TheVariants.{V2}
+use Rattle.index_inspect.specs.Remains.{IsPlainIndex, with_mark}
 use Rattle.index_inspect.specs.Salvage.{CanBeShared, IsCompleted, absent, merged, unfit, unlinked, unread, unshared}
 use Rattle.index_inspect.specs.SalvageSteps.{Completes, IsIndexOf}
 use Rattle.index_inspect.specs.declared.salvage.SharedEntries.{SharedEntries}
 use Rattle.index_inspect.specs.declared.salvage.SharedEntries.TheVariants as fates
-use Rattle.index_inspect.proofs.Saved.{alone}
 
 -- ---- plain indices
 
-pub plain_kind : (kind : Kind) (rs : List Record) (s : State) → IsIndexOf kind rs s → (contents s).kind ≡ kind
-plain_kind kind rs s h = ap (λ (c : Contents). c.kind) h.is
-
-pub plain_of : (kind : Kind) (rs : List Record) (s : State) → IsIndexOf kind rs s → IsPlainIndex s
-plain_of kind rs s h = record {
-  alone = alone kind rs s h ∙ ap (λ (k : Kind). with_records (empty_contents k (contents s).time) (records s))
-      (sym (plain_kind kind rs s h));
+pub index_of : (s : State) → IsPlainIndex s → IsIndexOf (contents s).kind (records s) s
+index_of s h = record {
+  time = (contents s).time;
+  sparse = has_directory (records s);
+  is = h.alone;
   placed = h.placed;
   storable = h.storable;
 }
 
-pub index_of : (s : State) → IsPlainIndex s → IsIndexOf (contents s).kind (records s) s
-index_of s h = record { time = (contents s).time; is = h.alone; placed = h.placed; storable = h.storable }
+-- with other records it is an index of these
+index_moved : (old new : State) → contents new ≡ with_records (contents old) (records new) → IsPlainIndex old
+    → PathsInStorage new → IsStorable (contents new) → IsIndexOf (contents old).kind (records new) new
+index_moved old new e h placed storable = record {
+  time = (contents old).time;
+  sparse = has_directory (records old);
+  is = e ∙ ap (λ (c : Contents). with_records c (records new)) h.alone;
+  placed = placed;
+  storable = storable;
+}
 
--- the value of a plain index with other records is that of a plain one
-plain_moved : (old new : State) → contents new ≡ with_records (contents old) (records new) → IsPlainIndex old
-    → PathsInStorage new → IsStorable (contents new) → IsPlainIndex new
-plain_moved old new e h placed storable =
-    let kind : (contents new).kind ≡ (contents old).kind = ap (λ (c : Contents). c.kind) e in
-    let time : (contents new).time ≡ (contents old).time = ap (λ (c : Contents). c.time) e in
-    record {
-      alone = e ∙ ap (λ (c : Contents). with_records c (records new)) h.alone
-          ∙ ap (λ (k : Kind). with_records (empty_contents k (contents old).time) (records new)) (sym kind)
-          ∙ ap (λ (t : FileTime). with_records (empty_contents (contents new).kind t) (records new)) (sym time);
-      placed = placed;
-      storable = storable;
-    }
+-- ---- the mark of a sparse index
+
+mark_storable : (v : Contents) (sparse : Bool) → IsStorable v → IsStorable (with_mark v sparse)
+mark_storable v sparse h = record { ids = h.ids; paths = h.paths; fits = h.fits; tree = h.tree }
+
+abbrev marked_as : State → Contents
+marked_as s = with_mark (with_records (empty_contents (contents s).kind (contents s).time) (records s))
+    (has_directory (records s))
+
+same_time : (s : State) (h : IsIndexOf (contents s).kind (records s) s) → h.time ≡ (contents s).time
+same_time s h = sym (ap (λ (c : Contents). c.time) h.is)
+
+-- an index with the mark that its entries ask for, and nothing else
+pub plain_marked : (old new : State) → IsIndexOf (contents old).kind (records old) old
+    → contents new ≡ marked_as old → PathsInStorage new → IsPlainIndex new
+plain_marked old new h e placed = record {
+  alone = subst (λ (c : Contents). c ≡ with_mark (with_records (empty_contents c.kind c.time) c.records)
+      (has_directory c.records)) (sym e) refl;
+  placed = placed;
+  storable = subst IsStorable (sym (e ∙ sym same))
+      (mark_storable (contents old) (has_directory (records old)) h.storable);
+}
+  where
+    same : with_mark (contents old) (has_directory (records old)) ≡ marked_as old
+    same = ap (λ (c : Contents). with_mark c (has_directory (records old))) h.is
+        ∙ ap (λ (t : FileTime). with_mark (with_records (empty_contents (contents old).kind t) (records old))
+        (has_directory (records old))) (same_time old h)
+
+pub any_directory : (storage : List ℕ) (entries : List Entry)
+    → list_any (λ e. e.mode.0 == directory_mode) entries ≡ has_directory (records_in storage entries)
+any_directory storage [] = refl
+any_directory storage (e ∷ entries) =
+    ap (λ (b : Bool). (e.mode.0 == directory_mode) || b) (any_directory storage entries)
+
+pub marked_contents : (old : State) (new : Contents) (kind : Kind) (time : FileTime) (storage : List ℕ)
+    (entries : List Entry) (outcome : Outcome) (sparse : Bool)
+    → new ≡ record {
+      kind = kind;
+      time = time;
+      version = V2;
+      records = records_in storage entries;
+      extensions =
+          record outcome { sparse = sparse };
+    } → kind ≡ (contents old).kind → time ≡ (contents old).time
+    → entries ≡ entries_of old → storage ≡ storage_of old → outcome ≡ no_extension
+    → sparse ≡ has_directory (records old) → new ≡ marked_as old
+marked_contents old new kind time storage entries outcome sparse is a b c d e f = is ∙ rw (a, b, c, d, e, f) refl
 
 -- ---- what becomes of one
 
 pub stays : (link : Option LinkValue) (found : Bool) (shared : Option Contents) (own : State) (fate : SharedEntries)
     → IsPlainIndex own → IsCompleted link found shared (records own) (records own) fate
     → Completes link found shared own (record { state = own; shared = fate })
-stays link found shared own fate h is = record { is = is; same_kind = refl; plain = h }
+stays link found shared own fate h is = record { is = is; same_kind = refl; index = index_of own h }
 
 merged_others : (b : Option BitmapPair) (shared old new : Contents) → MergesBy b shared old new
     → new ≡ with_records old new.records
@@ -73,7 +118,7 @@ joins l found own new shared named h fits d placed storable =
       is = merged l (contents shared) (contents own) (refl, named) refl
           (subst (λ (c : Contents). IsDissolved l (contents shared) (contents own) c) e d) refl;
       same_kind = ap (λ (c : Contents). c.kind) e;
-      plain = plain_moved own new e h placed (storable h.storable fits.storable fits.same_kind);
+      index = index_moved own new e h placed (storable h.storable fits.storable fits.same_kind);
     }
 
 pub fits_not : (l : LinkValue) (found : Bool) (own new shared : State) (fault : LinkFault)
@@ -87,7 +132,7 @@ fits_not l found own new shared fault named h is_fault u placed =
     record {
       is = unfit l (contents shared) (contents own) fault (refl, named) refl is_fault same refl;
       same_kind = ap (λ (c : Contents). c.kind) u.same_contents;
-      plain = plain_moved own new e h placed (subst IsStorable (sym u.same_contents) h.storable);
+      index = index_moved own new e h placed (subst IsStorable (sym u.same_contents) h.storable);
     }
 
 -- ---- with no shared index

@@ -8,6 +8,8 @@ mod Laid
 mod LastLinks
 mod Links
 mod ReadFronts
+mod OneDivision
+mod OneSpelling
 mod Readable
 mod Remaining
 mod Sameness

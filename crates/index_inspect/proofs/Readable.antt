@@ -33,7 +33,7 @@ use Rattle.index_inspect.specs.Laws.{IsReadAs}
 use Rattle.index_map.specs.Piece.{Piece}
 use Rattle.index_inspect.specs.Spelling.{Spelling, AreSpelled, IsSpelled, entries_spelled}
 
-entry_of : (version : Version) (kind : Kind) (previous : Option (List ℕ)) (bytes : List ℕ) (s : Spelling)
+pub entry_of : (version : Version) (kind : Kind) (previous : Option (List ℕ)) (bytes : List ℕ) (s : Spelling)
     (rest : List ℕ) → IsSpelled version kind previous bytes s rest → IsEntry version kind previous bytes s.entry rest
 entry_of V2 kind previous bytes s rest h = h.0
 entry_of V3 kind previous bytes s rest h = h.0

@@ -13,6 +13,7 @@ use Rattle.gix_index.specs.Slice.{IsRecordOf}
 use Rattle.gix_index.specs.State.{PathsInStorage, contents, records}
 use Rattle.gix_index.specs.StateType.{State}
 use Rattle.gix_index.specs.Storable.{IsStorable}
+use Rattle.index_inspect.specs.Remains.{with_mark}
 use Rattle.index_inspect.specs.Salvage.{IsSavedOf}
 use Rattle.index_inspect.specs.SalvageSteps.{IsHeld, IsIndexOf, TakesNext}
 use Rattle.index_inspect.proofs.Saving.{first_at, saved_none}
@@ -36,7 +37,8 @@ on_ok_both (Err e) f p q s = p
 
 index_new : (kind : Kind) (time : FileTime) (s : State) → contents s ≡ empty_contents kind time → PathsInStorage s
     → IsStorable (contents s) → IsIndexOf kind [] s
-index_new kind time s e placed storable = record { time = time; is = e; placed = placed; storable = storable }
+index_new kind time s e placed storable =
+    record { time = time; sparse = false; is = e; placed = placed; storable = storable }
 
 pub record_is : (r : Record) (e : Entry) (path : List ℕ) → IsRecordOf e r → r.path ≡ path
     → r ≡ record { path = path; stat = e.stat; id = e.id; flags = e.flags.0; mode = e.mode.0 }
@@ -57,8 +59,9 @@ index_push kind rs old new r q e h held pushed placed storable =
     let own : IsHeld kind q = subst (IsHeld kind) e held in
     record {
       time = h.time;
-      is = pushed h.placed ∙ ap (λ (c : Contents). with_record c q) h.is
-          ∙ ap (λ (x : Record). with_records (empty_contents kind h.time) (rs ++ x ∷ [])) (sym e);
+      sparse = h.sparse;
+      is = pushed h.placed ∙ ap (λ (c : Contents). with_record c q) h.is ∙ ap
+          (λ (x : Record). with_mark (with_records (empty_contents kind h.time) (rs ++ x ∷ [])) h.sparse) (sym e);
       placed = placed h.placed;
       storable = storable h.placed h.storable (own.id ∙ sym (ap (λ (c : Contents). c.kind) h.is)) own.path;
     }
@@ -68,6 +71,7 @@ pub index_sorted : (kind : Kind) (rs : List Record) (old new : State) → IsInde
     → (IsStorable (contents old) → IsStorable (contents new)) → IsIndexOf kind (records new) new
 index_sorted kind rs old new h e placed storable = record {
   time = h.time;
+  sparse = h.sparse;
   is = e ∙ ap (λ (c : Contents). with_records c (records new)) h.is;
   placed = placed;
   storable = storable h.storable;
@@ -85,11 +89,13 @@ index_held kind rs s h k d lt = record {
   path = h.storable.paths k d lt;
 }
 
-pub alone : (kind : Kind) (rs : List Record) (s : State) → IsIndexOf kind rs s
-    → contents s ≡ with_records (empty_contents kind (contents s).time) (records s)
-alone kind rs s h =
-    h.is ∙ ap (λ (t : FileTime). with_records (empty_contents kind t) rs) (sym (ap (λ (c : Contents). c.time) h.is))
-    ∙ ap (λ (l : List Record). with_records (empty_contents kind (contents s).time) l) (sym (records_are kind rs s h))
+pub kind_is : (kind : Kind) (rs : List Record) (s : State) → IsIndexOf kind rs s → (contents s).kind ≡ kind
+kind_is kind rs s h = ap (λ (c : Contents). c.kind) h.is
+
+pub index_itself : (kind : Kind) (rs : List Record) (s : State) → IsIndexOf kind rs s
+    → IsIndexOf (contents s).kind (records s) s
+index_itself kind rs s h =
+    subst (λ (k : Kind). IsIndexOf k (records s) s) (sym (kind_is kind rs s h)) (index_own kind rs s h)
 
 -- ---- a walk over a list in order
 

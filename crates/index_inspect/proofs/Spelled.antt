@@ -74,7 +74,7 @@ len23 : (a b c d : List ℕ) → length (a ++ (b ++ (c ++ d))) ≡ length (a ++ 
 len23 a b c d =
     omega (arith, length-append a (b ++ (c ++ d)), length-append b (c ++ d), length-append c d, length-append a b)
 
-own23 : (kind : Kind) (bytes : List ℕ) (r : Record) (rest : List ℕ) (e : IsEntry23 kind bytes r rest)
+pub own23 : (kind : Kind) (bytes : List ℕ) (r : Record) (rest : List ℕ) (e : IsEntry23 kind bytes r rest)
     → length (head_bytes e.head ++ r.path) ≡ head_len kind r.flags + length r.path
 own23 kind bytes r rest e =
     let same : is_extended r.flags ≡ is_extended (be e.head.word) = ap (λ (x : Record). is_extended x.flags) e.is

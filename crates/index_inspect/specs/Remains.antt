@@ -1,10 +1,11 @@
 -- What remains of a file that may be damaged: the front of its entries, its first fault, and the link to a shared index
--- where that stands whole (gitformat-index, "Split index").
+-- where that stands whole (gitformat-index, "Split index", "Sparse Directory Entries").
 use Rattle.std.specs.Prelude.{◌≡◌, ℕ, ◌-◌, nat_eq, ◌||◌, Bool, true, false, List, [], ◌∷◌, length, codes, drop, take}
 use Rattle.std.specs.Prelude.{slice_get, Option, Some, None, IfSome, IsOk, Err, if◌then◌else◌}
 use Rattle.std.specs.Cmp.Lexicographic.{pointwise}
 use Rattle.std.specs.List.{list_any}
 use Rattle.std.specs.Option.{option_map}
+use Rattle.gix_index.specs.Contents.{Contents}
 use Rattle.gix_index.specs.DecodeError.{Error}
 use Rattle.gix_index.specs.DecodeError.TheVariants as errors
 use Rattle.gix_index.specs.Edits.{empty_contents, with_records}
@@ -16,6 +17,7 @@ use Rattle.gix_index.specs.Id.{id_bytes, is_null}
 use Rattle.gix_index.specs.Kind.{Kind}
 use Rattle.gix_index.specs.Link.{IsLink, LinkValue, link_of}
 use Rattle.gix_index.specs.ObjectId.{ObjectId}
+use Rattle.gix_index.specs.Record.{has_directory}
 use Rattle.gix_index.specs.State.{PathsInStorage, contents, records}
 use Rattle.gix_index.specs.StateType.{State}
 use Rattle.gix_index.specs.Storable.{IsStorable}
@@ -77,9 +79,15 @@ wanted_id (Some l) = if is_null (id_bytes l.shared) then None else Some l.shared
 
 -- ---- what is given
 
--- an index has its entries and nothing else, and a file can hold it
+-- with the mark of a sparse index, or without it; all else stays
+abbrev pub with_mark : Contents → Bool → Contents
+with_mark c sparse = record c { extensions = record c.extensions { sparse = sparse } }
+
+-- An index has its entries, the mark of a sparse one where an entry stands for a directory, and nothing else; and a
+-- file can hold it.
 pub record IsPlainIndex (s : State) : Type 0 where
-  pub alone : contents s ≡ with_records (empty_contents (contents s).kind (contents s).time) (records s)
+  pub alone : contents s ≡ with_mark (with_records (empty_contents (contents s).kind (contents s).time) (records s))
+      (has_directory (records s))
   pub placed : PathsInStorage s
   pub storable : IsStorable (contents s)
 

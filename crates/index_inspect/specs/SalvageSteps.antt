@@ -13,7 +13,7 @@ use Rattle.gix_index.specs.Record.{Record}
 use Rattle.gix_index.specs.State.{PathsInStorage, contents, records}
 use Rattle.gix_index.specs.StateType.{State}
 use Rattle.gix_index.specs.Storable.{IsStorable}
-use Rattle.index_inspect.specs.Remains.{IsPlainIndex}
+use Rattle.index_inspect.specs.Remains.{with_mark}
 use Rattle.index_inspect.specs.Salvage.{IsCompleted, IsSavedOf}
 use Rattle.index_inspect.specs.declared.salvage.Completed.{Completed}
 
@@ -22,19 +22,20 @@ pub record IsHeld (kind : Kind) (r : Record) : Type 0 where
   pub id : id_kind r.id ≡ kind
   pub path : 4095 ≤ length r.path → All (λ b. b ≢ 0) r.path
 
--- an index of these entries and nothing else, that a file can hold
+-- an index of these entries and nothing else but a mark of a sparse one, that a file can hold
 pub record IsIndexOf (kind : Kind) (rs : List Record) (s : State) : Type 0 where
   pub time : FileTime
-  pub is : contents s ≡ with_records (empty_contents kind time) rs
+  pub sparse : Bool
+  pub is : contents s ≡ with_mark (with_records (empty_contents kind time) rs) sparse
   pub placed : PathsInStorage s
   pub storable : IsStorable (contents s)
 
--- an index of the entries of a file became one of those that are saved of, with nothing else, and of the same kind
+-- an index of the entries of a file became one of those that are saved of, of the same kind
 pub record Completes (link : Option LinkValue) (found : Bool) (shared : Option Contents) (own : State) (c : Completed)
     : Type 0 where
   pub is : IsCompleted link found shared (records own) (records c.state) c.shared
   pub same_kind : (contents c.state).kind ≡ (contents own).kind
-  pub plain : IsPlainIndex c.state
+  pub index : IsIndexOf (contents own).kind (records c.state) c.state
 
 -- the record at a place has a path, and stands above the one before it
 abbrev pub IsAbove : List Record → ℕ → Type 0

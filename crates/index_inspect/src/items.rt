@@ -1,8 +1,9 @@
 //! The extensions behind the entries of a file, and where.
 
-ghost use Rattle.std.specs.Prelude.{◌≡◌, ◌≤◌, ◌+◌, ℕ, List, length, IfOk, MatchOption};
+ghost use Rattle.std.specs.Prelude.{◌≡◌, ◌≤◌, ◌+◌, ℕ, List, length, IfErr, IfOk, MatchOption};
 ghost use Rattle.gix_index.specs.Kind.{Kind as KindType};
-ghost use Rattle.gix_index.specs.Link.{SaysLink};
+ghost use Rattle.gix_index.specs.Link.{HasDelete, SaysLink};
+ghost use Rattle.gix_index.specs.LinkError.TheVariants.{Memory};
 ghost use Rattle.index_inspect.specs.ItemSteps.{IsWalked, IsSoundItem, IsSoundLink, TellsItem, TellsLink};
 
 use gix_index::decode::Error;
@@ -25,8 +26,9 @@ pub(crate) struct Walked {
 
 /// What an error of reading a link says of the extension, or want of memory.
 fn told(e: link::decode::Error) -> Result<ExtensionError, AllocError>
-    ensures { IfOk result (λ told. (kind : KindType) (content : List ℕ) → SaysLink kind content e
-        → TellsLink kind content told) }
+    ensures told { IfOk result (λ told. (kind : KindType) (content : List ℕ)
+        → SaysLink kind content e → TellsLink kind content told) }
+    ensures memory { IfErr result (λ _. e ≡ Memory) }
 {
     match e {
         link::decode::Error::Corrupt(text) => {
@@ -46,8 +48,9 @@ fn link_fault(
     kind: Kind,
     content: &[u8],
 ) -> Result<Option<ExtensionError>, AllocError>
-    ensures { IfOk result
+    ensures fault { IfOk result
         (λ fault. MatchOption fault (IsSoundLink kind content.now) (TellsLink kind content.now)) }
+    ensures memory { IfErr result (λ _. HasDelete kind content.now) }
 {
     let Err(e) = link::decode::decode(alloc, content, kind) else {
         return Ok(None);
@@ -62,8 +65,9 @@ fn fault_of(
     signature: Signature,
     content: &[u8],
 ) -> Result<Option<ExtensionError>, AllocError>
-    ensures { IfOk result (λ fault. MatchOption fault
+    ensures fault { IfOk result (λ fault. MatchOption fault
         (IsSoundItem kind signature content.now) (TellsItem kind signature content.now)) }
+    ensures memory { IfErr result (λ _. HasDelete kind content.now) }
 {
     if !is_understood(signature, content) {
         return Ok(Some(ExtensionError::MandatoryUnimplemented { signature }));

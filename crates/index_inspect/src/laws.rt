@@ -20,6 +20,13 @@ ghost use Rattle.index_inspect.specs.declared.salvage.Salvaged.{Salvaged};
 
 use gix_index::laws::one_reading;
 
+/// Bytes are divided in one way: into the same entries and the same parts, up to the same fault or without one.
+pub fn one_division()
+    ensures { (kind : Kind) (bytes : List ℕ) (rs ss : List Record) (pieces others : List Piece)
+        (f g : Option Fault) → IsDivided kind bytes rs pieces f
+        → IsDivided kind bytes ss others g → (rs ≡ ss) × (pieces ≡ others) × (f ≡ g) }
+{}
+
 /// A file whose parts have no fault is read as an index, with the entries of the parts, and its digest is its trailer
 /// where that isn't null: by a reader of the same kind that has no limit and expects no trailer.
 pub fn whole_is_read()

@@ -1,10 +1,11 @@
 //! What remains of an index file that may be damaged: the entries that can be read, and the link to a shared index.
 
-ghost use Rattle.std.specs.Prelude.{◌≡◌, ◌<◌, ◌∷◌, ◌++◌, [], ℕ, List, IfErr, IfOk, IfSome, OnOk, length, slice_index_or};
+ghost use Rattle.std.specs.Prelude.{◌≡◌, ◌<◌, ◌∷◌, ◌++◌, [], ℕ, List, IfErr, IfOk, IfSome, IsOk, IsSomeAnd, OnOk, length, slice_index_or};
 ghost use Rattle.std.specs.Option.{option_map};
 ghost use Rattle.gix_index.specs.ExtensionValue.{IsValue};
+ghost use Rattle.gix_index.specs.Header.{header_of};
 ghost use Rattle.gix_index.specs.Kind.{Kind as KindType};
-ghost use Rattle.gix_index.specs.Link.{IsLink, link_of};
+ghost use Rattle.gix_index.specs.Link.{HasDelete, IsLink, link_of};
 ghost use Rattle.gix_index.specs.Record.{Record};
 ghost use Rattle.gix_index.specs.State.{contents, records};
 ghost use Rattle.index_map.specs.Piece.{LieBetween};
@@ -20,7 +21,9 @@ use gix_index::extension::decode::Error as ExtensionError;
 use gix_index::extension::{Link, link};
 use gix_index::hash::{Kind, ObjectId};
 use gix_index::init::from_entries;
-use gix_index::{State, decode};
+use gix_index::{State, Version, decode};
+use index_format::Parts;
+use index_format::extension::Outcome;
 use index_map::part::{Part, What};
 use std::alloc::{AllocError, Global};
 use thiserror::Error;
@@ -56,7 +59,8 @@ pub struct FirstFault {
 /// What remains of a file.
 #[derive(Drop)]
 pub struct Remains {
-    /// The entries that can be read, from the first on, in the order of the file: an index without extensions.
+    /// The entries that can be read, from the first on, in the order of the file: an index without extensions, but for
+    /// the mark of a sparse one where an entry stands for a directory.
     pub front: State,
     /// How many entries the file declares.
     pub declared: u32,
@@ -97,6 +101,28 @@ pub(crate) fn push_from(
     let entry = entries.entry(place);
     let path = entries.path(place);
     state.dangerously_push_entry(entry.stat, entry.id, entry.flags, entry.mode, path)
+}
+
+/// The index with the mark of a sparse one where an entry stands for a directory, and without it where none does.
+pub(crate) fn marked(state: State) -> State
+    requires { IsIndexOf (contents state).kind (records state) state }
+    ensures records { records result ≡ records state }
+    ensures kind { (contents result).kind ≡ (contents state).kind }
+    ensures plain { IsPlainIndex result }
+{
+    let mut extensions = Outcome::none();
+    extensions.is_sparse = state.entries().iter().any(|entry| entry.mode.is_sparse());
+    let object_hash = state.object_hash();
+    let timestamp = state.timestamp();
+    let (entries, path_backing) = state.into_entries();
+    State::from(Parts {
+        object_hash,
+        timestamp,
+        version: Version::V2,
+        entries,
+        path_backing,
+        extensions,
+    })
 }
 
 /// Where the last part begins, or 0 where there is none.
@@ -171,8 +197,9 @@ fn last_link(parts: &[Part]) -> Option<Part>
 
 /// The link that a content spells, if it spells one.
 fn link_at(alloc: Global, kind: Kind, content: &[u8]) -> Result<Option<Link>, AllocError>
-    ensures { IfOk result
+    ensures link { IfOk result
         (λ link. IsValue (IsLink kind) (Some content.now) (option_map link_of link)) }
+    ensures memory { IfErr result (λ _. HasDelete kind content.now) }
 {
     match link::decode::decode(alloc, content, kind) {
         Ok(link) => Ok(Some(link)),
@@ -190,8 +217,10 @@ fn link_in(
     parts: &[Part],
 ) -> Result<Option<Link>, AllocError>
     requires { (place : ℕ) × LieBetween place parts.now (length bytes.now) }
-    ensures { IfOk result (λ link. IsValue (IsLink kind)
+    ensures link { IfOk result (λ link. IsValue (IsLink kind)
         (link_content bytes.now parts.now) (option_map link_of link)) }
+    ensures memory { IfErr result
+        (λ _. IsSomeAnd (link_content bytes.now parts.now) (HasDelete kind)) }
 {
     let Some(part) = last_link(parts) else {
         return Ok(None);
@@ -207,12 +236,14 @@ fn link_in(
 /// extensions but an offset table, so that it can be read where the trailer or an extension behind it is damaged, or
 /// the file is cut there; and where bytes of entries are changed that don't move what is behind them.
 ///
-/// [`Error::Header`]: the header can't be read, and nothing remains. Time and memory go with the bytes.
+/// [`Error::Header`]: the header can't be read, and nothing remains. [`Error::Memory`] never stands for that. Time and
+/// memory go with the bytes.
 pub fn remains_of(alloc: Global, kind: Kind, bytes: &[u8]) -> Result<Remains, Error>
     ensures remains { IfOk result (Remain kind bytes.now) }
     ensures kind { IfOk result (λ r. (contents r.front).kind ≡ kind) }
     ensures plain { IfOk result (λ r. IsPlainIndex r.front) }
     ensures lost { IfErr result (SaysLost kind bytes.now) }
+    ensures memory { IfErr result (λ e. e ≡ Memory → IsOk (header_of kind bytes.now)) }
 {
     let (version, declared) = match header::decode(bytes, kind) {
         Ok((version, declared, _)) => (version, declared),
@@ -223,7 +254,7 @@ pub fn remains_of(alloc: Global, kind: Kind, bytes: &[u8]) -> Result<Remains, Er
         entries,
         fault,
     } = divide_ending(alloc, kind, version, declared, bytes)?;
-    let front = from_entries(entries, kind, FileTime::EPOCH);
+    let front = marked(from_entries(entries, kind, FileTime::EPOCH));
     let link = link_in(alloc, kind, bytes, &parts)?;
     let has_link = has_link(&parts, &fault);
     let fault = first_fault(&parts, fault);

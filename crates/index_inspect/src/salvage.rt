@@ -1,6 +1,6 @@
 //! What can be saved of a damaged index file.
 
-ghost use Rattle.std.specs.Prelude.{◌≡◌, ◌<◌, ◌+◌, ◌↔◌, Bool, All, IfOk, IfSome, IsTrue, OnOk, Some, false, length, take};
+ghost use Rattle.std.specs.Prelude.{◌≡◌, ◌<◌, ◌+◌, ◌↔◌, Bool, All, IfOk, IfSome, IsOk, IsTrue, OnOk, Some, false, length, take};
 ghost use Rattle.std.specs.List.Sorted.{IsStable};
 ghost use Rattle.std.specs.Option.{option_map};
 ghost use Rattle.gix_index.specs.Id.{id_bytes, is_null};
@@ -14,7 +14,7 @@ ghost use Rattle.index_inspect.specs.Remains.{IsPlainIndex};
 ghost use Rattle.index_inspect.specs.Salvage.{CanBeShared, IsSavedOf, Saves};
 ghost use Rattle.index_inspect.specs.SalvageSteps.{Completes, IsAbove, IsHeld, IsIndexOf};
 
-use crate::remains::{FirstFault, Remains, push_from};
+use crate::remains::{FirstFault, Remains, marked, push_from};
 use gix_index::State;
 use gix_index::decode::entry::EntrySlice;
 use gix_index::entry::FileTime;
@@ -36,7 +36,8 @@ pub enum SharedEntries {
 /// What is saved of a file, and what was found there.
 #[derive(Drop)]
 pub struct Salvaged {
-    /// The entries that are saved, as an index without extensions.
+    /// The entries that are saved, as an index without extensions, but for the mark of a sparse one where an entry
+    /// stands for a directory.
     pub state: State,
     /// How many entries the file declares.
     pub declared: u32,
@@ -127,7 +128,7 @@ fn with_shared(
 
 /// An index in order by path and stage. Entries that agree in both keep their order.
 fn sorted(mut state: State) -> Result<State, AllocError>
-    requires { IsPlainIndex state }
+    requires { IsIndexOf (contents state).kind (records state) state }
     ensures index { IfOk result (λ s. IsIndexOf (contents state).kind (records s) s) }
     ensures ordered { IfOk result (λ s. IsOrdered (records s)) }
     ensures stable { IfOk result (λ s. IsStable record_cmp (records state) (records s)) }
@@ -194,9 +195,10 @@ fn are_whole(entries: &EntrySlice<'_>) -> bool
 
 /// An index of what is saved of the entries of another: that one itself, where none is left out.
 fn saved(alloc: Global, state: State) -> Result<State, AllocError>
-    requires { IsPlainIndex state }
+    requires { IsIndexOf (contents state).kind (records state) state }
     ensures saved { IfOk result (λ s. IsSavedOf (records state) (records s)) }
     ensures index { IfOk result (λ s. IsIndexOf (contents state).kind (records s) s) }
+    ensures memory { AreWhole (records state) → IsOk result }
 {
     if are_whole(&EntrySlice::new(state.entries(), state.path_backing())) {
         return Ok(state);
@@ -217,8 +219,9 @@ impl Remains {
     /// Where the link wants one, it is given, and it fits the entries of the file, they are merged, as
     /// [`Link::dissolve_into`] says. Else only the file's own entries are saved, of which those that replace others
     /// have no path. They are put in order by path and stage, as a file has them. Of those that agree in both the
-    /// first is kept, and those that have no path are left out. Extensions are left out too: git makes them anew. The
-    /// state can be written, and read again: its smallest version has all paths.
+    /// first is kept, and those that have no path are left out. Extensions are left out too: git makes them anew. But
+    /// the mark of a sparse index is there where an entry stands for a directory (gitformat-index, "Sparse Directory
+    /// Entries"). The state can be written, and read again: its smallest version has all paths.
     ///
     /// An error is want of memory. Time goes with n log n for n entries.
     pub fn save(self, alloc: Global, shared: Option<State>) -> Result<Salvaged, AllocError>
@@ -239,6 +242,7 @@ impl Remains {
         let read = front.entries().len();
         let Completed { state, shared } = with_shared(alloc, link, has_link, front, shared)?;
         let state = saved(alloc, state)?;
+        let state = marked(state);
         Ok(Salvaged {
             state,
             declared,

@@ -2,9 +2,9 @@ use Rattle.std.proofs.Common.{refl}
 use Rattle.gix_index.specs.Link.{Corrupt, BitmapDecode}
 use Rattle.index_inspect.proofs.items.told.Goals as goal
 
-pub returns-in-Corrupt : goal.returns-in-Corrupt
-returns-in-Corrupt c = λ kind content h. (Corrupt c.in-Corrupt.text.now, (refl, rw c.in-Corrupt.is at h))
+pub returns-in-Corrupt-clause-told : goal.returns-in-Corrupt-clause-told
+returns-in-Corrupt-clause-told c = λ kind content h. (Corrupt c.in-Corrupt.text.now, (refl, rw c.in-Corrupt.is at h))
 
-pub returns-in-BitmapDecode : goal.returns-in-BitmapDecode
-returns-in-BitmapDecode c = λ kind content h.
+pub returns-in-BitmapDecode-clause-told : goal.returns-in-BitmapDecode-clause-told
+returns-in-BitmapDecode-clause-told c = λ kind content h.
     (BitmapDecode c.in-BitmapDecode.err c.in-BitmapDecode.kind.now, (refl, rw c.in-BitmapDecode.is at h))

@@ -13,7 +13,7 @@ returns-in-Some-2 c =
     let inv = c.loop-item.invariant in
     let x : List ℕ × List ℕ = (c.in-Some.item.0, c.in-Some.item.1.now) in
     let h : Steps (cursor c.loop-item.items) (Some x) (cursor c.next.new.self) = c.in-Some.ensures.steps in
-    let told : TellsItem c.args.kind x.0 x.1 c.in-Some-2.fault = rw c.in-Some-2.is at c.in_ok-fault.ensures in
+    let told : TellsItem c.args.kind x.0 x.1 c.in-Some-2.fault = rw c.in-Some-2.is at c.in_ok-fault.ensures.fault in
     let t = told h.size in
     record {
       items = inv.0;
@@ -40,7 +40,7 @@ loop-item-preserved c =
     let to = cursor c.next.new.self in
     let h : Steps from (Some x) to = c.in-Some.ensures.steps in
     let i = step_item x from to h in
-    let sound : IsSoundItem c.args.kind x.0 x.1 = rw c.in_default-2.is at c.in_ok-fault.ensures in
+    let sound : IsSoundItem c.args.kind x.0 x.1 = rw c.in_default-2.is at c.in_ok-fault.ensures.fault in
     let lt : length c.args.extensions.now < 2 ^ 64 = search rules in
     let head = c.in_ok-push_part.ensures (i.signature ++ i.size)
     (omega (arith, length-append i.signature i.size, h.is_item.signature_len, h.is_item.size_len)) in

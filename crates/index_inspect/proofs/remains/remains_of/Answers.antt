@@ -1,9 +1,9 @@
-use Rattle.std.proofs.Common.{ap, refl}
+use Rattle.std.proofs.Common.{ap, refl, ◌∙◌}
 use Rattle.gix_index.specs.Contents.{Contents}
 use Rattle.index_inspect.specs.DivisionSteps.{EndsDivision}
-use Rattle.index_inspect.proofs.Completing.{plain_of}
 use Rattle.index_inspect.proofs.ReadFronts.{are_bytes}
 use Rattle.index_inspect.proofs.Remaining.{read_index, remain_of}
+use Rattle.index_inspect.proofs.Saved.{index_itself}
 use Rattle.index_inspect.proofs.remains.remains_of.Goals as goal
 
 pub link_in-requires : goal.link_in-requires
@@ -15,15 +15,16 @@ pub returns-clause-remains : goal.returns-clause-remains
 returns-clause-remains c =
     let d = c.in_ok-parts.field-0 in
     remain_of c.args.kind c.args.bytes.now d.entries.records d.parts.items d.fault _ c.in_ok-parts.ensures
-    (rw c.in-Ok.ensures.0 refl) (ap (λ (v : Contents). v.records) c.from_entries-front.ensures.entries)
+    (rw c.in-Ok.ensures.0 refl)
+    (c.marked-front.ensures.records ∙ ap (λ (v : Contents). v.records) c.from_entries.ensures.entries)
     c.first_fault-fault.ensures.error c.in-Ok.ensures.1
     (rw c.deref-3.ensures.value at c.first_fault-fault.ensures.offset)
-    (rw c.deref-2.ensures.value at c.has_link-has_link.ensures) (rw c.deref.ensures.value at c.in_ok-link.ensures)
+    (rw c.deref-2.ensures.value at c.has_link-has_link.ensures) (rw c.deref.ensures.value at c.in_ok-link.ensures.link)
 
-pub returns-clause-plain : goal.returns-clause-plain
-returns-clause-plain c =
+pub marked-front-requires : goal.marked-front-requires
+marked-front-requires c =
     let d = c.in_ok-parts.field-0 in
-    let front = c.from_entries-front in
-    plain_of c.args.kind d.entries.records front.result
+    let front = c.from_entries in
+    index_itself c.args.kind d.entries.records front.result
     (read_index c.args.kind c.args.bytes.now d.entries.records d.parts.items d.fault _ front.result
     (are_bytes c.args.bytes.now c.type_inv.bytes) c.in_ok-parts.ensures front.ensures.entries front.ensures.placed)

@@ -1,10 +1,21 @@
 use Rattle.std.proofs.Common.{ap, refl, sym, option_map, ◌∙◌}
 use Rattle.gix_index.specs.Link.{link_of}
 use Rattle.gix_index.specs.State.{contents}
-use Rattle.index_inspect.specs.Salvage.{absent, unshared}
+use Rattle.index_inspect.specs.Salvage.{absent, unlinked, unread, unshared}
 use Rattle.index_inspect.proofs.Completing.{stays}
 use Rattle.index_inspect.proofs.Saved.{if_ok}
+use Rattle.index_inspect.proofs.salvage.with_shared.Goals.{else-has_link, then-has_link}
 use Rattle.index_inspect.proofs.salvage.with_shared.Goals as goal
+
+pub returns-in_default : goal.returns-in_default
+returns-in_default c =
+    let none = ap (option_map link_of) c.in_default.is in
+    elim c.if-has_link.branch [
+      | then-has_link w ↦
+          stays _ _ _ c.args.own _ c.requires.plain (unread none w.if-has_link.true refl w.shared-is)
+      | else-has_link w ↦
+          stays _ _ _ c.args.own _ c.requires.plain (unlinked none w.if-has_link.false refl w.shared-is)
+    ]
 
 pub returns-then-is_null : goal.returns-then-is_null
 returns-then-is_null c =
