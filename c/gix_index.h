@@ -55,7 +55,7 @@ extern "C" {
 #define GIX_INDEX_STAGE_MASK 0x3000u
 #define GIX_INDEX_EXTENDED 0x4000u     /* the file has a second word of flags of the entry */
 #define GIX_INDEX_ASSUME_VALID 0x8000u
-#define GIX_INDEX_REMOVE 0x20000u /* in memory alone: calls that write leave the row out */
+#define GIX_INDEX_REMOVE 0x20000u /* in memory alone: calls that write pass over the row */
 #define GIX_INDEX_INTENT_TO_ADD 0x20000000u
 #define GIX_INDEX_SKIP_WORKTREE 0x40000000u
 
@@ -80,9 +80,11 @@ extern "C" {
                                          * it */
 #define GIX_INDEX_FAULT_CACHED_TREE 11u /* calls that check alone: the cached tree doesn't hold together, or counts more
                                          * entries than there are */
-#define GIX_INDEX_FAULT_ROW 12u         /* calls that write alone: the row at the place can't stand in a file */
+#define GIX_INDEX_FAULT_ROW 12u         /* calls that write alone: the row at the place can't stand in a file, and its
+                                         * mode is one of git's */
 #define GIX_INDEX_FAULT_COUNT 13u       /* calls that write alone: there are more rows than 4294967295 */
 #define GIX_INDEX_FAULT_LENGTH 14u      /* calls that write alone: the file would have more bytes than 4294967295 */
+#define GIX_INDEX_FAULT_MODE 15u        /* calls that write alone: the mode of the row at the place is none of git's */
 
 /* ---- Tables */
 
@@ -107,10 +109,11 @@ typedef struct {
 } gix_index_row;
 
 /* What a call that reads says beside its status. It is written with each status; what isn't named there is 0. With the
- * faults ORDER and CACHED_TREE the bytes were read, and entries, version and has_link are as with DONE. */
+ * faults ORDER and CACHED_TREE the bytes were read, and entries, version, has_link and shared_id are as with DONE. */
 typedef struct {
     size_t entries;     /* DONE, NO_ROOM: how many entries the index has, and so how many rows it takes */
-    size_t path_bytes;  /* DONE, NO_ROOM: how many bytes for paths it takes; calls that check say 0 */
+    size_t path_bytes;  /* DONE, NO_ROOM: how many bytes all paths have together, and so how many for paths it takes;
+                         * calls that check say 0 */
     size_t text_bytes;  /* REFUSED, MEMORY: how many bytes of text were written */
     size_t fault_place; /* REFUSED: the place that the fault names, or 0 */
     uint32_t fault;     /* REFUSED: one of the faults above */
@@ -137,7 +140,8 @@ typedef struct {
 typedef struct {
     size_t bytes;       /* DONE, NO_ROOM: how many bytes the index has */
     size_t fault_place; /* REFUSED: the place that the fault names, or 0 */
-    uint32_t fault;     /* REFUSED: ORDER, ROW, COUNT, LENGTH; or one of the bytes of the index that is written over */
+    uint32_t fault;     /* REFUSED: ORDER, ROW, MODE, COUNT, LENGTH; or one of the bytes of the index that is written
+                         * over */
     uint32_t version;   /* DONE, NO_ROOM: 2, 3 or 4 */
     uint32_t tree;      /* gix_index_write_over, where the bytes of that index and the rows are let through: NO_TREE,
                          * TREE_KEPT or TREE_LEFT_OUT */
@@ -235,20 +239,21 @@ size_t gix_index_closest(const gix_index_row *rows, size_t rows_len, const uint8
                          const uint8_t *directory, size_t directory_len);
 
 /* Writes a table as all bytes of an index: header, entries, no extension, and the digest behind them. What is written
- * is read again as the same rows, but for those with GIX_INDEX_REMOVE, which are left out; for bits of the flags that
- * live in memory alone; and for bits of the mode that no file has.
+ * is read again as the same rows, but for those with GIX_INDEX_REMOVE, which are passed over as if they weren't there,
+ * whatever else they have; and for bits of the flags that live in memory alone.
  *
  * It takes rows that strictly increase by path, byte by byte, and then by stage. Each has the kind of the form, and the
- * stage of its flags; its path lies among paths, and has bytes, and no NUL; its mode isn't GIX_INDEX_DIRECTORY, as the
- * mark of a sparse index is an extension. Rows may come from anywhere: paths may lie in any order, with others between
- * them. Of an id of SHA-1 the first 20 bytes count. A table whose summary has has_link lacks the shared entries, and
- * shouldn't be written; one of gix_index_read_split may be.
+ * stage of its flags; its path lies among paths, and has bytes, and no NUL; its mode is one of the five above, but not
+ * GIX_INDEX_DIRECTORY, as the mark of a sparse index is an extension. Rows may come from anywhere: paths may lie in any
+ * order, with others between them. Of an id of SHA-1 the first 20 bytes count. A table whose summary has has_link lacks
+ * the shared entries, and shouldn't be written; one of gix_index_read_split may be.
  *
  * DONE: the first told->bytes of bytes are the index. NO_ROOM: the same call with as many bytes as are told has room;
- * so a call with the length 0 asks for it. REFUSED: the fault is ROW, and the place is the first row that isn't such;
- * or ORDER, and all are such, and the place is the first that isn't above the one before it; or COUNT, or LENGTH.
- * MEMORY: malloc or realloc gave nothing, and the rows are such and in order. WRONG_NUMBER: the form's kind or version
- * is none. With each status but DONE bytes is as it was; with DONE, what lies behind the index is.
+ * so a call with the length 0 asks for it. REFUSED: the place is the first row that isn't such, and the fault is MODE
+ * where its mode is none of the five, else ROW; or it is ORDER, and all are such, and the place is the first that isn't
+ * above the one before it, those that are passed over left aside; or COUNT, or LENGTH. MEMORY: malloc or realloc gave
+ * nothing, and the rows are such and in order. WRONG_NUMBER: the form's kind or version is none. With each status but
+ * DONE bytes is as it was; with DONE, what lies behind the index is.
  *
  * gix_index_file.h reads a path with its link followed, and writes a table to one, by way of a lock. */
 uint32_t gix_index_write(const gix_index_row *rows, size_t rows_len, const uint8_t *paths, size_t paths_len,

@@ -24,7 +24,7 @@ impl EntryMut<'_> {
         self.row.set_id(id, self.kind)
     }
 
-    /// Sets the kind of file: one of those in [`mode`](crate::mode).
+    /// Sets the kind of file: one of those in [`mode`](crate::mode). With another the index isn't written.
     pub fn set_mode(&mut self, mode: u32) {
         self.row.mode = mode;
     }

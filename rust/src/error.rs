@@ -37,6 +37,8 @@ pub enum Fault {
     Count,
     /// The file would have more than the 4294967295 bytes that its offsets can reach.
     Length,
+    /// The entry at this place, counted from 0, has a mode that is none of the five that git has.
+    Mode(usize),
     /// A fault of another number.
     Other(u32),
 }
@@ -125,6 +127,7 @@ impl Fault {
             12 => Fault::Row(place),
             13 => Fault::Count,
             14 => Fault::Length,
+            15 => Fault::Mode(place),
             number => Fault::Other(number),
         }
     }
@@ -135,7 +138,8 @@ impl Error {
     pub(crate) fn of_written(told: &Written) -> Error {
         let fault = Fault::of(told.fault, told.fault_place);
         let text = match fault {
-            Fault::Row(place) => format!("entry {place} can't be written: its path, its mode or its stage is at fault"),
+            Fault::Row(place) => format!("entry {place} can't be written: its path, its id or its stage is at fault"),
+            Fault::Mode(place) => format!("entry {place} can't be written: its mode is none that git has"),
             Fault::Order(place) => format!("entry {place} isn't above the one before it, by path and stage"),
             Fault::Count => "the index has more entries than the 4294967295 that a file can count".into(),
             Fault::Length => "the index would take more bytes than the 4294967295 that a file can have".into(),

@@ -103,6 +103,10 @@ fn unfit_entries_are_refused() {
     assert!(matches!(pushed, Err(Error::Id { expected: 20, actual: 32 })));
     index.dangerously_push_entry(Stat::default(), &[1; 20], 0, mode::DIR, b"a/").expect("there is memory");
     assert_eq!(fault_of(index.write_to(Options::default()).unwrap_err()), Fault::Row(0));
+    for mode in [0, 0o100600, 0o100664, 0o140000, !0] {
+        index.entry_mut(0).expect("it is there").set_mode(mode);
+        assert_eq!(fault_of(index.write_to(Options::default()).unwrap_err()), Fault::Mode(0));
+    }
 }
 
 #[test]

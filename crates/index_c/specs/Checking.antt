@@ -1,13 +1,18 @@
 -- What a call that checks an index, or a split index with its shared one, says of the bytes (gitformat-index, "Index
 -- entries are sorted in ascending order", "Cache tree").
-use Rattle.std.specs.Prelude.{◌≡◌, ℕ, ◌⊎◌, Bool, List, length, Some}
+use Rattle.std.specs.Prelude.{◌≡◌, ℕ, ◌⊎◌, Bool, List, length, Option, Some, None}
 use Rattle.gix_index.specs.Contents.{Contents}
 use Rattle.gix_index.specs.Kind.{Kind}
 use Rattle.gix_index.specs.Order.{IsStrictlyOrdered}
+use Rattle.gix_index.specs.OrderError.{Error as OrderError}
+use Rattle.gix_index.specs.OrderError.TheVariants as orders
 use Rattle.gix_index.specs.Sorted.{IsFirstFall}
 use Rattle.gix_index.specs.SoundState.{AreSoundExtensions}
+use Rattle.gix_index.specs.TreeError.{Error as TreeError}
+use Rattle.gix_index.specs.TreeError.TheVariants as trees
 use Rattle.index_table.specs.Joining.{AreReadSo}
-use Rattle.index_table.specs.Reading.{IsReadSo, TellsOfValue}
+use Rattle.index_table.specs.Reading.{IsReadSo, value_told}
+use Rattle.index_table.specs.declared.fault.TheConstants.{CACHED_TREE, ORDER}
 use Rattle.index_table.specs.declared.read.Summary.{Summary}
 
 -- The entries strictly increase by path, then stage. The cached tree, where there is one, holds together, and no node
@@ -16,19 +21,14 @@ pub record IsSoundValue (v : Contents) : Type 0 where
   pub ordered : IsStrictlyOrdered v.records
   pub tree : AreSoundExtensions (length v.records) v.extensions.tree
 
--- the summary tells of a value, and nothing of bytes for paths
-pub record IsTold (v : Contents) (s : Summary) : Type 0 where
-  pub tells : TellsOfValue v s
-  pub path_bytes : s.path_bytes ≡ 0
-
 -- the entry at the place is the first that isn't above the one before it
 pub record IsOutOfOrder (v : Contents) (number place : ℕ) : Type 0 where
-  pub number_is : number ≡ 10
+  pub number_is : number ≡ ORDER
   pub fall : IsFirstFall v.records (Some place)
 
 -- the entries are in order, and the cached tree doesn't hold together with them
 pub record HasUnsoundTree (v : Contents) (number place : ℕ) : Type 0 where
-  pub number_is : number ≡ 11
+  pub number_is : number ≡ CACHED_TREE
   pub place_is : place ≡ 0
   pub ordered : IsStrictlyOrdered v.records
   pub unsound : AreSoundExtensions (length v.records) v.extensions.tree → ⊥
@@ -37,15 +37,39 @@ pub record HasUnsoundTree (v : Contents) (number place : ℕ) : Type 0 where
 abbrev pub HasCheckFault : Contents → ℕ → ℕ → Type 0
 HasCheckFault v number place = IsOutOfOrder v number place ⊎ HasUnsoundTree v number place
 
--- the value is sound, and the summary tells of it
+-- the value is sound, and the summary tells of it, and of no bytes for paths
 pub record IsFoundSound (s : Summary) (v : Contents) : Type 0 where
-  pub told : IsTold v s
+  pub told : s ≡ value_told v 0
   pub sound : IsSoundValue v
+
+-- what is told of a value that isn't sound: a fault beside it, and how long the text is
+abbrev pub unsound_told : Contents → (number place text_bytes : ℕ) → Summary
+unsound_told v number place text_bytes =
+    record (value_told v 0) { text_bytes = text_bytes; fault_place = place; fault = number }
 
 -- The value isn't sound. The summary tells of it, and has the number and the place of its first fault.
 pub record IsFoundUnsound (s : Summary) (v : Contents) : Type 0 where
-  pub told : IsTold v s
+  pub told : s ≡ unsound_told v s.fault s.fault_place s.text_bytes
   pub fault : HasCheckFault v s.fault s.fault_place
+
+-- ---- errors
+
+-- the place of the entry that is out of order; want of memory names none
+abbrev pub order_place : OrderError → Option ℕ
+order_place (orders.OutOfOrder index path stage previous_path previous_stage) = Some index
+order_place orders.Memory = None
+
+-- a fault of the cached tree names no place, which is told as 0; want of memory names no fault
+abbrev pub tree_place : TreeError → Option ℕ
+tree_place (trees.RootWithName name) = Some 0
+tree_place (trees.EntriesCount actual expected) = Some 0
+tree_place trees.EntriesCountOverflow = Some 0
+tree_place (trees.OutOfOrder parent current previous) = Some 0
+tree_place (trees.TreeNodeNotFound id) = Some 0
+tree_place (trees.MissingTreeDirectory parent id name) = Some 0
+tree_place (trees.TreeNodeChildcountMismatch id expected actual) = Some 0
+tree_place (trees.EntriesCountExceedsIndex name actual expected) = Some 0
+tree_place trees.Memory = None
 
 -- ---- an index alone
 

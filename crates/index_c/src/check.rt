@@ -2,38 +2,56 @@
 
 ghost use Rattle.std.specs.Prelude.{◌≡◌, ◌↔◌, ◌≤◌, ◌⊎◌, IfSome, IsSomeAnd, None};
 ghost use Rattle.gix_index.specs.State.{PathsInStorage, contents};
-ghost use Rattle.index_c.specs.Checking.{AreSoundBoth, AreUnsoundBoth, HasCheckFault, IsSoundIndex, IsSoundValue, IsTold, IsUnsoundIndex};
+ghost use Rattle.index_c.specs.Checking.{AreSoundBoth, AreUnsoundBoth, IsFoundSound, IsFoundUnsound, IsSoundIndex, IsUnsoundIndex, order_place, tree_place, unsound_told};
 ghost use Rattle.index_table.specs.Joining.{AreRefusedBoth, LackMemory};
-ghost use Rattle.index_table.specs.Reading.{HasText, IsRefusedIndex, LacksMemory};
+ghost use Rattle.index_table.specs.Reading.{HasText, IsRefusedIndex, IsUnread, TellsOfMemory, blank, value_told};
 ghost use Rattle.index_table.specs.Table.{kind_numbered};
 
 use gix_index::State;
+use gix_index::extension::tree;
 use gix_index::hash::Kind;
 use gix_index::object::NoObjects;
-use index_table::fault::{CACHED_TREE, ORDER, order_place, put_fault, tree_place};
+use gix_index::verify::entries;
+use index_table::fault::{CACHED_TREE, ORDER, put_fault};
 use index_table::read::{Outcome, Summary, index_of, kind_of, nothing, refused, summary_of};
 use index_table::split::both_of;
 use index_table::status::{DONE, MEMORY, REFUSED, WRONG_NUMBER};
 use std::alloc::Global;
 
+/// The place of the entry that is out of order, or None where memory lacked to name it.
+fn order_place(e: &entries::Error) -> Option<usize>
+    ensures { result ≡ order_place e.now }
+{
+    match e {
+        entries::Error::OutOfOrder { current_index, .. } => Some(*current_index),
+        entries::Error::Memory => None,
+    }
+}
+
+/// The place 0 for a fault of the cached tree, or None where memory lacked to name it.
+fn tree_place(e: &tree::verify::Error) -> Option<usize>
+    ensures { result ≡ tree_place e.now }
+{
+    match e {
+        tree::verify::Error::Memory => None,
+        _ => Some(0),
+    }
+}
+
 /// What is told of a state, but for the bytes of its paths.
 fn told_of(state: &State) -> Summary
-    ensures told { IsTold (contents state.now) result }
-    ensures text { result.text_bytes ≡ 0 }
+    ensures { result ≡ value_told (contents state.now) 0 }
 {
-    let mut summary = summary_of(state);
-    summary.path_bytes = 0;
-    summary
+    summary_of(state, state.entries().len(), 0)
 }
 
 /// Tells of a state that isn't sound, or, where no place is given, of want of memory to name its fault.
 fn unsound(state: &State, number: u32, place: Option<usize>, text_bytes: usize) -> Outcome
-    ensures memory { place ≡ None → result.status ≡ 2 }
-    ensures refused { IfSome place (λ _. result.status ≡ 1) }
-    ensures told { IfSome place (λ _. IsTold (contents state.now) result.summary) }
-    ensures number { IfSome place (λ _. result.summary.fault ≡ number) }
-    ensures place { IfSome place (λ p. result.summary.fault_place ≡ p) }
-    ensures whose { result.summary.of_shared ≡ 0 }
+    ensures memory { place ≡ None → result.status ≡ MEMORY }
+    ensures nothing { place ≡ None → TellsOfMemory 0 result.summary }
+    ensures refused { IfSome place (λ _. result.status ≡ REFUSED) }
+    ensures told { IfSome place
+        (λ p. result.summary ≡ unsound_told (contents state.now) number p text_bytes) }
     ensures text { result.summary.text_bytes ≡ text_bytes }
 {
     match place {
@@ -59,12 +77,11 @@ fn unsound(state: &State, number: u32, place: Option<usize>, text_bytes: usize) 
 /// Whether a state is sound, and else why not.
 fn judge(alloc: Global, state: &State, text: &mut [u8]) -> Outcome
     requires { PathsInStorage state.now }
-    ensures status { result.status ≤ 2 }
-    ensures sound { result.status ≡ 0 → IsSoundValue (contents state.now) }
-    ensures told { result.status ≤ 1 → IsTold (contents state.now) result.summary }
-    ensures fault { result.status ≡ 1
-        → HasCheckFault (contents state.now) result.summary.fault result.summary.fault_place }
-    ensures whose { result.summary.of_shared ≡ 0 }
+    ensures status { result.status ≤ MEMORY }
+    ensures sound { result.status ≡ DONE → IsFoundSound result.summary (contents state.now) }
+    ensures unsound { result.status ≡ REFUSED
+        → IsFoundUnsound result.summary (contents state.now) }
+    ensures memory { result.status ≡ MEMORY → TellsOfMemory 0 result.summary }
     ensures text { HasText result.summary.text_bytes text.old text.new }
 {
     if let Err(e) = state.verify_entries() {
@@ -83,11 +100,11 @@ fn judge(alloc: Global, state: &State, text: &mut [u8]) -> Outcome
 
 /// Checks the index of these bytes.
 fn checked(alloc: Global, bytes: &[u8], kind: Kind, skip_hash: bool, text: &mut [u8]) -> Outcome
-    ensures status { result.status ≤ 2 }
-    ensures done { result.status ≡ 0 → IsSoundIndex skip_hash kind bytes.now result.summary }
-    ensures refused { result.status ≡ 1 → IsRefusedIndex skip_hash kind bytes.now result.summary
+    ensures status { result.status ≤ MEMORY }
+    ensures done { result.status ≡ DONE → IsSoundIndex skip_hash kind bytes.now result.summary }
+    ensures refused { result.status ≡ REFUSED → IsRefusedIndex skip_hash kind bytes.now result.summary
         ⊎ IsUnsoundIndex skip_hash kind bytes.now result.summary }
-    ensures memory { result.status ≡ 2 → LacksMemory None skip_hash kind bytes.now }
+    ensures memory { result.status ≡ MEMORY → IsUnread skip_hash kind bytes.now result.summary }
     ensures text { HasText result.summary.text_bytes text.old text.new }
 {
     match index_of(alloc, bytes, kind, skip_hash, None) {
@@ -105,13 +122,13 @@ fn checked_both(
     skip_hash: bool,
     text: &mut [u8],
 ) -> Outcome
-    ensures status { result.status ≤ 2 }
-    ensures done { result.status ≡ 0
+    ensures status { result.status ≤ MEMORY }
+    ensures done { result.status ≡ DONE
         → AreSoundBoth skip_hash kind bytes.now shared.now result.summary }
-    ensures refused { result.status ≡ 1
+    ensures refused { result.status ≡ REFUSED
         → AreRefusedBoth skip_hash kind bytes.now shared.now result.summary
         ⊎ AreUnsoundBoth skip_hash kind bytes.now shared.now result.summary }
-    ensures memory { result.status ≡ 2
+    ensures memory { result.status ≡ MEMORY
         → LackMemory skip_hash kind bytes.now shared.now result.summary }
     ensures text { HasText result.summary.text_bytes text.old text.new }
 {
@@ -138,15 +155,16 @@ pub extern "C" fn gix_index_check(
     text: &mut [u8],
     summary: &mut Summary,
 ) -> u32
-    ensures status { (result ≤ 2) ⊎ (result ≡ 4) }
-    ensures done { result ≡ 0 → IsSomeAnd (kind_numbered kind)
+    ensures status { (result ≤ MEMORY) ⊎ (result ≡ WRONG_NUMBER) }
+    ensures done { result ≡ DONE → IsSomeAnd (kind_numbered kind)
         (λ k. IsSoundIndex skip_hash k bytes.now summary.new) }
-    ensures refused { result ≡ 1 → IsSomeAnd (kind_numbered kind)
+    ensures refused { result ≡ REFUSED → IsSomeAnd (kind_numbered kind)
         (λ k. IsRefusedIndex skip_hash k bytes.now summary.new
         ⊎ IsUnsoundIndex skip_hash k bytes.now summary.new) }
-    ensures memory { result ≡ 2 → IsSomeAnd (kind_numbered kind)
-        (λ k. LacksMemory None skip_hash k bytes.now) }
-    ensures wrong_number { (result ≡ 4) ↔ (kind_numbered kind ≡ None) }
+    ensures memory { result ≡ MEMORY → IsSomeAnd (kind_numbered kind)
+        (λ k. IsUnread skip_hash k bytes.now summary.new) }
+    ensures wrong_number { (result ≡ WRONG_NUMBER) ↔ (kind_numbered kind ≡ None) }
+    ensures blank { result ≡ WRONG_NUMBER → summary.new ≡ blank }
     ensures text { HasText summary.new.text_bytes text.old text.new }
 {
     let outcome = match kind_of(kind) {
@@ -175,15 +193,16 @@ pub extern "C" fn gix_index_check_split(
     text: &mut [u8],
     summary: &mut Summary,
 ) -> u32
-    ensures status { (result ≤ 2) ⊎ (result ≡ 4) }
-    ensures done { result ≡ 0 → IsSomeAnd (kind_numbered kind)
+    ensures status { (result ≤ MEMORY) ⊎ (result ≡ WRONG_NUMBER) }
+    ensures done { result ≡ DONE → IsSomeAnd (kind_numbered kind)
         (λ k. AreSoundBoth skip_hash k bytes.now shared.now summary.new) }
-    ensures refused { result ≡ 1 → IsSomeAnd (kind_numbered kind)
+    ensures refused { result ≡ REFUSED → IsSomeAnd (kind_numbered kind)
         (λ k. AreRefusedBoth skip_hash k bytes.now shared.now summary.new
         ⊎ AreUnsoundBoth skip_hash k bytes.now shared.now summary.new) }
-    ensures memory { result ≡ 2 → IsSomeAnd (kind_numbered kind)
+    ensures memory { result ≡ MEMORY → IsSomeAnd (kind_numbered kind)
         (λ k. LackMemory skip_hash k bytes.now shared.now summary.new) }
-    ensures wrong_number { (result ≡ 4) ↔ (kind_numbered kind ≡ None) }
+    ensures wrong_number { (result ≡ WRONG_NUMBER) ↔ (kind_numbered kind ≡ None) }
+    ensures blank { result ≡ WRONG_NUMBER → summary.new ≡ blank }
     ensures text { HasText summary.new.text_bytes text.old text.new }
 {
     let outcome = match kind_of(kind) {

@@ -112,14 +112,14 @@ pub extern "C" fn gix_index_find_prefix(
     prefix: &[u8],
     places: &mut Places,
 ) -> u32
-    ensures status { (result ≡ 0) ⊎ (result ≡ 5) }
-    ensures in_range { result ≡ 0
+    ensures status { (result ≡ DONE) ⊎ (result ≡ NONE) }
+    ensures in_range { result ≡ DONE
         → LiesWithin (records_of paths.now rows.now) (range_of places.new) }
     ensures exactly { IsOrderedByPath (records_of paths.now rows.now) → IsPrefixRange prefix.now
         (records_of paths.now rows.now) (range_told result places.new) }
     ensures empty { length prefix.now ≡ 0 → IsPrefixRange prefix.now
         (records_of paths.now rows.now) (range_told result places.new) }
-    ensures kept { result ≢ 0 → places.new ≡ places.old }
+    ensures kept { result ≢ DONE → places.new ≡ places.old }
 {
     match prefixed(rows, paths, prefix) {
         Some(range) => {

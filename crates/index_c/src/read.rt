@@ -2,8 +2,9 @@
 
 ghost use Rattle.std.specs.Prelude.{◌≡◌, ◌≢◌, ◌≤◌, ◌↔◌, IsSomeAnd, None};
 ghost use Rattle.index_table.specs.Joining.{AreReadSo, AreRefusedBoth, LackMemory};
-ghost use Rattle.index_table.specs.Reading.{Fills, HasText, IsFilled, IsRefusedIndex, IsTooSmall, LacksMemory, LacksRoom};
+ghost use Rattle.index_table.specs.Reading.{Fills, HasText, IsFilled, IsRefusedIndex, IsTooSmall, IsUnread, LacksRoom, blank};
 ghost use Rattle.index_table.specs.Table.{kind_numbered};
+ghost use Rattle.index_table.specs.declared.status.TheConstants.{DONE, MEMORY, NO_ROOM, REFUSED};
 
 use index_table::read::{Summary, kind_of, nothing, read_table};
 use index_table::row::Row;
@@ -13,8 +14,8 @@ use std::alloc::Global;
 
 /// Tells that the number of a kind is none.
 fn wrong_number(summary: &mut Summary) -> u32
-    ensures status { result ≡ 4 }
-    ensures text { summary.new.text_bytes ≡ 0 }
+    ensures status { result ≡ WRONG_NUMBER }
+    ensures blank { summary.new ≡ blank }
 {
     *summary = nothing(WRONG_NUMBER).summary;
     WRONG_NUMBER
@@ -39,18 +40,19 @@ pub extern "C" fn gix_index_read(
     text: &mut [u8],
     summary: &mut Summary,
 ) -> u32
-    ensures status { result ≤ 4 }
-    ensures done { result ≡ 0 → IsSomeAnd (kind_numbered kind) (λ k. IsFilled skip_hash k bytes.now
+    ensures status { result ≤ WRONG_NUMBER }
+    ensures done { result ≡ DONE → IsSomeAnd (kind_numbered kind) (λ k. IsFilled skip_hash k bytes.now
         summary.new rows.old rows.new paths.old paths.new) }
-    ensures refused { result ≡ 1 → IsSomeAnd (kind_numbered kind)
+    ensures refused { result ≡ REFUSED → IsSomeAnd (kind_numbered kind)
         (λ k. IsRefusedIndex skip_hash k bytes.now summary.new) }
-    ensures memory { result ≡ 2 → IsSomeAnd (kind_numbered kind)
-        (λ k. LacksMemory None skip_hash k bytes.now) }
-    ensures no_room { result ≡ 3 → IsSomeAnd (kind_numbered kind)
+    ensures memory { result ≡ MEMORY → IsSomeAnd (kind_numbered kind)
+        (λ k. IsUnread skip_hash k bytes.now summary.new) }
+    ensures no_room { result ≡ NO_ROOM → IsSomeAnd (kind_numbered kind)
         (λ k. LacksRoom skip_hash k bytes.now summary.new rows.old paths.old) }
-    ensures wrong_number { (result ≡ 4) ↔ (kind_numbered kind ≡ None) }
-    ensures rows { result ≢ 0 → rows.new ≡ rows.old }
-    ensures paths { result ≢ 0 → paths.new ≡ paths.old }
+    ensures wrong_number { (result ≡ WRONG_NUMBER) ↔ (kind_numbered kind ≡ None) }
+    ensures blank { result ≡ WRONG_NUMBER → summary.new ≡ blank }
+    ensures rows { result ≢ DONE → rows.new ≡ rows.old }
+    ensures paths { result ≢ DONE → paths.new ≡ paths.old }
     ensures text { HasText summary.new.text_bytes text.old text.new }
 {
     let Some(kind) = kind_of(kind) else {
@@ -81,20 +83,21 @@ pub extern "C" fn gix_index_read_split(
     text: &mut [u8],
     summary: &mut Summary,
 ) -> u32
-    ensures status { result ≤ 4 }
-    ensures done { result ≡ 0 → IsSomeAnd (kind_numbered kind)
+    ensures status { result ≤ WRONG_NUMBER }
+    ensures done { result ≡ DONE → IsSomeAnd (kind_numbered kind)
         (λ k. AreReadSo skip_hash k bytes.now shared.now
         (λ v. Fills v summary.new rows.old rows.new paths.old paths.new)) }
-    ensures refused { result ≡ 1 → IsSomeAnd (kind_numbered kind)
+    ensures refused { result ≡ REFUSED → IsSomeAnd (kind_numbered kind)
         (λ k. AreRefusedBoth skip_hash k bytes.now shared.now summary.new) }
-    ensures memory { result ≡ 2 → IsSomeAnd (kind_numbered kind)
+    ensures memory { result ≡ MEMORY → IsSomeAnd (kind_numbered kind)
         (λ k. LackMemory skip_hash k bytes.now shared.now summary.new) }
-    ensures no_room { result ≡ 3 → IsSomeAnd (kind_numbered kind)
+    ensures no_room { result ≡ NO_ROOM → IsSomeAnd (kind_numbered kind)
         (λ k. AreReadSo skip_hash k bytes.now shared.now
         (λ v. IsTooSmall v summary.new rows.old paths.old)) }
-    ensures wrong_number { (result ≡ 4) ↔ (kind_numbered kind ≡ None) }
-    ensures rows { result ≢ 0 → rows.new ≡ rows.old }
-    ensures paths { result ≢ 0 → paths.new ≡ paths.old }
+    ensures wrong_number { (result ≡ WRONG_NUMBER) ↔ (kind_numbered kind ≡ None) }
+    ensures blank { result ≡ WRONG_NUMBER → summary.new ≡ blank }
+    ensures rows { result ≢ DONE → rows.new ≡ rows.old }
+    ensures paths { result ≢ DONE → paths.new ≡ paths.old }
     ensures text { HasText summary.new.text_bytes text.old text.new }
 {
     let Some(kind) = kind_of(kind) else {

@@ -3,7 +3,8 @@
 ghost use Rattle.std.specs.Prelude.{◌≡◌, ◌≢◌, ◌≤◌, ◌↔◌, None, false};
 ghost use Rattle.index_table.specs.Overwriting.{IsAskedOver, IsUnwrittenOver, WritesOver};
 ghost use Rattle.index_table.specs.Reading.{LacksMemory};
-ghost use Rattle.index_table.specs.Writing.{HasImage, HasWrongNumber, IsAsked, IsFitTable, IsUnwritten, PassesRoom, Spells};
+ghost use Rattle.index_table.specs.Writing.{HasImage, HasWrongNumber, IsAsked, IsFitTable, IsUnwritten, LeavesBlank, PassesRoom, Spells};
+ghost use Rattle.index_table.specs.declared.status.TheConstants.{DONE, MEMORY, NO_ROOM, NO_TREE, REFUSED, WRONG_NUMBER};
 
 use index_table::over::write_over;
 use index_table::row::Row;
@@ -26,18 +27,19 @@ pub extern "C" fn gix_index_write(
     bytes: &mut [u8],
     told: &mut Written,
 ) -> u32
-    ensures status { result ≤ 4 }
-    ensures done { result ≡ 0 → IsAsked form.now (λ kind options. Spells kind paths.now rows.now
+    ensures status { result ≤ WRONG_NUMBER }
+    ensures done { result ≡ DONE → IsAsked form.now (λ kind options. Spells kind paths.now rows.now
         (λ v. HasImage v options told.new bytes.old bytes.new)) }
-    ensures refused { result ≡ 1 → IsAsked form.now
+    ensures refused { result ≡ REFUSED → IsAsked form.now
         (λ kind options. IsUnwritten kind options paths.now rows.now told.new) }
-    ensures memory { result ≡ 2 → IsAsked form.now
+    ensures memory { result ≡ MEMORY → IsAsked form.now
         (λ kind options. IsFitTable kind false paths.now rows.now) }
-    ensures no_room { result ≡ 3 → IsAsked form.now (λ kind options. Spells kind paths.now rows.now
+    ensures no_room { result ≡ NO_ROOM → IsAsked form.now (λ kind options. Spells kind paths.now rows.now
         (λ v. PassesRoom v options told.new bytes.old)) }
-    ensures wrong_number { (result ≡ 4) ↔ HasWrongNumber form.now }
-    ensures tree { told.new.tree ≡ 0 }
-    ensures bytes { result ≢ 0 → bytes.new ≡ bytes.old }
+    ensures wrong_number { (result ≡ WRONG_NUMBER) ↔ HasWrongNumber form.now }
+    ensures tree { told.new.tree ≡ NO_TREE }
+    ensures blank { LeavesBlank result told.new }
+    ensures bytes { result ≢ DONE → bytes.new ≡ bytes.old }
 {
     let answer = write_table(alloc, rows, paths, form, bytes);
     *told = answer.told;
@@ -64,19 +66,20 @@ pub extern "C" fn gix_index_write_over(
     bytes: &mut [u8],
     told: &mut Written,
 ) -> u32
-    ensures status { result ≤ 4 }
-    ensures done { result ≡ 0 → IsAskedOver form.now
+    ensures status { result ≤ WRONG_NUMBER }
+    ensures done { result ≡ DONE → IsAskedOver form.now
         (λ kind options. WritesOver kind index.now paths.now rows.now told.new
         (λ v. HasImage v options told.new bytes.old bytes.new)) }
-    ensures refused { result ≡ 1 → IsAskedOver form.now
+    ensures refused { result ≡ REFUSED → IsAskedOver form.now
         (λ kind options. IsUnwrittenOver kind options index.now paths.now rows.now told.new) }
-    ensures memory { result ≡ 2
+    ensures memory { result ≡ MEMORY
         → IsAskedOver form.now (λ kind options. LacksMemory None false kind index.now) }
-    ensures no_room { result ≡ 3 → IsAskedOver form.now
+    ensures no_room { result ≡ NO_ROOM → IsAskedOver form.now
         (λ kind options. WritesOver kind index.now paths.now rows.now told.new
         (λ v. PassesRoom v options told.new bytes.old)) }
-    ensures wrong_number { (result ≡ 4) ↔ HasWrongNumber form.now }
-    ensures bytes { result ≢ 0 → bytes.new ≡ bytes.old }
+    ensures wrong_number { (result ≡ WRONG_NUMBER) ↔ HasWrongNumber form.now }
+    ensures blank { LeavesBlank result told.new }
+    ensures bytes { result ≢ DONE → bytes.new ≡ bytes.old }
 {
     let answer = write_over(alloc, rows, paths, index, form, bytes);
     *told = answer.told;

@@ -7,8 +7,8 @@ use Rattle.gix_index.specs.Link.{LinkValue}
 use Rattle.gix_index.specs.Linked.{IsUnfollowed}
 use Rattle.gix_index.specs.ObjectId.{ObjectId}
 use Rattle.index_table.specs.Joining.{AreReadSo, AreRefusedBoth, IsFollowed, IsJoinedBy, IsLinkRefused, IsSharedRefused}
-use Rattle.index_table.specs.Joining.{LackMemory, LinksTo}
-use Rattle.index_table.specs.Reading.{BytesReadAs, LacksMemory}
+use Rattle.index_table.specs.Joining.{LackMemory, LacksForShared, LinksTo}
+use Rattle.index_table.specs.Reading.{BytesReadAs, IsReadSo, LacksMemory, TellsOfMemory}
 use Rattle.index_table.specs.declared.read.Summary.{Summary}
 use Rattle.index_table.proofs.Refusals.{lacks_from}
 
@@ -47,17 +47,20 @@ module _ (skip : Bool) (kind : Kind) (bytes shared : List ℕ) (v w : Contents) 
       })
 
   pub lack_joined : (s : Summary) (link : LinkValue) → LinksTo v link → LacksMemory (Some link.shared) skip kind shared
+      → TellsOfMemory 0 s ⊎ TellsOfMemory 1 s
       → LackMemory skip kind bytes shared s
-  lack_joined s link links h =
-      record {
-        own = lacks_from None skip kind bytes v checksum read;
-        whose = λ of_shared. record { value = v; checksum = checksum; read = read; holds = (link, links, h) };
-      }
+  lack_joined s link links h told =
+      record { own = lacks_from None skip kind bytes v checksum read; whose = by told }
+    where
+      by : TellsOfMemory 0 s ⊎ TellsOfMemory 1 s
+          → TellsOfMemory 0 s ⊎ (TellsOfMemory 1 s × IsReadSo skip kind bytes (LacksForShared skip kind shared))
+      by (inl t) = inl t
+      by (inr t) = inr (t, record { value = v; checksum = checksum; read = read; holds = (link, links, h) })
 
 -- want of memory that isn't told of the shared index
 pub lack_own : (skip : Bool) (kind : Kind) (bytes shared : List ℕ) (s : Summary) → LacksMemory None skip kind bytes
-    → s.of_shared ≡ 0 → LackMemory skip kind bytes shared s
-lack_own skip kind bytes shared s h e = record { own = h; whose = λ of_shared. absurd (of_shared e) }
+    → TellsOfMemory 0 s → LackMemory skip kind bytes shared s
+lack_own skip kind bytes shared s h e = record { own = h; whose = inl e }
 
 -- ---- what both are read as
 
@@ -92,7 +95,7 @@ read_so skip kind bytes shared P v h p =
 
 -- both are read, and memory is wanted then
 pub lack_read : (skip : Bool) (kind : Kind) (bytes shared : List ℕ) (P : Contents → Type 0) (s : Summary)
-    → AreReadSo skip kind bytes shared P → s.of_shared ≡ 0 → LackMemory skip kind bytes shared s
+    → AreReadSo skip kind bytes shared P → TellsOfMemory 0 s → LackMemory skip kind bytes shared s
 lack_read skip kind bytes shared P s h e =
     lack_own skip kind bytes shared s (lacks_from None skip kind bytes h.value h.checksum h.read) e
 

@@ -1,3 +1,4 @@
+mod CopiedTables
 mod FilledTables
 pub mod Joins
 mod OutlinedTables
@@ -7,3 +8,4 @@ mod Rows
 mod Tables
 mod Trees
 mod Writes
+mod WrittenRows

@@ -1,6 +1,6 @@
 -- What an error of reading says of bytes, by the fault that it stands for.
 use Rattle.std.proofs.Common.{◌≡◌, ℕ, pos, List, Bool, true, false, Option, Some, None, Ok, Err, refl, subst, inl, inr}
-use Rattle.std.proofs.Common.{arith, sym}
+use Rattle.std.proofs.Common.{arith, sym, ap, ◌∙◌}
 use Rattle.std.specs.Option.{option_map}
 use Rattle.std.specs.Prelude.{◌⊎◌, MatchBool, MatchOption}
 use Rattle.gix_index.specs.Answer.{Answer, Fault, Extension, IsAnswer, Verify}
@@ -25,10 +25,13 @@ use Rattle.gix_index.specs.Kind.{Kind}
 use Rattle.gix_index.specs.Stat.{nanoseconds_of, seconds_of}
 use Rattle.gix_index.specs.FileFaults.ReadError.{Error as ReadError}
 use Rattle.gix_index.specs.FileFaults.ReadError.TheVariants as reads
-use Rattle.index_table.specs.Faults.{HasNumber, IsNumbered, SaysRefusal, decode_fault, read_status}
+use Rattle.index_table.specs.Faults.{HasNumber, IsNumbered, SaysRefusal, decode_fault, fault_number, fault_place}
+use Rattle.index_table.specs.Faults.{read_status}
 use Rattle.index_table.specs.Joining.{IsLinkRefused, IsSharedRefused, SharedReadsAs}
 use Rattle.index_table.specs.Overwriting.{IsRefusedBefore}
-use Rattle.index_table.specs.Reading.{BytesEndAs, BytesReadAs, IsRefusedIndex, LacksMemory, table_options}
+use Rattle.index_table.specs.Reading.{BytesEndAs, BytesReadAs, IsRefusedIndex, LacksMemory, TellsOfMemory}
+use Rattle.index_table.specs.Reading.{TellsRefusal, blank, fault_told, table_options}
+use Rattle.index_table.specs.declared.fault.TheConstants.{LINK}
 use Rattle.index_table.specs.declared.read.Summary.{Summary}
 use Rattle.index_table.specs.declared.write.Written.{Written}
 
@@ -72,67 +75,67 @@ by_error P (reads.Decode e) number place says numbered is = refused_by P number 
 by_error P (reads.LinkExtension e) number place says numbered is = absurd says
 by_error P reads.Memory number place says numbered is = absurd (omega arith)
 
+-- the summary tells of the fault that has this number and this place
+tells_by : (fault : Fault) (of_shared : ℕ) (s : Summary) → HasNumber fault s.fault s.fault_place
+    → s ≡ fault_told s.fault s.fault_place of_shared s.text_bytes → TellsRefusal fault of_shared s
+tells_by fault of_shared s has told =
+    told ∙ ap (λ (n : ℕ). fault_told n s.fault_place of_shared s.text_bytes) has.number_is
+    ∙ ap (λ (n : ℕ). fault_told (fault_number fault) n of_shared s.text_bytes) has.place_is
+
 pub refused_from : (skip : Bool) (kind : Kind) (bytes : List ℕ) (e : ReadError) (s : Summary)
-    → SaysRefusal e (BytesReadAs skip kind bytes) → IsNumbered e s.fault s.fault_place → s.of_shared ≡ 0
-    → read_status e ≡ 1
+    → SaysRefusal e (BytesReadAs skip kind bytes) → IsNumbered e s.fault s.fault_place
+    → s ≡ fault_told s.fault s.fault_place 0 s.text_bytes → read_status e ≡ 1
     → IsRefusedIndex skip kind bytes s
-refused_from skip kind bytes e s says numbered whose is =
+refused_from skip kind bytes e s says numbered told is =
     let r = by_error (BytesReadAs skip kind bytes) e s.fault s.fault_place says numbered is in
-    record {
-      fault = r.fault;
-      read = r.read;
-      tells =
-          record { number = r.has.number_is; place = r.has.place_is; whose = whose };
-    }
+    record { fault = r.fault; read = r.read; tells = tells_by r.fault 0 s r.has told }
 
 pub shared_refused : (skip : Bool) (kind : Kind) (link : LinkValue) (bytes : List ℕ) (e : ReadError) (s : Summary)
     → SaysRefusal e (BytesEndAs (Some link.shared) skip kind bytes) → IsNumbered e s.fault s.fault_place
-    → s.of_shared ≡ 1 → read_status e ≡ 1
+    → s ≡ fault_told s.fault s.fault_place 1 s.text_bytes → read_status e ≡ 1
     → IsSharedRefused skip kind link bytes s
-shared_refused skip kind link bytes e s says numbered whose is =
+shared_refused skip kind link bytes e s says numbered told is =
     let r = by_error (BytesEndAs (Some link.shared) skip kind bytes) e s.fault s.fault_place says numbered is in
-    record {
-      fault = r.fault;
-      read = r.read;
-      tells =
-          record { number = r.has.number_is; place = r.has.place_is; whose = whose };
-    }
+    record { fault = r.fault; read = r.read; tells = tells_by r.fault 1 s r.has told }
 
 pub before_refused : (kind : Kind) (bytes : List ℕ) (e : ReadError) (told : Written)
     → SaysRefusal e (BytesReadAs false kind bytes)
-    → IsNumbered e told.fault told.fault_place → read_status e ≡ 1 → IsRefusedBefore kind bytes told
-before_refused kind bytes e told says numbered is =
+    → IsNumbered e told.fault told.fault_place → told.tree ≡ 0 → read_status e ≡ 1 → IsRefusedBefore kind bytes told
+before_refused kind bytes e told says numbered tree is =
     let r = by_error (BytesReadAs false kind bytes) e told.fault told.fault_place says numbered is in
-    record { fault = r.fault; read = r.read; number = r.has.number_is; place = r.has.place_is }
+    record { fault = r.fault; read = r.read; number = r.has.number_is; place = r.has.place_is; tree = tree }
+
+-- the summary tells of a fault of the link
+tells_link : (s : Summary) (number place : ℕ) → number ≡ LINK → place ≡ 0
+    → s ≡ fault_told number place 0 s.text_bytes → s ≡ fault_told LINK 0 0 s.text_bytes
+tells_link s number place a b told =
+    told ∙ ap (λ (n : ℕ). fault_told n place 0 s.text_bytes) a ∙ ap (λ (n : ℕ). fault_told LINK n 0 s.text_bytes) b
 
 -- a link's fault
 pub link_refused : (skip : Bool) (kind : Kind) (link : LinkValue) (bytes : List ℕ) (index split : Contents)
     (checksum : Option ObjectId)
     (e : LinkError) (s : Summary) → SharedReadsAs skip kind link bytes index checksum → SaysDissolve e link index split
-    → IsNumbered (link_error_of e) s.fault s.fault_place → s.of_shared ≡ 0 → read_status (link_error_of e) ≡ 1
+    → IsNumbered (link_error_of e) s.fault s.fault_place → s ≡ fault_told s.fault s.fault_place 0 s.text_bytes
+    → read_status (link_error_of e) ≡ 1
     → IsLinkRefused skip kind link bytes split s
-link_refused skip kind link bytes index split checksum (links.Corrupt text) s read says numbered whose is = record {
+link_refused skip kind link bytes index split checksum (links.Corrupt text) s read says numbered told is = record {
   index = index;
   checksum = checksum;
   read = read;
   fault = Corrupt text.now;
   is_fault = says;
-  number = numbered.0;
-  place = numbered.1;
-  whose = whose;
+  tells = tells_link s s.fault s.fault_place numbered.0 numbered.1 told;
 }
-link_refused skip kind link bytes index split checksum (links.BitmapDecode error name) s read says numbered whose is =
+link_refused skip kind link bytes index split checksum (links.BitmapDecode error name) s read says numbered told is =
     record {
       index = index;
       checksum = checksum;
       read = read;
       fault = BitmapDecode error name.now;
       is_fault = says;
-      number = numbered.0;
-      place = numbered.1;
-      whose = whose;
+      tells = tells_link s s.fault s.fault_place numbered.0 numbered.1 told;
     }
-link_refused skip kind link bytes index split checksum links.Memory s read says numbered whose is = absurd (omega arith)
+link_refused skip kind link bytes index split checksum links.Memory s read says numbered told is = absurd (omega arith)
 
 -- only want of memory is told by 2
 pub memory_from : (e : ReadError) → read_status e ≡ 2 → e ≡ reads.Memory
@@ -140,6 +143,20 @@ memory_from (reads.Io e) is = absurd (omega arith)
 memory_from (reads.Decode e) is = absurd (omega arith)
 memory_from (reads.LinkExtension e) is = absurd (omega arith)
 memory_from reads.Memory is = refl
+
+-- the summary tells of want of memory
+pub tells_memory : (e : ReadError) (of_shared : ℕ) (s : Summary) → IsNumbered e s.fault s.fault_place
+    → s ≡ fault_told s.fault s.fault_place of_shared s.text_bytes → read_status e ≡ 2 → TellsOfMemory of_shared s
+tells_memory (reads.Io e) of_shared s numbered told is = absurd (omega arith)
+tells_memory (reads.Decode e) of_shared s numbered told is = absurd (omega arith)
+tells_memory (reads.LinkExtension e) of_shared s numbered told is = absurd (omega arith)
+tells_memory reads.Memory of_shared s numbered told is =
+    told ∙ ap (λ (n : ℕ). fault_told n s.fault_place of_shared s.text_bytes) numbered.0
+    ∙ ap (λ (n : ℕ). fault_told 0 n of_shared s.text_bytes) numbered.1
+
+-- so does one that tells nothing
+pub blank_tells : (s : Summary) → s ≡ blank → TellsOfMemory 0 s
+blank_tells s e = e ∙ ap (λ (x : Summary). fault_told 0 0 0 x.text_bytes) (sym e)
 
 -- a reading at the begin of 1970
 pub read_by : (expected : Option ObjectId) (skip : Bool) (kind : Kind) (bytes : List ℕ) (time : FileTime)

@@ -2,6 +2,7 @@
 use Rattle.std.proofs.Common.{◌≡◌, ℕ, List, Option, Some, None, inl, inr, sym, ap, subst}
 use Rattle.gix_index.specs.Contents.{Contents}
 use Rattle.gix_index.specs.Edits.{with_records}
+use Rattle.gix_index.specs.EntryImage.{written}
 use Rattle.gix_index.specs.Kind.{Kind}
 use Rattle.gix_index.specs.Tree.{Node}
 use Rattle.index_table.specs.Overwriting.{KeepsThis, KeepsTree, TakesPlaceOf}
@@ -21,7 +22,7 @@ kept_records v w number h = same_records v.extensions.tree v w number h
 -- what is kept of the value that has the table's records, and what holds of it
 pub replaces : (kind : Kind) (paths : List ℕ) (rows : List Row) (before v w : Contents) (number told : ℕ)
     (P : Contents → Type 0)
-    → IsFitTable kind before.extensions.sparse paths rows → v ≡ with_records before (records_of paths rows)
+    → IsFitTable kind before.extensions.sparse paths rows → v ≡ with_records before (written (records_of paths rows))
     → KeepsTree v number w
     → told ≡ number → P w → TakesPlaceOf kind paths rows told P before
 replaces kind paths rows before v w number told P fit e keeps same h = record {

@@ -2,6 +2,7 @@
 use Rattle.std.proofs.Common.{◌≡◌, ℕ, List, [], ◌++◌, ap, ◌∙◌}
 use Rattle.gix_index.specs.Contents.{Contents}
 use Rattle.gix_index.specs.Edits.{empty_contents, with_records}
+use Rattle.gix_index.specs.EntryImage.{written}
 use Rattle.gix_index.specs.FileTime.{FileTime}
 use Rattle.gix_index.specs.Kind.{Kind}
 use Rattle.gix_index.specs.Record.{Record}
@@ -22,9 +23,9 @@ put_anew v w u rs e f = f ∙ ap (λ (x : Contents). with_records x (x.records +
 -- an empty value into which the records of rows are put
 pub spelled_from : (kind : Kind) (time : FileTime) (paths : List ℕ) (rows : List Row) (v w : Contents)
     → v ≡ empty_contents kind time
-    → w ≡ with_records v (v.records ++ records_of paths rows) → IsSpelledBy kind paths rows w
+    → w ≡ with_records v (v.records ++ written (records_of paths rows)) → IsSpelledBy kind paths rows w
 spelled_from kind time paths rows v w e f = record {
   kind_is = ap (λ (x : Contents). x.kind) f ∙ ap (λ (x : Contents). x.kind) e;
-  records_are = ap (λ (x : Contents). x.records) f ∙ ap (λ (x : Contents). x.records ++ records_of paths rows) e;
+  records_are = ap (λ (x : Contents). x.records) f ∙ ap (λ (x : Contents). x.records ++ written (records_of paths rows)) e;
   bare = ap (λ (x : Contents). x.extensions) f ∙ ap (λ (x : Contents). x.extensions) e;
 }

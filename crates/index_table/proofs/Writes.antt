@@ -1,8 +1,8 @@
 -- What holds of the value that a table in order spells.
-use Rattle.std.proofs.Common.{◌≡◌, ◌≢◌, ℕ, List, All, Bool, false, Some, not, sym, subst}
-use Rattle.std.proofs.lemmas.List.Elements.{All-filter, All-map}
+use Rattle.std.proofs.Common.{◌≡◌, ◌≢◌, ℕ, List, [], ◌∷◌, All, Bool, true, false, cond, Some, not, refl, sym, subst}
+use Rattle.std.proofs.lemmas.List.Elements.{All-cons, All-filter, All-head, All-nil, All-tail}
 use Rattle.gix_index.specs.Contents.{Contents}
-use Rattle.gix_index.specs.EntryImage.{is_removed}
+use Rattle.gix_index.specs.EntryImage.{is_removed, written}
 use Rattle.gix_index.specs.Kind.{Kind}
 use Rattle.gix_index.specs.Record.{Record}
 use Rattle.gix_index.specs.Storable.{CanEncode}
@@ -11,7 +11,7 @@ use Rattle.gix_index.specs.VersionChoice.TheVariants as choices
 use Rattle.gix_index.specs.WriteOptions.{Options}
 use Rattle.index_table.specs.Overwriting.{IsAskedOver, full_options}
 use Rattle.index_table.specs.Table.{kind_numbered, records_of, spelled}
-use Rattle.index_table.specs.Writing.{CanStand, IsAsked, IsFitTable, IsSpelledBy, Spells, choice_numbered}
+use Rattle.index_table.specs.Writing.{IsAsked, IsFit, IsFitTable, IsSpelledBy, Spells, choice_numbered}
 use Rattle.index_table.specs.Writing.{plain_options}
 use Rattle.index_table.specs.declared.row.Row.{Row}
 use Rattle.index_table.specs.declared.write.Form.{Form}
@@ -19,20 +19,35 @@ use Rattle.index_table.specs.declared.write.Form.{Form}
 abbrev LacksNul : Record → Type 0
 LacksNul r = All (λ b. b ≢ 0) r.path
 
-no_nul : (kind : Kind) (sparse : Bool) (paths : List ℕ) (rows : List Row) (rs : List Record)
-    → All (CanStand kind sparse paths) rows
-    → rs ≡ records_of paths rows → All LacksNul rs
-no_nul kind sparse paths rows rs fit e =
-    subst (λ (xs : List Record). All LacksNul xs) (sym e)
-    (All-map LacksNul (spelled paths) rows (λ k d lt. (fit k d lt).plain))
+-- a row more, where it is fit
+no_nul_more : (kind : Kind) (sparse : Bool) (paths : List ℕ) (row : Row) (rows : List Row) (b : Bool)
+    → is_removed row.flags ≡ b → IsFit kind sparse paths row → All LacksNul (written (records_of paths rows))
+    → All LacksNul (written (records_of paths (row ∷ rows)))
+no_nul_more kind sparse paths row rows true e fit others =
+    subst (λ (b : Bool). All LacksNul
+    (cond (not b) (spelled paths row ∷ written (records_of paths rows)) (written (records_of paths rows)))) (sym e)
+    others
+no_nul_more kind sparse paths row rows false e fit others =
+    subst (λ (b : Bool). All LacksNul
+    (cond (not b) (spelled paths row ∷ written (records_of paths rows)) (written (records_of paths rows)))) (sym e)
+    (All-cons LacksNul (spelled paths row) (written (records_of paths rows)) (fit e).plain others)
 
--- no path of rows that can stand in a file keeps them out of version 4
+no_nul : (kind : Kind) (sparse : Bool) (paths : List ℕ) (rows : List Row) → All (IsFit kind sparse paths) rows
+    → All LacksNul (written (records_of paths rows))
+no_nul kind sparse paths [] fit = All-nil LacksNul
+no_nul kind sparse paths (row ∷ rows) fit =
+    no_nul_more kind sparse paths row rows (is_removed row.flags) refl
+    (All-head (IsFit kind sparse paths) row rows fit)
+    (no_nul kind sparse paths rows (All-tail (IsFit kind sparse paths) row rows fit))
+
+-- no path of rows that are fit keeps them out of version 4
 pub can_encode : (choice : VersionChoice) (kind : Kind) (sparse : Bool) (paths : List ℕ) (rows : List Row)
     (v : Contents)
-    → All (CanStand kind sparse paths) rows → v.records ≡ records_of paths rows → CanEncode choice v
+    → All (IsFit kind sparse paths) rows → v.records ≡ written (records_of paths rows) → CanEncode choice v
 can_encode choices.Smallest kind sparse paths rows v fit e = tt
 can_encode choices.V4 kind sparse paths rows v fit e =
-    All-filter (λ r. not (is_removed r.flags)) LacksNul v.records (no_nul kind sparse paths rows v.records fit e)
+    All-filter (λ r. not (is_removed r.flags)) LacksNul v.records
+    (subst (λ (rs : List Record). All LacksNul rs) (sym e) (no_nul kind sparse paths rows fit))
 
 pub spells : (kind : Kind) (paths : List ℕ) (rows : List Row) (v : Contents) (P : Contents → Type 0)
     → IsFitTable kind false paths rows

@@ -11,28 +11,27 @@ use Rattle.gix_index.specs.Header.{Corrupt, UnsupportedVersion}
 use Rattle.gix_index.specs.HeaderError.{Header as HeaderError}
 use Rattle.gix_index.specs.HeaderError.TheVariants as headers
 use Rattle.gix_index.specs.HeaderErrors.{header_fault}
-use Rattle.gix_index.specs.OrderError.{Error as OrderError}
-use Rattle.gix_index.specs.OrderError.TheVariants as orders
 use Rattle.gix_index.specs.Outcome.{Unimplemented, Link}
-use Rattle.gix_index.specs.TreeError.{Error as TreeError}
-use Rattle.gix_index.specs.TreeError.TheVariants as trees
 use Rattle.gix_index.specs.TreeIdsError.{Error as TreeIdsError}
 use Rattle.gix_index.specs.TreeIdsError.TheVariants as tree_ids
 use Rattle.gix_index.specs.WriteTreesError.TheVariants as writes
 use Rattle.gix_index.specs.FileFaults.ReadError.{Error as ReadError}
 use Rattle.gix_index.specs.FileFaults.ReadError.TheVariants as reads
+use Rattle.index_table.specs.declared.fault.TheConstants.{DIGEST, DISK, ENTRY, EXTENSION, HEADER, LIMIT, LINK, TRAILER}
+use Rattle.index_table.specs.declared.fault.TheConstants.{VERSION}
+use Rattle.index_table.specs.declared.status.TheConstants.{MEMORY, REFUSED}
 
 -- ---- faults
 
 abbrev pub fault_number : Fault → ℕ
-fault_number (Header (Corrupt text)) = 1
-fault_number (Header (UnsupportedVersion n)) = 2
-fault_number OutOfMemory = 3
-fault_number (NoEntry i) = 4
-fault_number (Extension (Unimplemented signature)) = 5
-fault_number (Extension (Link fault)) = 6
-fault_number (TrailerLength expected actual) = 7
-fault_number (Verify actual expected) = 8
+fault_number (Header (Corrupt text)) = HEADER
+fault_number (Header (UnsupportedVersion n)) = VERSION
+fault_number OutOfMemory = LIMIT
+fault_number (NoEntry i) = ENTRY
+fault_number (Extension (Unimplemented signature)) = EXTENSION
+fault_number (Extension (Link fault)) = LINK
+fault_number (TrailerLength expected actual) = TRAILER
+fault_number (Verify actual expected) = DIGEST
 
 -- the entry that can't be read; 0 of any other fault
 abbrev pub fault_place : Fault → ℕ
@@ -51,12 +50,12 @@ pub record HasNumber (fault : Fault) (number place : ℕ) : Type 0 where
 -- ---- errors
 
 abbrev pub header_number : HeaderError → ℕ
-header_number (headers.Corrupt text) = 1
-header_number (headers.UnsupportedVersion n) = 2
+header_number (headers.Corrupt text) = HEADER
+header_number (headers.UnsupportedVersion n) = VERSION
 
 abbrev pub extension_number : ExtensionError → ℕ
-extension_number (extensions.MandatoryUnimplemented signature) = 5
-extension_number (extensions.Link e) = 6
+extension_number (extensions.MandatoryUnimplemented signature) = EXTENSION
+extension_number (extensions.Link e) = LINK
 
 -- the fault that an error of reading bytes stands for, if any
 abbrev pub decode_fault : DecodeError → Option Fault
@@ -78,37 +77,20 @@ SaysRefusal reads.Memory P = Unit {0}
 
 -- the status that an error is told by
 abbrev pub read_status : ReadError → ℕ
-read_status (reads.Io e) = 1
-read_status (reads.Decode e) = 1
-read_status (reads.LinkExtension e) = 1
-read_status reads.Memory = 2
+read_status (reads.Io e) = REFUSED
+read_status (reads.Decode e) = REFUSED
+read_status (reads.LinkExtension e) = REFUSED
+read_status reads.Memory = MEMORY
 
 -- an error is told so
 abbrev pub IsNumbered : ReadError → ℕ → ℕ → Type 0
-IsNumbered (reads.Io e) number place = (number ≡ 9) × (place ≡ 0)
+IsNumbered (reads.Io e) number place = (number ≡ DISK) × (place ≡ 0)
 IsNumbered (reads.Decode e) number place =
     MatchOption (decode_fault e) (Unit {0}) (λ fault. HasNumber fault number place)
-IsNumbered (reads.LinkExtension e) number place = (number ≡ 6) × (place ≡ 0)
+IsNumbered (reads.LinkExtension e) number place = (number ≡ LINK) × (place ≡ 0)
 IsNumbered reads.Memory number place = (number ≡ 0) × (place ≡ 0)
 
--- ---- errors of a check
-
--- the place of the entry that is out of order; want of memory names none
-abbrev pub order_place : OrderError → Option ℕ
-order_place (orders.OutOfOrder index path stage previous_path previous_stage) = Some index
-order_place orders.Memory = None
-
--- a fault of the cached tree names no place, which is told as 0; want of memory names no fault
-abbrev pub tree_place : TreeError → Option ℕ
-tree_place (trees.RootWithName name) = Some 0
-tree_place (trees.EntriesCount actual expected) = Some 0
-tree_place trees.EntriesCountOverflow = Some 0
-tree_place (trees.OutOfOrder parent current previous) = Some 0
-tree_place (trees.TreeNodeNotFound id) = Some 0
-tree_place (trees.MissingTreeDirectory parent id name) = Some 0
-tree_place (trees.TreeNodeChildcountMismatch id expected actual) = Some 0
-tree_place (trees.EntriesCountExceedsIndex name actual expected) = Some 0
-tree_place trees.Memory = None
+-- ---- errors of a comparison
 
 -- want of memory, of what makes the trees of the entries too
 abbrev pub wants_memory : TreeIdsError → Bool

@@ -1,6 +1,6 @@
 -- What a call that reads a split index with its shared index says of the bytes of both (gitformat-index, "Split
 -- index").
-use Rattle.std.specs.Prelude.{◌≡◌, ◌≢◌, ℕ, ◌⊎◌, Bool, false, List, Option, Some, None, Ok, Err}
+use Rattle.std.specs.Prelude.{◌≡◌, ℕ, ◌⊎◌, Bool, false, List, Option, Some, None, Ok, Err}
 use Rattle.gix_index.specs.Answer.{Fault}
 use Rattle.gix_index.specs.Contents.{Contents}
 use Rattle.gix_index.specs.Dissolve.{IsDissolved, IsDissolveFault}
@@ -10,7 +10,9 @@ use Rattle.gix_index.specs.Kind.{Kind}
 use Rattle.gix_index.specs.Link.{LinkFault, LinkValue}
 use Rattle.gix_index.specs.Linked.{IsUnfollowed}
 use Rattle.gix_index.specs.ObjectId.{ObjectId}
-use Rattle.index_table.specs.Reading.{BytesEndAs, IsReadSo, IsRefusedIndex, LacksMemory, TellsRefusal}
+use Rattle.index_table.specs.Reading.{BytesEndAs, IsReadSo, IsRefusedIndex, LacksMemory, TellsOfMemory}
+use Rattle.index_table.specs.Reading.{TellsRefusal, fault_told}
+use Rattle.index_table.specs.declared.fault.TheConstants.{LINK}
 use Rattle.index_table.specs.declared.read.Summary.{Summary}
 
 -- ---- the value of both
@@ -62,9 +64,7 @@ pub record IsLinkRefused (skip : Bool) (kind : Kind) (link : LinkValue) (shared 
   pub read : SharedReadsAs skip kind link shared index checksum
   pub fault : LinkFault
   pub is_fault : IsDissolveFault link index split fault
-  pub number : s.fault ≡ 6
-  pub place : s.fault_place ≡ 0
-  pub whose : s.of_shared ≡ 0
+  pub tells : s ≡ fault_told LINK 0 0 s.text_bytes
 
 -- the value links to a shared index, which is refused, or can't be joined to it
 abbrev pub IsJoinRefused : Bool → Kind → List ℕ → Summary → Contents → Type 0
@@ -88,4 +88,4 @@ LacksForShared skip kind shared split =
 -- are read as a value that links to one, and it says the same of that one's bytes.
 pub record LackMemory (skip : Bool) (kind : Kind) (bytes shared : List ℕ) (s : Summary) : Type 0 where
   pub own : LacksMemory None skip kind bytes
-  pub whose : s.of_shared ≢ 0 → IsReadSo skip kind bytes (LacksForShared skip kind shared)
+  pub whose : TellsOfMemory 0 s ⊎ (TellsOfMemory 1 s × IsReadSo skip kind bytes (LacksForShared skip kind shared))

@@ -12,6 +12,7 @@ use Rattle.gix_index.specs.Intact.{IsIntact}
 use Rattle.gix_index.specs.Kind.{Kind}
 use Rattle.gix_index.specs.Link.{LinkValue}
 use Rattle.gix_index.specs.ObjectId.{ObjectId}
+use Rattle.gix_index.specs.Outlined.Passed.{paths_len}
 use Rattle.gix_index.specs.Stat.{seconds_of, nanoseconds_of}
 use Rattle.index_table.specs.Faults.{fault_number, fault_place}
 use Rattle.index_table.specs.Table.{HoldsRecords, padded_id}
@@ -50,14 +51,52 @@ abbrev pub shared_id_bytes : Option LinkValue → List ℕ
 shared_id_bytes None = replicate 32 0
 shared_id_bytes (Some link) = padded_id link.shared
 
--- the summary tells how many entries a value has, which version, and whether it has a link, and to what; and that
--- nothing is told of a shared index's bytes
-pub record TellsOfValue (v : Contents) (s : Summary) : Type 0 where
-  pub entries : s.entries ≡ length v.records
-  pub version : s.version ≡ version_code v.version
-  pub link : s.has_link ≡ link_number v.extensions.link
-  pub shared : s.shared_id ≡ shared_id_bytes v.extensions.link
-  pub whose : s.of_shared ≡ 0
+-- ---- summaries
+
+-- nothing is told
+abbrev pub blank : Summary
+blank =
+    record {
+      entries = 0;
+      path_bytes = 0;
+      text_bytes = 0;
+      fault_place = 0;
+      fault = 0;
+      version = 0;
+      has_link = 0;
+      of_shared = 0;
+      shared_id = replicate 32 0;
+    }
+
+-- what is told of a value, and that so many bytes for paths are needed
+abbrev pub value_told : Contents → ℕ → Summary
+value_told v path_bytes =
+    record blank {
+      entries = length v.records;
+      path_bytes = path_bytes;
+      version = version_code v.version;
+      has_link = link_number v.extensions.link;
+      shared_id = shared_id_bytes v.extensions.link;
+    }
+
+-- the summary tells of a value; a table of it needs as many bytes for paths as these have together
+abbrev pub TellsOfValue : Contents → Summary → Type 0
+TellsOfValue v s = s ≡ value_told v (paths_len v.records)
+
+-- what is told of a fault
+abbrev pub fault_told : (number place of_shared text_bytes : ℕ) → Summary
+fault_told number place of_shared text_bytes =
+    record blank { text_bytes = text_bytes; fault_place = place; fault = number; of_shared = of_shared }
+
+-- the summary tells of a fault, whether it is the shared index's, and how long the text is
+abbrev pub TellsRefusal : Fault → ℕ → Summary → Type 0
+TellsRefusal fault of_shared s = s ≡ fault_told (fault_number fault) (fault_place fault) of_shared s.text_bytes
+
+-- the summary tells of want of memory, whether it is the shared index's, and how long the text is
+abbrev pub TellsOfMemory : ℕ → Summary → Type 0
+TellsOfMemory of_shared s = s ≡ fault_told 0 0 of_shared s.text_bytes
+
+-- ---- tables
 
 -- the summary tells of a value, and the table has its records
 pub record Fills (v : Contents) (s : Summary) (rows filled : List Row) (paths spelling : List ℕ) : Type 0 where
@@ -68,12 +107,6 @@ pub record Fills (v : Contents) (s : Summary) (rows filled : List Row) (paths sp
 pub record IsTooSmall (v : Contents) (s : Summary) (rows : List Row) (paths : List ℕ) : Type 0 where
   pub tells : TellsOfValue v s
   pub small : (length rows < s.entries) ⊎ (length paths < s.path_bytes)
-
--- the summary has a fault's number and place, and whether it is the shared index's
-pub record TellsRefusal (fault : Fault) (of_shared : ℕ) (s : Summary) : Type 0 where
-  pub number : s.fault ≡ fault_number fault
-  pub place : s.fault_place ≡ fault_place fault
-  pub whose : s.of_shared ≡ of_shared
 
 -- the bytes are read as a value of which this holds
 pub record IsReadSo (skip : Bool) (kind : Kind) (bytes : List ℕ) (P : Contents → Type 0) : Type 0 where
@@ -106,6 +139,11 @@ pub record LacksMemory (expected : Option ObjectId) (skip : Bool) (kind : Kind) 
   pub nanoseconds : nanoseconds_of time ≡ 0
   pub late : (fault : Fault) → IsEarly fault
       → IsFileAnswer skip kind time (table_options expected) bytes (Err fault) → ⊥
+
+-- memory is wanting to read the bytes, and the summary tells of that
+pub record IsUnread (skip : Bool) (kind : Kind) (bytes : List ℕ) (s : Summary) : Type 0 where
+  pub lacks : LacksMemory None skip kind bytes
+  pub tells : TellsOfMemory 0 s
 
 -- the room for a text was written to in its first bytes alone
 pub record HasText (len : ℕ) (room text : List ℕ) : Type 0 where

@@ -77,6 +77,10 @@ pub record HoldsRecords (rs : List Record) (len : ℕ) (rows filled : List Row) 
 abbrev pub IsForward : Entry → Type 0
 IsForward e = e.path.start ≤ e.path.end
 
+-- how many bytes its path has
+abbrev pub entry_len : Entry → ℕ
+entry_len e = e.path.end - e.path.start
+
 -- the id's bytes, with zeros behind those of SHA-1
 abbrev pub padded_id : ObjectId → List ℕ
 padded_id (ids.Sha1 bytes) = bytes ++ replicate 12 0
@@ -100,5 +104,5 @@ row_of e = record {
   kind = kind_number (id_kind e.id);
   id = padded_id e.id;
   path_start = e.path.start;
-  path_len = e.path.end - e.path.start;
+  path_len = entry_len e;
 }

@@ -1,18 +1,19 @@
 -- What a call that writes a table leaves in the caller's room, and why it refuses (the library's own; what a row's
 -- numbers stand for is in gitformat-index, "Index entry").
-use Rattle.std.specs.Prelude.{◌≡◌, ◌≢◌, ℕ, ◌+◌, ◌≤◌, ◌<◌, ◌⊎◌, nat_eq, Bool, false, List, ◌++◌, All, length, drop}
+use Rattle.std.specs.Prelude.{◌≡◌, ◌≢◌, ℕ, ◌+◌, ◌≤◌, ◌<◌, ◌⊎◌, nat_eq, Bool, false, true, List, ◌++◌, All, length, drop}
+use Rattle.std.specs.Prelude.{take}
 use Rattle.std.specs.Prelude.{Option, Some, None, IsSomeAnd, if◌then◌else◌}
 use Rattle.std.specs.List.{AllWithin, HoldsAt}
+use Rattle.std.specs.Option.{is_some}
 use Rattle.gix_index.specs.Contents.{Contents}
-use Rattle.gix_index.specs.EntryImage.{version_code}
+use Rattle.gix_index.specs.EntryImage.{is_removed, version_code, written}
 use Rattle.gix_index.specs.Flags.{stage_number}
 use Rattle.gix_index.specs.Image.{image, image_version}
 use Rattle.gix_index.specs.Kind.{Kind}
-use Rattle.gix_index.specs.Mode.{directory_mode}
+use Rattle.gix_index.specs.Mode.{directory_mode, named_kind}
 use Rattle.gix_index.specs.Order.{IsStrictlyOrdered}
 use Rattle.gix_index.specs.Outcome.{no_extension}
 use Rattle.gix_index.specs.Record.{Record}
-use Rattle.gix_index.specs.Sorted.{IsFirstFall}
 use Rattle.gix_index.specs.VersionChoice.{VersionChoice}
 use Rattle.gix_index.specs.VersionChoice.TheVariants as choices
 use Rattle.gix_index.specs.WriteError.{Error as WriteError}
@@ -22,7 +23,9 @@ use Rattle.gix_index.specs.WriteExtensions.TheVariants as extensions
 use Rattle.gix_index.specs.WriteOptions.{Options}
 use Rattle.gix_index.specs.Writing.{RefusedWith}
 use Rattle.index_table.specs.Table.{kind_number, kind_numbered, records_of, row_path}
+use Rattle.index_table.specs.declared.fault.TheConstants.{COUNT, LENGTH, MODE, ORDER, ROW}
 use Rattle.index_table.specs.declared.row.Row.{Row}
+use Rattle.index_table.specs.declared.status.TheConstants.{DONE, MEMORY, NO_ROOM, REFUSED, WRONG_NUMBER}
 use Rattle.index_table.specs.declared.write.Form.{Form}
 use Rattle.index_table.specs.declared.write.Written.{Written}
 
@@ -50,33 +53,60 @@ HasWrongNumber f = (kind_numbered f.kind ≡ None) ⊎ (choice_numbered f.versio
 
 -- ---- the value
 
--- a value with the records of the table, ids of the kind and no extension
+-- a value with the records of the rows that aren't marked REMOVE, ids of the kind and no extension
 pub record IsSpelledBy (kind : Kind) (paths : List ℕ) (rows : List Row) (v : Contents) : Type 0 where
   pub kind_is : v.kind ≡ kind
-  pub records_are : v.records ≡ records_of paths rows
+  pub records_are : v.records ≡ written (records_of paths rows)
   pub bare : v.extensions ≡ no_extension
 
+-- the row's mode is one of the five that git has
+abbrev pub has_git_mode : Row → Bool
+has_git_mode row = is_some (named_kind row.mode)
+
 -- The row can stand in a file of the kind, with the mark of a sparse index or without: its stage is that of its flags;
--- its path lies among the bytes for paths, and has some, and no NUL; without the mark it stands for no directory.
+-- its mode is one of git's, and without the mark no directory's; its path lies among the bytes for paths, and has some,
+-- and no NUL.
 pub record CanStand (kind : Kind) (sparse : Bool) (paths : List ℕ) (row : Row) : Type 0 where
   pub kind_is : row.kind ≡ kind_number kind
   pub stage_is : row.stage ≡ stage_number row.flags
+  pub named_mode : has_git_mode row ≡ true
   pub single : sparse ≡ false → row.mode ≢ directory_mode
   pub inside : row.path_start + row.path_len ≤ length paths
   pub named : row.path_len ≢ 0
   pub plain : All (λ b. b ≢ 0) (row_path paths row)
 
--- the place of the first row that can't stand there, or None where each can
-abbrev pub IsFirstUnfit : Kind → Bool → List ℕ → List Row → Option ℕ → Type 0
-IsFirstUnfit kind sparse paths rows None = All (CanStand kind sparse paths) rows
-IsFirstUnfit kind sparse paths rows (Some place) =
-    (place < length rows) × HoldsAt (λ row. CanStand kind sparse paths row → ⊥) rows place
-    × AllWithin (CanStand kind sparse paths) rows 0 place
+-- the row is marked REMOVE, or can stand there
+abbrev pub IsFit : Kind → Bool → List ℕ → Row → Type 0
+IsFit kind sparse paths row = is_removed row.flags ≡ false → CanStand kind sparse paths row
 
--- each row can stand there, and they strictly increase by path, then stage
+-- the place of the first row that isn't fit, or None where each is
+abbrev pub IsFirstUnfit : Kind → Bool → List ℕ → List Row → Option ℕ → Type 0
+IsFirstUnfit kind sparse paths rows None = All (IsFit kind sparse paths) rows
+IsFirstUnfit kind sparse paths rows (Some place) =
+    (place < length rows) × HoldsAt (λ row. IsFit kind sparse paths row → ⊥) rows place
+    × AllWithin (IsFit kind sparse paths) rows 0 place
+
+-- each row is fit, and those that are written strictly increase by path, then stage
 pub record IsFitTable (kind : Kind) (sparse : Bool) (paths : List ℕ) (rows : List Row) : Type 0 where
-  pub fit : All (CanStand kind sparse paths) rows
-  pub ordered : IsStrictlyOrdered (records_of paths rows)
+  pub fit : All (IsFit kind sparse paths) rows
+  pub ordered : IsStrictlyOrdered (written (records_of paths rows))
+
+-- the place of the first record that is written and isn't above the one that is written before it, or None where these
+-- strictly increase
+abbrev pub IsFirstFallen : List Record → Option ℕ → Type 0
+IsFirstFallen rs None = IsStrictlyOrdered (written rs)
+IsFirstFallen rs (Some place) =
+    (place < length rs) × IsStrictlyOrdered (written (take place rs))
+    × (IsStrictlyOrdered (written (take (place + 1) rs)) → ⊥)
+
+-- ---- what is told
+
+-- What a status leaves at 0 beside it: the fault with all but REFUSED, the image's bytes and version with all but DONE
+-- and NO_ROOM, and the cached tree with WRONG_NUMBER.
+pub record LeavesBlank (status : ℕ) (told : Written) : Type 0 where
+  pub fault : status ≢ REFUSED → (told.fault ≡ 0) × (told.fault_place ≡ 0)
+  pub image : status ≢ DONE → status ≢ NO_ROOM → (told.bytes ≡ 0) × (told.version ≡ 0)
+  pub tree : status ≡ WRONG_NUMBER → told.tree ≡ 0
 
 -- ---- what is written
 
@@ -96,8 +126,8 @@ pub record PassesRoom (v : Contents) (options : Options) (told : Written) (room 
 -- a file can't count the value's entries, or its offsets can't reach its bytes
 pub record PassesLimit (v : Contents) (options : Options) (told : Written) : Type 0 where
   pub place_is : told.fault_place ≡ 0
-  pub limit : ((told.fault ≡ 13) × RefusedWith v options TooManyEntries)
-      ⊎ ((told.fault ≡ 14) × RefusedWith v options TooLarge)
+  pub limit : ((told.fault ≡ COUNT) × RefusedWith v options TooManyEntries)
+      ⊎ ((told.fault ≡ LENGTH) × RefusedWith v options TooLarge)
 
 -- The table is in order, and this holds of the value that it spells.
 pub record Spells (kind : Kind) (paths : List ℕ) (rows : List Row) (P : Contents → Type 0) : Type 0 where
@@ -108,20 +138,20 @@ pub record Spells (kind : Kind) (paths : List ℕ) (rows : List Row) (P : Conten
 
 -- ---- why nothing is written
 
--- the record at the place that is told is the first that isn't above the one before it
-pub record IsFallen (rs : List Record) (told : Written) : Type 0 where
-  pub number_is : told.fault ≡ 10
-  pub fall : IsFirstFall rs (Some told.fault_place)
+-- the fault of a row that isn't fit: its mode where that is none of git's
+abbrev pub unfit_number : Row → ℕ
+unfit_number row = if has_git_mode row then ROW else MODE
 
--- the row at the place is the first that can't stand in such a file
+-- the row at the place that is told is the first that isn't fit
 pub record HasUnfitRow (kind : Kind) (sparse : Bool) (paths : List ℕ) (rows : List Row) (told : Written) : Type 0 where
-  pub number_is : told.fault ≡ 12
   pub first : IsFirstUnfit kind sparse paths rows (Some told.fault_place)
+  pub number_is : HoldsAt (λ row. told.fault ≡ unfit_number row) rows told.fault_place
 
--- each row can stand there, and the one at the place is the first that isn't above the one before it
+-- each row is fit, and the one at the place is the first that is written and isn't above the one before it
 pub record HasFallenRow (kind : Kind) (sparse : Bool) (paths : List ℕ) (rows : List Row) (told : Written) : Type 0 where
-  pub fit : All (CanStand kind sparse paths) rows
-  pub fall : IsFallen (records_of paths rows) told
+  pub number_is : told.fault ≡ ORDER
+  pub fit : All (IsFit kind sparse paths) rows
+  pub fall : IsFirstFallen (records_of paths rows) (Some told.fault_place)
 
 -- the first fault that a table has by itself
 abbrev pub IsUnfitTable : Kind → Bool → List ℕ → List Row → Written → Type 0
@@ -137,13 +167,13 @@ IsUnwritten kind options paths rows told =
 
 -- the fault that an error of writing is told by; a writer's fault is want of memory, and none
 abbrev pub write_number : WriteError → ℕ
-write_number errors.TooManyEntries = 13
-write_number errors.NulInPath = 12
-write_number errors.TooLarge = 14
+write_number errors.TooManyEntries = COUNT
+write_number errors.NulInPath = ROW
+write_number errors.TooLarge = LENGTH
 write_number (errors.Io e) = 0
 
 abbrev pub write_status : WriteError → ℕ
-write_status errors.TooManyEntries = 1
-write_status errors.NulInPath = 1
-write_status errors.TooLarge = 1
-write_status (errors.Io e) = 2
+write_status errors.TooManyEntries = REFUSED
+write_status errors.NulInPath = REFUSED
+write_status errors.TooLarge = REFUSED
+write_status (errors.Io e) = MEMORY

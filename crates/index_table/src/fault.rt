@@ -1,12 +1,11 @@
 //! Faults as numbers and texts.
 
 ghost use Rattle.std.specs.Prelude.{◌≡◌, ◌≤◌, IfSome, length};
-ghost use Rattle.index_table.specs.Faults.{HasNumber, IsNumbered, decode_fault, header_number, extension_number, order_place, read_status, tree_place, wants_memory};
+ghost use Rattle.index_table.specs.Faults.{HasNumber, IsNumbered, decode_fault, extension_number, header_number, wants_memory};
 ghost use Rattle.index_table.specs.Reading.{HasText};
 
 use gix_index::decode::{self, header};
-use gix_index::extension::tree;
-use gix_index::verify::{entries, tree_ids};
+use gix_index::verify::tree_ids;
 use gix_index::{extension, file, write_trees};
 use std::alloc::Global;
 use std::fmt;
@@ -33,12 +32,14 @@ pub const DISK: u32 = 9;
 pub const ORDER: u32 = 10;
 /// The cached tree doesn't hold together, or a node of it counts more entries than there are. Only a check tells so.
 pub const CACHED_TREE: u32 = 11;
-/// The row at the place can't be written. Only a call that writes tells so.
+/// The row at the place can't be written, for another reason than its mode. Only a call that writes tells so.
 pub const ROW: u32 = 12;
 /// There are more rows than the 4294967295 entries that a file can count. Only a call that writes tells so.
 pub const COUNT: u32 = 13;
 /// The file would have more than the 4294967295 bytes that its offsets can reach. Only a call that writes tells so.
 pub const LENGTH: u32 = 14;
+/// The mode of the row at the place is none of git's. Only a call that writes tells so.
+pub const MODE: u32 = 15;
 
 /// The number of a fault, and the place that it names, or 0.
 #[derive(Clone, Copy)]
@@ -99,26 +100,6 @@ pub fn fault_of(e: &file::init::Error) -> Fault
         file::init::Error::Memory => 0,
     };
     Fault { number, place: 0 }
-}
-
-/// The place of the entry that is out of order, or None where memory lacked to name it.
-pub fn order_place(e: &entries::Error) -> Option<usize>
-    ensures { result ≡ order_place e.now }
-{
-    match e {
-        entries::Error::OutOfOrder { current_index, .. } => Some(*current_index),
-        entries::Error::Memory => None,
-    }
-}
-
-/// The place 0 for a fault of the cached tree, or None where memory lacked to name it.
-pub fn tree_place(e: &tree::verify::Error) -> Option<usize>
-    ensures { result ≡ tree_place e.now }
-{
-    match e {
-        tree::verify::Error::Memory => None,
-        _ => Some(0),
-    }
 }
 
 /// Whether an error of comparing a cached tree with entries is want of memory.

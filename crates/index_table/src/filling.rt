@@ -1,11 +1,11 @@
-//! Reading an index into a caller's table entry by entry, with none kept meanwhile.
+//! Filling a caller's table: from bytes entry by entry, with none kept meanwhile, or from entries in memory.
 
 ghost use Rattle.std.specs.Prelude.{◌≡◌, ◌≢◌, ◌≤◌, ◌+◌, ◌++◌, ◌⊎◌, ℕ, All, List, None, length, take, drop, slice_range};
 ghost use Rattle.gix_index.specs.Contents.{Contents};
 ghost use Rattle.gix_index.specs.Entries.{AreEntries};
 ghost use Rattle.gix_index.specs.Outlined.{Outlines};
-ghost use Rattle.gix_index.specs.Outlined.Passed.{paths_len};
-ghost use Rattle.gix_index.specs.Record.{IsSized, Record};
+ghost use Rattle.gix_index.specs.Outlined.Passed.{in_64_bits, paths_len};
+ghost use Rattle.gix_index.specs.Record.{IsPlaced, IsSized, Record, records_in};
 ghost use Rattle.gix_index.specs.Storable.{IsStorable};
 ghost use Rattle.index_table.specs.Reading.{Fills, IsTooSmall, TellsOfValue};
 ghost use Rattle.index_table.specs.Table.{HoldsRecords};
@@ -13,10 +13,10 @@ ghost use Rattle.index_table.specs.Table.{HoldsRecords};
 use crate::read::{Outcome, Summary, summary_of};
 use crate::row::{Row, row_of};
 use crate::status::{DONE, NO_ROOM};
-use gix_index::Version;
 use gix_index::decode::entry::entry_of;
 use gix_index::file::Outline;
 use gix_index::hash::Kind;
+use gix_index::{Entry, Version};
 use index_entries::make_entry;
 
 /// Puts a path at a place among these bytes: as many as are shared of those that stand from an earlier place on, and
@@ -72,30 +72,61 @@ fn fill_entries(
     }
 }
 
+/// How many bytes the paths of entries, which lie in a storage, have together; None where that takes more than 64 bits.
+pub(crate) fn path_bytes_of(entries: &[Entry], storage: &[u8]) -> Option<usize>
+    requires { All (IsPlaced (length storage.now)) entries.now }
+    ensures { result ≡ in_64_bits (paths_len (records_in storage.now entries.now)) }
+{
+    let mut sum: usize = 0;
+    for place in 0..entries.len() {
+        let path = &storage[entries[place].path_range()];
+        sum = sum.checked_add(path.len())?;
+    }
+    Some(sum)
+}
+
+/// Fills in the row and the path of each entry, one path behind the other. The entries' own paths lie in a storage.
+pub(crate) fn fill(entries: &[Entry], storage: &[u8], rows: &mut [Row], paths: &mut [u8])
+    requires placed { All (IsPlaced (length storage.now)) entries.now }
+    requires sized { All IsSized (records_in storage.now entries.now) }
+    requires rows_fit { length entries.now ≤ length rows.old }
+    requires paths_fit { paths_len (records_in storage.now entries.now) ≤ length paths.old }
+    ensures { HoldsRecords (records_in storage.now entries.now)
+        (paths_len (records_in storage.now entries.now))
+        rows.old rows.new paths.old paths.new }
+{
+    let mut start = 0;
+    for place in 0..entries.len() {
+        let entry = &entries[place];
+        let path = &storage[entry.path_range()];
+        put_path(paths, start, start, 0, path);
+        rows[place] = Row {
+            path_start: start,
+            path_len: path.len(),
+            ..row_of(entry)
+        };
+        start += path.len();
+    }
+}
+
 /// What is told of an outline.
 fn summary_of_outline(outline: &Outline<'_>) -> Summary
-    ensures tells { (v : Contents) → Outlines v outline.now → TellsOfValue v result }
-    ensures path_bytes { result.path_bytes ≡ outline.now.path_bytes }
-    ensures text { result.text_bytes ≡ 0 }
+    ensures { (v : Contents) → Outlines v outline.now → TellsOfValue v result }
 {
-    Summary {
-        entries: outline.count as usize,
-        path_bytes: outline.path_bytes,
-        ..summary_of(&outline.bare)
-    }
+    summary_of(&outline.bare, outline.count as usize, outline.path_bytes)
 }
 
 /// Fills the entries of an outline into a table, if there is room.
 pub(crate) fn table_of_outline(outline: &Outline<'_>, rows: &mut [Row], paths: &mut [u8]) -> Outcome
     requires { (v : Contents) × Outlines v outline.now × IsStorable v }
-    ensures status { (result.status ≡ 0) ⊎ (result.status ≡ 3) }
+    ensures status { (result.status ≡ DONE) ⊎ (result.status ≡ NO_ROOM) }
     ensures text { result.summary.text_bytes ≡ 0 }
-    ensures done { result.status ≡ 0 → (v : Contents) → Outlines v outline.now
+    ensures done { result.status ≡ DONE → (v : Contents) → Outlines v outline.now
         → Fills v result.summary rows.old rows.new paths.old paths.new }
-    ensures no_room { result.status ≡ 3 → (v : Contents) → Outlines v outline.now
+    ensures no_room { result.status ≡ NO_ROOM → (v : Contents) → Outlines v outline.now
         → IsTooSmall v result.summary rows.old paths.old }
-    ensures rows { result.status ≢ 0 → rows.new ≡ rows.old }
-    ensures paths { result.status ≢ 0 → paths.new ≡ paths.old }
+    ensures rows { result.status ≢ DONE → rows.new ≡ rows.old }
+    ensures paths { result.status ≢ DONE → paths.new ≡ paths.old }
 {
     let summary = summary_of_outline(outline);
     if rows.len() < summary.entries || paths.len() < summary.path_bytes {

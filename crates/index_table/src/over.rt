@@ -2,13 +2,15 @@
 
 ghost use Rattle.std.specs.Prelude.{◌≡◌, ◌≢◌, ◌≤◌, ◌↔◌, [], false, IfSome, None, OnOk};
 ghost use Rattle.gix_index.specs.Edits.{with_records};
+ghost use Rattle.gix_index.specs.EntryImage.{written};
 ghost use Rattle.gix_index.specs.Order.{IsStrictlyOrdered};
 ghost use Rattle.gix_index.specs.State.{PathsInStorage, contents, records};
 ghost use Rattle.index_table.specs.Faults.{IsNumbered, read_status};
 ghost use Rattle.index_table.specs.Overwriting.{IsAskedOver, IsUnwrittenOver, KeepsTree, TakesPlaceOf, WritesOver, full_options};
 ghost use Rattle.index_table.specs.Reading.{LacksMemory};
 ghost use Rattle.index_table.specs.Table.{records_of};
-ghost use Rattle.index_table.specs.Writing.{HasImage, HasWrongNumber, IsFitTable, PassesLimit, PassesRoom};
+ghost use Rattle.index_table.specs.Writing.{HasImage, HasWrongNumber, IsFitTable, LeavesBlank, PassesLimit, PassesRoom};
+ghost use Rattle.index_table.specs.declared.status.TheConstants.{DONE, NO_ROOM};
 
 use crate::fault::{fault_of, is_want_of_memory};
 use crate::read::{index_of, kind_of};
@@ -32,11 +34,12 @@ fn remove_all(state: &mut State)
     }
 }
 
-/// Puts the rows' entries in the place of those that are there. All else stays.
+/// Puts the entries of the rows that aren't left out in the place of those that are there. All else stays.
 fn replace_all(state: &mut State, rows: &[Row], paths: &[u8]) -> Result<(), AllocError>
     requires { PathsInStorage state.old }
     ensures value { OnOk result
-        (contents state.new ≡ with_records (contents state.old) (records_of paths.now rows.now)) }
+        (contents state.new ≡ with_records (contents state.old)
+        (written (records_of paths.now rows.now))) }
     ensures placed { OnOk result (PathsInStorage state.new) }
 {
     remove_all(state);
@@ -70,6 +73,8 @@ fn keep_tree(alloc: Global, state: &mut State) -> Option<u32>
 fn refused_before(e: &file::init::Error) -> Answer
     ensures status { result.status ≡ read_status e.now }
     ensures fault { IsNumbered e.now result.told.fault result.told.fault_place }
+    ensures tree { result.told.tree ≡ NO_TREE }
+    ensures blank { LeavesBlank result.status result.told }
 {
     let fault = fault_of(e);
     let is_memory = matches!(e, file::init::Error::Memory);
@@ -89,17 +94,18 @@ fn put_fit(
 ) -> Answer
     requires placed { PathsInStorage state }
     requires table { IsFitTable kind (contents state).extensions.sparse paths.now rows.now }
-    ensures status { result.status ≤ 3 }
-    ensures done { result.status ≡ 0 → TakesPlaceOf kind paths.now rows.now result.told.tree
+    ensures status { result.status ≤ NO_ROOM }
+    ensures done { result.status ≡ DONE → TakesPlaceOf kind paths.now rows.now result.told.tree
         (λ v. HasImage v options result.told room.old room.new)
         (contents state) }
-    ensures refused { result.status ≡ 1 → TakesPlaceOf kind paths.now rows.now result.told.tree
+    ensures refused { result.status ≡ REFUSED → TakesPlaceOf kind paths.now rows.now result.told.tree
         (λ v. PassesLimit v options result.told)
         (contents state) }
-    ensures no_room { result.status ≡ 3 → TakesPlaceOf kind paths.now rows.now result.told.tree
+    ensures no_room { result.status ≡ NO_ROOM → TakesPlaceOf kind paths.now rows.now result.told.tree
         (λ v. PassesRoom v options result.told room.old)
         (contents state) }
-    ensures room { result.status ≢ 0 → room.new ≡ room.old }
+    ensures blank { LeavesBlank result.status result.told }
+    ensures room { result.status ≢ DONE → room.new ≡ room.old }
 {
     if let Err(_) = replace_all(&mut state, rows, paths) {
         return unwritten(MEMORY, 0, 0);
@@ -120,16 +126,17 @@ fn put_over(
     options: Options,
     room: &mut [u8],
 ) -> Answer
-    ensures status { result.status ≤ 3 }
-    ensures done { result.status ≡ 0 → WritesOver kind index.now paths.now rows.now result.told
+    ensures status { result.status ≤ NO_ROOM }
+    ensures done { result.status ≡ DONE → WritesOver kind index.now paths.now rows.now result.told
         (λ v. HasImage v options result.told room.old room.new) }
-    ensures refused { result.status ≡ 1
+    ensures refused { result.status ≡ REFUSED
         → IsUnwrittenOver kind options index.now paths.now rows.now result.told }
-    ensures memory { result.status ≡ 2 → LacksMemory None false kind index.now }
-    ensures no_room { result.status ≡ 3
+    ensures memory { result.status ≡ MEMORY → LacksMemory None false kind index.now }
+    ensures no_room { result.status ≡ NO_ROOM
         → WritesOver kind index.now paths.now rows.now result.told
         (λ v. PassesRoom v options result.told room.old) }
-    ensures room { result.status ≢ 0 → room.new ≡ room.old }
+    ensures blank { LeavesBlank result.status result.told }
+    ensures room { result.status ≢ DONE → room.new ≡ room.old }
 {
     let state = match index_of(alloc, index, kind, false, None) {
         Ok(state) => state,
@@ -162,19 +169,20 @@ pub fn write_over(
     form: &Form,
     room: &mut [u8],
 ) -> Answer
-    ensures status { result.status ≤ 4 }
-    ensures done { result.status ≡ 0 → IsAskedOver form.now
+    ensures status { result.status ≤ WRONG_NUMBER }
+    ensures done { result.status ≡ DONE → IsAskedOver form.now
         (λ kind options. WritesOver kind index.now paths.now rows.now result.told
         (λ v. HasImage v options result.told room.old room.new)) }
-    ensures refused { result.status ≡ 1 → IsAskedOver form.now
+    ensures refused { result.status ≡ REFUSED → IsAskedOver form.now
         (λ kind options. IsUnwrittenOver kind options index.now paths.now rows.now result.told) }
-    ensures memory { result.status ≡ 2
+    ensures memory { result.status ≡ MEMORY
         → IsAskedOver form.now (λ kind options. LacksMemory None false kind index.now) }
-    ensures no_room { result.status ≡ 3 → IsAskedOver form.now
+    ensures no_room { result.status ≡ NO_ROOM → IsAskedOver form.now
         (λ kind options. WritesOver kind index.now paths.now rows.now result.told
         (λ v. PassesRoom v options result.told room.old)) }
-    ensures wrong_number { (result.status ≡ 4) ↔ HasWrongNumber form.now }
-    ensures room { result.status ≢ 0 → room.new ≡ room.old }
+    ensures wrong_number { (result.status ≡ WRONG_NUMBER) ↔ HasWrongNumber form.now }
+    ensures blank { LeavesBlank result.status result.told }
+    ensures room { result.status ≢ DONE → room.new ≡ room.old }
 {
     let Some(kind) = kind_of(form.kind) else {
         return unwritten(WRONG_NUMBER, 0, 0);

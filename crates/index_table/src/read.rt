@@ -1,18 +1,18 @@
 //! Reading an index into a caller's table.
 
-ghost use Rattle.std.specs.Prelude.{◌≡◌, ◌≢◌, ◌≤◌, ◌⊎◌, All, IfErr, IfOk, None, Ok, Option, length};
+ghost use Rattle.std.specs.Prelude.{◌≡◌, ◌≢◌, ◌≤◌, ◌⊎◌, All, IfErr, IfOk, None, Ok, Option};
 ghost use Rattle.gix_index.specs.EntryImage.{version_code};
 ghost use Rattle.gix_index.specs.ObjectId.{ObjectId as Id};
 ghost use Rattle.gix_index.specs.Record.{IsSized};
-ghost use Rattle.gix_index.specs.State.{PathsInStorage, contents, storage_of};
+ghost use Rattle.gix_index.specs.State.{PathsInStorage, contents};
 ghost use Rattle.gix_index.specs.Storable.{IsStorable};
 ghost use Rattle.index_table.specs.Faults.{IsNumbered, SaysRefusal, read_status};
-ghost use Rattle.index_table.specs.Reading.{BytesEndAs, Fills, HasText, IsFilled, IsRefusedIndex, IsTooSmall, LacksMemory, LacksRoom, TellsOfValue, link_number, shared_id_bytes};
+ghost use Rattle.index_table.specs.Reading.{BytesEndAs, Fills, HasText, IsFilled, IsRefusedIndex, IsTooSmall, IsUnread, LacksMemory, LacksRoom, blank, fault_told, link_number, shared_id_bytes, value_told};
 ghost use Rattle.index_table.specs.Table.{kind_numbered};
 
 use crate::fault::{fault_of, put_fault};
-use crate::filling::table_of_outline;
-use crate::row::{Row, fill, padded};
+use crate::filling::{fill, path_bytes_of, table_of_outline};
+use crate::row::{Row, padded};
 use crate::status::{DONE, MEMORY, NO_ROOM, REFUSED, SHA1, SHA256};
 use gix_index::entry::FileTime;
 use gix_index::hash::{Kind, ObjectId};
@@ -66,8 +66,7 @@ pub fn kind_of(number: u32) -> Option<Kind>
 /// Nothing was read, and there is no fault to tell.
 pub fn nothing(status: u32) -> Outcome
     ensures status { result.status ≡ status }
-    ensures whose { result.summary.of_shared ≡ 0 }
-    ensures text { result.summary.text_bytes ≡ 0 }
+    ensures blank { result.summary ≡ blank }
 {
     Outcome {
         status,
@@ -116,15 +115,13 @@ fn shared_id_of(state: &State) -> [u8; 32]
     }
 }
 
-/// What is told of a state.
-pub fn summary_of(state: &State) -> Summary
-    ensures tells { TellsOfValue (contents state.now) result }
-    ensures path_bytes { result.path_bytes ≡ length (storage_of state.now) }
-    ensures text { result.text_bytes ≡ 0 }
+/// What is told of a state, with a number of entries and of bytes for paths.
+pub fn summary_of(state: &State, entries: usize, path_bytes: usize) -> Summary
+    ensures { result ≡ record (value_told (contents state.now) path_bytes) { entries = entries } }
 {
     Summary {
-        entries: state.entries().len(),
-        path_bytes: state.path_backing().len(),
+        entries,
+        path_bytes,
         text_bytes: 0,
         fault_place: 0,
         fault: 0,
@@ -135,27 +132,33 @@ pub fn summary_of(state: &State) -> Summary
     }
 }
 
-/// Fills a state's entries into a table, if there is room.
+/// Fills a state's entries into a table, if there is room. Want of memory stands for paths that have 2^64 bytes or more
+/// together.
 pub(crate) fn table_of(state: &State, rows: &mut [Row], paths: &mut [u8]) -> Outcome
     requires placed { PathsInStorage state.now }
     requires sized { All IsSized (contents state.now).records }
-    ensures status { (result.status ≡ 0) ⊎ (result.status ≡ 3) }
-    ensures text { result.summary.text_bytes ≡ 0 }
-    ensures done { result.status ≡ 0
+    ensures status { (result.status ≡ DONE) ⊎ (result.status ≡ MEMORY) ⊎ (result.status ≡ NO_ROOM) }
+    ensures done { result.status ≡ DONE
         → Fills (contents state.now) result.summary rows.old rows.new paths.old paths.new }
-    ensures no_room { result.status ≡ 3
+    ensures no_room { result.status ≡ NO_ROOM
         → IsTooSmall (contents state.now) result.summary rows.old paths.old }
-    ensures rows { result.status ≢ 0 → rows.new ≡ rows.old }
-    ensures paths { result.status ≢ 0 → paths.new ≡ paths.old }
+    ensures memory { result.status ≡ MEMORY → result.summary ≡ blank }
+    ensures text { result.summary.text_bytes ≡ 0 }
+    ensures rows { result.status ≢ DONE → rows.new ≡ rows.old }
+    ensures paths { result.status ≢ DONE → paths.new ≡ paths.old }
 {
-    let summary = summary_of(state);
+    let (entries, storage) = (state.entries(), state.path_backing());
+    let Some(path_bytes) = path_bytes_of(entries, storage) else {
+        return nothing(MEMORY);
+    };
+    let summary = summary_of(state, entries.len(), path_bytes);
     if rows.len() < summary.entries || paths.len() < summary.path_bytes {
         return Outcome {
             status: NO_ROOM,
             summary,
         };
     }
-    fill(state, rows, paths);
+    fill(entries, storage, rows, paths);
     Outcome {
         status: DONE,
         summary,
@@ -166,7 +169,8 @@ pub(crate) fn table_of(state: &State, rows: &mut [Row], paths: &mut [u8]) -> Out
 pub fn refused(alloc: Global, e: file::init::Error, of_shared: u32, text: &mut [u8]) -> Outcome
     ensures status { result.status ≡ read_status e }
     ensures fault { IsNumbered e result.summary.fault result.summary.fault_place }
-    ensures whose { result.summary.of_shared ≡ of_shared }
+    ensures told { result.summary ≡ fault_told result.summary.fault result.summary.fault_place
+        of_shared result.summary.text_bytes }
     ensures text { HasText result.summary.text_bytes text.old text.new }
 {
     let fault = fault_of(&e);
@@ -196,7 +200,7 @@ pub fn index_of(
     ensures fault { IfErr result
         (λ e. SaysRefusal e (BytesEndAs expected skip_hash kind bytes.now)) }
     ensures memory { IfErr result
-        (λ e. read_status e ≡ 2 → LacksMemory expected skip_hash kind bytes.now) }
+        (λ e. read_status e ≡ MEMORY → LacksMemory expected skip_hash kind bytes.now) }
 {
     let path = PathBuf::new(alloc);
     let time = FileTime::EPOCH;
@@ -220,15 +224,15 @@ pub fn read_table(
     paths: &mut [u8],
     text: &mut [u8],
 ) -> Outcome
-    ensures status { result.status ≤ 3 }
-    ensures done { result.status ≡ 0 → IsFilled skip_hash kind bytes.now result.summary
+    ensures status { result.status ≤ NO_ROOM }
+    ensures done { result.status ≡ DONE → IsFilled skip_hash kind bytes.now result.summary
         rows.old rows.new paths.old paths.new }
-    ensures refused { result.status ≡ 1 → IsRefusedIndex skip_hash kind bytes.now result.summary }
-    ensures memory { result.status ≡ 2 → LacksMemory None skip_hash kind bytes.now }
-    ensures no_room { result.status ≡ 3
+    ensures refused { result.status ≡ REFUSED → IsRefusedIndex skip_hash kind bytes.now result.summary }
+    ensures memory { result.status ≡ MEMORY → IsUnread skip_hash kind bytes.now result.summary }
+    ensures no_room { result.status ≡ NO_ROOM
         → LacksRoom skip_hash kind bytes.now result.summary rows.old paths.old }
-    ensures rows { result.status ≢ 0 → rows.new ≡ rows.old }
-    ensures paths { result.status ≢ 0 → paths.new ≡ paths.old }
+    ensures rows { result.status ≢ DONE → rows.new ≡ rows.old }
+    ensures paths { result.status ≢ DONE → paths.new ≡ paths.old }
     ensures text { HasText result.summary.text_bytes text.old text.new }
 {
     let (time, options) = (FileTime::EPOCH, decode::Options::default());

@@ -1,14 +1,12 @@
 //! A table in the caller's memory: a row for each entry, and the bytes in which their paths lie.
 
-ghost use Rattle.std.specs.Prelude.{◌≡◌, ◌≤◌, All, map, length};
+ghost use Rattle.std.specs.Prelude.{◌≡◌};
 ghost use Rattle.gix_index.specs.Flags.{stage_number};
-ghost use Rattle.gix_index.specs.Record.{IsPlaced, IsSized, records_in};
-ghost use Rattle.gix_index.specs.State.{PathsInStorage, entries_of, records, storage_of};
-ghost use Rattle.index_table.specs.Table.{HoldsRecords, IsForward, kind_number, padded_id, row_of, row_path};
+ghost use Rattle.index_table.specs.Table.{IsForward, kind_number, padded_id, row_of, row_path};
 
 use crate::status::{SHA1, SHA256};
 use gix_index::hash::{Kind, ObjectId};
-use gix_index::{BitFlags as _, Entry, State};
+use gix_index::{BitFlags as _, Entry};
 
 /// An entry (gitformat-index, "Index entry").
 #[repr(C)]
@@ -119,40 +117,4 @@ pub(crate) fn row_of(entry: &Entry) -> Row
         path_start: path.start,
         path_len: path.end - path.start,
     }
-}
-
-/// Fills in the row of each entry.
-fn fill_rows(entries: &[Entry], rows: &mut [Row])
-    requires forward { All IsForward entries.now }
-    requires room { length rows.old ≡ length entries.now }
-    ensures { rows.new ≡ map row_of entries.now }
-{
-    for i in 0..entries.len() {
-        rows[i] = row_of(&entries[i]);
-    }
-}
-
-/// Fills in the rows of entries and the storage of their paths, from the front.
-fn fill_table(entries: &[Entry], storage: &[u8], rows: &mut [Row], paths: &mut [u8])
-    requires placed { All (IsPlaced (length storage.now)) entries.now }
-    requires sized { All IsSized (records_in storage.now entries.now) }
-    requires rows_fit { length entries.now ≤ length rows.old }
-    requires paths_fit { length storage.now ≤ length paths.old }
-    ensures { HoldsRecords (records_in storage.now entries.now) (length storage.now)
-        rows.old rows.new paths.old paths.new }
-{
-    fill_rows(entries, &mut rows[..entries.len()]);
-    paths[..storage.len()].copy_from_slice(storage);
-}
-
-/// The same of a state's entries.
-pub(crate) fn fill(state: &State, rows: &mut [Row], paths: &mut [u8])
-    requires placed { PathsInStorage state.now }
-    requires sized { All IsSized (records state.now) }
-    requires rows_fit { length (entries_of state.now) ≤ length rows.old }
-    requires paths_fit { length (storage_of state.now) ≤ length paths.old }
-    ensures { HoldsRecords (records state.now) (length (storage_of state.now))
-        rows.old rows.new paths.old paths.new }
-{
-    fill_table(state.entries(), state.path_backing(), rows, paths);
 }

@@ -1,14 +1,16 @@
 //! The value that a table spells, where each row can stand in a file.
 
-ghost use Rattle.std.specs.Prelude.{◌≡◌, ◌≢◌, ◌+◌, ◌≤◌, ◌↔◌, ◌++◌, ◌-◌, ◌<◌, All, IfOk, IsTrue, OnOk, length, slice_index_or, take};
+ghost use Rattle.std.specs.Prelude.{◌≡◌, ◌≢◌, ◌+◌, ◌≤◌, ◌↔◌, ◌++◌, All, IfOk, IsTrue, None, OnOk, false, length, take};
+ghost use Rattle.std.specs.Option.{option_map_or};
+ghost use Rattle.std.specs.Ordering.{is_ge};
 ghost use Rattle.gix_index.specs.Edits.{with_records};
+ghost use Rattle.gix_index.specs.EntryImage.{is_removed, written};
 ghost use Rattle.gix_index.specs.Order.{record_cmp};
-ghost use Rattle.gix_index.specs.Record.{Record};
-ghost use Rattle.gix_index.specs.Sorted.{IsFirstFall};
 ghost use Rattle.gix_index.specs.State.{PathsInStorage, contents, records};
-ghost use Rattle.index_table.specs.Table.{records_of, row_id, row_path, row_stat};
-ghost use Rattle.index_table.specs.Writing.{CanStand, IsFirstUnfit, IsSpelledBy};
+ghost use Rattle.index_table.specs.Table.{records_of, row_id, row_path, row_stat, spelled};
+ghost use Rattle.index_table.specs.Writing.{CanStand, IsFirstFallen, IsFirstUnfit, IsFit, IsSpelledBy, has_git_mode, unfit_number};
 
+use crate::fault::{MODE, ROW};
 use crate::row::{Row, number_of_kind, path_of, stage_of};
 use crate::status::SHA256;
 use gix_index::entry::stat::Time;
@@ -29,17 +31,48 @@ fn has_plain_path(row: &Row, paths: &[u8]) -> bool
         && path_of(row, paths).iter().all(|byte| *byte != 0)
 }
 
+/// Whether the row is marked `REMOVE`, and so left out of a file.
+fn is_left_out(row: &Row) -> bool
+    ensures { result ≡ is_removed row.now.flags }
+{
+    row.flags & 0x20000 == 0x20000
+}
+
+/// Whether the row's mode is one of the five that git has.
+fn has_git_mode(row: &Row) -> bool
+    ensures { result ≡ has_git_mode row.now }
+{
+    Mode::from_bits_retain(row.mode)
+        .to_tree_entry_mode()
+        .is_some()
+}
+
+/// The number of the fault of a row that isn't fit.
+pub(crate) fn number_of_unfit(row: &Row) -> u32
+    ensures { result ≡ unfit_number row.now }
+{
+    if has_git_mode(row) { ROW } else { MODE }
+}
+
 /// Whether the row can stand in a file with ids of this kind, with the mark of a sparse index or without.
-fn is_fit(row: &Row, paths: &[u8], kind: Kind, is_sparse: bool) -> bool
+fn can_stand(row: &Row, paths: &[u8], kind: Kind, is_sparse: bool) -> bool
     ensures { IsTrue result ↔ CanStand kind is_sparse paths.now row.now }
 {
     row.kind == number_of_kind(kind)
         && row.stage == stage_of(row.flags)
+        && has_git_mode(row)
         && (is_sparse || row.mode != 0o040000)
         && has_plain_path(row, paths)
 }
 
-/// The place of the first row that can't stand in such a file, if any.
+/// Whether the row is left out of such a file, or can stand there.
+fn is_fit(row: &Row, paths: &[u8], kind: Kind, is_sparse: bool) -> bool
+    ensures { IsTrue result ↔ IsFit kind is_sparse paths.now row.now }
+{
+    is_left_out(row) || can_stand(row, paths, kind, is_sparse)
+}
+
+/// The place of the first row that isn't fit for such a file, if any.
 pub(crate) fn first_unfit(rows: &[Row], paths: &[u8], kind: Kind, is_sparse: bool) -> Option<usize>
     ensures { IsFirstUnfit kind is_sparse paths.now rows.now result }
 {
@@ -92,41 +125,55 @@ fn stat_of(row: &Row) -> Stat
     }
 }
 
-/// How the row before a place stands to the one there, by path, then by the stage of its flags.
-fn compare_next(rows: &[Row], paths: &[u8], place: usize) -> Ordering
-    requires behind_one { 0 < place }
-    requires in_range { place < length rows.now }
-    ensures { (d : Record) → record_cmp
-        (slice_index_or (records_of paths.now rows.now) (place - 1) d)
-        (slice_index_or (records_of paths.now rows.now) place d) ≡ result }
+/// How a row stands to another, by path, then by the stage of its flags.
+fn compare(a: &Row, b: &Row, paths: &[u8]) -> Ordering
+    ensures { result ≡ record_cmp (spelled paths.now a.now) (spelled paths.now b.now) }
 {
-    let a = rows[place - 1];
-    let b = rows[place];
-    path_of(&a, paths)
-        .cmp(path_of(&b, paths))
+    path_of(a, paths)
+        .cmp(path_of(b, paths))
         .then(stage_of(a.flags).cmp(&stage_of(b.flags)))
 }
 
-/// The place of the first row that isn't above the one before it, if any.
-pub(crate) fn first_fallen(rows: &[Row], paths: &[u8]) -> Option<usize>
-    ensures { IsFirstFall (records_of paths.now rows.now) result }
+/// Whether there is a row before this one, above which this one isn't.
+fn falls(before: Option<&Row>, row: &Row, paths: &[u8]) -> bool
+    ensures { result ≡ option_map_or
+        (λ b. is_ge (record_cmp (spelled paths.now b.now) (spelled paths.now row.now))) before.entry false }
 {
-    for place in 1..rows.len() {
-        if compare_next(rows, paths, place).is_ge() {
+    match before {
+        Some(before) => compare(before, row, paths).is_ge(),
+        None => false,
+    }
+}
+
+/// The place of the first row that is written and isn't above the one that is written before it, if any.
+pub(crate) fn first_fallen(rows: &[Row], paths: &[u8]) -> Option<usize>
+    ensures { IsFirstFallen (records_of paths.now rows.now) result }
+{
+    let mut before = None;
+    for place in 0..rows.len() {
+        let row = &rows[place];
+        if is_left_out(row) {
+            continue;
+        }
+        if falls(before, row, paths) {
             return Some(place);
         }
+        before = Some(row);
     }
     None
 }
 
-/// Puts the entry of each row at the end, in their order. All else stays.
+/// Puts the entry of each row that isn't left out at the end, in their order. All else stays.
 pub(crate) fn push_rows(state: &mut State, rows: &[Row], paths: &[u8]) -> Result<(), AllocError>
     requires { PathsInStorage state.old }
     ensures value { OnOk result (contents state.new ≡ with_records (contents state.old)
-        (records state.old ++ records_of paths.now rows.now)) }
+        (records state.old ++ written (records_of paths.now rows.now))) }
     ensures placed { OnOk result (PathsInStorage state.new) }
 {
     for row in rows {
+        if is_left_out(row) {
+            continue;
+        }
         let flags = Flags::from_bits_retain(row.flags);
         let mode = Mode::from_bits_retain(row.mode);
         let path = path_of(row, paths);
@@ -135,7 +182,7 @@ pub(crate) fn push_rows(state: &mut State, rows: &[Row], paths: &[u8]) -> Result
     Ok(())
 }
 
-/// The value that the rows spell: their records, in their order, and no extension.
+/// The value that the rows spell: the records of those that aren't left out, in their order, and no extension.
 pub(crate) fn spelled(
     alloc: Global,
     rows: &[Row],

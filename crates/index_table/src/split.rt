@@ -5,7 +5,8 @@ ghost use Rattle.gix_index.specs.Link.{link_of};
 ghost use Rattle.gix_index.specs.State.{PathsInStorage, contents};
 ghost use Rattle.gix_index.specs.Storable.{IsStorable};
 ghost use Rattle.index_table.specs.Joining.{AreReadSo, AreRefusedBoth, IsJoinedBy, IsLinkRefused, IsSharedRefused, LackMemory};
-ghost use Rattle.index_table.specs.Reading.{Fills, HasText, IsTooSmall, LacksMemory};
+ghost use Rattle.index_table.specs.Reading.{Fills, HasText, IsTooSmall, LacksMemory, TellsOfMemory};
+ghost use Rattle.index_table.specs.declared.status.TheConstants.{DONE, MEMORY, NO_ROOM, REFUSED};
 
 use crate::read::{Outcome, index_of, refused, table_of};
 use crate::row::Row;
@@ -33,12 +34,13 @@ fn join(
         (contents split)) }
     ensures placed { IfOk result PathsInStorage }
     ensures storable { IfOk result (λ state. IsStorable (contents state)) }
-    ensures status { IfErr result (λ told. (told.status ≡ 1) ⊎ (told.status ≡ 2)) }
-    ensures refused { IfErr result (λ told. told.status ≡ 1
+    ensures status { IfErr result (λ told. (told.status ≡ REFUSED) ⊎ (told.status ≡ MEMORY)) }
+    ensures refused { IfErr result (λ told. told.status ≡ REFUSED
         → IsSharedRefused skip_hash kind (link_of link) shared.now told.summary
         ⊎ IsLinkRefused skip_hash kind (link_of link) shared.now (contents split) told.summary) }
-    ensures memory { IfErr result (λ told. told.status ≡ 2
-        → LacksMemory (Some (link_of link).shared) skip_hash kind shared.now) }
+    ensures memory { IfErr result (λ told. told.status ≡ MEMORY
+        → LacksMemory (Some (link_of link).shared) skip_hash kind shared.now
+        × (TellsOfMemory 0 told.summary ⊎ TellsOfMemory 1 told.summary)) }
     ensures untouched { OnOk result (text.new ≡ text.old) }
     ensures text { IfErr result (λ told. HasText told.summary.text_bytes text.old text.new) }
 {
@@ -67,10 +69,10 @@ pub fn both_of(
         (λ v. v ≡ contents state)) }
     ensures placed { IfOk result PathsInStorage }
     ensures storable { IfOk result (λ state. IsStorable (contents state)) }
-    ensures status { IfErr result (λ told. (told.status ≡ 1) ⊎ (told.status ≡ 2)) }
-    ensures refused { IfErr result (λ told. told.status ≡ 1
+    ensures status { IfErr result (λ told. (told.status ≡ REFUSED) ⊎ (told.status ≡ MEMORY)) }
+    ensures refused { IfErr result (λ told. told.status ≡ REFUSED
         → AreRefusedBoth skip_hash kind bytes.now shared.now told.summary) }
-    ensures memory { IfErr result (λ told. told.status ≡ 2
+    ensures memory { IfErr result (λ told. told.status ≡ MEMORY
         → LackMemory skip_hash kind bytes.now shared.now told.summary) }
     ensures untouched { OnOk result (text.new ≡ text.old) }
     ensures text { IfErr result (λ told. HasText told.summary.text_bytes text.old text.new) }
@@ -100,17 +102,17 @@ pub fn read_split(
     paths: &mut [u8],
     text: &mut [u8],
 ) -> Outcome
-    ensures status { result.status ≤ 3 }
-    ensures done { result.status ≡ 0 → AreReadSo skip_hash kind bytes.now shared.now
+    ensures status { result.status ≤ NO_ROOM }
+    ensures done { result.status ≡ DONE → AreReadSo skip_hash kind bytes.now shared.now
         (λ v. Fills v result.summary rows.old rows.new paths.old paths.new) }
-    ensures refused { result.status ≡ 1
+    ensures refused { result.status ≡ REFUSED
         → AreRefusedBoth skip_hash kind bytes.now shared.now result.summary }
-    ensures memory { result.status ≡ 2
+    ensures memory { result.status ≡ MEMORY
         → LackMemory skip_hash kind bytes.now shared.now result.summary }
-    ensures no_room { result.status ≡ 3 → AreReadSo skip_hash kind bytes.now shared.now
+    ensures no_room { result.status ≡ NO_ROOM → AreReadSo skip_hash kind bytes.now shared.now
         (λ v. IsTooSmall v result.summary rows.old paths.old) }
-    ensures rows { result.status ≢ 0 → rows.new ≡ rows.old }
-    ensures paths { result.status ≢ 0 → paths.new ≡ paths.old }
+    ensures rows { result.status ≢ DONE → rows.new ≡ rows.old }
+    ensures paths { result.status ≢ DONE → paths.new ≡ paths.old }
     ensures text { HasText result.summary.text_bytes text.old text.new }
 {
     match both_of(alloc, bytes, shared, kind, skip_hash, text) {

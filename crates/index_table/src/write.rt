@@ -4,12 +4,12 @@ ghost use Rattle.std.specs.Prelude.{◌≡◌, ◌≢◌, ◌≤◌, ◌<◌, �
 ghost use Rattle.gix_index.specs.EntryImage.{version_code};
 ghost use Rattle.gix_index.specs.State.{PathsInStorage, contents};
 ghost use Rattle.gix_index.specs.Storable.{CanEncode};
-ghost use Rattle.index_table.specs.Writing.{HasImage, HasWrongNumber, IsAsked, IsFitTable, IsUnfitTable, IsUnwritten, PassesLimit, PassesRoom, Spells, choice_numbered, plain_options, write_number, write_status};
+ghost use Rattle.index_table.specs.Writing.{HasImage, HasWrongNumber, IsAsked, IsFitTable, IsUnfitTable, IsUnwritten, LeavesBlank, PassesLimit, PassesRoom, Spells, choice_numbered, plain_options, write_number, write_status};
 
 use crate::fault::{COUNT, LENGTH, ORDER, ROW};
 use crate::read::{kind_of, number_of_version};
 use crate::row::Row;
-use crate::spell::{first_fallen, first_unfit, spelled};
+use crate::spell::{first_fallen, first_unfit, number_of_unfit, spelled};
 use crate::status::{DONE, MEMORY, NO_ROOM, NO_TREE, REFUSED, WRONG_NUMBER};
 use gix_index::hash::Kind;
 use gix_index::hash::io::Plain;
@@ -69,7 +69,9 @@ pub(crate) fn unwritten(status: u32, fault: u32, fault_place: usize) -> Answer
     ensures status { result.status ≡ status }
     ensures fault { result.told.fault ≡ fault }
     ensures place { result.told.fault_place ≡ fault_place }
-    ensures tree { result.told.tree ≡ 0 }
+    ensures bytes { result.told.bytes ≡ 0 }
+    ensures version { result.told.version ≡ 0 }
+    ensures tree { result.told.tree ≡ NO_TREE }
 {
     Answer {
         status,
@@ -89,6 +91,7 @@ fn failed(e: &write::Error, tree: u32) -> Answer
     ensures fault { result.told.fault ≡ write_number e.now }
     ensures place { result.told.fault_place ≡ 0 }
     ensures tree { result.told.tree ≡ tree }
+    ensures blank { LeavesBlank result.status result.told }
 {
     let mut answer = match e {
         write::Error::TooManyEntries => unwritten(REFUSED, COUNT, 0),
@@ -102,14 +105,15 @@ fn failed(e: &write::Error, tree: u32) -> Answer
 
 /// Puts an image into the room, if there is enough.
 fn put_image(image: &[u8], version: Version, tree: u32, room: &mut [u8]) -> Answer
-    ensures status { (result.status ≡ 0) ⊎ (result.status ≡ 3) }
+    ensures status { (result.status ≡ DONE) ⊎ (result.status ≡ NO_ROOM) }
     ensures bytes { result.told.bytes ≡ length image.now }
     ensures version { result.told.version ≡ version_code version }
     ensures tree { result.told.tree ≡ tree }
-    ensures fits { result.status ≡ 0 → length image.now ≤ length room.old }
-    ensures left { result.status ≡ 0 → room.new ≡ image.now ++ drop (length image.now) room.old }
-    ensures small { result.status ≡ 3 → length room.old < length image.now }
-    ensures room { result.status ≢ 0 → room.new ≡ room.old }
+    ensures blank { LeavesBlank result.status result.told }
+    ensures fits { result.status ≡ DONE → length image.now ≤ length room.old }
+    ensures left { result.status ≡ DONE → room.new ≡ image.now ++ drop (length image.now) room.old }
+    ensures small { result.status ≡ NO_ROOM → length room.old < length image.now }
+    ensures room { result.status ≢ DONE → room.new ≡ room.old }
 {
     let told = Written {
         bytes: image.len(),
@@ -138,13 +142,14 @@ pub(crate) fn put_state(
 ) -> Answer
     requires placed { PathsInStorage state }
     requires paths { CanEncode options.version (contents state) }
-    ensures status { result.status ≤ 3 }
-    ensures done { result.status ≡ 0
+    ensures status { result.status ≤ NO_ROOM }
+    ensures done { result.status ≡ DONE
         → HasImage (contents state) options result.told room.old room.new }
-    ensures refused { result.status ≡ 1 → PassesLimit (contents state) options result.told }
-    ensures no_room { result.status ≡ 3 → PassesRoom (contents state) options result.told room.old }
+    ensures refused { result.status ≡ REFUSED → PassesLimit (contents state) options result.told }
+    ensures no_room { result.status ≡ NO_ROOM → PassesRoom (contents state) options result.told room.old }
     ensures tree { result.told.tree ≡ tree }
-    ensures room { result.status ≢ 0 → room.new ≡ room.old }
+    ensures blank { LeavesBlank result.status result.told }
+    ensures room { result.status ≢ DONE → room.new ≡ room.old }
 {
     let file = File::from_state(state, PathBuf::new(alloc));
     let mut out = Plain::new(Vec::new(alloc));
@@ -159,13 +164,14 @@ pub(crate) fn put_state(
 /// The first fault that a table has by itself, if any: of a row, or of their order.
 pub(crate) fn fault_in(rows: &[Row], paths: &[u8], kind: Kind, is_sparse: bool) -> Option<Answer>
     ensures fit { result ≡ None → IsFitTable kind is_sparse paths.now rows.now }
-    ensures status { IfSome result (λ answer. answer.status ≡ 1) }
+    ensures status { IfSome result (λ answer. answer.status ≡ REFUSED) }
     ensures fault { IfSome result
         (λ answer. IsUnfitTable kind is_sparse paths.now rows.now answer.told) }
-    ensures tree { IfSome result (λ answer. answer.told.tree ≡ 0) }
+    ensures tree { IfSome result (λ answer. answer.told.tree ≡ NO_TREE) }
+    ensures blank { IfSome result (λ answer. LeavesBlank answer.status answer.told) }
 {
     if let Some(place) = first_unfit(rows, paths, kind, is_sparse) {
-        return Some(unwritten(REFUSED, ROW, place));
+        return Some(unwritten(REFUSED, number_of_unfit(&rows[place]), place));
     }
     if let Some(place) = first_fallen(rows, paths) {
         return Some(unwritten(REFUSED, ORDER, place));
@@ -182,16 +188,17 @@ fn put_table(
     options: Options,
     room: &mut [u8],
 ) -> Answer
-    ensures status { result.status ≤ 3 }
-    ensures done { result.status ≡ 0 → Spells kind paths.now rows.now
+    ensures status { result.status ≤ NO_ROOM }
+    ensures done { result.status ≡ DONE → Spells kind paths.now rows.now
         (λ v. HasImage v options result.told room.old room.new) }
-    ensures refused { result.status ≡ 1
+    ensures refused { result.status ≡ REFUSED
         → IsUnwritten kind options paths.now rows.now result.told }
-    ensures memory { result.status ≡ 2 → IsFitTable kind false paths.now rows.now }
-    ensures no_room { result.status ≡ 3 → Spells kind paths.now rows.now
+    ensures memory { result.status ≡ MEMORY → IsFitTable kind false paths.now rows.now }
+    ensures no_room { result.status ≡ NO_ROOM → Spells kind paths.now rows.now
         (λ v. PassesRoom v options result.told room.old) }
-    ensures tree { result.told.tree ≡ 0 }
-    ensures room { result.status ≢ 0 → room.new ≡ room.old }
+    ensures tree { result.told.tree ≡ NO_TREE }
+    ensures blank { LeavesBlank result.status result.told }
+    ensures room { result.status ≢ DONE → room.new ≡ room.old }
 {
     if let Some(answer) = fault_in(rows, paths, kind, false) {
         return answer;
@@ -221,20 +228,21 @@ pub fn write_table(
     form: &Form,
     room: &mut [u8],
 ) -> Answer
-    ensures status { result.status ≤ 4 }
-    ensures done { result.status ≡ 0
+    ensures status { result.status ≤ WRONG_NUMBER }
+    ensures done { result.status ≡ DONE
         → IsAsked form.now (λ kind options. Spells kind paths.now rows.now
         (λ v. HasImage v options result.told room.old room.new)) }
-    ensures refused { result.status ≡ 1 → IsAsked form.now
+    ensures refused { result.status ≡ REFUSED → IsAsked form.now
         (λ kind options. IsUnwritten kind options paths.now rows.now result.told) }
-    ensures memory { result.status ≡ 2 → IsAsked form.now
+    ensures memory { result.status ≡ MEMORY → IsAsked form.now
         (λ kind options. IsFitTable kind false paths.now rows.now) }
-    ensures no_room { result.status ≡ 3
+    ensures no_room { result.status ≡ NO_ROOM
         → IsAsked form.now (λ kind options. Spells kind paths.now rows.now
         (λ v. PassesRoom v options result.told room.old)) }
-    ensures wrong_number { (result.status ≡ 4) ↔ HasWrongNumber form.now }
-    ensures tree { result.told.tree ≡ 0 }
-    ensures room { result.status ≢ 0 → room.new ≡ room.old }
+    ensures wrong_number { (result.status ≡ WRONG_NUMBER) ↔ HasWrongNumber form.now }
+    ensures tree { result.told.tree ≡ NO_TREE }
+    ensures blank { LeavesBlank result.status result.told }
+    ensures room { result.status ≢ DONE → room.new ≡ room.old }
 {
     let Some(kind) = kind_of(form.kind) else {
         return unwritten(WRONG_NUMBER, 0, 0);

@@ -8,7 +8,7 @@ pub returns-in-Err-clause-refused : goal.returns-in-Err-clause-refused
 returns-in-Err-clause-refused c = λ is.
     inl
     (before_refused c.args.kind c.args.index.now c.in-Err.e c.refused_before.result.told c.in-Err.ensures.fault
-    c.refused_before.ensures.fault
+    c.refused_before.ensures.fault c.refused_before.ensures.tree
     (sym c.refused_before.ensures.status ∙ is))
 
 pub returns-in-Some-clause-refused : goal.returns-in-Some-clause-refused
@@ -16,11 +16,14 @@ returns-in-Some-clause-refused c = λ is.
     inr
     (inl
     (record {
-      value = contents c.in-Ok.state;
-      checksum = c.in-Ok.ensures.read.0;
-      read = c.in-Ok.ensures.read.1;
-      holds = subst (λ (b : Bool). IsUnfitTable c.args.kind b c.args.paths.now c.args.rows.now c.in-Some.answer.told)
-          c.is_sparse.ensures c.in-Some.ensures.fault;
+      read = record {
+        value = contents c.in-Ok.state;
+        checksum = c.in-Ok.ensures.read.0;
+        read = c.in-Ok.ensures.read.1;
+        holds = subst (λ (b : Bool). IsUnfitTable c.args.kind b c.args.paths.now c.args.rows.now c.in-Some.answer.told)
+            c.is_sparse.ensures c.in-Some.ensures.fault;
+      };
+      tree = c.in-Some.ensures.tree;
     }))
 
 pub put_fit-requires-clause-table : goal.put_fit-requires-clause-table

@@ -1,4 +1,5 @@
 use Rattle.std.proofs.lemmas.Result.{on_ok_weaker}
+use Rattle.gix_index.specs.EntryImage.{written}
 use Rattle.gix_index.specs.State.{contents}
 use Rattle.index_table.specs.Table.{records_of}
 use Rattle.index_table.proofs.Rows.{put_anew}
@@ -8,5 +9,5 @@ pub returns-clause-value : goal.returns-clause-value
 returns-clause-value c =
     on_ok_weaker c.push_rows.result
     (put_anew (contents c.args.state.now) (contents c.remove_all.new.state) (contents c.push_rows.new.state)
-    (records_of c.args.paths.now c.args.rows.now) c.remove_all.ensures.value)
+    (written (records_of c.args.paths.now c.args.rows.now)) c.remove_all.ensures.value)
     c.push_rows.ensures.value

@@ -1,5 +1,6 @@
 use Rattle.std.proofs.Common.{None, refl, sym, ◌∙◌}
 use Rattle.index_table.proofs.Refusals.{lacks_by, options_are, read_by, refusal_by, refused_from}
+use Rattle.index_table.proofs.Refusals.{tells_memory}
 use Rattle.index_table.proofs.read.read_table.Goals as goal
 
 pub table_of_outline-requires : goal.table_of_outline-requires
@@ -37,11 +38,15 @@ returns-in-Err-clause-refused c = λ is.
     refused_from c.args.skip_hash c.args.kind c.args.bytes.now c.in-Err.e c.refused.result.summary
     (refusal_by None c.args.skip_hash c.args.kind c.args.bytes.now _ _ _ refl refl
     (options_are None _ d.0 d.1.0 d.1.1.0 d.1.1.1) c.in-Err.ensures.fault)
-    c.refused.ensures.fault c.refused.ensures.whose (sym c.refused.ensures.status ∙ is)
+    c.refused.ensures.fault c.refused.ensures.told (sym c.refused.ensures.status ∙ is)
 
 pub returns-in-Err-clause-memory : goal.returns-in-Err-clause-memory
 returns-in-Err-clause-memory c = λ is.
     let d = c.default-options.ensures in
-    lacks_by None c.args.skip_hash c.args.kind c.args.bytes.now _ _ _ refl refl
-    (options_are None _ d.0 d.1.0 d.1.1.0 d.1.1.1) c.in-Err.ensures.fault c.in-Err.ensures.intact
-    (sym c.refused.ensures.status ∙ is)
+    record {
+      lacks = lacks_by None c.args.skip_hash c.args.kind c.args.bytes.now _ _ _ refl refl
+          (options_are None _ d.0 d.1.0 d.1.1.0 d.1.1.1) c.in-Err.ensures.fault c.in-Err.ensures.intact
+          (sym c.refused.ensures.status ∙ is);
+      tells = tells_memory c.in-Err.e 0 c.refused.result.summary c.refused.ensures.fault c.refused.ensures.told
+          (sym c.refused.ensures.status ∙ is);
+    }

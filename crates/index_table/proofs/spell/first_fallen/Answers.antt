@@ -1,25 +1,42 @@
-use Rattle.std.proofs.Common.{◌<◌, ◌≤◌, length, arith, sym, ◌∙◌}
+use Rattle.std.proofs.Common.{◌<◌, ◌∙◌, List, arith, length, subst, sym, take}
 use Rattle.std.proofs.lemmas.List.{length-map}
-use Rattle.std.proofs.lemmas.List.Sorted.{all_adjacent_more}
-use Rattle.index_entries.proofs.Falls.{Rises, falls_first, less_from, rises_throughout}
+use Rattle.gix_index.specs.EntryImage.{written}
+use Rattle.gix_index.specs.Order.{IsStrictlyOrdered}
+use Rattle.gix_index.specs.Record.{Record}
 use Rattle.index_table.specs.Table.{records_of, spelled}
+use Rattle.index_table.proofs.WrittenRows.{EndsIn, falls_at, rises_at, row_more, row_skipped}
 use Rattle.index_table.proofs.spell.first_fallen.Goals as goal
 
-pub returns : goal.returns
-returns c =
-    let all : length (records_of c.args.paths.now c.args.rows.now) ≤ c.loop-place.place =
-    omega (arith, length-map c.args.rows.now (spelled c.args.paths.now)) in
-    rises_throughout (records_of c.args.paths.now c.args.rows.now) c.loop-place.place all c.loop-place.invariant
+pub loop-place-preserved-then-is_left_out : goal.loop-place-preserved-then-is_left_out
+loop-place-preserved-then-is_left_out c =
+    let e = row_skipped c.args.paths.now c.args.rows.now c.loop-place.place _ c.loop-place-test.true
+    (sym c.is_left_out.ensures ∙ c.if-is_left_out.true) in
+    record {
+      ordered = subst IsStrictlyOrdered (sym e) c.loop-place.invariant.ordered;
+      ends = subst (λ (rs : List Record). EndsIn c.args.paths.now rs c.loop-place.before) (sym e)
+          c.loop-place.invariant.ends;
+    }
 
-pub returns-then-is_ge : goal.returns-then-is_ge
-returns-then-is_ge c =
-    let within : c.loop-place.place < length (records_of c.args.paths.now c.args.rows.now) =
-    omega (arith, length-map c.args.rows.now (spelled c.args.paths.now)) in
-    falls_first (records_of c.args.paths.now c.args.rows.now) c.loop-place.place c.compare_next.result (omega arith)
-    within c.loop-place.invariant c.compare_next.ensures (sym c.is_ge.ensures ∙ c.if-is_ge.true)
+pub returns-then-falls : goal.returns-then-falls
+returns-then-falls c =
+    let inside : c.loop-place.place < length (records_of c.args.paths.now c.args.rows.now) =
+    omega (arith, c.loop-place-test.true, length-map c.args.rows.now (spelled c.args.paths.now)) in (
+      inside,
+      c.loop-place.invariant.ordered,
+      falls_at c.args.paths.now c.args.rows.now c.loop-place.place _ c.loop-place.before c.loop-place-test.true
+          (sym c.is_left_out.ensures ∙ c.if-is_left_out.false) c.loop-place.invariant.ends
+          (sym c.falls.ensures ∙ c.if-falls.true),
+    )
 
 pub loop-place-preserved : goal.loop-place-preserved
 loop-place-preserved c =
-    all_adjacent_more (records_of c.args.paths.now c.args.rows.now) Rises c.loop-place.place (omega arith)
-    c.loop-place.invariant
-    (λ d. c.compare_next.ensures d ∙ less_from c.compare_next.result (sym c.is_ge.ensures ∙ c.if-is_ge.false))
+    let kept = sym c.is_left_out.ensures ∙ c.if-is_left_out.false in
+    record {
+      ordered = rises_at c.args.paths.now c.args.rows.now c.loop-place.place _ c.loop-place.before
+          c.loop-place-test.true kept c.loop-place.invariant.ordered c.loop-place.invariant.ends
+          (sym c.falls.ensures ∙ c.if-falls.false);
+      ends = (
+        written (take c.loop-place.place (records_of c.args.paths.now c.args.rows.now)),
+        row_more c.args.paths.now c.args.rows.now c.loop-place.place _ c.loop-place-test.true kept,
+      );
+    }

@@ -1,6 +1,6 @@
 use Rattle.std.specs.List.{AllWithin}
-use Rattle.index_table.specs.Writing.{CanStand}
+use Rattle.index_table.specs.Writing.{IsFit}
 use Rattle.index_table.proofs.spell.first_unfit.Given as goal
 
 abbrev pub invariant-loop-place : goal.invariant-loop-place
-invariant-loop-place l = AllWithin (CanStand l.kind l.is_sparse l.paths) l.rows 0 l.place
+invariant-loop-place l = AllWithin (IsFit l.kind l.is_sparse l.paths) l.rows 0 l.place

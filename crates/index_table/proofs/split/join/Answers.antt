@@ -3,7 +3,7 @@ use Rattle.gix_index.specs.Link.{link_of}
 use Rattle.gix_index.specs.State.{contents}
 use Rattle.gix_index.specs.FileFaults.ReadError.{Error}
 use Rattle.index_table.specs.Faults.{IsNumbered, read_status}
-use Rattle.index_table.proofs.Refusals.{lacks_from, link_refused, of_kind, shared_refused}
+use Rattle.index_table.proofs.Refusals.{lacks_from, link_refused, of_kind, shared_refused, tells_memory}
 use Rattle.index_table.proofs.split.join.Goals as goal
 
 pub returns-in-Err-clause-refused : goal.returns-in-Err-clause-refused
@@ -11,7 +11,7 @@ returns-in-Err-clause-refused c = λ is.
     inl
     (shared_refused c.args.skip_hash c.args.kind (link_of c.args.link) c.args.shared.now c.in-Err.e
     c.refused.result.summary
-    c.in-Err.ensures.fault c.refused.ensures.fault c.refused.ensures.whose (sym c.refused.ensures.status ∙ is))
+    c.in-Err.ensures.fault c.refused.ensures.fault c.refused.ensures.told (sym c.refused.ensures.status ∙ is))
 
 pub returns-in-Ok-dissolve_into-clause-joined : goal.returns-in-Ok-dissolve_into-clause-joined
 returns-in-Ok-dissolve_into-clause-joined c =
@@ -39,10 +39,20 @@ returns-in-Err-dissolve_into-clause-refused c = λ is.
     (contents c.args.split) c.in-Ok.ensures.read.0
     c.in-Err-dissolve_into.e r.result.summary c.in-Ok.ensures.read.1 c.in-Err-dissolve_into.ensures.fault
     (subst (λ (e : Error). IsNumbered e r.result.summary.fault r.result.summary.fault_place) c.from.ensures
-    r.ensures.fault) r.ensures.whose
+    r.ensures.fault) r.ensures.told
     (subst (λ (e : Error). read_status e ≡ 1) c.from.ensures (sym r.ensures.status ∙ is)))
+
+pub returns-in-Err-clause-memory : goal.returns-in-Err-clause-memory
+returns-in-Err-clause-memory c = λ is. (
+  c.in-Err.ensures.memory (sym c.refused.ensures.status ∙ is),
+  inr (tells_memory c.in-Err.e 1 c.refused.result.summary c.refused.ensures.fault c.refused.ensures.told
+      (sym c.refused.ensures.status ∙ is)),
+)
 
 pub returns-in-Err-dissolve_into-clause-memory : goal.returns-in-Err-dissolve_into-clause-memory
 returns-in-Err-dissolve_into-clause-memory c = λ is.
-    lacks_from (Some (link_of c.args.link).shared) c.args.skip_hash c.args.kind c.args.shared.now
-    (contents c.in-Ok.state) c.in-Ok.ensures.read.0 c.in-Ok.ensures.read.1
+    let r = c.refused-in-Err-dissolve_into in (
+      lacks_from (Some (link_of c.args.link).shared) c.args.skip_hash c.args.kind c.args.shared.now
+          (contents c.in-Ok.state) c.in-Ok.ensures.read.0 c.in-Ok.ensures.read.1,
+      inl (tells_memory c.from.result 0 r.result.summary r.ensures.fault r.ensures.told (sym r.ensures.status ∙ is)),
+    )
