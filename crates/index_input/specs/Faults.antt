@@ -1,0 +1,25 @@
+-- An error of this crate for a call of the system that failed, and what one shows (the program's own).
+use Rattle.std.specs.Prelude.{◌≡◌, ◌≢◌, ℕ, List}
+use Rattle.std.specs.IoError.{error_kind}
+use Rattle.std.specs.Path.{path_buf_bytes}
+use Rattle.std.specs.declared.io.Error.{Error as IoError}
+use Rattle.std.specs.declared.io.ErrorKind.TheVariants.{OutOfMemory}
+use Rattle.index_input.specs.declared.error.Error.{Error}
+use Rattle.index_input.specs.declared.error.Error.TheVariants as errors
+use Rattle.index_input.specs.declared.error.FirstBytes.{FirstBytes}
+
+-- the fault of a call for the file at a path: want of memory has a variant of its own
+abbrev pub IsOfFault : List ℕ → IoError → Error → Type 0
+IsOfFault path e (errors.Io fault) =
+    (path_buf_bytes fault.path ≡ path) × (fault.error ≡ e) × (error_kind e ≢ OutOfMemory)
+IsOfFault path e errors.Memory = error_kind e ≡ OutOfMemory
+IsOfFault path e (errors.NotRegular at) = ⊥
+IsOfFault path e (errors.Empty at) = ⊥
+IsOfFault path e (errors.NoIndex at start) = ⊥
+IsOfFault path e (errors.KindNotTold at) = ⊥
+IsOfFault path e (errors.NoGitDir at) = ⊥
+IsOfFault path e errors.NoRepository = ⊥
+
+-- the bytes that an error shows of a file's begin
+abbrev pub first_bytes : FirstBytes → List ℕ
+first_bytes start = start.bytes.items

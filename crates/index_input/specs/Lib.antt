@@ -1,0 +1,6 @@
+pub mod Config
+pub mod Digests
+pub mod Faults
+pub mod KindAt
+pub mod Place
+pub mod PlaceFaults

@@ -1,0 +1,105 @@
+//! Why the index or the kind of its ids isn't found.
+
+ghost use Rattle.std.specs.Prelude.{◌≡◌, IfOk, take};
+ghost use Rattle.std.specs.Path.{path_buf_bytes};
+
+use gix_index::file::{OneLine, PathError};
+use std::alloc::{AllocError, Global};
+use std::fmt::Write as _;
+use std::io::ErrorKind;
+use std::path::PathBuf;
+use std::{fmt, io};
+use thiserror::Error;
+
+/// Why the index or the kind of its ids isn't found. Nothing is changed.
+#[derive(Debug, Drop, Error)]
+pub enum Error {
+    /// This file can't be opened or read.
+    #[error("{0}")]
+    Io(PathError),
+    /// The file is a pipe or a device, which can be read once only.
+    #[error("{}: it is no regular file, so KIND has to be given: sha1 or sha256", OneLine(.0.as_path().as_str()))]
+    NotRegular(PathBuf),
+    /// The file has no bytes.
+    #[error("{}: the file is empty, where an index has at least 32 bytes", OneLine(.0.as_path().as_str()))]
+    Empty(PathBuf),
+    /// The file has another signature than an index (gitformat-index: "DIRC").
+    #[error("{}: no index of git: it begins with {start} and not with DIRC", OneLine(.path.as_path().as_str()))]
+    NoIndex {
+        /// The file.
+        path: PathBuf,
+        /// What stands in place of the signature.
+        start: FirstBytes,
+    },
+    /// The file's trailer is no digest of it, as where it is null or the file is damaged, and no file `config` beside
+    /// it says the kind.
+    #[error("{}: neither its trailer nor a file config beside it says the kind of its ids, so KIND has to be given: \
+         sha1 or sha256", OneLine(.0.as_path().as_str()))]
+    KindNotTold(PathBuf),
+    /// This `.git` is a file, and not of the form of one (gitrepository-layout: "gitdir: <path>").
+    #[error("{}: the file doesn't say 'gitdir: ' and a path in UTF-8", OneLine(.0.as_path().as_str()))]
+    NoGitDir(PathBuf),
+    /// Nothing says where the index is.
+    #[error("no FILE is given, and neither this folder nor one above it has a .git")]
+    NoRepository,
+    /// A growth was refused.
+    #[error("out of memory while looking for the index and its kind")]
+    Memory,
+}
+
+impl From<AllocError> for Error {
+    ghost use Rattle.index_input.specs.declared.error.Error.TheVariants.{Memory};
+
+    ghost from_gives = { λ _e error. error ≡ Memory };
+
+    fn from(_e: AllocError) -> Error {
+        Error::Memory
+    }
+}
+
+impl Error {
+    ghost use Rattle.index_input.specs.Faults.{IsOfFault};
+
+    /// What it says that a call of the system failed for a file.
+    pub(crate) fn of(path: PathBuf, error: io::Error) -> Error
+        ensures { IsOfFault (path_buf_bytes path) error result }
+    {
+        if error.kind() == ErrorKind::OutOfMemory {
+            return Error::Memory;
+        }
+        Error::Io(PathError { path, error })
+    }
+}
+
+/// The first bytes of a file: four, or all if it has fewer.
+#[derive(Debug, Drop)]
+pub struct FirstBytes {
+    bytes: Vec<u8>,
+}
+
+impl FirstBytes {
+    ghost use Rattle.index_input.specs.Faults.{first_bytes};
+
+    /// Those of a file with these bytes.
+    pub(crate) fn of(alloc: Global, bytes: &[u8]) -> Result<FirstBytes, AllocError>
+        ensures { IfOk result (λ start. first_bytes start ≡ take 4 bytes.now) }
+    {
+        let bytes = Vec::from_slice(alloc, &bytes[..bytes.len().min(4)])?;
+        Ok(FirstBytes { bytes })
+    }
+}
+
+/// In quotes, with a byte that is no printable ASCII as `\x` and two digits of base 16.
+impl fmt::Display for FirstBytes {
+    fn fmt<W: fmt::Write>(&self, f: &mut fmt::Formatter<W>) -> fmt::Result {
+        f.write_char('"')?;
+        for byte in &self.bytes {
+            match *byte {
+                b'"' | b'\\' => write!(f, "\\{}", char::from(*byte))?,
+                b' '..=b'~' => f.write_char(char::from(*byte))?,
+                _ => write!(f, "\\x{:02x}", *byte)?,
+            }
+        }
+        f.write_char('"')
+    }
+}

@@ -1,0 +1,12 @@
+//! What the words of `index-tool` leave out: which file is the index, and which kind of ids it has.
+#![tactic(auto)]
+
+pub mod config;
+mod error;
+pub mod kind;
+pub mod place;
+
+pub use config::format_of;
+pub use error::{Error, FirstBytes};
+pub use kind::{kind_at, kind_of};
+pub use place::{Surroundings, index_path};
