@@ -1,8 +1,7 @@
 -- What the program checks of an index, and what it prints then (the program's own).
-use Rattle.std.specs.Prelude.{◌≡◌, ℕ, Bool, true, List, length, Option, IfSome, codes}
-use Rattle.std.specs.Io.KnownBytes.{Appends}
-use Rattle.gix_index.specs.Taking.{AppendsPrefix}
+use Rattle.std.specs.Prelude.{◌≡◌, ◌⊎◌, ℕ, Bool, true, List, length, Option, IfSome, codes}
 use Rattle.gix_index.specs.Disk.{Disk}
+use Rattle.gix_index.specs.Disk.World.{World}
 use Rattle.gix_index.specs.Kind.{Kind}
 use Rattle.gix_index.specs.ObjectId.{ObjectId}
 use Rattle.gix_index.specs.Order.{IsStrictlyOrdered}
@@ -12,8 +11,7 @@ use Rattle.gix_index.specs.TreeIds.{AreRight}
 use Rattle.gix_index.specs.VerifiedFile.{FitsFile}
 use Rattle.index_failures.specs.declared.failure.Failure.{Failure}
 use Rattle.index_failures.specs.declared.failure.Failure.TheVariants as failures
-use Rattle.index_failures.specs.Reading.{IsInFile, FailsToRead}
-use Rattle.index_failures.specs.Telling.{FailsTelling}
+use Rattle.index_failures.specs.Reading.{FailsReading, IsInFile, SaysOfIndex}
 
 abbrev pub ok_line : List ℕ
 ok_line = codes "ok\n"
@@ -32,35 +30,22 @@ pub record IsSoundInFile (ids : Bool) (disk : Disk) (kind : Kind) (value : Conte
   pub trees : ids ≡ true → HasRightTrees value
   pub intact : IfSome checksum (FitsFile disk.own)
 
--- known bytes grew by the line of an index that passed all checks
-pub record Checks (ids : Bool) (disk : Disk) (kind : Kind) (old new : Option (List ℕ)) : Type 0 where
+-- the line of an index in a file that passed all checks
+pub record IsPassed (ids : Bool) (disk : Disk) (kind : Kind) (text : List ℕ) : Type 0 where
   pub value : Contents
   pub checksum : Option ObjectId
   pub sound : IsSoundInFile ids disk kind value checksum
-  pub grew : Appends old new ok_line
+  pub is : text ≡ ok_line
 
--- known bytes grew by a prefix of that line, and all checks had passed
-pub record ChecksFront (ids : Bool) (disk : Disk) (kind : Kind) (old new : Option (List ℕ)) : Type 0 where
-  pub value : Contents
-  pub checksum : Option ObjectId
-  pub sound : IsSoundInFile ids disk kind value checksum
-  pub grew : AppendsPrefix old new ok_line
+-- a failure of an index that doesn't pass the checks names its file
+abbrev pub IsOfCheck : List ℕ → Failure → Type 0
+IsOfCheck path (failures.Entries file e) = file.now ≡ path
+IsOfCheck path (failures.CachedTree file e) = file.now ≡ path
+IsOfCheck path (failures.TreeIds file e) = file.now ≡ path
+IsOfCheck path (failures.Changed file e) = file.now ≡ path
+IsOfCheck path failure = ⊥
 
--- a failure of an index in a file that doesn't pass the checks names that file
-abbrev pub FailsToPass : List ℕ → Failure → Type 0
-FailsToPass path (failures.Entries file e) = file.now ≡ path
-FailsToPass path (failures.CachedTree file e) = file.now ≡ path
-FailsToPass path (failures.TreeIds file e) = file.now ≡ path
-FailsToPass path (failures.Changed file e) = file.now ≡ path
-FailsToPass path failure = FailsToRead path failure
-
--- a failure of a check
-abbrev pub FailsToCheck : Bool → Disk → Kind → List ℕ → Failure → Option (List ℕ) → Option (List ℕ) → Type 0
-FailsToCheck ids disk kind path failure old new = FailsTelling (ChecksFront ids disk kind) (FailsToPass path) failure old new
-
--- a failure of an index that was read, by what it holds: of its entries, or of its cached tree
-abbrev pub FailsToVerify : List ℕ → Failure → Type 0
-FailsToVerify path (failures.Entries file e) = file.now ≡ path
-FailsToVerify path (failures.CachedTree file e) = file.now ≡ path
-FailsToVerify path (failures.TreeIds file e) = file.now ≡ path
-FailsToVerify path failure = ⊥
+-- it can't be read, or doesn't pass them
+abbrev pub FailsToPass : Bool → World → Kind → List ℕ → Failure → Type 0
+FailsToPass works world kind path failure =
+    FailsReading (SaysOfIndex works world kind path) path failure ⊎ IsOfCheck path failure

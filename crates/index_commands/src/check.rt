@@ -1,22 +1,23 @@
 //! The commands `check` and `check-trees`.
 
-ghost use Rattle.std.specs.Prelude.{◌≡◌, true, IfErr, OnOk, length};
+ghost use Rattle.std.specs.Prelude.{◌≡◌, true, IfErr, OnOk, length, false};
 ghost use Rattle.gix_index.specs.Disk.{disk_at};
 ghost use Rattle.gix_index.specs.File.{state_of};
 ghost use Rattle.gix_index.specs.Order.{IsStrictlyOrdered};
 ghost use Rattle.gix_index.specs.SoundState.{AreSoundExtensions};
 ghost use Rattle.gix_index.specs.State.{PathsInStorage, contents};
-ghost use Rattle.index_commands.specs.Checking.{Checks, FailsToCheck, FailsToVerify, HasRightTrees};
+ghost use Rattle.index_failures.specs.Telling.{FailsTelling, NoText, Tells};
+ghost use Rattle.index_commands.specs.Checking.{FailsToPass, HasRightTrees, IsOfCheck, IsPassed};
 
 use gix_index::File;
 use gix_index::file::folder::Folder;
 use gix_index::hash::Kind;
-use gix_index::hash::io::put_all;
+use gix_index::hash::io::Out;
 use gix_index::object::NoObjects;
 use index_failures::failure::Failure;
 use index_failures::index::index_at;
+use index_text::block::put_text;
 use std::alloc::Global;
-use std::io;
 
 /// What `out` gets of an index that passed all checks.
 const OK_LINE: &[u8] = b"ok\n";
@@ -31,7 +32,7 @@ fn compare_trees<'a>(
     requires placed { PathsInStorage (state_of index.now) }
     requires ordered { IsStrictlyOrdered (contents (state_of index.now)).records }
     ensures right { OnOk result (ids ≡ true → HasRightTrees (contents (state_of index.now))) }
-    ensures fault { IfErr result (FailsToVerify path.now) }
+    ensures fault { IfErr result (IsOfCheck path.now) }
 {
     if !ids {
         return Ok(());
@@ -55,7 +56,7 @@ fn verify_contents<'a>(
     ensures tree { OnOk result (AreSoundExtensions (length (contents (state_of index.now)).records)
         (contents (state_of index.now)).extensions.tree) }
     ensures right { OnOk result (ids ≡ true → HasRightTrees (contents (state_of index.now))) }
-    ensures fault { IfErr result (FailsToVerify path.now) }
+    ensures fault { IfErr result (IsOfCheck path.now) }
 {
     if let Err(fault) = index.verify_entries() {
         return Err(Failure::Entries { path, fault });
@@ -63,10 +64,7 @@ fn verify_contents<'a>(
     if let Err(fault) = index.verify_extensions(alloc, false, &NoObjects) {
         return Err(Failure::CachedTree { path, fault });
     }
-    if let Err(failure) = compare_trees(alloc, ids, index, path) {
-        return Err(failure);
-    }
-    Ok(())
+    compare_trees(alloc, ids, index, path)
 }
 
 /// Checks the index in a file, with the shared index that it links to, and writes `ok` and a newline to `out`.
@@ -76,7 +74,7 @@ fn verify_contents<'a>(
 /// id and the count that the entries give, as `git write-tree` would make them. The file's bytes have to have the
 /// digest still that their trailer gave. Nothing goes to `out` before the last check has passed. Ok: `out` took the
 /// whole line. [`Failure::Output`]: it took a front. Any other failure: it took nothing.
-pub fn check<'a, D: Folder, W: io::Write>(
+pub fn check<'a, D: Folder, W: Out>(
     folder: &D,
     alloc: Global,
     ids: bool,
@@ -84,23 +82,21 @@ pub fn check<'a, D: Folder, W: io::Write>(
     path: &'a str,
     out: &mut W,
 ) -> Result<(), Failure<'a>>
-    ensures checked { OnOk result (Checks ids (disk_at (D.known folder.now) path.now) kind
-        (W.contents out.old) (W.contents out.new)) }
-    ensures refused { IfErr result
-        (λ failure. FailsToCheck ids (disk_at (D.known folder.now) path.now) kind path.now
-        failure (W.contents out.old) (W.contents out.new)) }
+    requires unfailed { W.failed out.old ≡ false }
+    ensures told { OnOk result
+        (Tells (IsPassed ids (disk_at (D.known folder.now) path.now) kind)
+        (W.taken out.old) (W.taken out.new)) }
+    ensures refused { IfErr result (λ failure.
+        FailsTelling (IsPassed ids (disk_at (D.known folder.now) path.now) kind) NoText
+        (FailsToPass (D.works folder.now) (D.known folder.now) kind path.now)
+        path.now failure (W.failed out.new) (W.taken out.old) (W.taken out.new)) }
 {
-    let index = match index_at(folder, alloc, kind, path) {
-        Ok(index) => index,
-        Err(failure) => return Err(failure),
-    };
-    if let Err(failure) = verify_contents(alloc, ids, &index, path) {
-        return Err(failure);
-    }
+    let index = index_at(folder, alloc, kind, path)?;
+    verify_contents(alloc, ids, &index, path)?;
     if let Err(fault) = index.verify_integrity(folder, alloc) {
         return Err(Failure::Changed { path, fault });
     }
-    match put_all(out, OK_LINE) {
+    match put_text(OK_LINE, out) {
         Ok(()) => Ok(()),
         Err(e) => Err(Failure::Output(e)),
     }

@@ -1,39 +1,42 @@
 //! The command `list`.
 
-ghost use Rattle.std.specs.Prelude.{IfErr, OnOk};
+ghost use Rattle.std.specs.Prelude.{IfErr, OnOk, false, ◌≡◌};
 ghost use Rattle.gix_index.specs.Disk.{disk_at};
-ghost use Rattle.index_commands.specs.Listing.{FailsToList, ListsIndex};
+ghost use Rattle.index_failures.specs.Reading.{FailsReading, SaysOfIndex};
+ghost use Rattle.index_failures.specs.Telling.{FailsTelling, NoText, Tells};
+ghost use Rattle.index_commands.specs.Listing.{IsListing};
 
 use gix_index::file::folder::Folder;
 use gix_index::hash::Kind;
+use gix_index::hash::io::Out;
 use index_failures::failure::Failure;
 use index_failures::index::index_at;
 use index_lines::write_listing;
+use index_text::lines::Lines;
 use std::alloc::Global;
-use std::io;
 
 /// Lists the index in a file: a line to `out` for each entry.
 ///
 /// Nothing goes to `out` before the index was read whole, with the shared index that it links to. Ok: `out` took the
 /// whole listing. [`Failure::Output`]: it took a front. Any other failure: it took nothing.
-pub fn list<'a, D: Folder, W: io::Write>(
+pub fn list<'a, D: Folder, W: Out>(
     folder: &D,
     alloc: Global,
+    style: Lines,
     kind: Kind,
     path: &'a str,
     out: &mut W,
 ) -> Result<(), Failure<'a>>
-    ensures listed { OnOk result (ListsIndex (disk_at (D.known folder.now) path.now) kind
-        (W.contents out.old) (W.contents out.new)) }
+    requires unfailed { W.failed out.old ≡ false }
+    ensures told { OnOk result (Tells (IsListing style (disk_at (D.known folder.now) path.now) kind)
+        (W.taken out.old) (W.taken out.new)) }
     ensures refused { IfErr result
-        (λ failure. FailsToList (disk_at (D.known folder.now) path.now) kind path.now failure
-        (W.contents out.old) (W.contents out.new)) }
+        (λ failure. FailsTelling (IsListing style (disk_at (D.known folder.now) path.now) kind) NoText
+        (FailsReading (SaysOfIndex (D.works folder.now) (D.known folder.now) kind path.now) path.now)
+        path.now failure (W.failed out.new) (W.taken out.old) (W.taken out.new)) }
 {
-    let index = match index_at(folder, alloc, kind, path) {
-        Ok(index) => index,
-        Err(failure) => return Err(failure),
-    };
-    match write_listing(alloc, &index, out) {
+    let index = index_at(folder, alloc, kind, path)?;
+    match write_listing(alloc, &index, style, out) {
         Ok(()) => Ok(()),
         Err(e) => Err(Failure::Output(e)),
     }

@@ -1,16 +1,13 @@
 //! The commands `rewrite` and `rewrite4`.
 
-ghost use Rattle.std.specs.Prelude.{◌≡◌, true, IfErr, IfOk, IsSome, OnErr, OnOk};
-ghost use Rattle.gix_index.specs.Disk.{disk_at};
+ghost use Rattle.std.specs.Prelude.{◌≡◌, true, IfErr, OnErr, OnOk};
 ghost use Rattle.gix_index.specs.InPlace.Locks.{Restores};
-ghost use Rattle.gix_index.specs.declared.file.File.{File as IndexFile};
-ghost use Rattle.gix_index.specs.File.{checksum_of};
 ghost use Rattle.index_commands.specs.Rewriting.{FailsToRewrite, Rewrites, chosen};
 
+use gix_index::Version;
 use gix_index::file::folder::Folder;
 use gix_index::hash::Kind;
 use gix_index::write::VersionChoice;
-use gix_index::{File, Version};
 use index_failures::failure::Failure;
 use index_failures::index::opened_at;
 use index_failures::storing::{commit_at, lock_at};
@@ -35,32 +32,28 @@ pub(crate) fn choice(form: Form, version: Version) -> VersionChoice
     }
 }
 
-/// Writes the index in a file, with the shared index that it links to, to another path, or to the same, and gives it
-/// as it is there.
+/// Writes the index in a file, with the shared index that it links to, to another path, or to the same.
 ///
 /// The file at the other path is locked, as git locks an index, before the first is opened. What is written gets the
 /// time at which the first was changed last, and else what [`commit_at`] says, in the version of the form.
 /// [`Failure::Lock`], [`Failure::Rewrite`]: it can't be written, and what was at the path is there as before. Any other
 /// failure concerns the file that is read.
-pub fn rewritten<'a, D: Folder>(
+pub fn rewrite<'a, D: Folder>(
     folder: &mut D,
     alloc: Global,
     form: Form,
     kind: Kind,
     path: &'a str,
     to: &'a str,
-) -> Result<File, Failure<'a>>
-    ensures written { IfOk result (Rewrites (D.alone folder.old) (D.guards folder.old) form kind
+) -> Result<(), Failure<'a>>
+    ensures written { OnOk result (Rewrites (D.alone folder.old) (D.guards folder.old) form kind
         (D.known folder.old) (D.known folder.new) path.now to.now) }
     ensures restored { OnErr result (D.alone folder.old ≡ true → Restores (D.works folder.old)
         (D.known folder.old) (D.known folder.new) to.now) }
-    ensures checksum { IfOk result (λ written. IsSome (checksum_of written)) }
-    ensures fault { IfErr result (FailsToRewrite path.now to.now) }
+    ensures fault { IfErr result (FailsToRewrite (D.works folder.old) (D.guards folder.old) kind
+        (D.known folder.old) path.now to.now) }
 {
-    let lock = match lock_at(folder, alloc, to) {
-        Ok(lock) => lock,
-        Err(failure) => return Err(failure),
-    };
+    let lock = lock_at(folder, alloc, to)?;
     match opened_at(folder, alloc, kind, path) {
         Ok(index) => {
             let version = choice(form, index.version());
@@ -70,27 +63,5 @@ pub fn rewritten<'a, D: Folder>(
             lock.release(folder);
             Err(failure)
         }
-    }
-}
-
-/// The command: [`rewritten`], of which nothing is kept.
-pub fn rewrite<'a, D: Folder>(
-    folder: &mut D,
-    alloc: Global,
-    form: Form,
-    kind: Kind,
-    path: &'a str,
-    to: &'a str,
-) -> Result<(), Failure<'a>>
-    ensures written { OnOk result ((written : IndexFile) × Rewrites (D.alone folder.old)
-        (D.guards folder.old) form kind (D.known folder.old) (D.known folder.new) path.now to.now
-        written) }
-    ensures restored { OnErr result (D.alone folder.old ≡ true → Restores (D.works folder.old)
-        (D.known folder.old) (D.known folder.new) to.now) }
-    ensures fault { IfErr result (FailsToRewrite path.now to.now) }
-{
-    match rewritten(folder, alloc, form, kind, path, to) {
-        Ok(_) => Ok(()),
-        Err(failure) => Err(failure),
     }
 }

@@ -3,7 +3,6 @@
 ghost use Rattle.std.specs.Prelude.{◌≡◌, true, IfErr, IfOk, OnErr, OnOk};
 ghost use Rattle.gix_index.specs.Disk.{disk_at};
 ghost use Rattle.gix_index.specs.InPlace.Locks.{Restores};
-ghost use Rattle.gix_index.specs.declared.file.File.{File as IndexFile};
 ghost use Rattle.gix_index.specs.File.{state_of};
 ghost use Rattle.gix_index.specs.State.{PathsInStorage, contents};
 ghost use Rattle.gix_index.specs.Tree.{node_of};
@@ -51,47 +50,40 @@ fn made<'a, D: Folder>(
     ensures made { IfOk result (λ index. IsMadeInFile counts (disk_at (D.known folder.now) path.now)
         kind (contents (state_of index))) }
     ensures placed { IfOk result (λ index. PathsInStorage (state_of index)) }
-    ensures fault { IfErr result (FailsToTree path.now) }
+    ensures fault { IfErr result
+        (FailsToTree (D.works folder.now) (D.known folder.now) kind path.now) }
 {
-    let index = match opened_at(folder, alloc, kind, path) {
-        Ok(index) => index,
-        Err(failure) => return Err(failure),
-    };
-    let tree = match tree_of(alloc, &index, path) {
-        Ok(tree) => tree,
-        Err(failure) => return Err(failure),
-    };
+    let index = opened_at(folder, alloc, kind, path)?;
+    let tree = tree_of(alloc, &index, path)?;
     let (mut state, path) = index.into_parts();
     put_tree(&mut state, counts, tree);
     Ok(File::from_state(state, path))
 }
 
 /// Writes the index in a file, with the shared index that it links to, to another path, or to the same, with a cached
-/// tree that is made of its entries, and gives it as it is there. A directory whose tree has no count there, and so no
-/// id, is one that git looks at anew.
+/// tree that is made of its entries. A directory whose tree has no count there, and so no id, is one that git looks at
+/// anew.
 ///
 /// The file at the other path is locked, as git locks an index, before the first is opened; what is written gets the
 /// time at which the first was changed last, and else what [`commit_at`] says. Nothing is written before the tree is
 /// made. [`Failure::Lock`], [`Failure::Rewrite`]: it can't be written, and what was at the path is there as before. Any
 /// other failure concerns the file that is read.
-pub fn retreed<'a, D: Folder>(
+pub fn rewrite_trees<'a, D: Folder>(
     folder: &mut D,
     alloc: Global,
     counts: Counts,
     kind: Kind,
     path: &'a str,
     to: &'a str,
-) -> Result<File, Failure<'a>>
-    ensures written { IfOk result (Retrees (D.alone folder.old) (D.guards folder.old) counts kind
+) -> Result<(), Failure<'a>>
+    ensures written { OnOk result (Retrees (D.alone folder.old) (D.guards folder.old) counts kind
         (D.known folder.old) (D.known folder.new) path.now to.now) }
     ensures restored { OnErr result (D.alone folder.old ≡ true → Restores (D.works folder.old)
         (D.known folder.old) (D.known folder.new) to.now) }
-    ensures fault { IfErr result (FailsToRetree path.now to.now) }
+    ensures fault { IfErr result (FailsToRetree (D.works folder.old) (D.guards folder.old) kind
+        (D.known folder.old) path.now to.now) }
 {
-    let lock = match lock_at(folder, alloc, to) {
-        Ok(lock) => lock,
-        Err(failure) => return Err(failure),
-    };
+    let lock = lock_at(folder, alloc, to)?;
     match made(folder, alloc, counts, kind, path) {
         Ok(index) => {
             let version = choice(Form::AsRead, index.version());
@@ -101,27 +93,5 @@ pub fn retreed<'a, D: Folder>(
             lock.release(folder);
             Err(failure)
         }
-    }
-}
-
-/// The command: [`retreed`], of which nothing is kept.
-pub fn rewrite_trees<'a, D: Folder>(
-    folder: &mut D,
-    alloc: Global,
-    counts: Counts,
-    kind: Kind,
-    path: &'a str,
-    to: &'a str,
-) -> Result<(), Failure<'a>>
-    ensures written { OnOk result ((written : IndexFile) × Retrees (D.alone folder.old)
-        (D.guards folder.old) counts kind (D.known folder.old) (D.known folder.new) path.now to.now
-        written) }
-    ensures restored { OnErr result (D.alone folder.old ≡ true → Restores (D.works folder.old)
-        (D.known folder.old) (D.known folder.new) to.now) }
-    ensures fault { IfErr result (FailsToRetree path.now to.now) }
-{
-    match retreed(folder, alloc, counts, kind, path, to) {
-        Ok(_) => Ok(()),
-        Err(failure) => Err(failure),
     }
 }

@@ -1,23 +1,25 @@
 //! The command `trees`, and the trees of an index.
 
-ghost use Rattle.std.specs.Prelude.{◌≡◌, IfErr, IfOk, None, OnOk};
+ghost use Rattle.std.specs.Prelude.{◌≡◌, IfErr, IfOk, None, OnOk, false};
 ghost use Rattle.gix_index.specs.Disk.{disk_at};
 ghost use Rattle.gix_index.specs.File.{state_of};
 ghost use Rattle.gix_index.specs.State.{PathsInStorage, contents};
 ghost use Rattle.gix_index.specs.Tree.{node_of};
-ghost use Rattle.index_commands.specs.Trees.{FailsToTellTrees, FailsToTree, IsTreeOfIndex, TreesIndex};
+ghost use Rattle.index_failures.specs.Telling.{FailsTelling, NoText, Tells};
+ghost use Rattle.index_commands.specs.Trees.{AreTrees, FailsToTree, IsOfTrees, IsTreeOfIndex};
 
 use gix_index::File;
 use gix_index::extension::Tree;
 use gix_index::file::folder::Folder;
 use gix_index::hash::Kind;
+use gix_index::hash::io::Out;
 use gix_index::init::ComponentCheck;
 use gix_index::write_trees::Discard;
 use index_failures::failure::Failure;
 use index_failures::index::index_at;
 use index_lines::write_trees;
+use index_text::lines::Lines;
 use std::alloc::Global;
-use std::io;
 
 /// Lets all names pass: git has looked at those of an index.
 #[derive(Clone, Copy)]
@@ -36,7 +38,7 @@ pub fn tree_of<'a>(alloc: Global, index: &File, path: &'a str) -> Result<Tree, F
     requires { PathsInStorage (state_of index.now) }
     ensures made { IfOk result
         (λ tree. IsTreeOfIndex (contents (state_of index.now)) (node_of tree)) }
-    ensures fault { IfErr result (FailsToTree path.now) }
+    ensures fault { IfErr result (IsOfTrees path.now) }
 {
     if let Err(fault) = index.verify_entries() {
         return Err(Failure::Entries { path, fault });
@@ -52,28 +54,25 @@ pub fn tree_of<'a>(alloc: Global, index: &File, path: &'a str) -> Result<Tree, F
 ///
 /// Nothing goes to `out` before all are made. Ok: `out` took all lines. [`Failure::Output`]: it took a front. Any other
 /// failure: it took nothing.
-pub fn trees<'a, D: Folder, W: io::Write>(
+pub fn trees<'a, D: Folder, W: Out>(
     folder: &D,
     alloc: Global,
+    style: Lines,
     kind: Kind,
     path: &'a str,
     out: &mut W,
 ) -> Result<(), Failure<'a>>
-    ensures told { OnOk result (TreesIndex (disk_at (D.known folder.now) path.now) kind
-        (W.contents out.old) (W.contents out.new)) }
-    ensures refused { IfErr result
-        (λ failure. FailsToTellTrees (disk_at (D.known folder.now) path.now) kind path.now
-        failure (W.contents out.old) (W.contents out.new)) }
+    requires unfailed { W.failed out.old ≡ false }
+    ensures told { OnOk result (Tells (AreTrees style (disk_at (D.known folder.now) path.now) kind)
+        (W.taken out.old) (W.taken out.new)) }
+    ensures refused { IfErr result (λ failure.
+        FailsTelling (AreTrees style (disk_at (D.known folder.now) path.now) kind) NoText
+        (FailsToTree (D.works folder.now) (D.known folder.now) kind path.now)
+        path.now failure (W.failed out.new) (W.taken out.old) (W.taken out.new)) }
 {
-    let index = match index_at(folder, alloc, kind, path) {
-        Ok(index) => index,
-        Err(failure) => return Err(failure),
-    };
-    let tree = match tree_of(alloc, &index, path) {
-        Ok(tree) => tree,
-        Err(failure) => return Err(failure),
-    };
-    match write_trees(alloc, &tree, out) {
+    let index = index_at(folder, alloc, kind, path)?;
+    let tree = tree_of(alloc, &index, path)?;
+    match write_trees(alloc, &tree, style, out) {
         Ok(()) => Ok(()),
         Err(e) => Err(Failure::Output(e)),
     }

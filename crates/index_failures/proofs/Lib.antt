@@ -1,3 +1,4 @@
 pub mod Readings
+pub mod Replaced
 pub mod Restored
 pub mod Rewritings

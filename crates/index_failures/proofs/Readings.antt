@@ -1,15 +1,18 @@
 -- What was read at the begin of 1970, with the default options.
-use Rattle.std.proofs.Common.{◌≡◌, ℕ, List, subst, false, Option, None, refl}
+use Rattle.std.proofs.Common.{◌≡◌, ℕ, List, subst, Bool, false, Option, None, refl}
 use Rattle.gix_index.specs.Contents.{Contents}
 use Rattle.gix_index.specs.DecodeOptions.{Options}
 use Rattle.gix_index.specs.Disk.{disk_at}
 use Rattle.gix_index.specs.Disk.World.{World}
+use Rattle.gix_index.specs.FileFaults.{SaysOfFiles}
+use Rattle.gix_index.specs.FileFaults.ReadError.{Error as ReadFault}
+use Rattle.gix_index.specs.FileFaults.ReadError.TheVariants as reads
 use Rattle.gix_index.specs.FileTime.{FileTime}
 use Rattle.gix_index.specs.Kind.{Kind}
 use Rattle.gix_index.specs.Linked.{IsOnDisk, IsOnDiskSince}
 use Rattle.gix_index.specs.ObjectId.{ObjectId}
 use Rattle.index_failures.specs.Options.{unlimited_options, IsBeginOf1970}
-use Rattle.index_failures.specs.Reading.{IsInFile, IsInFileSince}
+use Rattle.index_failures.specs.Reading.{IsInFile, IsInFileSince, SaysOfIndex}
 
 pub in_file : (world : World) (at path : List ℕ) (kind : Kind) (time : FileTime) (options : Options) (v : Contents) (checksum : Option ObjectId)
     → IsBeginOf1970 time → at ≡ path → options ≡ unlimited_options
@@ -27,6 +30,20 @@ pub in_file_since : (world : World) (at path : List ℕ) (kind : Kind) (options 
 in_file_since world at path kind options v checksum same e is =
     subst (λ (p : List ℕ). IsOnDiskSince (disk_at world p) false kind unlimited_options v checksum) same
     (subst (λ (o : Options). IsOnDiskSince (disk_at world at) false kind o v checksum) e is)
+
+pub says_so : (works : Bool) (world : World) (at path : List ℕ) (kind : Kind) (time : FileTime) (options : Options)
+    (e : ReadFault) → at ≡ path → options ≡ unlimited_options
+    → SaysOfFiles at works (disk_at world at) false kind time options e → SaysOfIndex works world kind path e
+says_so works world at path kind time options e same is h = by e
+    (subst (λ (p : List ℕ). SaysOfFiles p works (disk_at world p) false kind time unlimited_options e) same
+    (subst (λ (o : Options). SaysOfFiles at works (disk_at world at) false kind time o e) is h))
+  where
+    by : (e : ReadFault) → SaysOfFiles path works (disk_at world path) false kind time unlimited_options e
+        → SaysOfIndex works world kind path e
+    by (reads.Io fault) h = (time, h)
+    by (reads.Decode e) h = (time, h)
+    by (reads.LinkExtension e) h = (time, h)
+    by reads.Memory h = tt
 
 pub options_are : (options : Options) → options.thread_limit ≡ None
     → options.min_extension_block_in_bytes_for_threading ≡ 0 → options.expected_checksum ≡ None

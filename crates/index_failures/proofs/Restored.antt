@@ -4,7 +4,7 @@ use Rattle.std.proofs.Common.{arith, Result, Ok, Err}
 use Rattle.std.specs.Prelude.{◌≢◌, ◌⊎◌, OnErr, codes}
 use Rattle.gix_index.specs.InPlace.Locks.{IsReleased, Restores, lock_of, target_of}
 use Rattle.gix_index.specs.InPlace.Place.{Place}
-use Rattle.gix_index.specs.Disk.World.{Absent, Directory, Holds, Known, Leads, Makes, MayBeFree, Removes, Special, Stays, Unknown}
+use Rattle.gix_index.specs.Disk.World.{Absent, Directory, Holds, Known, Leads, MayBeFree, Special, Stays, Unknown}
 use Rattle.gix_index.specs.Disk.World.{World}
 use Rattle.gix_index.proofs.Moved.{stays_then}
 use Rattle.index_failures.specs.Storing.{IsUnderLock}

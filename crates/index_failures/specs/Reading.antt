@@ -1,6 +1,11 @@
 -- What the program reads in a file, and how that fails (the program's own).
-use Rattle.std.specs.Prelude.{◌≡◌, ℕ, false, List, Option}
-use Rattle.gix_index.specs.Disk.{Disk}
+use Rattle.std.specs.Prelude.{◌≡◌, ℕ, Bool, false, List, Option}
+use Rattle.std.specs.Borrow.{Bor}
+use Rattle.gix_index.specs.Disk.{Disk, disk_at}
+use Rattle.gix_index.specs.Disk.World.{World}
+use Rattle.gix_index.specs.FileFaults.{SaysOfFiles}
+use Rattle.gix_index.specs.FileFaults.ReadError.{Error as ReadFault}
+use Rattle.gix_index.specs.FileFaults.ReadError.TheVariants as reads
 use Rattle.gix_index.specs.FileTime.{FileTime}
 use Rattle.gix_index.specs.Kind.{Kind}
 use Rattle.gix_index.specs.ObjectId.{ObjectId}
@@ -21,8 +26,22 @@ pub record IsInFile (disk : Disk) (kind : Kind) (value : Contents) (checksum : O
 abbrev pub IsInFileSince : Disk → Kind → Contents → Option ObjectId → Type 0
 IsInFileSince disk kind value checksum = IsOnDiskSince disk false kind unlimited_options value checksum
 
--- a failure of reading, which names the file that it concerns, or the one that the words name
-abbrev pub FailsToRead : List ℕ → Failure → Type 0
-FailsToRead path (failures.Read e) = Unit {0}
-FailsToRead path (failures.Index file e) = file.now ≡ path
-FailsToRead path e = ⊥
+-- The fault is why an index isn't read from the file at a path of a place that works, or may fail: one of that file, or
+-- of the shared index that it links to, which a fault of the disk names. Want of memory says nothing.
+abbrev pub SaysOfIndex : Bool → World → Kind → List ℕ → ReadFault → Type 0
+SaysOfIndex works world kind path reads.Memory = Unit {0}
+SaysOfIndex works world kind path e =
+    (time : FileTime) × SaysOfFiles path works (disk_at world path) false kind time unlimited_options e
+
+-- as which failure a fault of reading a file comes: one of the disk names its file
+abbrev pub failure_of : Bor (List ℕ) → ReadFault → Failure
+failure_of path (reads.Io fault) = failures.Read fault
+failure_of path e = failures.Index path e
+
+-- a failure of reading the file at a path, with the path and such a fault
+pub record FailsReading (Says : ReadFault → Type 0) (path : List ℕ) (failure : Failure) : Type 0 where
+  pub file : Bor (List ℕ)
+  pub names : file.now ≡ path
+  pub fault : ReadFault
+  pub is : failure ≡ failure_of file fault
+  pub says : Says fault

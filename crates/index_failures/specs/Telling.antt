@@ -1,21 +1,43 @@
--- How a command that tells of a file fails (the program's own).
-use Rattle.std.specs.Prelude.{◌≡◌, ℕ, List, Option}
-use Rattle.std.specs.Io.KnownBytes.{Keeps}
+-- What a command tells of a file, and how it fails that tells (the program's own).
+use Rattle.std.specs.Prelude.{◌≡◌, ◌≢◌, ◌⊎◌, ℕ, Bool, true, List, Option}
+use Rattle.std.specs.Borrow.{Bor}
+use Rattle.std.specs.Io.KnownBytes.{Appends, Keeps}
+use Rattle.std.specs.IoError.{error_kind}
+use Rattle.std.specs.declared.io.Error.{Error as IoError}
+use Rattle.std.specs.declared.io.ErrorKind.TheVariants.{OutOfMemory}
 use Rattle.gix_index.specs.DecodeError.{Error}
+use Rattle.gix_index.specs.Taking.{AppendsPrefix}
 use Rattle.index_failures.specs.declared.failure.Failure.{Failure}
 use Rattle.index_failures.specs.declared.failure.Failure.TheVariants as failures
 
--- A failed output took some of what is told; with any other failure, which is one of these, the output took nothing.
-abbrev pub FailsTelling : (Option (List ℕ) → Option (List ℕ) → Type 0) → (Failure → Type 0) → Failure
-    → Option (List ℕ) → Option (List ℕ) → Type 0
-FailsTelling Front Fault (failures.Output e) old new = Front old new
-FailsTelling Front Fault failure old new = Fault failure × Keeps old new
+-- known bytes grew by a text of which this holds
+pub record Tells (Text : List ℕ → Type 0) (old new : Option (List ℕ)) : Type 0 where
+  pub text : List ℕ
+  pub is : Text text
+  pub grew : Appends old new text
 
--- The same of a file's parts, which a damaged file has too: then, too, it took all of it, and the file is named.
-abbrev pub FailsDividing : (Option (List ℕ) → Option (List ℕ) → Type 0)
-    → (ℕ → Error → Option (List ℕ) → Option (List ℕ) → Type 0) → (Failure → Type 0) → List ℕ → Failure
-    → Option (List ℕ) → Option (List ℕ) → Type 0
-FailsDividing Front Damaged Fault path (failures.Output e) old new = Front old new
-FailsDividing Front Damaged Fault path (failures.Damaged file offset e) old new =
-    (file.now ≡ path) × Damaged offset e old new
-FailsDividing Front Damaged Fault path failure old new = Fault failure × Keeps old new
+-- known bytes grew by a prefix of such a text
+pub record TellsPart (Text : List ℕ → Type 0) (old new : Option (List ℕ)) : Type 0 where
+  pub text : List ℕ
+  pub is : Text text
+  pub grew : AppendsPrefix old new text
+
+-- nothing is told of a damaged file, by its first fault and where that is
+abbrev pub NoText : ℕ → Error → List ℕ → Type 0
+NoText offset e text = ⊥
+
+-- what is told of a whole file, or of a damaged one
+abbrev pub AnyText : (List ℕ → Type 0) → (ℕ → Error → List ℕ → Type 0) → List ℕ → Type 0
+AnyText Text Damaged text = Text text ⊎ ((offset : ℕ) × (e : Error) × Damaged offset e text)
+
+-- An output that failed took a part of what is told, and so it did where memory was short for what is told. Of a damaged
+-- file all is told, with the fault, where it stands and the file. With any other failure, which is one of these, the
+-- output took nothing.
+pub data FailsTelling (Text : List ℕ → Type 0) (Damaged : ℕ → Error → List ℕ → Type 0) (Fault : Failure → Type 0)
+    (path : List ℕ) (failure : Failure) (failed : Bool) (old new : Option (List ℕ)) : Type 0 where
+  part : (e : IoError) → failure ≡ failures.Output e → (error_kind e ≢ OutOfMemory → failed ≡ true)
+      → TellsPart (AnyText Text Damaged) old new
+      → FailsTelling Text Damaged Fault path failure failed old new
+  whole : (file : Bor (List ℕ)) (offset : ℕ) (e : Error) → failure ≡ failures.Damaged file offset e → file.now ≡ path
+      → Tells (Damaged offset e) old new → FailsTelling Text Damaged Fault path failure failed old new
+  untold : Fault failure → Keeps old new → FailsTelling Text Damaged Fault path failure failed old new

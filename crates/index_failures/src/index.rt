@@ -5,8 +5,7 @@ ghost use Rattle.gix_index.specs.Disk.{disk_at};
 ghost use Rattle.gix_index.specs.File.{checksum_of, path_of, state_of};
 ghost use Rattle.gix_index.specs.State.{PathsInStorage, contents};
 ghost use Rattle.gix_index.specs.FileFaults.ReadError.TheVariants.{Memory};
-ghost use Rattle.index_failures.specs.Reading.{FailsToRead, IsInFile, IsInFileSince};
-ghost use Rattle.index_failures.specs.declared.failure.Failure.TheVariants.{Index};
+ghost use Rattle.index_failures.specs.Reading.{FailsReading, IsInFile, IsInFileSince, SaysOfIndex, failure_of};
 
 use crate::failure::Failure;
 use gix_index::entry::FileTime;
@@ -18,7 +17,7 @@ use std::path::PathBuf;
 
 /// Why there is no index to be had of a file.
 pub fn failure_of(path: &str, fault: file::init::Error) -> Failure<'_>
-    ensures { FailsToRead path.now result }
+    ensures { result ≡ failure_of path.entry fault }
 {
     match fault {
         file::init::Error::Io(fault) => Failure::Read(fault),
@@ -28,8 +27,7 @@ pub fn failure_of(path: &str, fault: file::init::Error) -> Failure<'_>
 
 /// There is no memory for what a command needs of a file.
 pub fn out_of_memory(path: &str) -> Failure<'_>
-    ensures names { FailsToRead path.now result }
-    ensures is { result ≡ Index path.entry Memory }
+    ensures { result ≡ failure_of path.entry Memory }
 {
     let fault = file::init::Error::Memory;
     Failure::Index { path, fault }
@@ -50,7 +48,8 @@ pub fn index_at<'a, D: Folder>(
         (contents (state_of index)) (checksum_of index)) }
     ensures path { IfOk result (λ index. path_of index ≡ path.now) }
     ensures placed { IfOk result (λ index. PathsInStorage (state_of index)) }
-    ensures fault { IfErr result (FailsToRead path.now) }
+    ensures fault { IfErr result (FailsReading (SaysOfIndex (D.works folder.now)
+        (D.known folder.now) kind path.now) path.now) }
 {
     let Ok(file) = PathBuf::from_str(alloc, path) else {
         return Err(out_of_memory(path));
@@ -74,7 +73,8 @@ pub fn opened_at<'a, D: Folder>(
         (λ index. IsInFileSince (disk_at (D.known folder.now) path.now) kind
         (contents (state_of index)) (checksum_of index)) }
     ensures placed { IfOk result (λ index. PathsInStorage (state_of index)) }
-    ensures fault { IfErr result (FailsToRead path.now) }
+    ensures fault { IfErr result (FailsReading (SaysOfIndex (D.works folder.now)
+        (D.known folder.now) kind path.now) path.now) }
 {
     let Ok(file) = PathBuf::from_str(alloc, path) else {
         return Err(out_of_memory(path));

@@ -7,7 +7,8 @@ ghost use Rattle.gix_index.specs.InPlace.Locks.{IsReleased, asked_of, lock_of, t
 ghost use Rattle.gix_index.specs.State.{PathsInStorage, contents};
 ghost use Rattle.gix_index.specs.WrittenFile.{IsWrittenTo};
 ghost use Rattle.index_failures.specs.Options.{rewrite_options};
-ghost use Rattle.index_failures.specs.Storing.{FailsToWrite, IsUnderLock};
+ghost use Rattle.gix_index.specs.declared.file.File.{File as IndexFile};
+ghost use Rattle.index_failures.specs.Storing.{FailsCommitting, FailsLocking, IsUnderLock};
 
 use crate::failure::Failure;
 use gix_index::File;
@@ -31,7 +32,8 @@ pub fn lock_at<'a, D: Folder>(
     ensures empty { IfOk result
         (λ lock. D.alone folder.old ≡ true → D.Made.contents lock.file ≡ Some []) }
     ensures unmade { OnErr result (D.known folder.new ≡ D.known folder.old) }
-    ensures fault { IfErr result (FailsToWrite to.now) }
+    ensures fault { IfErr result
+        (FailsLocking (D.works folder.old) (D.known folder.old) to.now) }
     ensures alone { D.alone folder.new ≡ D.alone folder.old }
     ensures works { D.works folder.new ≡ D.works folder.old }
 {
@@ -45,9 +47,8 @@ pub fn lock_at<'a, D: Folder>(
     }
 }
 
-/// Writes an index in the place of the file that was locked, with all extensions and the digest at the end, and gives
-/// it as it is there. All bytes are on the disk before it takes that place. [`Failure::Rewrite`] names that file, which
-/// is as it was.
+/// Writes an index in the place of the file that was locked, with all extensions and the digest at the end. All bytes are
+/// on the disk before it takes that place. [`Failure::Rewrite`] names that file, which is as it was.
 pub fn commit_at<'a, D: Folder>(
     folder: &mut D,
     alloc: Global,
@@ -55,16 +56,17 @@ pub fn commit_at<'a, D: Folder>(
     lock: Lock<D::Made>,
     version: VersionChoice,
     to: &'a str,
-) -> Result<File, Failure<'a>>
+) -> Result<(), Failure<'a>>
     requires placed { PathsInStorage (state_of index) }
-    ensures written { IfOk result
-        (λ written. IsWrittenTo (asked_of lock.place) index written (rewrite_options version)) }
+    ensures written { OnOk result ((written : IndexFile)
+        × IsWrittenTo (asked_of lock.place) index written (rewrite_options version)) }
     ensures put { OnOk result (D.alone folder.old ≡ true → D.Made.contents lock.file ≡ Some []
         → IsPutSince (D.known folder.old) (D.known folder.new) lock.place
         (contents (state_of index)) (rewrite_options version)) }
     ensures released { OnErr result (D.alone folder.old ≡ true → IsReleased (D.works folder.old)
         (D.known folder.old) (D.known folder.new) (lock_of lock.place)) }
-    ensures fault { IfErr result (FailsToWrite to.now) }
+    ensures fault { IfErr result (FailsCommitting (D.works folder.old) lock.place
+        (contents (state_of index)) (rewrite_options version) to.now) }
     ensures alone { D.alone folder.new ≡ D.alone folder.old }
     ensures works { D.works folder.new ≡ D.works folder.old }
 {
@@ -73,7 +75,7 @@ pub fn commit_at<'a, D: Folder>(
         ..Options::default()
     };
     match index.commit(folder, alloc, lock, options, true) {
-        Ok(()) => Ok(index),
+        Ok(()) => Ok(()),
         Err(fault) => Err(Failure::Rewrite { path: to, fault }),
     }
 }

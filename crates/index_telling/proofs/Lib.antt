@@ -1,3 +1,4 @@
+mod Mappings
 mod Readings
 mod Salvages
 mod SharedIndex

@@ -1,18 +1,21 @@
 -- What the bytes of a file are read as by themselves, at the begin of 1970, with the default options.
-use Rattle.std.proofs.Common.{◌≡◌, subst, false, List, ℕ, Option, Ok}
+use Rattle.std.proofs.Common.{◌≡◌, subst, Bool, false, List, ℕ, Option, Ok}
 use Rattle.gix_index.specs.Behind.{FollowEntries}
 use Rattle.gix_index.specs.Checked.{IsFileAnswer}
 use Rattle.gix_index.specs.Contents.{Contents}
 use Rattle.gix_index.specs.DecodeOptions.{Options}
 use Rattle.gix_index.specs.Disk.{MayHave}
+use Rattle.gix_index.specs.FileFaults.{SaysOfFile}
+use Rattle.gix_index.specs.FileFaults.ReadError.{Error as ReadFault}
+use Rattle.gix_index.specs.FileFaults.ReadError.TheVariants as reads
 use Rattle.gix_index.specs.FileTime.{FileTime}
-use Rattle.gix_index.specs.Disk.World.{Known}
+use Rattle.gix_index.specs.Disk.World.{Known, World}
 use Rattle.gix_index.specs.Kind.{Kind}
 use Rattle.gix_index.specs.ObjectId.{ObjectId}
 use Rattle.index_marks.specs.Marks.{AreMarks}
 use Rattle.index_marks.specs.declared.Marks.{Marks}
 use Rattle.index_failures.specs.Options.{unlimited_options, IsBeginOf1970}
-use Rattle.index_telling.specs.Showing.{IsInBytes}
+use Rattle.index_telling.specs.Showing.{IsInBytes, SaysOfFileAlone}
 
 pub in_bytes : (known : Known) (kind : Kind) (bytes ending : List ℕ) (time : FileTime) (options : Options) (v : Contents)
     (checksum : Option ObjectId) (marks : Marks) → MayHave known bytes → IsBeginOf1970 time → options ≡ unlimited_options
@@ -28,3 +31,17 @@ in_bytes known kind bytes ending time options v checksum marks held begin e is b
   behind = behind;
   marked = marked;
 }
+
+pub says_alone : (works : Bool) (world : World) (at path : List ℕ) (kind : Kind) (time : FileTime) (options : Options)
+    (e : ReadFault) → at ≡ path → options ≡ unlimited_options
+    → SaysOfFile at works (world at) false kind time options e → SaysOfFileAlone works world kind path e
+says_alone works world at path kind time options e same is h = by e
+    (subst (λ (p : List ℕ). SaysOfFile p works (world p) false kind time unlimited_options e) same
+    (subst (λ (o : Options). SaysOfFile at works (world at) false kind time o e) is h))
+  where
+    by : (e : ReadFault) → SaysOfFile path works (world path) false kind time unlimited_options e
+        → SaysOfFileAlone works world kind path e
+    by (reads.Io fault) h = (time, h)
+    by (reads.Decode e) h = (time, h)
+    by (reads.LinkExtension e) h = (time, h)
+    by reads.Memory h = tt

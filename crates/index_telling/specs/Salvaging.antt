@@ -17,21 +17,18 @@ use Rattle.gix_index.specs.ObjectId.{ObjectId}
 use Rattle.gix_index.specs.State.{contents, records}
 use Rattle.gix_index.specs.VersionChoice.TheVariants.{Smallest}
 use Rattle.gix_index.specs.Disk.World.{Known, MayBe, World}
-use Rattle.gix_index.specs.WrittenFile.{IsWrittenTo}
 use Rattle.gix_index.specs.declared.file.File.{File}
-use Rattle.gix_index.specs.FileFaults.ReadError.{Error as FileError}
-use Rattle.gix_index.specs.FileFaults.ReadError.TheVariants as reading
+use Rattle.gix_index.specs.FileFaults.{IsOfFile}
+use Rattle.gix_index.specs.FileFaults.ReadError.{Error as ReadFault}
+use Rattle.gix_index.specs.FileFaults.ReadError.TheVariants as reads
 use Rattle.index_inspect.specs.Remains.{IsPlainIndex, Remain, wanted_id}
 use Rattle.index_inspect.specs.Salvage.{Saves}
 use Rattle.index_inspect.specs.declared.remains.Remains.{Remains}
 use Rattle.index_inspect.specs.declared.salvage.Salvaged.{Salvaged}
 use Rattle.index_telling.specs.declared.salvage.Report.{Report}
-use Rattle.index_telling.specs.declared.salvage.Rescue.{Rescue}
 use Rattle.index_failures.specs.declared.failure.Failure.{Failure}
-use Rattle.index_failures.specs.declared.failure.Failure.TheVariants as failures
-use Rattle.index_failures.specs.Reading.{FailsToRead}
-use Rattle.index_failures.specs.Options.{IsBeginOf1970, unlimited_options}
-use Rattle.index_failures.specs.Options.{rewrite_options}
+use Rattle.index_failures.specs.Reading.{FailsReading}
+use Rattle.index_failures.specs.Options.{IsBeginOf1970, rewrite_options, unlimited_options}
 use Rattle.index_failures.specs.Storing.{FailsStoring, IsReplaced}
 
 -- A file's bytes are read as the value, with a trailer that has to be this id unless it is null: their digest is compared,
@@ -59,8 +56,9 @@ pub record IsOfBytes (beside : ObjectId → Known) (kind : Kind) (bytes : List �
   pub is : Saves remains shared saved
   pub plain : IsPlainIndex saved.state
 
--- the numbers of what is saved
-pub record Reports (report : Report) (saved : Salvaged) : Type 0 where
+-- the numbers of what is saved, with the file that it was saved of
+pub record Reports (path : List ℕ) (report : Report) (saved : Salvaged) : Type 0 where
+  pub names : report.path.now ≡ path
   pub declared : report.declared ≡ saved.declared
   pub read : report.read ≡ saved.read
   pub kept : report.kept ≡ length (records saved.state)
@@ -76,30 +74,27 @@ pub record IsSavedOf (disk : Disk) (kind : Kind) (index : File) (saved : Salvage
   pub of_bytes : IsOfBytes disk.shared kind bytes saved
   pub holds : contents (state_of index) ≡ with_time (contents saved.state) time
 
--- the same, once it was written to this path, and what is told of it
-pub record IsSalvaged (disk : Disk) (kind : Kind) (to : List ℕ) (index : File) (rescue : Rescue) : Type 0 where
+-- the same of the file at a path, and what is told of it
+pub record IsSalvaged (world : World) (kind : Kind) (path : List ℕ) (report : Report) (index : File) : Type 0 where
   pub saved : Salvaged
-  pub is_saved : IsSavedOf disk kind index saved
-  pub is_written : IsWrittenTo to index rescue.index (rewrite_options Smallest)
-  pub reports : Reports rescue.report saved
+  pub is_saved : IsSavedOf (disk_at world path) kind index saved
+  pub reports : Reports path report saved
 
 -- a file was read under the lock of the file that is written, and what was saved of it was written there
-abbrev pub Salvages : Bool → Bool → Kind → World → World → List ℕ → List ℕ → Rescue → Type 0
-Salvages alone guards kind old new path to rescue =
-    IsReplaced alone guards old new to (λ world index. IsSalvaged (disk_at world path) kind to index rescue)
-    (λ index. rewrite_options Smallest)
+abbrev pub Salvages : Bool → Bool → Kind → World → World → List ℕ → List ℕ → Report → Type 0
+Salvages alone guards kind old new path to report = IsReplaced alone guards old new to
+    (λ world index. IsSalvaged world kind path report index) (λ index. rewrite_options Smallest)
 
--- the fault says why nothing is saved of these bytes: what keeps their header from being read, or that memory is short
-abbrev pub LosesHeader : Kind → List ℕ → FileError → Type 0
-LosesHeader kind bytes (reading.Decode (decoding.Header e)) = header_of kind bytes ≡ Err (header_fault e)
-LosesHeader kind bytes reading.Memory = Unit {0}
-LosesHeader kind bytes e = ⊥
+-- The fault is why nothing is saved of the file at a path: one of the disk that names it, what keeps the header of its
+-- bytes from being read, or want of memory.
+abbrev pub SaysOfSaving : Bool → World → Kind → List ℕ → ReadFault → Type 0
+SaysOfSaving works world kind path (reads.Io fault) = IsOfFile path works (world path) fault
+SaysOfSaving works world kind path (reads.Decode (decoding.Header e)) =
+    (bytes : List ℕ) × MayHave (world path) bytes × (header_of kind bytes ≡ Err (header_fault e))
+SaysOfSaving works world kind path reads.Memory = Unit {0}
+SaysOfSaving works world kind path e = ⊥
 
--- the same, with the file that has these bytes
-abbrev pub FailsToSave : Kind → List ℕ → List ℕ → Failure → Type 0
-FailsToSave kind path bytes (failures.Index file e) = (file.now ≡ path) × LosesHeader kind bytes e
-FailsToSave kind path bytes e = ⊥
-
--- a failure of saving names the file that it concerns, or one of those that the words name
-abbrev pub FailsToSalvage : List ℕ → List ℕ → Failure → Type 0
-FailsToSalvage path to failure = FailsStoring (FailsToRead path) to failure
+-- nothing is written, or nothing is saved
+abbrev pub FailsToSalvage : Bool → Bool → Kind → World → List ℕ → List ℕ → Failure → Type 0
+FailsToSalvage works guards kind old path to failure =
+    FailsStoring works guards old to (λ world. FailsReading (SaysOfSaving works world kind path) path) failure

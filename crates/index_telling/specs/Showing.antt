@@ -1,6 +1,5 @@
 -- What a file holds, as the program prints it, for people or as JSON (the program's own).
-use Rattle.std.specs.Prelude.{ℕ, false, List, Option, Ok}
-use Rattle.std.specs.Io.KnownBytes.{Appends}
+use Rattle.std.specs.Prelude.{◌≡◌, ℕ, Bool, false, List, Option, Ok}
 use Rattle.gix_index.specs.Behind.{FollowEntries}
 use Rattle.gix_index.specs.Checked.{IsFileAnswer}
 use Rattle.gix_index.specs.Contents.{Contents}
@@ -8,16 +7,15 @@ use Rattle.gix_index.specs.Disk.{MayHave}
 use Rattle.gix_index.specs.FileTime.{FileTime}
 use Rattle.gix_index.specs.Kind.{Kind}
 use Rattle.gix_index.specs.ObjectId.{ObjectId}
-use Rattle.gix_index.specs.Taking.{AppendsPrefix}
-use Rattle.gix_index.specs.Disk.World.{Known}
+use Rattle.gix_index.specs.Disk.World.{Known, World}
+use Rattle.gix_index.specs.FileFaults.{SaysOfFile}
+use Rattle.gix_index.specs.FileFaults.ReadError.{Error as ReadFault}
+use Rattle.gix_index.specs.FileFaults.ReadError.TheVariants as reads
 use Rattle.index_json.specs.Json.{json_text}
 use Rattle.index_marks.specs.Marks.{AreMarks}
 use Rattle.index_show.specs.Show.{show_lines}
 use Rattle.index_marks.specs.declared.Marks.{Marks}
-use Rattle.index_failures.specs.declared.failure.Failure.{Failure}
 use Rattle.index_failures.specs.Options.{unlimited_options, IsBeginOf1970}
-use Rattle.index_failures.specs.Reading.{FailsToRead}
-use Rattle.index_failures.specs.Telling.{FailsTelling}
 
 -- The file's bytes are read as the value, by themselves, and say this by the offset table and the end marker behind their
 -- entries: their digest is compared, and the time is the begin of 1970.
@@ -32,41 +30,25 @@ pub record IsInBytes (known : Known) (kind : Kind) (value : Contents) (checksum 
   pub behind : FollowEntries kind bytes ending
   pub marked : AreMarks kind ending marks
 
--- known bytes grew by what is told of what a file's bytes hold
-pub record TellsBytes (text : Contents → Option ObjectId → Marks → List ℕ) (known : Known) (kind : Kind)
-    (old new : Option (List ℕ)) : Type 0 where
+-- what is told of what a file's bytes hold
+pub record IsOfContents (text : Contents → Option ObjectId → Marks → List ℕ) (known : Known) (kind : Kind)
+    (told : List ℕ) : Type 0 where
   pub value : Contents
   pub checksum : Option ObjectId
   pub marks : Marks
-  pub told : IsInBytes known kind value checksum marks
-  pub grew : Appends old new (text value checksum marks)
-
--- known bytes grew by a prefix of it
-pub record TellsBytesFront (text : Contents → Option ObjectId → Marks → List ℕ) (known : Known) (kind : Kind)
-    (old new : Option (List ℕ)) : Type 0 where
-  pub value : Contents
-  pub checksum : Option ObjectId
-  pub marks : Marks
-  pub told : IsInBytes known kind value checksum marks
-  pub grew : AppendsPrefix old new (text value checksum marks)
+  pub held : IsInBytes known kind value checksum marks
+  pub is : told ≡ text value checksum marks
 
 -- as lines, and as JSON
-abbrev pub Shows : Known → Kind → Option (List ℕ) → Option (List ℕ) → Type 0
-Shows known kind old new = TellsBytes show_lines known kind old new
+abbrev pub IsShown : Known → Kind → List ℕ → Type 0
+IsShown known kind text = IsOfContents show_lines known kind text
 
-abbrev pub ShowsJson : Known → Kind → Option (List ℕ) → Option (List ℕ) → Type 0
-ShowsJson known kind old new = TellsBytes json_text known kind old new
+abbrev pub IsJson : Known → Kind → List ℕ → Type 0
+IsJson known kind text = IsOfContents json_text known kind text
 
--- a prefix of them
-abbrev pub ShowsFront : Known → Kind → Option (List ℕ) → Option (List ℕ) → Type 0
-ShowsFront known kind old new = TellsBytesFront show_lines known kind old new
-
-abbrev pub ShowsJsonFront : Known → Kind → Option (List ℕ) → Option (List ℕ) → Type 0
-ShowsJsonFront known kind old new = TellsBytesFront json_text known kind old new
-
--- a failure of showing, and of showing as JSON
-abbrev pub FailsToShow : Known → Kind → List ℕ → Failure → Option (List ℕ) → Option (List ℕ) → Type 0
-FailsToShow known kind path failure old new = FailsTelling (ShowsFront known kind) (FailsToRead path) failure old new
-
-abbrev pub FailsToShowJson : Known → Kind → List ℕ → Failure → Option (List ℕ) → Option (List ℕ) → Type 0
-FailsToShowJson known kind path failure old new = FailsTelling (ShowsJsonFront known kind) (FailsToRead path) failure old new
+-- The fault is why the file at a path of a place that works, or may fail, isn't read by itself. Want of memory says
+-- nothing.
+abbrev pub SaysOfFileAlone : Bool → World → Kind → List ℕ → ReadFault → Type 0
+SaysOfFileAlone works world kind path reads.Memory = Unit {0}
+SaysOfFileAlone works world kind path e =
+    (time : FileTime) × SaysOfFile path works (world path) false kind time unlimited_options e

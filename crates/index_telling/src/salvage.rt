@@ -1,15 +1,13 @@
 //! The command `salvage`.
 
-ghost use Rattle.std.specs.Option.{option_map};
-ghost use Rattle.std.specs.Prelude.{◌≡◌, ℕ, List, true, IfErr, IfOk, OnErr, OnOk};
+ghost use Rattle.std.specs.Prelude.{◌≡◌, ℕ, List, Bool, true, IfErr, IfOk, OnErr};
 ghost use Rattle.gix_index.specs.Disk.{MayHave, disk_at};
 ghost use Rattle.gix_index.specs.InPlace.Locks.{Restores};
 ghost use Rattle.gix_index.specs.State.{contents};
-ghost use Rattle.gix_index.specs.Disk.World.{MayBe};
+ghost use Rattle.gix_index.specs.Disk.World.{MayBe, World};
 ghost use Rattle.index_inspect.specs.Remains.{IsPlainIndex, Remain};
-ghost use Rattle.index_failures.specs.Reading.{FailsToRead};
-ghost use Rattle.index_telling.specs.Salvaging.{FailsToSalvage, FailsToSave, IsOfBytes, Salvages};
-ghost use Rattle.index_telling.specs.declared.salvage.Rescue.{Rescue as RescueValue};
+ghost use Rattle.index_failures.specs.Reading.{FailsReading};
+ghost use Rattle.index_telling.specs.Salvaging.{FailsToSalvage, IsOfBytes, Salvages, SaysOfSaving};
 
 use crate::map::bytes_at;
 use crate::shared::shared_beside;
@@ -69,15 +67,6 @@ impl fmt::Display for Report<'_> {
     }
 }
 
-/// What was saved of a file, as it was written, and what is told of it.
-#[derive(Drop)]
-pub struct Rescue<'a> {
-    /// The index that was written.
-    pub index: File,
-    /// What is told.
-    pub report: Report<'a>,
-}
-
 /// What remains of a file with these bytes.
 fn remains_in<'a>(
     alloc: Global,
@@ -88,8 +77,8 @@ fn remains_in<'a>(
     ensures remains { IfOk result (Remain kind bytes.now) }
     ensures kind { IfOk result (λ r. (contents r.front).kind ≡ kind) }
     ensures plain { IfOk result (λ r. IsPlainIndex r.front) }
-    ensures fault { IfErr result (FailsToRead path.now) }
-    ensures lost { IfErr result (FailsToSave kind path.now bytes.now) }
+    ensures fault { (works : Bool) (world : World) → MayHave (world path.now) bytes.now
+        → IfErr result (FailsReading (SaysOfSaving works world kind path.now) path.now) }
 {
     match remains_of(alloc, kind, bytes) {
         Ok(remains) => Ok(remains),
@@ -111,13 +100,10 @@ fn saved_of<'a, D: Folder>(
 ) -> Result<Salvaged, Failure<'a>>
     ensures saved { IfOk result
         (IsOfBytes (disk_at (D.known folder.now) path.now).shared kind bytes.now) }
-    ensures fault { IfErr result (FailsToRead path.now) }
-    ensures lost { IfErr result (FailsToSave kind path.now bytes.now) }
+    ensures fault { (works : Bool) (world : World) → MayHave (world path.now) bytes.now
+        → IfErr result (FailsReading (SaysOfSaving works world kind path.now) path.now) }
 {
-    let remains = match remains_in(alloc, kind, path, bytes) {
-        Ok(remains) => remains,
-        Err(failure) => return Err(failure),
-    };
+    let remains = remains_in(alloc, kind, path, bytes)?;
     let Ok(shared) = shared_beside(folder, alloc, kind, path, remains.shared_index()) else {
         return Err(out_of_memory(path));
     };
@@ -139,19 +125,15 @@ fn saved_at<'a, D: Folder>(
         × IsOfBytes (disk_at (D.known folder.now) path.now).shared kind bytes x.0) }
     ensures since { IfOk result
         (λ x. MayBe (D.known folder.now path.now) (λ file. x.1 ≡ file.time)) }
-    ensures fault { IfErr result (FailsToRead path.now) }
+    ensures fault { IfErr result (FailsReading
+        (SaysOfSaving (D.works folder.now) (D.known folder.now) kind path.now) path.now) }
 {
-    let (bytes, time) = match bytes_at(folder, alloc, path) {
-        Ok(read) => read,
-        Err(failure) => return Err(failure),
-    };
-    match saved_of(folder, alloc, kind, path, &bytes) {
-        Ok(saved) => Ok((saved, time)),
-        Err(failure) => Err(failure),
-    }
+    let (bytes, time) = bytes_at(folder, alloc, path)?;
+    let saved = saved_of(folder, alloc, kind, path, &bytes)?;
+    Ok((saved, time))
 }
 
-/// Writes what can be saved of a file to another path, or to the same, and gives it as it is there.
+/// Writes what can be saved of a file to another path, or to the same, and reports what it was.
 ///
 /// The file at the other path is locked, as git locks an index, before the first is opened. What is saved is told by
 /// [`remains_of`] and [`Remains::save`]; it is written as an index without extensions, with the time at which the first
@@ -159,23 +141,21 @@ fn saved_at<'a, D: Folder>(
 /// the file, and used where it can be read as an index with the link's id and fits the file. A file whose header can't
 /// be read gives nothing. [`Failure::Lock`], [`Failure::Rewrite`]: it can't be written, and what was at the path is
 /// there as before. Any other failure concerns the file that is read.
-pub fn salvaged<'a, D: Folder>(
+pub fn salvage<'a, D: Folder>(
     folder: &mut D,
     alloc: Global,
     kind: Kind,
     path: &'a str,
     to: &'a str,
-) -> Result<Rescue<'a>, Failure<'a>>
+) -> Result<Report<'a>, Failure<'a>>
     ensures written { IfOk result (Salvages (D.alone folder.old) (D.guards folder.old) kind
         (D.known folder.old) (D.known folder.new) path.now to.now) }
     ensures restored { OnErr result (D.alone folder.old ≡ true → Restores (D.works folder.old)
         (D.known folder.old) (D.known folder.new) to.now) }
-    ensures fault { IfErr result (FailsToSalvage path.now to.now) }
+    ensures fault { IfErr result (FailsToSalvage (D.works folder.old) (D.guards folder.old) kind
+        (D.known folder.old) path.now to.now) }
 {
-    let lock = match lock_at(folder, alloc, to) {
-        Ok(lock) => lock,
-        Err(failure) => return Err(failure),
-    };
+    let lock = lock_at(folder, alloc, to)?;
     let (saved, time) = match saved_at(folder, alloc, kind, path) {
         Ok(found) => found,
         Err(failure) => {
@@ -191,42 +171,15 @@ pub fn salvaged<'a, D: Folder>(
         fault,
         shared,
     } = saved;
-    let report = Report {
+    state.set_timestamp(time);
+    let index = File::from_state(state, PathBuf::new(alloc));
+    commit_at(folder, alloc, index, lock, VersionChoice::Smallest, to)?;
+    Ok(Report {
         path,
         declared,
         read,
         kept,
         fault,
         shared,
-    };
-    state.set_timestamp(time);
-    let index = File::from_state(state, PathBuf::new(alloc));
-    match commit_at(folder, alloc, index, lock, VersionChoice::Smallest, to) {
-        Ok(index) => Ok(Rescue { index, report }),
-        Err(failure) => Err(failure),
-    }
-}
-
-/// The command: [`salvaged`], of which the report is kept.
-pub fn save<'a, D: Folder>(
-    folder: &mut D,
-    alloc: Global,
-    kind: Kind,
-    path: &'a str,
-    to: &'a str,
-) -> Result<Report<'a>, Failure<'a>>
-    ensures written { OnOk result ((rescue : RescueValue) × Salvages (D.alone folder.old)
-        (D.guards folder.old) kind (D.known folder.old) (D.known folder.new) path.now to.now
-        rescue) }
-    ensures restored { OnErr result (D.alone folder.old ≡ true → Restores (D.works folder.old)
-        (D.known folder.old) (D.known folder.new) to.now) }
-    ensures fault { IfErr result (FailsToSalvage path.now to.now) }
-{
-    match salvaged(folder, alloc, kind, path, to) {
-        Ok(Rescue { index, report }) => {
-            drop(index);
-            Ok(report)
-        }
-        Err(failure) => Err(failure),
-    }
+    })
 }

@@ -1,28 +1,39 @@
 //! The commands, from words to a status.
 
-ghost use Rattle.std.specs.Prelude.{◌≡◌, ◌≤◌, ◌↔◌, false, true, map, IfErr, IfOk, OnOk, OnErr, IsSomeAnd, None, is_some, string_bytes};
+ghost use Rattle.std.specs.Prelude.{◌≡◌, ◌≤◌, ◌⊎◌, false, true, map, IfErr, IfOk, OnOk, OnErr, string_bytes};
 ghost use Rattle.std.specs.Io.KnownBytes.{Keeps};
 ghost use Rattle.std.specs.Option.{option_map};
-ghost use Rattle.index_tool.specs.Command.{command_named, command_value, kind_named, opted, read_named, reading_named, reports, write_named, writing_named, FailsToStore, GivesUp, Reads, Spares, StoresIndex, Succeeds, Prints, Writes};
-ghost use Rattle.gix_index.specs.Disk.{disk_at};
 ghost use Rattle.gix_index.specs.InPlace.Locks.{Restores};
+ghost use Rattle.index_failures.specs.Telling.{Tells};
+ghost use Rattle.index_words.specs.Answers.{is_asked_for};
+ghost use Rattle.index_words.specs.Commands.{command_value, place_of};
+ghost use Rattle.index_words.specs.Meaning.{meaning};
+ghost use Rattle.index_tool.specs.Command.{IsFound, IsPlace, Reads, given_of, input_of, on_file};
+ghost use Rattle.index_tool.specs.Ending.{AreWrong, HasNoPlace, IsDone, IsRefused, IsUnfound, IsWrong, reports, reports_of};
+ghost use Rattle.index_tool.specs.Outcome.{Does, FailsToStore, GivesUp, IsTold, Spares, StoresIndex, Succeeds};
 
-use gix_index::file::folder::Folder;
+use crate::terminal::{Console, STANDARD_INPUT};
+use gix_index::file::PathError;
+use gix_index::file::folder::{Folder, Standing};
 use gix_index::hash::Kind;
+use gix_index::hash::io::Out;
 use index_commands::check::check;
 use index_commands::list::list;
 use index_commands::rewrite::{Form, rewrite};
 use index_commands::rewrite_trees::{Counts, rewrite_trees};
 use index_commands::trees::trees;
 use index_failures::failure::Failure;
+use index_input::{Surroundings, index_path, kind_at};
 use index_telling::map::map;
 use index_telling::map_svg::map_svg;
-use index_telling::salvage::{Report, save};
+use index_telling::salvage::{Report, salvage};
 use index_telling::show::show;
 use index_telling::show_json::show_json;
+use index_words::{Answer, Command, Input, Reading, Writing, parse};
 use std::alloc::Global;
-use std::io;
-use std::io::Write;
+use std::io::{ErrorKind, Write};
+use std::path::{Path, PathBuf};
+use std::{fmt, io};
 
 /// The status of a command that succeeded.
 pub const DONE: u8 = 0;
@@ -31,189 +42,74 @@ pub const REFUSED: u8 = 1;
 /// The status of words that are no command.
 pub const WRONG_WORDS: u8 = 2;
 
-/// What is told of the index in a file.
-#[derive(Clone, Copy)]
-pub enum Reading {
-    /// A line for each entry.
-    List,
-    /// Whether it is sound.
-    Check,
-    /// The same, and whether its cached tree tells what its entries give.
-    CheckTrees,
-    /// The parts of the file, up to its first fault.
-    Map,
-    /// A picture of these parts.
-    MapSvg,
-    /// What the file holds.
-    Show,
-    /// The same as JSON.
-    ShowJson,
-    /// A line for each directory of the trees that its entries make.
-    Trees,
+/// The index that a command is about.
+#[derive(Drop)]
+struct Found {
+    /// The path of its file.
+    path: String,
+    /// The kind of its ids.
+    kind: Kind,
 }
 
-/// What is written of the index in a file.
-#[derive(Clone, Copy)]
-pub enum Writing {
-    /// The index again.
-    Rewrite(Form),
-    /// The index with a cached tree made anew.
-    RewriteTrees(Counts),
-    /// What can be saved of it, where it is damaged.
-    Salvage,
-}
-
-/// A command with its words.
-#[derive(Clone, Copy)]
-enum Command<'a> {
-    /// What is told of the file at a path.
-    Read {
-        what: Reading,
-        kind: Kind,
-        path: &'a str,
-    },
-    /// What is written of it to another path.
-    Write {
-        what: Writing,
-        kind: Kind,
-        path: &'a str,
-        to: &'a str,
-    },
-}
-
-fn kind_of(word: &str) -> Option<Kind>
-    ensures { result ≡ kind_named word.now }
+/// The path of the file that a word names, or that of the work tree's index where no word does.
+fn path_of<D: Console>(
+    folder: &mut D,
+    alloc: Global,
+    around: &Surroundings,
+    input: Option<Input<'_>>,
+) -> Result<String, index_input::Error>
+    ensures place { IfOk result (λ path. IsPlace (D.known folder.old) around.now
+        (option_map place_of input.entry) (string_bytes path)) }
+    ensures fault { IfErr result (HasNoPlace (D.works folder.old) (D.known folder.old) around.now
+        (option_map place_of input.entry)) }
+    ensures known { D.known folder.new ≡ D.known folder.old }
+    ensures alone { D.alone folder.new ≡ D.alone folder.old }
+    ensures guards { D.guards folder.new ≡ D.guards folder.old }
+    ensures works { D.works folder.new ≡ D.works folder.old }
 {
-    if word == "sha1" {
-        return Some(Kind::Sha1);
-    }
-    if word == "sha256" {
-        return Some(Kind::Sha256);
-    }
-    None
-}
-
-/// What a command of this name tells, if it is one that does.
-fn reading_of(name: &str) -> Option<Reading>
-    ensures { result ≡ reading_named name.now }
-{
-    if name == "list" {
-        return Some(Reading::List);
-    }
-    if name == "check" {
-        return Some(Reading::Check);
-    }
-    if name == "check-trees" {
-        return Some(Reading::CheckTrees);
-    }
-    if name == "map" {
-        return Some(Reading::Map);
-    }
-    if name == "map-svg" {
-        return Some(Reading::MapSvg);
-    }
-    if name == "show" {
-        return Some(Reading::Show);
-    }
-    if name == "show-json" {
-        return Some(Reading::ShowJson);
-    }
-    if name == "trees" {
-        return Some(Reading::Trees);
-    }
-    None
-}
-
-/// What a command of this name writes, if it is one that does.
-fn writing_of(name: &str) -> Option<Writing>
-    ensures { result ≡ writing_named name.now }
-{
-    if name == "rewrite" {
-        return Some(Writing::Rewrite(Form::AsRead));
-    }
-    if name == "rewrite4" {
-        return Some(Writing::Rewrite(Form::V4));
-    }
-    if name == "rewrite-trees" {
-        return Some(Writing::RewriteTrees(Counts::Known));
-    }
-    if name == "salvage" {
-        return Some(Writing::Salvage);
-    }
-    None
-}
-
-/// The command of the words KIND FILE.
-fn read_of(what: Reading, words: &[String]) -> Option<Command<'_>>
-    ensures { option_map command_value result ≡ read_named what (map string_bytes words.now) }
-{
-    let [kind, path] = words else {
-        return None;
-    };
-    let kind = kind_of(kind.as_str())?;
-    Some(Command::Read {
-        what,
-        kind,
-        path: path.as_str(),
-    })
-}
-
-/// What is written with an option in front of the words, where it may stand there.
-fn opted(what: Writing, option: &str) -> Option<Writing>
-    ensures { result ≡ opted what option.now }
-{
-    match what {
-        Writing::RewriteTrees(_) if option == "--missing-ok" => {
-            Some(Writing::RewriteTrees(Counts::All))
+    match input {
+        Some(Input::File(path)) => Ok(String::from_str(alloc, path)?),
+        Some(Input::Stdin) => {
+            if let Err(error) = folder.hold_input(alloc) {
+                if error.kind() == ErrorKind::OutOfMemory {
+                    return Err(index_input::Error::Memory);
+                }
+                let path = PathBuf::from_str(alloc, STANDARD_INPUT)?;
+                return Err(index_input::Error::Io(PathError { path, error }));
+            }
+            Ok(String::from_str(alloc, STANDARD_INPUT)?)
         }
-        Writing::RewriteTrees(_) | Writing::Rewrite(_) | Writing::Salvage => None,
+        None => index_path(folder, alloc, around),
     }
 }
 
-/// The command of these words.
-fn write_to<'a>(what: Writing, kind: &'a str, path: &'a str, to: &'a str) -> Option<Command<'a>>
-    ensures { option_map command_value result
-        ≡ option_map (λ k. Writes what k path.now to.now) (kind_named kind.now) }
+/// The index that the words name, with what they leave out.
+fn find<D: Console>(
+    folder: &mut D,
+    alloc: Global,
+    around: &Surroundings,
+    given: Option<Kind>,
+    input: Option<Input<'_>>,
+) -> Result<Found, index_input::Error>
+    ensures found { IfOk result (λ found. IsFound (D.known folder.old) around.now given
+        (option_map place_of input.entry) found.kind (string_bytes found.path)) }
+    ensures fault { IfErr result (IsUnfound (D.works folder.old) (D.known folder.old) around.now
+        given (option_map place_of input.entry)) }
+    ensures known { D.known folder.new ≡ D.known folder.old }
+    ensures alone { D.alone folder.new ≡ D.alone folder.old }
+    ensures guards { D.guards folder.new ≡ D.guards folder.old }
+    ensures works { D.works folder.new ≡ D.works folder.old }
 {
-    let kind = kind_of(kind)?;
-    Some(Command::Write {
-        what,
-        kind,
-        path,
-        to,
-    })
-}
-
-/// The command of the words KIND FILE OUT, perhaps behind an option.
-fn write_of(what: Writing, words: &[String]) -> Option<Command<'_>>
-    ensures { option_map command_value result ≡ write_named what (map string_bytes words.now) }
-{
-    match words {
-        [kind, file, to] => write_to(what, kind.as_str(), file.as_str(), to.as_str()),
-        [option, kind, file, to] => {
-            let what = opted(what, option.as_str())?;
-            write_to(what, kind.as_str(), file.as_str(), to.as_str())
-        }
-        _ => None,
-    }
-}
-
-/// The command that these words are, if they are one.
-fn command_of(words: &[String]) -> Option<Command<'_>>
-    ensures { option_map command_value result ≡ command_named (map string_bytes words.now) }
-{
-    let [name, rest @ ..] = words else {
-        return None;
+    let path = path_of(folder, alloc, around, input)?;
+    let kind = match given {
+        Some(kind) => kind,
+        None => kind_at(folder, alloc, path.as_str())?,
     };
-    if let Some(what) = reading_of(name.as_str()) {
-        return read_of(what, rest);
-    }
-    let what = writing_of(name.as_str())?;
-    write_of(what, rest)
+    Ok(Found { path, kind })
 }
 
 /// Tells what is asked of the index in a file: Ok where all of it went to `out`.
-fn tell<'a, D: Folder, W: io::Write>(
+fn tell<'a, D: Folder, W: Out>(
     folder: &D,
     alloc: Global,
     what: Reading,
@@ -221,20 +117,21 @@ fn tell<'a, D: Folder, W: io::Write>(
     path: &'a str,
     out: &mut W,
 ) -> Result<(), Failure<'a>>
-    ensures told { OnOk result (Prints what (disk_at (D.known folder.now) path.now) kind
-        (W.contents out.old) (W.contents out.new)) }
+    requires unfailed { W.failed out.old ≡ false }
+    ensures told { OnOk result (Tells (IsTold what (D.known folder.now) kind path.now)
+        (W.taken out.old) (W.taken out.new)) }
     ensures refused { OnErr result (GivesUp (D.known folder.now) (Reads what kind path.now)
-        (W.contents out.old) (W.contents out.new)) }
+        (W.taken out.old) (W.taken out.new)) }
 {
     match what {
-        Reading::List => list(folder, alloc, kind, path, out),
+        Reading::List(lines) => list(folder, alloc, lines, kind, path, out),
         Reading::Check => check(folder, alloc, false, kind, path, out),
         Reading::CheckTrees => check(folder, alloc, true, kind, path, out),
-        Reading::Map => map(folder, alloc, kind, path, out),
+        Reading::Map(lines) => map(folder, alloc, lines, kind, path, out),
         Reading::MapSvg => map_svg(folder, alloc, kind, path, out),
         Reading::Show => show(folder, alloc, kind, path, out),
         Reading::ShowJson => show_json(folder, alloc, kind, path, out),
-        Reading::Trees => trees(folder, alloc, kind, path, out),
+        Reading::Trees(lines) => trees(folder, alloc, lines, kind, path, out),
     }
 }
 
@@ -243,124 +140,233 @@ fn write<'a, D: Folder>(
     folder: &mut D,
     alloc: Global,
     what: Writing,
-    kind: Kind,
-    path: &'a str,
+    index: &'a Found,
     to: &'a str,
 ) -> Result<Option<Report<'a>>, Failure<'a>>
-    ensures written { OnOk result (StoresIndex what (D.alone folder.old) (D.guards folder.old) kind
-        (D.known folder.old) (D.known folder.new) path.now to.now) }
+    ensures written { IfOk result (StoresIndex what (D.alone folder.old) (D.guards folder.old)
+        index.now.kind (D.known folder.old) (D.known folder.new) (string_bytes index.now.path)
+        to.now) }
     ensures restored { OnErr result (D.alone folder.old ≡ true → Restores (D.works folder.old)
         (D.known folder.old) (D.known folder.new) to.now) }
-    ensures fault { IfErr result (FailsToStore what path.now to.now) }
-    ensures report { IfOk result
-        (λ report. is_some report ≡ reports (Writes what kind path.now to.now)) }
+    ensures fault { IfErr result (FailsToStore what (D.works folder.old) (D.guards folder.old)
+        index.now.kind (D.known folder.old) (string_bytes index.now.path) to.now) }
 {
+    let (kind, path) = (index.kind, index.path.as_str());
     match what {
-        Writing::Rewrite(form) => {
-            rewrite(folder, alloc, form, kind, path, to)?;
-            Ok(None)
+        Writing::Rewrite => rewrite(folder, alloc, Form::AsRead, kind, path, to)?,
+        Writing::Rewrite4 => rewrite(folder, alloc, Form::V4, kind, path, to)?,
+        Writing::RewriteTrees { missing_ok: true } => {
+            rewrite_trees(folder, alloc, Counts::All, kind, path, to)?
         }
-        Writing::RewriteTrees(counts) => {
-            rewrite_trees(folder, alloc, counts, kind, path, to)?;
-            Ok(None)
+        Writing::RewriteTrees { missing_ok: false } => {
+            rewrite_trees(folder, alloc, Counts::Known, kind, path, to)?
         }
-        Writing::Salvage => Ok(Some(save(folder, alloc, kind, path, to)?)),
+        Writing::Salvage => return Ok(Some(salvage(folder, alloc, kind, path, to)?)),
+    };
+    Ok(None)
+}
+
+/// Prints what the words ask for: Ok where all of it went to `out`.
+fn print<O: Out>(alloc: Global, answer: &Answer, out: &mut O) -> io::Result<()>
+    requires unfailed { O.failed out.old ≡ false }
+{
+    let text = format!(in alloc; "{answer}")?;
+    out.put(text.as_bytes())
+}
+
+/// Prints what is said in place of a command, and gives its status.
+fn say<O: Out, E: io::Write>(alloc: Global, answer: &Answer, out: &mut O, faults: &mut E) -> u8
+    requires unfailed { O.failed out.old ≡ false }
+    ensures status { result ≤ WRONG_WORDS }
+    ensures asked { result ≡ DONE → is_asked_for answer.now ≡ true }
+    ensures wrong_words { result ≡ WRONG_WORDS → IsWrong answer.now }
+    ensures refused { result ≡ REFUSED
+        → (is_asked_for answer.now ≡ true) ⊎ (answer.now ≡ Answer.OutOfMemory) }
+    ensures nothing { is_asked_for answer.now ≡ false
+        → Keeps (O.taken out.old) (O.taken out.new) }
+    ensures no_fault { result ≡ DONE → Keeps (E.contents faults.old) (E.contents faults.new) }
+{
+    if !answer.is_asked_for() {
+        let _ = write!(faults, "{answer}");
+        return answer.status();
+    }
+    match print(alloc, answer, out) {
+        Ok(()) => DONE,
+        Err(e) => {
+            let _ = writeln!(faults, "index-tool: standard output: {e}");
+            REFUSED
+        }
     }
 }
 
-/// Runs a command: Ok where its whole result went to `out`, with what else is to be told.
-fn run_command<'a, D: Folder, W: io::Write>(
+/// What is said behind a fault of an index that has ids of another kind than the words say.
+#[derive(Clone, Copy)]
+struct OtherKind(Option<Kind>);
+
+impl fmt::Display for OtherKind {
+    fn fmt<W: fmt::Write>(&self, f: &mut fmt::Formatter<W>) -> fmt::Result {
+        match self.0 {
+            Some(Kind::Sha1) => f.write_str("; its ids are of the kind `sha1`"),
+            Some(Kind::Sha256) => f.write_str("; its ids are of the kind `sha256`"),
+            None => Ok(()),
+        }
+    }
+}
+
+/// Whether a regular file is at a path. (A pipe would be waited for, and gives its bytes once.)
+fn is_regular<D: Folder>(folder: &D, path: &str) -> bool {
+    matches!(folder.look(Path::new(path)), Ok(Standing::File))
+}
+
+/// The kind that the index in a regular file has by itself, where it can't be read as one of another kind.
+fn other_kind<D: Folder>(
+    folder: &D,
+    alloc: Global,
+    index: &Found,
+    failure: &Failure<'_>,
+) -> OtherKind {
+    let is_read = matches!(failure, Failure::Index { .. } | Failure::Damaged { .. });
+    if !is_read || !is_regular(folder, index.path.as_str()) {
+        return OtherKind(None);
+    }
+    match kind_at(folder, alloc, index.path.as_str()) {
+        Ok(kind) if kind != index.kind => OtherKind(Some(kind)),
+        _ => OtherKind(None),
+    }
+}
+
+/// Runs a command on the index that it is about: Ok where it did all that it does, with what else is to be told.
+fn run_command<'a, D: Folder, O: Out>(
     folder: &mut D,
     alloc: Global,
     command: Command<'a>,
-    out: &mut W,
+    index: &'a Found,
+    out: &mut O,
 ) -> Result<Option<Report<'a>>, Failure<'a>>
-    ensures done { OnOk result (Succeeds (D.alone folder.old) (D.guards folder.old)
-        (D.known folder.old) (D.known folder.new) (command_value command.entry)
-        (W.contents out.old) (W.contents out.new)) }
-    ensures refused { OnErr result (GivesUp (D.known folder.old) (command_value command.entry)
-        (W.contents out.old) (W.contents out.new)) }
+    requires unfailed { O.failed out.old ≡ false }
+    ensures done { IfOk result (λ report. Does report (D.alone folder.old) (D.guards folder.old)
+        (D.known folder.old) (D.known folder.new)
+        (on_file (command_value command.entry) index.now.kind (string_bytes index.now.path))
+        (O.taken out.old) (O.taken out.new)) }
+    ensures refused { OnErr result (GivesUp (D.known folder.old)
+        (on_file (command_value command.entry) index.now.kind (string_bytes index.now.path))
+        (O.taken out.old) (O.taken out.new)) }
     ensures spared { OnErr result (Spares (D.alone folder.old) (D.works folder.old)
-        (D.known folder.old) (D.known folder.new) (command_value command.entry)) }
-    ensures report { IfOk result
-        (λ report. is_some report ≡ reports (command_value command.entry)) }
+        (D.known folder.old) (D.known folder.new)
+        (on_file (command_value command.entry) index.now.kind (string_bytes index.now.path))) }
 {
     match command {
-        Command::Read { what, kind, path } => {
-            tell(folder, alloc, what, kind, path, out)?;
+        Command::Read { what, .. } => {
+            tell(folder, alloc, what, index.kind, index.path.as_str(), out)?;
             Ok(None)
         }
-        Command::Write {
-            what,
-            kind,
-            path,
-            to,
-        } => write(folder, alloc, what, kind, path, to),
+        Command::Write { what, to, .. } => write(folder, alloc, what, index, to),
     }
 }
 
-/// Runs the command that these words are, and gives the status that the program ends with.
-///
-/// KIND is `sha1` or `sha256`, and FILE is an index, which is read with the shared index that it links to. `list KIND
-/// FILE` writes a line to `out` for each entry. `check KIND FILE` writes `ok` and a newline where the entries are in
-/// order and the file has its digest still; `check-trees KIND FILE` does so where the cached tree tells what they give,
-/// too. `trees KIND FILE` writes a line to `out` for each directory of the trees that the entries make. Of FILE by
-/// itself, without its shared index, `map KIND FILE` writes a line to `out` for each part, up to the first fault, where
-/// it has one, `map-svg KIND FILE` a picture of these parts, `show KIND FILE` lines of what it holds, and `show-json
-/// KIND FILE` the same as JSON. `rewrite KIND FILE OUT` writes the index to the path OUT, and nothing to `out`: OUT is
-/// locked, as git locks an index, before FILE is opened, and gets the time of FILE. `rewrite4 KIND FILE OUT` does so in
-/// version 4, and `rewrite-trees KIND FILE OUT` with a cached tree made anew, in which a directory has a count and an id
-/// where that of FILE has the same; with `--missing-ok` in front of KIND each has them, also those of trees that no
-/// object store has yet. `salvage KIND FILE OUT` writes what can be saved of FILE there, with the entries of its shared
-/// index where that can be read, and says on one line on `faults` how many entries were declared, read and kept, where
-/// the first fault is, and whether the entries of a shared index are there or missing.
-///
-/// [`DONE`]: the command did all that. [`REFUSED`]: a file can't be read or written, or is no such index, or `out`
-/// failed; nothing goes to `out` before FILE was read whole and, but for `map` and `map-svg`, all checks have passed;
-/// the map and the picture of a damaged file go there whole. [`WRONG_WORDS`]: the words are no command; no file is
-/// opened. A status other than [`DONE`] comes with one line on `faults`, which names the file that it concerns.
-pub fn run<D: Folder, O: io::Write, E: io::Write>(
+/// The same, with lines on `faults`, and the status.
+fn run_on<D: Folder, O: Out, E: io::Write>(
     folder: &mut D,
     alloc: Global,
-    words: &[String],
+    command: Command<'_>,
+    index: &Found,
     out: &mut O,
     faults: &mut E,
 ) -> u8
-    ensures status { result ≤ WRONG_WORDS }
-    ensures wrong_words { (result ≡ WRONG_WORDS)
-        ↔ (command_named (map string_bytes words.now) ≡ None) }
-    ensures nothing_opened { result ≡ WRONG_WORDS
-        → Keeps (O.contents out.old) (O.contents out.new) }
-    ensures done { result ≡ DONE → IsSomeAnd (command_named (map string_bytes words.now))
-        (λ command. Succeeds (D.alone folder.old) (D.guards folder.old) (D.known folder.old)
-        (D.known folder.new) command (O.contents out.old) (O.contents out.new)) }
-    ensures refused { result ≡ REFUSED → IsSomeAnd (command_named (map string_bytes words.now))
-        (λ command. GivesUp (D.known folder.old) command (O.contents out.old)
-        (O.contents out.new)) }
-    ensures spared { result ≡ REFUSED → IsSomeAnd (command_named (map string_bytes words.now))
-        (λ command. Spares (D.alone folder.old) (D.works folder.old) (D.known folder.old)
-        (D.known folder.new) command) }
-    ensures untouched { result ≡ WRONG_WORDS → D.known folder.new ≡ D.known folder.old }
-    ensures no_fault { result ≡ DONE → IsSomeAnd (command_named (map string_bytes words.now))
-        (λ command. reports command ≡ false
-        → Keeps (E.contents faults.old) (E.contents faults.new)) }
+    requires unfailed { O.failed out.old ≡ false }
+    ensures status { result ≤ REFUSED }
+    ensures done { result ≡ DONE → Succeeds (D.alone folder.old) (D.guards folder.old)
+        (D.known folder.old) (D.known folder.new)
+        (on_file (command_value command.entry) index.now.kind (string_bytes index.now.path))
+        (O.taken out.old) (O.taken out.new) }
+    ensures refused { result ≡ REFUSED → GivesUp (D.known folder.old)
+        (on_file (command_value command.entry) index.now.kind (string_bytes index.now.path))
+        (O.taken out.old) (O.taken out.new) }
+    ensures spared { result ≡ REFUSED → Spares (D.alone folder.old) (D.works folder.old)
+        (D.known folder.old) (D.known folder.new)
+        (on_file (command_value command.entry) index.now.kind (string_bytes index.now.path)) }
+    ensures no_fault { result ≡ DONE → reports (command_value command.entry) ≡ false
+        → Keeps (E.contents faults.old) (E.contents faults.new) }
 {
-    let Some(command) = command_of(words) else {
-        let _ = writeln!(
-            faults,
-            "index-tool: usage: index-tool list|check|check-trees|map|map-svg|show|show-json|trees sha1|sha256 FILE, \
-             or index-tool rewrite|rewrite4|rewrite-trees [--missing-ok]|salvage sha1|sha256 FILE OUT"
-        );
-        return WRONG_WORDS;
-    };
-    match run_command(folder, alloc, command, out) {
+    match run_command(folder, alloc, command, index, out) {
         Ok(None) => DONE,
         Ok(Some(report)) => {
             let _ = writeln!(faults, "index-tool: {report}");
             DONE
         }
         Err(failure) => {
-            let _ = writeln!(faults, "index-tool: {failure}");
+            let other = other_kind(folder, alloc, index, &failure);
+            let _ = writeln!(faults, "index-tool: {failure}{other}");
+            REFUSED
+        }
+    }
+}
+
+/// The kind and the place of the index that a command is about, as far as the words name them.
+fn named<'a>(command: &Command<'a>) -> (Option<Kind>, Option<Input<'a>>)
+    ensures kind { result.0 ≡ given_of (command_value command.now) }
+    ensures input { option_map place_of result.1 ≡ input_of (command_value command.now) }
+{
+    match *command {
+        Command::Read { kind, input, .. } => (kind, input),
+        Command::Write { kind, input, .. } => (kind, Some(input)),
+    }
+}
+
+/// Runs the command that these words are by [`parse`], and gives the status that the program ends with.
+///
+/// The index that it is about is FILE: the file at that path, or the standard input, which is held first, so that it
+/// counts as the file [`STANDARD_INPUT`]; without the word the one that [`index_path`] finds. Its kind is KIND, or what
+/// [`kind_at`] tells of that file. `list` writes a line to `out` for each entry, of which some are read from the shared
+/// index that FILE links to. `check` writes `ok` and a newline where the entries are in order and the file has its
+/// digest still; `check-trees` does so where the cached tree tells what they give, too. `trees` writes a line to `out`
+/// for each directory of the trees that the entries make. Of FILE by itself, without its shared index, `map` writes a
+/// line to `out` for each part, up to the first fault, where it has one, `map-svg` a picture of these parts, `show` lines
+/// of what it holds, and `show-json` the same as JSON. `rewrite` writes the index to the path OUT, and nothing to `out`:
+/// OUT is locked, as git locks an index, before FILE is opened, and gets the time of FILE. `rewrite4` does so in version
+/// 4, and `rewrite-trees` with a cached tree made anew, in which a directory has a count and an id where that of FILE
+/// has the same; with `--missing-ok` each has them, also those of trees that no object store has yet. `salvage` writes
+/// what can be saved of FILE there, with the entries of its shared index where that can be read, and says on one line on
+/// `faults` how many entries were declared, read and kept, where the first fault is, and whether the entries of a shared
+/// index are there or missing.
+///
+/// [`DONE`]: the command did all that, or `out` took the help or the version that the words ask for. [`REFUSED`]: the
+/// index isn't found, a file can't be read or written, or is no such index, or `out` failed; nothing goes to `out` before
+/// FILE was read whole and, but for `map` and `map-svg`, all checks have passed; the map and the picture of a damaged
+/// file go there whole. One line on `faults` names the file that it concerns. [`WRONG_WORDS`]: the words are no command,
+/// and lines on `faults` say why; no file is opened.
+pub fn run<D: Console, O: Out, E: io::Write>(
+    folder: &mut D,
+    alloc: Global,
+    around: &Surroundings,
+    words: &[String],
+    out: &mut O,
+    faults: &mut E,
+) -> u8
+    requires unfailed { O.failed out.old ≡ false }
+    ensures status { result ≤ WRONG_WORDS }
+    ensures wrong_words { result ≡ WRONG_WORDS → AreWrong (meaning (map string_bytes words.now)) }
+    ensures nothing_opened { result ≡ WRONG_WORDS
+        → Keeps (O.taken out.old) (O.taken out.new) }
+    ensures untouched { result ≡ WRONG_WORDS → D.known folder.new ≡ D.known folder.old }
+    ensures done { result ≡ DONE → IsDone around.now (D.alone folder.old) (D.guards folder.old)
+        (D.known folder.old) (D.known folder.new) (O.taken out.old) (O.taken out.new)
+        (meaning (map string_bytes words.now)) }
+    ensures refused { result ≡ REFUSED → IsRefused around.now (D.alone folder.old)
+        (D.works folder.old) (D.known folder.old) (D.known folder.new)
+        (O.taken out.old) (O.taken out.new) (meaning (map string_bytes words.now)) }
+    ensures no_fault { result ≡ DONE → reports_of (meaning (map string_bytes words.now)) ≡ false
+        → Keeps (E.contents faults.old) (E.contents faults.new) }
+{
+    let command = match parse(alloc, words) {
+        Ok(command) => command,
+        Err(answer) => return say(alloc, &answer, out, faults),
+    };
+    let (kind, input) = named(&command);
+    match find(folder, alloc, around, kind, input) {
+        Ok(index) => run_on(folder, alloc, command, &index, out, faults),
+        Err(fault) => {
+            let _ = writeln!(faults, "index-tool: {fault}");
             REFUSED
         }
     }

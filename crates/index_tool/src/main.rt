@@ -2,21 +2,22 @@
 #![tactic(auto)]
 
 pub mod command;
+pub mod terminal;
 pub mod words;
 
 pub use command::run;
-use gix_index::file::System;
-use gix_index::hash::io::Retrying;
+use gix_index::hash::io::{Plain, Retrying};
 use std::process::ExitCode;
-use words::{answer, words};
+use terminal::Terminal;
+use words::{answer, called};
 
 fn main(rt: HostRuntime) -> ExitCode {
-    let mut out = Retrying { inner: rt.stdout() };
-    let mut folder = System { rt: &rt };
+    let mut out = Plain::new(Retrying { inner: rt.stdout() });
+    let mut folder = Terminal::new(&rt, rt.stdin());
     answer(
         &mut folder,
         rt.alloc(),
-        words(&rt),
+        called(&rt),
         &mut out,
         &mut rt.stderr(),
     )

@@ -1,29 +1,68 @@
-//! The words that the program is called with, and the status that it ends with.
+//! The words that the program is called with, what stands around it, and the status that it ends with.
 
-ghost use Rattle.std.specs.Prelude.{◌≡◌, ◌≢◌, ◌≤◌, ◌↔◌, map, IfErr, IfOk, IsSomeAnd, None, OnErr, string_bytes};
+ghost use Rattle.std.specs.Prelude.{◌≡◌, ◌≢◌, ◌≤◌, ◌↔◌, false, map, IfErr, IfOk, OnErr, string_bytes};
 ghost use Rattle.std.specs.Io.KnownBytes.{Keeps};
 ghost use Rattle.std.specs.Process.{exit_status};
-ghost use Rattle.index_tool.specs.Command.{command_named, GivesUp, Spares, Succeeds};
+ghost use Rattle.index_words.specs.Meaning.{meaning};
+ghost use Rattle.index_tool.specs.Ending.{AreWrong, IsDone, IsRefused};
 
 use crate::command::{DONE, REFUSED, WRONG_WORDS, run};
-use gix_index::file::folder::Folder;
+use crate::terminal::Console;
+use gix_index::hash::io::Out;
+use index_input::Surroundings;
 use std::alloc::Global;
+use std::env::VarError;
 use std::io::{ErrorKind, Write};
 use std::process::ExitCode;
 use std::rt::Env;
 use std::{env, io};
 
-/// The words behind the program's name. [`ErrorKind::OutOfMemory`]: there is no memory for them. Any other kind: one
-/// isn't UTF-8.
-pub fn words<R: Env + Alloc<A = Global>>(rt: &R) -> Result<Vec<String>, ErrorKind> {
+/// What the program is called with.
+#[derive(Drop)]
+pub struct Call {
+    /// The words behind its name.
+    pub words: Vec<String>,
+    /// Where it runs.
+    pub around: Surroundings,
+}
+
+/// A variable of the environment, where it is set. What isn't UTF-8 is no path here, and so one that no file has.
+fn variable<R: Env + Alloc<A = Global>>(rt: &R, name: &str) -> Result<Option<String>, ErrorKind> {
+    match env::var(rt, name) {
+        Ok(value) => Ok(Some(value)),
+        Err(VarError::NotPresent) => Ok(None),
+        Err(VarError::NotUnicode) => match String::from_str(rt.alloc(), "\u{fffd}") {
+            Ok(value) => Ok(Some(value)),
+            Err(_) => Err(ErrorKind::OutOfMemory),
+        },
+        Err(VarError::OutOfMemory) => Err(ErrorKind::OutOfMemory),
+    }
+}
+
+/// How many folders are above the one that the program runs in; 0 where that isn't told.
+fn depth<R: Env + Alloc<A = Global>>(rt: &R) -> usize {
+    match env::current_dir(rt) {
+        Ok(folder) => folder.as_path().as_str().matches('/').count(),
+        Err(_) => 0,
+    }
+}
+
+/// The words behind the program's name, and where it runs. [`ErrorKind::OutOfMemory`]: there is no memory for them. Any
+/// other kind: a word isn't UTF-8.
+pub fn called<R: Env + Alloc<A = Global>>(rt: &R) -> Result<Call, ErrorKind> {
     let args = match env::args(rt) {
         Ok(args) => args,
         Err(e) => return Err(e.kind()),
     };
-    match args.skip(1).collect::<Vec<String>>(rt.alloc()) {
-        Ok(words) => Ok(words),
-        Err(_) => Err(ErrorKind::OutOfMemory),
-    }
+    let Ok(words) = args.skip(1).collect::<Vec<String>>(rt.alloc()) else {
+        return Err(ErrorKind::OutOfMemory);
+    };
+    let around = Surroundings {
+        index_file: variable(rt, "GIT_INDEX_FILE")?,
+        git_dir: variable(rt, "GIT_DIR")?,
+        depth: depth(rt),
+    };
+    Ok(Call { words, around })
 }
 
 /// The status of a call whose words can't be had: [`REFUSED`] for want of memory, and [`WRONG_WORDS`] where one isn't
@@ -43,37 +82,36 @@ fn status_of(kind: ErrorKind) -> u8
 ///
 /// Where the words can't be had, no file is opened, nothing goes to `out`, and one line to `faults`: the status is
 /// [`REFUSED`] for want of memory, and [`WRONG_WORDS`] where one isn't UTF-8.
-pub fn answer<D: Folder, O: io::Write, E: io::Write>(
+pub fn answer<D: Console, O: Out, E: io::Write>(
     folder: &mut D,
     alloc: Global,
-    words: Result<Vec<String>, ErrorKind>,
+    call: Result<Call, ErrorKind>,
     out: &mut O,
     faults: &mut E,
 ) -> ExitCode
+    requires unfailed { O.failed out.old ≡ false }
     ensures status { exit_status result ≤ WRONG_WORDS }
-    ensures wrong_words { IfOk words (λ words. (exit_status result ≡ WRONG_WORDS)
-        ↔ (command_named (map string_bytes words.items) ≡ None)) }
-    ensures done { IfOk words (λ words. exit_status result ≡ DONE
-        → IsSomeAnd (command_named (map string_bytes words.items))
-        (λ command. Succeeds (D.alone folder.old) (D.guards folder.old) (D.known folder.old)
-        (D.known folder.new) command (O.contents out.old) (O.contents out.new))) }
-    ensures refused { IfOk words (λ words. exit_status result ≡ REFUSED
-        → IsSomeAnd (command_named (map string_bytes words.items))
-        (λ command. GivesUp (D.known folder.old) command (O.contents out.old)
-        (O.contents out.new))) }
-    ensures spared { IfOk words (λ words. exit_status result ≡ REFUSED
-        → IsSomeAnd (command_named (map string_bytes words.items))
-        (λ command. Spares (D.alone folder.old) (D.works folder.old) (D.known folder.old)
-        (D.known folder.new) command)) }
-    ensures no_memory { IfErr words
+    ensures wrong_words { IfOk call (λ call. exit_status result ≡ WRONG_WORDS
+        → AreWrong (meaning (map string_bytes call.words.items))) }
+    ensures done { IfOk call (λ call. exit_status result ≡ DONE
+        → IsDone call.around (D.alone folder.old) (D.guards folder.old) (D.known folder.old)
+        (D.known folder.new) (O.taken out.old) (O.taken out.new)
+        (meaning (map string_bytes call.words.items))) }
+    ensures refused { IfOk call (λ call. exit_status result ≡ REFUSED
+        → IsRefused call.around (D.alone folder.old) (D.works folder.old) (D.known folder.old)
+        (D.known folder.new) (O.taken out.old) (O.taken out.new)
+        (meaning (map string_bytes call.words.items))) }
+    ensures no_memory { IfErr call
         (λ kind. (exit_status result ≡ REFUSED) ↔ (kind ≡ ErrorKind.OutOfMemory)) }
-    ensures not_utf_8 { IfErr words
+    ensures not_utf_8 { IfErr call
         (λ kind. (exit_status result ≡ WRONG_WORDS) ↔ (kind ≢ ErrorKind.OutOfMemory)) }
-    ensures nothing_opened { OnErr words (Keeps (O.contents out.old) (O.contents out.new)) }
-    ensures untouched { OnErr words (D.known folder.new ≡ D.known folder.old) }
+    ensures nothing_opened { OnErr call (Keeps (O.taken out.old) (O.taken out.new)) }
+    ensures untouched { OnErr call (D.known folder.new ≡ D.known folder.old) }
 {
-    match words {
-        Ok(words) => ExitCode::from(run(folder, alloc, &words, out, faults)),
+    match call {
+        Ok(Call { words, around }) => {
+            ExitCode::from(run(folder, alloc, &around, &words, out, faults))
+        }
         Err(kind) => {
             let status = status_of(kind);
             let _ = if status == WRONG_WORDS {

@@ -1,5 +1,5 @@
 -- What `meaning` makes of words that are written out, and of any path that is no option behind `list` and `rewrite`.
-use Rattle.std.proofs.Common.{◌≡◌, ◌∷◌, ◌++◌, [], List, codes, map, Some, None, false, true, refl}
+use Rattle.std.proofs.Common.{◌≡◌, ◌∙◌, ◌∷◌, ◌++◌, [], List, codes, map, Some, None, false, true, refl}
 use Rattle.std.specs.Str.{bytes_eq}
 use Rattle.index_parts.specs.declared.hash.Kind.{Kind}
 use Rattle.index_parts.specs.declared.hash.Kind.TheVariants.{Sha1, Sha256}
@@ -8,8 +8,8 @@ use Rattle.clap.specs.Walk.{Text}
 use Rattle.clap.specs.declared.error.kind.ErrorKind.TheVariants as kind
 use Rattle.clap.proofs.OnLiterals.{clap_on_literals}
 use Rattle.index_words.specs.Commands.{Reads, Writes, file, place_named}
-use Rattle.index_words.specs.Meaning.{Runs, Says, meaning}
-use Rattle.index_words.specs.declared.command.Lines.{Lines}
+use Rattle.index_words.specs.Meaning.{Runs, Says, meaning, write_meant}
+use Rattle.index_text.specs.declared.lines.Lines.{Lines}
 use Rattle.index_words.specs.declared.command.Reading.{Reading}
 use Rattle.index_words.specs.declared.command.Reading.TheVariants as readings
 use Rattle.index_words.specs.declared.command.Writing.{Writing}
@@ -30,7 +30,7 @@ IsRead name what = (kind : Kind) (path : Text) → IsPath path
 
 -- NAME KIND a OUT, behind options
 abbrev IsWritten : List Text → Writing → Type 0
-IsWritten front what = (kind : Kind) (to : Text) → IsPath to
+IsWritten front what = (kind : Kind) (to : Text) → IsPath to → bytes_eq to (codes "-") ≡ false
     → meaning (front ++ kind_name kind ∷ codes "a" ∷ to ∷ []) ≡ Runs (Writes what (Some kind) (file (codes "a")) to)
 
 abbrev plain : Lines
@@ -41,10 +41,19 @@ unfolding clap_on_literals
 list_reads Sha1 path is = rw (is.0, is.1, is.2) refl
 list_reads Sha256 path is = rw (is.0, is.1, is.2) refl
 
-rewrite_writes : IsWritten (codes "rewrite" ∷ []) writings.Rewrite
+-- OUT is a path where it is no hyphen
+out_taken : (what : Writing) (kind : Kind) (word to : Text) → bytes_eq to (codes "-") ≡ false
+    → write_meant what (Some kind) (word ∷ to ∷ []) ≡ Runs (Writes what (Some kind) (place_named word) to)
+out_taken what kind word to other = rw other refl
+
+rewrite_taken : (kind : Kind) (to : Text) → IsPath to → meaning (codes "rewrite" ∷ kind_name kind ∷ codes "a" ∷ to ∷ [])
+    ≡ write_meant writings.Rewrite (Some kind) (codes "a" ∷ to ∷ [])
 unfolding clap_on_literals
-rewrite_writes Sha1 to is = rw (is.0, is.1, is.2) refl
-rewrite_writes Sha256 to is = rw (is.0, is.1, is.2) refl
+rewrite_taken Sha1 to is = rw (is.0, is.1, is.2) refl
+rewrite_taken Sha256 to is = rw (is.0, is.1, is.2) refl
+
+rewrite_writes : IsWritten (codes "rewrite" ∷ []) writings.Rewrite
+rewrite_writes kind to is other = rewrite_taken kind to is ∙ out_taken writings.Rewrite kind (codes "a") to other
 
 -- each command that tells something
 each_reads : map (λ name. meaning (name ∷ codes "sha256" ∷ codes "a" ∷ []))

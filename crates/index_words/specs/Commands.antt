@@ -11,7 +11,7 @@ use Rattle.index_words.specs.declared.command.Command.{Command}
 use Rattle.index_words.specs.declared.command.Command.TheVariants as commands
 use Rattle.index_words.specs.declared.command.Input.{Input}
 use Rattle.index_words.specs.declared.command.Input.TheVariants as inputs
-use Rattle.index_words.specs.declared.command.Lines.{Lines}
+use Rattle.index_text.specs.declared.lines.Lines.{Lines}
 use Rattle.index_words.specs.declared.command.Reading.{Reading}
 use Rattle.index_words.specs.declared.command.Reading.TheVariants as readings
 use Rattle.index_words.specs.declared.command.Writing.{Writing}

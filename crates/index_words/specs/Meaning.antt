@@ -47,11 +47,12 @@ read_meant what kind [] = Runs (Reads what kind None)
 read_meant what kind (word ∷ []) = Runs (Reads what kind (Some (place_named word)))
 read_meant what kind (word ∷ next ∷ rest) = Says (InvalidValue ∷ [])
 
--- [KIND] FILE OUT
+-- [KIND] FILE OUT, which is a path: `-` is the standard input alone
 abbrev pub write_meant : Writing → Option Kind → List Text → Meaning
 write_meant what kind [] = Says (MissingRequiredArgument ∷ [])
 write_meant what kind (word ∷ []) = Says (MissingRequiredArgument ∷ [])
-write_meant what kind (word ∷ to ∷ []) = Runs (Writes what kind (place_named word) to)
+write_meant what kind (word ∷ to ∷ []) =
+    if bytes_eq to (codes "-") then Says (InvalidValue ∷ []) else Runs (Writes what kind (place_named word) to)
 write_meant what kind (word ∷ to ∷ next ∷ rest) = Says (InvalidValue ∷ [])
 
 abbrev pub on_taken : (Option Kind → List Text → Meaning) → List Text → Meaning

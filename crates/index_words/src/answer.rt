@@ -21,7 +21,7 @@ pub enum Answer {
     #[error("{0}")]
     WrongWords(clap::Error),
     /// A growth of memory was refused.
-    #[error("error: out of memory\n")]
+    #[error("index-tool: out of memory\n")]
     OutOfMemory,
 }
 

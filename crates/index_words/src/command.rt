@@ -1,6 +1,7 @@
 //! The commands as values.
 
 use index_parts::hash::Kind;
+use index_text::lines::Lines;
 
 /// A command with its words. A kind of None is that which the file tells by itself.
 #[derive(Clone, Copy, Debug, PartialEq, Eq)]
@@ -55,15 +56,6 @@ pub enum Reading {
     ShowJson,
     /// `trees`: a line for each directory of the trees that the entries make.
     Trees(Lines),
-}
-
-/// How lines with paths are written.
-#[derive(Clone, Copy, Debug, PartialEq, Eq)]
-pub struct Lines {
-    /// `-z`: a line ends with a NUL in place of a newline.
-    pub nul: bool,
-    /// `--quote`: a path with unusual bytes is quoted, as git does.
-    pub quote: bool,
 }
 
 /// What is written of an index.

@@ -11,5 +11,5 @@ mod values;
 pub mod words;
 
 pub use answer::Answer;
-pub use command::{Command, Input, Lines, Reading, Writing};
+pub use command::{Command, Input, Reading, Writing};
 pub use words::parse;

@@ -49,6 +49,14 @@ pub fn no_kind(alloc: Global, name: &str, word: &str) -> Answer
     }
 }
 
+/// The answer to `-` where OUT stands: an index takes the place of a file, by its lock.
+pub fn no_out(alloc: Global, name: &str) -> Answer
+    ensures { Answers (Says (ErrorKind.InvalidValue ∷ [])) result }
+{
+    let text = "invalid value '-' for '<OUT>': it is the path of a file, as `./-` is";
+    refusal(alloc, name, ErrorKind::InvalidValue, text)
+}
+
 /// The answer where words are missing.
 pub fn missing(alloc: Global, name: &str, words: &str) -> Answer
     ensures { Answers (Says (ErrorKind.MissingRequiredArgument ∷ [])) result }

@@ -8,7 +8,7 @@ use std::test::Fail;
 /// Words that end with this status, and a text that the answer has.
 type Row<'a> = (&'a [&'a str], u8, &'a str);
 
-const ANSWERS: [Row; 24] = [
+const ANSWERS: [Row; 25] = [
     (&["--help"], DONE, "Usage: index-tool <COMMAND>"),
     (&["-h"], DONE, "\n  rewrite-trees  Write the index with"),
     (&["help"], DONE, "Usage: index-tool <COMMAND>"),
@@ -95,6 +95,11 @@ const ANSWERS: [Row; 24] = [
         &["rewrite", "x", "y", "z"],
         WRONG_WORDS,
         "invalid value 'x' for '[KIND]'",
+    ),
+    (
+        &["rewrite", "x", "-"],
+        WRONG_WORDS,
+        "invalid value '-' for '<OUT>'",
     ),
     (
         &["rewrite", "sha1", "x", "y", "z"],

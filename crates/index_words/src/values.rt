@@ -10,11 +10,12 @@ ghost use Rattle.index_words.specs.Commands.{text_of, writing_named};
 ghost use Rattle.index_words.specs.Meaning.{listed, meant, on_taken, read_meant, write_meant};
 
 use crate::answer::Answer;
-use crate::command::{Command, Input, Lines, Reading, Writing};
-use crate::refusal::{NO_COMMAND, missing, no_kind, refusal};
+use crate::command::{Command, Input, Reading, Writing};
+use crate::refusal::{NO_COMMAND, missing, no_kind, no_out, refusal};
 use clap::ArgMatches;
 use clap::error::ErrorKind;
 use index_parts::hash::Kind;
+use index_text::lines::Lines;
 use std::alloc::Global;
 
 /// The kind that a word names.
@@ -153,6 +154,9 @@ fn write_of<'a>(
         (Some(_), Some(word), Some(to)) => (word, to),
         (None, Some(to), None) => (first, to),
     };
+    if to == "-" {
+        return Err(no_out(alloc, name));
+    }
     Ok(Command::Write {
         what,
         kind,

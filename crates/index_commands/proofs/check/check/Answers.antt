@@ -1,43 +1,59 @@
-use Rattle.std.proofs.Common.{refl}
+use Rattle.std.proofs.Common.{inl, inr, refl}
 use Rattle.std.proofs.KnownBytes.{Keeps-refl}
-use Rattle.gix_index.specs.Disk.{disk_at}
+use Rattle.std.proofs.lemmas.Result.{err_from_is_err_and}
 use Rattle.gix_index.specs.State.{contents}
 use Rattle.gix_index.specs.File.{checksum_of, state_of}
-use Rattle.index_commands.proofs.Endings.{verify_fails}
+use Rattle.index_failures.specs.Telling.{part, untold}
+use Rattle.index_commands.specs.Checking.{ok_line}
 use Rattle.index_commands.proofs.check.check.Goals as goal
 
-pub returns-in-Err-verify_contents-clause-refused : goal.returns-in-Err-verify_contents-clause-refused
-returns-in-Err-verify_contents-clause-refused g c =
-    verify_fails c.in-Err-verify_contents.failure c.args.ids (disk_at (g.D.Folder.known c.args.folder.now) c.args.path.now)
-    c.args.kind c.args.path.now (g.W.Write.contents c.args.out.now) c.in-Err-verify_contents.ensures.fault
+pub returns-in_err-index-clause-refused : goal.returns-in_err-index-clause-refused
+returns-in_err-index-clause-refused g c =
+    let p = err_from_is_err_and c.from_residual.result c.from_residual.ensures.1 in
+    rw (p.1, p.2) (untold (inl c.in_err-index.ensures.fault) (Keeps-refl (g.W.Out.taken c.args.out.now)))
 
-pub returns-in-Err-verify_integrity-clause-refused : goal.returns-in-Err-verify_integrity-clause-refused
-returns-in-Err-verify_integrity-clause-refused g c = (refl, Keeps-refl (g.W.Write.contents c.args.out.now))
+pub returns-in_err-verify_contents-clause-refused : goal.returns-in_err-verify_contents-clause-refused
+returns-in_err-verify_contents-clause-refused g c =
+    let p = err_from_is_err_and c.from_residual-in_err-verify_contents.result
+    c.from_residual-in_err-verify_contents.ensures.1 in
+    rw (p.1, p.2) (untold (inr c.in_err-verify_contents.ensures.fault) (Keeps-refl (g.W.Out.taken c.args.out.now)))
 
-pub returns-in-Ok-put_all-clause-checked : goal.returns-in-Ok-put_all-clause-checked
-returns-in-Ok-put_all-clause-checked g c = record {
-  value = contents (state_of c.in-Ok.index);
-  checksum = checksum_of c.in-Ok.index;
-  sound = record {
-    read = c.in-Ok.ensures.read;
-    ordered = c.in_default.ensures.ordered;
-    tree = c.in_default.ensures.tree;
-    trees = c.in_default.ensures.right;
-    intact = rw c.in-Ok.ensures.path at c.in_default-verify_integrity.ensures.ok;
+pub returns-in-Err-clause-refused : goal.returns-in-Err-clause-refused
+returns-in-Err-clause-refused g c = untold (inr refl) (Keeps-refl (g.W.Out.taken c.args.out.now))
+
+pub returns-in-Ok-clause-told : goal.returns-in-Ok-clause-told
+returns-in-Ok-clause-told g c = record {
+  text = ok_line;
+  is = record {
+    value = contents (state_of c.in_ok-index.index);
+    checksum = checksum_of c.in_ok-index.index;
+    sound = record {
+      read = c.in_ok-index.ensures.read;
+      ordered = c.in_ok-verify_contents.ensures.ordered;
+      tree = c.in_ok-verify_contents.ensures.tree;
+      trees = c.in_ok-verify_contents.ensures.right;
+      intact = rw c.in_ok-index.ensures.path at c.in_default.ensures.ok;
+    };
+    is = refl;
   };
-  grew = c.in-Ok-put_all.ensures.ok;
+  grew = c.in-Ok.ensures.ok;
 }
 
 pub returns-clause-refused : goal.returns-clause-refused
-returns-clause-refused g c = record {
-  value = contents (state_of c.in-Ok.index);
-  checksum = checksum_of c.in-Ok.index;
-  sound = record {
-    read = c.in-Ok.ensures.read;
-    ordered = c.in_default.ensures.ordered;
-    tree = c.in_default.ensures.tree;
-    trees = c.in_default.ensures.right;
-    intact = rw c.in-Ok.ensures.path at c.in_default-verify_integrity.ensures.ok;
-  };
-  grew = c.in-Err-put_all.ensures.err;
-}
+returns-clause-refused g c = part c.in-Err-put_text.e refl
+    (λ n. rw c.in-Err-put_text.is at c.put_text.ensures.has_failed) (record {
+      text = ok_line;
+      is = inl (record {
+        value = contents (state_of c.in_ok-index.index);
+        checksum = checksum_of c.in_ok-index.index;
+        sound = record {
+          read = c.in_ok-index.ensures.read;
+          ordered = c.in_ok-verify_contents.ensures.ordered;
+          tree = c.in_ok-verify_contents.ensures.tree;
+          trees = c.in_ok-verify_contents.ensures.right;
+          intact = rw c.in_ok-index.ensures.path at c.in_default.ensures.ok;
+        };
+        is = refl;
+      });
+      grew = c.in-Err-put_text.ensures.err;
+    })

@@ -1,19 +1,37 @@
+use Rattle.std.proofs.Common.{inl, refl}
+use Rattle.std.proofs.KnownBytes.{Keeps-refl}
+use Rattle.std.proofs.lemmas.Result.{err_from_is_err_and}
 use Rattle.gix_index.specs.State.{contents}
 use Rattle.gix_index.specs.File.{checksum_of, state_of}
+use Rattle.index_failures.specs.Telling.{part, untold}
+use Rattle.index_lines.specs.Line.{listing}
 use Rattle.index_commands.proofs.list.list.Goals as goal
 
-pub returns-in-Ok-write_listing-clause-listed : goal.returns-in-Ok-write_listing-clause-listed
-returns-in-Ok-write_listing-clause-listed g c = record {
-  value = contents (state_of c.in-Ok.index);
-  checksum = checksum_of c.in-Ok.index;
-  read = c.in-Ok.ensures.read;
-  grew = rw c.deref.ensures at c.in-Ok-write_listing.ensures.ok;
+pub returns-in_err-index-clause-refused : goal.returns-in_err-index-clause-refused
+returns-in_err-index-clause-refused g c =
+    let p = err_from_is_err_and c.from_residual.result c.from_residual.ensures.1 in
+    rw (p.1, p.2) (untold c.in_err-index.ensures.fault (Keeps-refl (g.W.Out.taken c.args.out.now)))
+
+pub returns-in-Ok-clause-told : goal.returns-in-Ok-clause-told
+returns-in-Ok-clause-told g c = record {
+  text = listing c.args.style (contents (state_of c.in_ok-index.index)).records;
+  is = record {
+    value = contents (state_of c.in_ok-index.index);
+    checksum = checksum_of c.in_ok-index.index;
+    read = c.in_ok-index.ensures.read;
+    is = refl;
+  };
+  grew = rw c.deref.ensures at c.in-Ok.ensures.ok;
 }
 
 pub returns-clause-refused : goal.returns-clause-refused
-returns-clause-refused g c = record {
-  value = contents (state_of c.in-Ok.index);
-  checksum = checksum_of c.in-Ok.index;
-  read = c.in-Ok.ensures.read;
-  grew = rw c.deref.ensures at c.in-Err-write_listing.ensures.err;
-}
+returns-clause-refused g c = part c.in-Err.e refl c.in-Err.ensures.cause (record {
+  text = listing c.args.style (contents (state_of c.in_ok-index.index)).records;
+  is = inl (record {
+    value = contents (state_of c.in_ok-index.index);
+    checksum = checksum_of c.in_ok-index.index;
+    read = c.in_ok-index.ensures.read;
+    is = refl;
+  });
+  grew = rw c.deref.ensures at c.in-Err.ensures.err;
+})

@@ -1,4 +1,5 @@
-use Rattle.std.proofs.Common.{subst, sym}
+use Rattle.std.proofs.Common.{inl, inr, subst, sym}
+use Rattle.std.proofs.lemmas.Result.{err_from_is_err_and}
 use Rattle.gix_index.specs.File.{checksum_of, state_of}
 use Rattle.gix_index.specs.State.{contents}
 use Rattle.gix_index.specs.StateType.{State}
@@ -6,15 +7,25 @@ use Rattle.gix_index.specs.Tree.{node_of}
 use Rattle.index_commands.specs.Trees.{IsTreePut}
 use Rattle.index_commands.proofs.rewrite_trees.made.Goals as goal
 
+pub returns-in_err-index-clause-fault : goal.returns-in_err-index-clause-fault
+returns-in_err-index-clause-fault g c =
+    let p = err_from_is_err_and c.from_residual.result c.from_residual.ensures.1 in
+    rw (p.1, p.2) (inl c.in_err-index.ensures.fault)
+
+pub returns-in_err-tree-clause-fault : goal.returns-in_err-tree-clause-fault
+returns-in_err-tree-clause-fault g c =
+    let p = err_from_is_err_and c.from_residual-in_err-tree.result c.from_residual-in_err-tree.ensures.1 in
+    rw (p.1, p.2) (inr c.in_err-tree.ensures.fault)
+
 pub returns-clause-made : goal.returns-clause-made
 returns-clause-made g c =
-    let tree = node_of c.in-Ok-tree_of.tree in
+    let tree = node_of c.in_ok-tree.tree in
     record {
-      read = contents (state_of c.in-Ok.index);
-      checksum = checksum_of c.in-Ok.index;
-      in_file = c.in-Ok.ensures.read;
+      read = contents (state_of c.in_ok-index.index);
+      checksum = checksum_of c.in_ok-index.index;
+      in_file = c.in_ok-index.ensures.read;
       tree = tree;
-      is_tree = c.in-Ok-tree_of.ensures.made;
+      is_tree = c.in_ok-tree.ensures.made;
       put = subst (λ (s : State). IsTreePut c.args.counts (contents s) tree (contents (state_of c.from_state.result)))
           c.into_parts-state.ensures.state
           (subst (λ (s : State). IsTreePut c.args.counts (contents c.into_parts-state.result.0) tree (contents s))

@@ -1,35 +1,51 @@
+use Rattle.std.proofs.Common.{[], inl, inr, refl}
+use Rattle.std.proofs.KnownBytes.{Keeps-refl}
+use Rattle.std.proofs.lemmas.Result.{err_from_is_err_and}
 use Rattle.gix_index.specs.File.{checksum_of, state_of}
-use Rattle.gix_index.specs.Disk.{disk_at}
 use Rattle.gix_index.specs.State.{contents}
 use Rattle.gix_index.specs.Tree.{node_of}
-use Rattle.index_commands.proofs.Endings.{tree_fails}
+use Rattle.index_failures.specs.Telling.{part, untold}
+use Rattle.index_lines.specs.Directories.{subtree_lines}
 use Rattle.index_commands.proofs.trees.trees.Goals as goal
 
-pub returns-in-Err-tree_of-clause-refused : goal.returns-in-Err-tree_of-clause-refused
-returns-in-Err-tree_of-clause-refused g c =
-    tree_fails c.in-Err-tree_of.failure (disk_at (g.D.Folder.known c.args.folder.now) c.args.path.now) c.args.kind
-    c.args.path.now (g.W.Write.contents c.args.out.now) c.in-Err-tree_of.ensures.fault
+pub returns-in_err-index-clause-refused : goal.returns-in_err-index-clause-refused
+returns-in_err-index-clause-refused g c =
+    let p = err_from_is_err_and c.from_residual.result c.from_residual.ensures.1 in
+    rw (p.1, p.2) (untold (inl c.in_err-index.ensures.fault) (Keeps-refl (g.W.Out.taken c.args.out.now)))
 
-pub returns-in-Ok-write_trees-clause-told : goal.returns-in-Ok-write_trees-clause-told
-returns-in-Ok-write_trees-clause-told g c = record {
-  value = contents (state_of c.in-Ok.index);
-  tree = node_of c.in-Ok-tree_of.tree;
+pub returns-in_err-tree-clause-refused : goal.returns-in_err-tree-clause-refused
+returns-in_err-tree-clause-refused g c =
+    let p = err_from_is_err_and c.from_residual-in_err-tree.result c.from_residual-in_err-tree.ensures.1 in
+    rw (p.1, p.2) (untold (inr c.in_err-tree.ensures.fault) (Keeps-refl (g.W.Out.taken c.args.out.now)))
+
+pub returns-in-Ok-clause-told : goal.returns-in-Ok-clause-told
+returns-in-Ok-clause-told g c = record {
+  text = subtree_lines c.args.style [] (node_of c.in_ok-tree.tree);
   is = record {
-    checksum = checksum_of c.in-Ok.index;
-    read = c.in-Ok.ensures.read;
-    is_tree = c.in-Ok-tree_of.ensures.made;
+    value = contents (state_of c.in_ok-index.index);
+    tree = node_of c.in_ok-tree.tree;
+    is_tree = record {
+      checksum = checksum_of c.in_ok-index.index;
+      read = c.in_ok-index.ensures.read;
+      is_tree = c.in_ok-tree.ensures.made;
+    };
+    is = refl;
   };
-  grew = c.in-Ok-write_trees.ensures.ok;
+  grew = c.in-Ok.ensures.ok;
 }
 
 pub returns-clause-refused : goal.returns-clause-refused
-returns-clause-refused g c = record {
-  value = contents (state_of c.in-Ok.index);
-  tree = node_of c.in-Ok-tree_of.tree;
-  is = record {
-    checksum = checksum_of c.in-Ok.index;
-    read = c.in-Ok.ensures.read;
-    is_tree = c.in-Ok-tree_of.ensures.made;
-  };
-  grew = c.in-Err-write_trees.ensures.err;
-}
+returns-clause-refused g c = part c.in-Err.e refl c.in-Err.ensures.cause (record {
+  text = subtree_lines c.args.style [] (node_of c.in_ok-tree.tree);
+  is = inl (record {
+    value = contents (state_of c.in_ok-index.index);
+    tree = node_of c.in_ok-tree.tree;
+    is_tree = record {
+      checksum = checksum_of c.in_ok-index.index;
+      read = c.in_ok-index.ensures.read;
+      is_tree = c.in_ok-tree.ensures.made;
+    };
+    is = refl;
+  });
+  grew = c.in-Err.ensures.err;
+})

@@ -1,4 +1,6 @@
-use Rattle.std.proofs.Common.{Option, option_map, subst}
+use Rattle.std.proofs.Common.{Option, option_map, refl, subst}
+use Rattle.std.proofs.lemmas.Result.{err_from_is_err_and}
+use Rattle.gix_index.specs.FileFaults.ReadError.TheVariants.{Memory}
 use Rattle.gix_index.specs.Disk.{disk_at}
 use Rattle.gix_index.specs.ObjectId.{ObjectId}
 use Rattle.gix_index.specs.State.{contents}
@@ -8,21 +10,34 @@ use Rattle.index_telling.proofs.salvage.saved_of.Goals as goal
 
 pub save-requires-clause-shared : goal.save-requires-clause-shared
 save-requires-clause-shared g c =
-    let beside = c.in-Ok-shared_beside.ensures in
-    can_be_shared (disk_at (g.D.Folder.known c.args.folder.now) c.args.path.now).shared c.args.kind c.in-Ok.remains.front c.shared_index.result c.in-Ok-shared_beside.shared
-    c.in-Ok.ensures.kind beside.read beside.placed beside.storable
+    let beside = c.in-Ok.ensures in
+    can_be_shared (disk_at (g.D.Folder.known c.args.folder.now) c.args.path.now).shared c.args.kind c.in_ok-remains.remains.front c.shared_index.result c.in-Ok.shared
+    c.in_ok-remains.ensures.kind beside.read beside.placed beside.storable
 
 pub returns-in-Ok-save-clause-saved : goal.returns-in-Ok-save-clause-saved
 returns-in-Ok-save-clause-saved g c =
-    let shared = option_map contents c.in-Ok-shared_beside.shared in
+    let shared = option_map contents c.in-Ok.shared in
     record {
-      remains = c.in-Ok.remains;
-      remain = c.in-Ok.ensures.remains;
+      remains = c.in_ok-remains.remains;
+      remain = c.in_ok-remains.ensures.remains;
       shared = shared;
       is_shared = subst
           (λ (w : Option ObjectId). IsBeside (disk_at (g.D.Folder.known c.args.folder.now) c.args.path.now).shared
           c.args.kind w shared) c.shared_index.ensures
-          c.in-Ok-shared_beside.ensures.read;
+          c.in-Ok.ensures.read;
       is = c.in-Ok-save.ensures.saved;
       plain = c.in-Ok-save.ensures.plain;
     }
+
+pub returns-in_err-remains-clause-fault : goal.returns-in_err-remains-clause-fault
+returns-in_err-remains-clause-fault g c = λ works world held.
+    let p = err_from_is_err_and c.from_residual.result c.from_residual.ensures.1 in
+    rw (p.1, p.2) (c.in_err-remains.ensures.fault works world held)
+
+pub returns-in_default-clause-fault : goal.returns-in_default-clause-fault
+returns-in_default-clause-fault g c = λ works world held.
+    record { file = c.args.path; names = refl; fault = Memory; is = c.out_of_memory.ensures; says = tt }
+
+pub returns-in-Err-clause-fault : goal.returns-in-Err-clause-fault
+returns-in-Err-clause-fault g c = λ works world held.
+    record { file = c.args.path; names = refl; fault = Memory; is = c.out_of_memory-in-Err.ensures; says = tt }

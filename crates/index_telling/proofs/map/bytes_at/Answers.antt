@@ -1,0 +1,26 @@
+use Rattle.std.proofs.Common.{ℕ, List, refl, subst}
+use Rattle.gix_index.specs.FileFaults.ReadError.TheVariants.{Memory}
+use Rattle.index_telling.specs.Mapping.{SaysOfBytes}
+use Rattle.index_telling.proofs.map.bytes_at.Goals as goal
+
+pub returns-in_default-clause-fault : goal.returns-in_default-clause-fault
+returns-in_default-clause-fault g c = record {
+  file = c.args.path;
+  names = refl;
+  fault = Memory;
+  is = c.out_of_memory.ensures;
+  says = tt;
+}
+
+pub returns-clause-fault : goal.returns-clause-fault
+returns-clause-fault g c =
+    let works = g.D.Folder.works c.args.folder.now in
+    let known = g.D.Folder.known c.args.folder.now in
+    record {
+      file = c.args.path;
+      names = refl;
+      fault = c.fault_of.result;
+      is = c.failure_of.ensures;
+      says = subst (λ (p : List ℕ). SaysOfBytes works known p c.fault_of.result) c.in-Ok.ensures
+          (c.fault_of.ensures works known (λ e. rw c.as_path.ensures at (c.in-Err.ensures.fault e)));
+    }

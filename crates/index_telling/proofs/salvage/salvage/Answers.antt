@@ -1,0 +1,75 @@
+use Rattle.std.proofs.Common.{ap, refl, subst, ◌∙◌}
+use Rattle.std.specs.Prelude.{Bool}
+use Rattle.std.proofs.lemmas.Result.{err_from_is_err_and}
+use Rattle.gix_index.specs.Disk.World.{World}
+use Rattle.gix_index.specs.State.{contents}
+use Rattle.gix_index.specs.File.{state_of}
+use Rattle.gix_index.specs.VersionChoice.TheVariants.{Smallest}
+use Rattle.gix_index.specs.declared.file.File.{File}
+use Rattle.index_failures.specs.Options.{rewrite_options}
+use Rattle.index_failures.specs.Reading.{FailsReading}
+use Rattle.index_failures.specs.Storing.{unlocked, unread, unwritten}
+use Rattle.index_failures.proofs.Replaced.{replaced}
+use Rattle.index_failures.proofs.Restored.{restores}
+use Rattle.index_telling.specs.Salvaging.{IsSalvaged, SaysOfSaving}
+use Rattle.index_telling.proofs.salvage.salvage.Goals as goal
+
+pub returns-in_err-lock-clause-fault : goal.returns-in_err-lock-clause-fault
+returns-in_err-lock-clause-fault g c =
+    let p = err_from_is_err_and c.from_residual.result c.from_residual.ensures.1 in
+    rw (p.1, p.2) (unlocked c.in_err-lock.ensures.fault)
+
+pub returns-in-Err-clause-fault : goal.returns-in-Err-clause-fault
+returns-in-Err-clause-fault g c =
+    unread c.in_ok-lock.lock.place (g.D.Folder.known c.lock_at.new.folder) c.in_ok-lock.ensures.locked
+    (subst (λ (b : Bool). FailsReading (SaysOfSaving b (g.D.Folder.known c.lock_at.new.folder) c.args.kind
+    c.args.path.now) c.args.path.now c.in-Err.failure) c.lock_at.ensures.works c.in-Err.ensures.fault)
+
+pub returns-in_err-commit_at-clause-restored : goal.returns-in_err-commit_at-clause-restored
+returns-in_err-commit_at-clause-restored g c =
+    let p = err_from_is_err_and c.from_residual-in_err-commit_at.result
+    c.from_residual-in_err-commit_at.ensures.1 in
+    rw p.1 (λ alone.
+    restores (g.D.Folder.guards c.args.folder.now) (g.D.Folder.works c.args.folder.now)
+    (g.D.Folder.known c.args.folder.now) (g.D.Folder.known c.lock_at.new.folder)
+    (g.D.Folder.known c.commit_at.new.folder) c.args.to.now c.in_ok-lock.lock.place c.in_ok-lock.ensures.locked
+    c.in_ok-lock.ensures.beside (rw c.lock_at.ensures.works at
+    (c.in_err-commit_at.ensures.released (c.lock_at.ensures.alone ∙ alone))))
+
+pub returns-in_err-commit_at-clause-fault : goal.returns-in_err-commit_at-clause-fault
+returns-in_err-commit_at-clause-fault g c =
+    let p = err_from_is_err_and c.from_residual-in_err-commit_at.result
+    c.from_residual-in_err-commit_at.ensures.1 in
+    rw (p.1, p.2) (unwritten c.in_ok-lock.lock.place (g.D.Folder.known c.lock_at.new.folder) c.in_ok-lock.ensures.locked
+    (contents (state_of c.from_state-index.result)) (rewrite_options Smallest)
+    (rw c.lock_at.ensures.works at c.in_err-commit_at.ensures.fault))
+
+pub returns-clause-written : goal.returns-clause-written
+returns-clause-written g c =
+    let saved = c.in-Ok.ensures.saved in
+    replaced (g.D.Folder.guards c.args.folder.now) (g.D.Folder.known c.args.folder.now)
+    (g.D.Folder.known c.lock_at.new.folder) c.args.to.now c.in_ok-lock.lock.place c.in_ok-lock.ensures.locked
+    (g.D.Folder.alone c.lock_at.new.folder) (g.D.Folder.alone c.args.folder.now)
+    (g.D.Folder.known c.commit_at.new.folder) c.from_state-index.result (rewrite_options Smallest)
+    (g.D.Made.Write.contents c.in_ok-lock.lock.file)
+    (λ (w : World) (i : File). IsSalvaged w c.args.kind c.args.path.now _ i) (λ (i : File). rewrite_options Smallest)
+    c.lock_at.ensures.alone c.in_ok-lock.ensures.empty
+    (record {
+      saved = c.in-Ok.found.0;
+      is_saved = record {
+        bytes = saved.0;
+        time = c.in-Ok.found.1;
+        held = saved.1;
+        since = c.in-Ok.ensures.since;
+        of_bytes = saved.2;
+        holds = ap contents c.from_state-index.ensures.state ∙ c.set_timestamp.ensures.set;
+      };
+      reports = record {
+        names = refl;
+        declared = refl;
+        read = refl;
+        kept = c.kept-kept.ensures;
+        fault = refl;
+        shared = refl;
+      };
+    }) refl c.in_ok-commit_at.ensures.written c.in_ok-commit_at.ensures.put

@@ -1,0 +1,102 @@
+-- What a command leaves on the output and in files (the program's own).
+use Rattle.std.specs.Prelude.{◌≡◌, ℕ, Bool, true, false, List, Option, None, IsSomeAnd}
+use Rattle.std.specs.Io.KnownBytes.{Keeps}
+use Rattle.gix_index.specs.Kind.{Kind}
+use Rattle.gix_index.specs.Disk.{disk_at}
+use Rattle.gix_index.specs.DecodeError.{Error}
+use Rattle.gix_index.specs.InPlace.Locks.{Restores}
+use Rattle.gix_index.specs.Disk.World.{World}
+use Rattle.index_failures.specs.declared.failure.Failure.{Failure}
+use Rattle.index_failures.specs.Telling.{AnyText, NoText, Tells, TellsPart}
+use Rattle.index_commands.specs.Trees.{AreTrees, FailsToRetree, Retrees}
+use Rattle.index_commands.specs.Checking.{IsPassed}
+use Rattle.index_commands.specs.Listing.{IsListing}
+use Rattle.index_commands.specs.Rewriting.{FailsToRewrite, Rewrites}
+use Rattle.index_telling.specs.declared.salvage.Report.{Report}
+use Rattle.index_telling.specs.Mapping.{IsDamagedMap, IsDamagedPicture, IsMap, IsPicture}
+use Rattle.index_telling.specs.Salvaging.{FailsToSalvage, Salvages}
+use Rattle.index_telling.specs.Showing.{IsJson, IsShown}
+use Rattle.index_words.specs.declared.command.Reading.{Reading}
+use Rattle.index_words.specs.declared.command.Reading.TheVariants as readings
+use Rattle.index_words.specs.declared.command.Writing.{Writing}
+use Rattle.index_words.specs.declared.command.Writing.TheVariants as writings
+use Rattle.index_commands.specs.declared.rewrite.Form.TheVariants as forms
+use Rattle.index_commands.specs.declared.rewrite_trees.Counts.{Counts}
+use Rattle.index_commands.specs.declared.rewrite_trees.Counts.TheVariants as counting
+use Rattle.index_tool.specs.Command.{CommandValue, Reads, Writes}
+
+-- what is told of a file: the listing of an index, the line of one that passed all checks, the map or the picture of a
+-- file without a fault, the lines or the JSON of what a file holds, or the lines of the trees that an index makes
+abbrev pub IsTold : Reading → World → Kind → List ℕ → List ℕ → Type 0
+IsTold (readings.List lines) world kind file text = IsListing lines (disk_at world file) kind text
+IsTold readings.Check world kind file text = IsPassed false (disk_at world file) kind text
+IsTold readings.CheckTrees world kind file text = IsPassed true (disk_at world file) kind text
+IsTold (readings.Map lines) world kind file text = IsMap lines None (world file) kind text
+IsTold readings.MapSvg world kind file text = IsPicture None (world file) kind text
+IsTold readings.Show world kind file text = IsShown (world file) kind text
+IsTold readings.ShowJson world kind file text = IsJson (world file) kind text
+IsTold (readings.Trees lines) world kind file text = AreTrees lines (disk_at world file) kind text
+
+-- what is told of one with this first fault, which stands there: its map or its picture, and else nothing
+abbrev pub IsToldOfDamaged : Reading → World → Kind → List ℕ → ℕ → Error → List ℕ → Type 0
+IsToldOfDamaged (readings.Map lines) world kind file offset e text = IsDamagedMap lines (world file) kind offset e text
+IsToldOfDamaged readings.MapSvg world kind file offset e text = IsDamagedPicture (world file) kind offset e text
+IsToldOfDamaged what world kind file offset e text = NoText offset e text
+
+-- which directories of a cached tree that is made get a count: each, where trees may be missing
+abbrev pub counts_of : Bool → Counts
+counts_of true = counting.All
+counts_of false = counting.Known
+
+-- An index was written to a path: the one in a file, that one with a cached tree made anew, or what is saved of a file,
+-- of which alone there is a report.
+abbrev pub StoresIndex : Writing → Bool → Bool → Kind → World → World → List ℕ → List ℕ → Option Report → Type 0
+StoresIndex writings.Rewrite alone guards kind before behind file to report =
+    Rewrites alone guards forms.AsRead kind before behind file to × (report ≡ None)
+StoresIndex writings.Rewrite4 alone guards kind before behind file to report =
+    Rewrites alone guards forms.V4 kind before behind file to × (report ≡ None)
+StoresIndex (writings.RewriteTrees missing_ok) alone guards kind before behind file to report =
+    Retrees alone guards (counts_of missing_ok) kind before behind file to × (report ≡ None)
+StoresIndex writings.Salvage alone guards kind before behind file to report =
+    IsSomeAnd report (Salvages alone guards kind before behind file to)
+
+-- why none was written
+abbrev pub FailsToStore : Writing → Bool → Bool → Kind → World → List ℕ → List ℕ → Failure → Type 0
+FailsToStore writings.Rewrite works guards kind before file to failure =
+    FailsToRewrite works guards kind before file to failure
+FailsToStore writings.Rewrite4 works guards kind before file to failure =
+    FailsToRewrite works guards kind before file to failure
+FailsToStore (writings.RewriteTrees missing_ok) works guards kind before file to failure =
+    FailsToRetree works guards kind before file to failure
+FailsToStore writings.Salvage works guards kind before file to failure =
+    FailsToSalvage works guards kind before file to failure
+
+-- what a command did that has this report, or none: known bytes of the output grew by all that it tells of the files
+-- before; or they stayed, and an index was written
+abbrev pub Does : Option Report → Bool → Bool → World → World → CommandValue → Option (List ℕ) → Option (List ℕ)
+    → Type 0
+Does report alone guards before behind (Reads what kind file) old new =
+    Tells (IsTold what before kind file) old new × (behind ≡ before) × (report ≡ None)
+Does report alone guards before behind (Writes what kind file to) old new =
+    StoresIndex what alone guards kind before behind file to report × Keeps old new
+
+-- what a command that succeeded did
+abbrev pub Succeeds : Bool → Bool → World → World → CommandValue → Option (List ℕ) → Option (List ℕ) → Type 0
+Succeeds alone guards before behind command old new =
+    (report : Option Report) × Does report alone guards before behind command old new
+
+-- what a command that was refused did to them: nothing, or they grew by a prefix of that, or by all that is told of a
+-- damaged file
+pub data GivesUp (world : World) (command : CommandValue) (old new : Option (List ℕ)) : Type 0 where
+  nothing : Keeps old new → GivesUp world command old new
+  some_of : (what : Reading) (kind : Kind) (file : List ℕ) → command ≡ Reads what kind file
+      → TellsPart (AnyText (IsTold what world kind file) (IsToldOfDamaged what world kind file)) old new
+      → GivesUp world command old new
+  damaged : (what : Reading) (kind : Kind) (file : List ℕ) (offset : ℕ) (e : Error) → command ≡ Reads what kind file
+      → Tells (IsToldOfDamaged what world kind file offset e) old new → GivesUp world command old new
+
+-- what a command that was refused did to the files: nothing; or where their place doesn't work, the lock of what it
+-- was to write may be there
+abbrev pub Spares : Bool → Bool → World → World → CommandValue → Type 0
+Spares alone works before behind (Reads what kind file) = behind ≡ before
+Spares alone works before behind (Writes what kind file to) = alone ≡ true → Restores works before behind to
