@@ -7,8 +7,11 @@ import hashlib
 import random
 from typing import Callable, NamedTuple
 
-# What index-tool is told to do with a file; and the calls of index-times that make tables.
+# What index-tool is told to do with a file, as a rule and at all; and the calls of index-times that make tables.
 COMMANDS = ("list", "check", "rewrite4")
+SHOWN = ("show", "show-json")
+TREES = "trees"
+TOLD = (*COMMANDS, *SHOWN, TREES)
 FOLDED, DIRECTORIES = "make-folded", "make-table"
 ONES = 1 | (2**32 - 1) << 1
 
@@ -109,6 +112,14 @@ NO_BITS = bitmap(0)
 SHARED = index(2, 0)
 
 
+def of_one_folder(count, depth):
+    """Entries of one deep folder, in version 4."""
+    front = deep(b"a", depth)
+    length = len(front) + 7
+    tails = (delta(7, b"%07d" % at, length) for at in range(1, count))
+    return index(4, count, delta(0, front + b"%07d" % 0, length), *tails)
+
+
 class Case(NamedTuple):
     name: str
     # What the first size counts is in the name; the others are twice and four times as much.
@@ -120,6 +131,8 @@ class Case(NamedTuple):
     names: bytes = b"a\n"
     # By what more than twice as much may take, for files whose paths have more bytes than they.
     growth: float = 2.0
+    # The commands that tell of it, which tests/worst holds also to the memory that they take and to what they print.
+    told: tuple[str, ...] = ()
 
 
 CASES = (
@@ -154,6 +167,7 @@ CASES = (
                 b"\0-1 %d\n" % n + b"".join(b"%d\0-1 1\n" % at + b"a\0-1 1\n" * 2046 + b"a\0-1 0\n" for at in range(n)),
             ),
         ),
+        told=SHOWN,
     ),
     Case("nodes deeper than may be", 250_000, lambda n: index(2, 0, item(b"TREE", b"\0-1 1\n" + b"a\0-1 1\n" * n))),
     Case("small extensions before an end marker", 250_000, lambda n: marked(item(b"ABCD", b"") * n)),
@@ -235,6 +249,7 @@ CASES = (
     Case(
         "one path of so many folders, as tables", 16_000, lambda n: files([deep(b"a", n) + b"a"]), (FOLDED, DIRECTORIES)
     ),
+    Case("entries of one folder 2,000 deep, version 4", 10_000, lambda n: of_one_folder(n, 2_000), (TREES,)),
     Case("entries of one path at stage 3", 25_000, lambda n: files([b"a"] * n, 3), ("entry", FOLDED), b"a\n" * 200),
 )
 
@@ -248,7 +263,7 @@ def put(folder, data):
 
 def words(case, call, tool, times, path):
     """The command line of one call on the file at this path."""
-    if call not in COMMANDS:
+    if call not in TOLD:
         names = path.with_name("names")
         names.write_bytes(case.names)
         return [times, "lookup", call, path, names]

@@ -4,6 +4,7 @@
  * threads   reads it and writes it in four threads at once, many times
  * searches  looks for each front of each path, as a prefix and as a directory, and holds what is found against a look
  *           at each row
+ * numbers   reads and checks it as of kinds that are none, and with a wrong digest: the summary is written whole
  * rooms     writes its table in each way into rooms of each size, from none up to one too large, and reads it again
  * unfit     writes its table with a row that can't stand in a file, or out of order
  * files     writes its table to a path beside it, also where a lock is there and where the path can't be written
@@ -67,7 +68,9 @@ static void make(table *t, size_t rows, size_t paths) {
     memset(t->text, FILL, sizeof t->text);
 }
 
+/* The summary is filled before each call, which has to write all of it. */
 static void read_into(table *t) {
+    memset(&t->said, FILL, sizeof t->said);
     t->status = gix_index_read(bytes, bytes_len, kind, false, t->rows, t->rows_len, t->paths, t->paths_len, t->text,
                                sizeof t->text, &t->said);
 }
@@ -75,6 +78,11 @@ static void read_into(table *t) {
 static void drop(table *t) {
     free(t->rows);
     free(t->paths);
+}
+
+/* Whether a summary tells this and no more. */
+static bool tells(const gix_index_summary *said, gix_index_summary wanted) {
+    return !memcmp(said, &wanted, sizeof wanted);
 }
 
 /* Whether the first rows and bytes are those of another table. */
@@ -90,8 +98,8 @@ static void try_size(size_t rows, size_t paths, const table *whole) {
     make(&t, rows, paths);
     read_into(&t);
     expect(t.status == (fits ? GIX_INDEX_DONE : GIX_INDEX_NO_ROOM), "another status", rows, paths);
-    expect(t.said.entries == entries && t.said.path_bytes == path_bytes, "other counts", rows, paths);
-    expect(t.said.text_bytes == 0 && is_filled(t.text, sizeof t.text), "a text", rows, paths);
+    expect(tells(&t.said, whole->said), "another summary", rows, paths);
+    expect(is_filled(t.text, sizeof t.text), "a text", rows, paths);
     if (fits) {
         expect(has_same(&t, whole), "another table", rows, paths);
         expect(is_filled(t.rows + entries, (rows - entries) * sizeof *t.rows), "rows behind", rows, paths);
@@ -107,6 +115,47 @@ static void whole_table(table *t) {
     make(t, MOST / 16, MOST);
     read_into(t);
     expect(t->status == GIX_INDEX_DONE, "the file isn't read", t->rows_len, t->paths_len);
+    size_t path_bytes = 0;
+    for (size_t i = 0; i < t->said.entries; i++) path_bytes += t->rows[i].path_len;
+    gix_index_summary wanted = {.entries = t->said.entries, .path_bytes = path_bytes, .version = t->said.version};
+    expect(tells(&t->said, wanted), "more is told of a table", t->said.entries, t->said.path_bytes);
+}
+
+/* What each call that reads or checks tells of these bytes: this status, and but for the length of its text this. */
+static void try_each(uint32_t of_kind, uint32_t wanted_status, gix_index_summary wanted, const char *what) {
+    for (int call = 0; call < 4; call++) {
+        table t;
+        make(&t, 4, 4);
+        memset(&t.said, FILL, sizeof t.said);
+        if (call == 0)
+            t.status = gix_index_read(bytes, bytes_len, of_kind, false, t.rows, 4, t.paths, 4, t.text, sizeof t.text,
+                                      &t.said);
+        if (call == 1)
+            t.status = gix_index_read_split(bytes, bytes_len, bytes, bytes_len, of_kind, false, t.rows, 4, t.paths, 4,
+                                            t.text, sizeof t.text, &t.said);
+        if (call == 2)
+            t.status = gix_index_check(bytes, bytes_len, of_kind, false, t.text, sizeof t.text, &t.said);
+        if (call == 3)
+            t.status = gix_index_check_split(bytes, bytes_len, bytes, bytes_len, of_kind, false, t.text, sizeof t.text,
+                                             &t.said);
+        bool has_text = wanted_status == GIX_INDEX_REFUSED;
+        size_t len = has_text && t.said.text_bytes <= sizeof t.text ? t.said.text_bytes : 0;
+        if (has_text) wanted.text_bytes = t.said.text_bytes;
+        expect(t.status == wanted_status && tells(&t.said, wanted), what, t.status, call);
+        expect((len != 0) == has_text && is_filled(t.text + len, sizeof t.text - len), "another text", len, call);
+        expect(is_filled(t.rows, 4 * sizeof *t.rows) && is_filled(t.paths, 4), "a table that was written", call, 0);
+        drop(&t);
+    }
+}
+
+/* Kinds that are none, and bytes that are refused. */
+static void numbers(void) {
+    const uint32_t kinds[] = {0, 3, UINT32_MAX};
+    for (size_t i = 0; i < sizeof kinds / sizeof *kinds; i++)
+        try_each(kinds[i], GIX_INDEX_WRONG_NUMBER, (gix_index_summary){0}, "a kind that is none is let through");
+    bytes[bytes_len - 1] ^= 1;
+    try_each(kind, GIX_INDEX_REFUSED, (gix_index_summary){.fault = GIX_INDEX_FAULT_DIGEST}, "another fault is told");
+    bytes[bytes_len - 1] ^= 1;
 }
 
 static void sizes(void) {
@@ -180,6 +229,7 @@ static void try_room(const table *whole, const gix_index_form *form, const uint8
     bool fits = room_len >= len;
     expect(status == (fits ? GIX_INDEX_DONE : GIX_INDEX_NO_ROOM), "another status of writing", room_len, len);
     expect(told.bytes == len && told.fault == 0 && told.fault_place == 0, "another length", told.bytes, len);
+    expect(told.version >= 2 && told.version <= 4 && told.tree == 0, "another version or a tree", told.version, len);
     expect(!fits || !memcmp(room, image, len), "another index", room_len, len);
     expect(is_filled(room + (fits ? len : 0), room_len - (fits ? len : 0)), "a room that was written", room_len, len);
     free(room);
@@ -223,11 +273,12 @@ static void rooms(void) {
 static void try_unfit(const table *t, uint32_t fault, size_t place, const char *what) {
     static uint8_t room[MOST];
     gix_index_form form = form_of(2, false);
-    gix_index_written told;
+    gix_index_written told = {7, 7, 7, 7, 7};
     memset(room, FILL, sizeof room);
     uint32_t status = write_into(t, &form, room, sizeof room, &told);
     expect(status == GIX_INDEX_REFUSED && told.fault == fault && told.fault_place == place, what, told.fault, place);
-    expect(told.bytes == 0 && told.version == 0 && is_filled(room, sizeof room), "an unfit table is written", 0, place);
+    expect(told.bytes == 0 && told.version == 0 && told.tree == 0, "more is told of an unfit table", 0, place);
+    expect(is_filled(room, sizeof room), "an unfit table is written", 0, place);
 }
 
 /* The row at place 1 is another, and so has to be this fault. */
@@ -250,6 +301,11 @@ static void try_rows(table *t) {
     other = row;
     other.mode = GIX_INDEX_DIRECTORY;
     try_row(t, other, GIX_INDEX_FAULT_ROW, "a directory is let through");
+    const uint32_t modes[] = {0, 0100600, 0100664, 0120644, 0140000, 0200644, UINT32_MAX};
+    for (size_t i = 0; i < sizeof modes / sizeof *modes; i++) {
+        other.mode = modes[i];
+        try_row(t, other, GIX_INDEX_FAULT_MODE, "a mode is let through");
+    }
     other = row;
     other.path_len = 0;
     try_row(t, other, GIX_INDEX_FAULT_ROW, "no path is let through");
@@ -266,31 +322,49 @@ static void try_rows(table *t) {
     try_row(t, t->rows[0], GIX_INDEX_FAULT_ORDER, "a row that is there twice is let through");
 }
 
-/* A row that is marked is left out, and the rest is written. */
-static void try_mark(table *t) {
+/* A row that is marked is passed over, whatever else it has, and the rest is written. */
+static void try_mark(table *t, gix_index_row row) {
     static uint8_t room[MOST];
     static gix_index_row rows[MOST / 16];
     static uint8_t paths[MOST];
     gix_index_form form = form_of(2, false);
     gix_index_written told;
     gix_index_summary said;
+    gix_index_row old = t->rows[1];
+    t->rows[1] = row;
     t->rows[1].flags |= GIX_INDEX_REMOVE;
     uint32_t status = write_into(t, &form, room, sizeof room, &told);
-    t->rows[1].flags &= ~GIX_INDEX_REMOVE;
-    expect(status == GIX_INDEX_DONE, "a marked row is refused", 0, 0);
+    t->rows[1] = old;
+    expect(status == GIX_INDEX_DONE, "a marked row is refused", told.fault, told.fault_place);
     status = gix_index_read(room, told.bytes, kind, false, rows, MOST / 16, paths, MOST, t->text, sizeof t->text,
                             &said);
     expect(status == GIX_INDEX_DONE && said.entries == t->said.entries - 1, "a marked row is written", said.entries, 0);
     expect(!memcmp(rows + 1, t->rows + 2, offsetof(gix_index_row, path_start)), "another row is left out", 0, 0);
 }
 
+/* Rows that nobody could write, and one behind a marked one that isn't above the one before that. */
+static void try_marks(table *t) {
+    gix_index_row none = {.flags = 0x3000, .mode = UINT32_MAX, .path_start = SIZE_MAX, .path_len = SIZE_MAX};
+    try_mark(t, t->rows[1]);
+    try_mark(t, t->rows[0]);
+    try_mark(t, t->rows[2]);
+    try_mark(t, none);
+    gix_index_row marked = t->rows[1], last = t->rows[2];
+    t->rows[1].flags |= GIX_INDEX_REMOVE;
+    t->rows[2] = t->rows[0];
+    try_unfit(t, GIX_INDEX_FAULT_ORDER, 2, "a row behind a marked one is let through");
+    t->rows[1] = marked;
+    t->rows[2] = last;
+}
+
 static void try_form(const table *t, uint32_t of_kind, uint32_t version) {
     uint8_t room = FILL;
     gix_index_form form = {.kind = of_kind, .version = version};
-    gix_index_written told;
+    gix_index_written told = {7, 7, 7, 7, 7};
     uint32_t status = write_into(t, &form, &room, 1, &told);
     expect(status == GIX_INDEX_WRONG_NUMBER && room == FILL, "a wrong number is let through", of_kind, version);
-    expect(told.bytes == 0 && told.fault == 0 && told.version == 0, "a wrong number is told of", of_kind, version);
+    bool is_nothing = told.bytes == 0 && told.fault == 0 && told.fault_place == 0;
+    expect(is_nothing && told.version == 0 && told.tree == 0, "a wrong number is told of", of_kind, version);
 }
 
 static void unfit(void) {
@@ -305,7 +379,7 @@ static void unfit(void) {
     *byte = 0;
     try_unfit(&whole, GIX_INDEX_FAULT_ROW, 2, "a NUL is let through");
     *byte = old;
-    try_mark(&whole);
+    try_marks(&whole);
     for (uint32_t number = 0; number < 7; number++) {
         if (number < 2 || number > 4) try_form(&whole, kind, number);
         if (number < 1 || number > 2) try_form(&whole, number, 2);
@@ -483,6 +557,7 @@ int main(int argc, char **argv) {
     if (!strcmp(argv[1], "sizes")) sizes();
     if (!strcmp(argv[1], "threads")) threads();
     if (!strcmp(argv[1], "searches")) searches();
+    if (!strcmp(argv[1], "numbers")) numbers();
     if (!strcmp(argv[1], "rooms")) rooms();
     if (!strcmp(argv[1], "unfit")) unfit();
     if (!strcmp(argv[1], "files")) files(argv[3]);

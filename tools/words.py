@@ -1,44 +1,107 @@
-"""The words of index-tool, of which its usage line, manual page and completions are made, and a table in README.md."""
+"""The words of index-tool: its help, manual page and completions are made of this table, and one in README.md."""
 import collections
 
+PROGRAM, VERSION = "index-tool", "0.55.0"
+ABOUT = "List, check, repair and rewrite git's index files"
+STATUS = "The status is 0 where all was done, 1 at a fault of a file or of the output, and 2 at wrong words."
 KINDS = ("sha1", "sha256")
-# A command, whether it takes OUT behind FILE, and what it does; an option that may stand before KIND, and what comes of
-# that.
-Command = collections.namedtuple("Command", "name writes does option opted", defaults=("", ""))
+# A word that may stand behind a command's name, and what it does, for its help and for README.md. `letter` is that of a
+# short option, which has no name.
+Option = collections.namedtuple("Option", "name letter help does")
+NUL = Option("", "z", "End each line with a NUL byte in place of a newline", "ends each line with a NUL byte")
+QUOTE = Option("quote", "", "Quote paths with unusual bytes, as git does", "quotes paths with unusual bytes, as git does")
+MISSING = Option(
+    "missing-ok", "", "Give each tree its id, also where no object store has it",
+    "each directory has them, also where `git write-tree` has still to make its tree",
+)
+# A command: whether it takes OUT behind FILE, what it does, its line in the help, and its options.
+Command = collections.namedtuple("Command", "name writes does about options", defaults=((),))
+LINES = (NUL, QUOTE)
 COMMANDS = (
-    Command("list", False, "prints mode, id, stage and path of each entry, as `git ls-files --stage` does, unquoted"),
-    Command("check", False, "prints `ok` where entries are in order, cached tree holds together and digest fits"),
-    Command("check-trees", False, "prints `ok` where all that is so, and the cached tree fits the entries too"),
-    Command("map", False, "prints offset, length and name of each part of FILE, up to its first fault"),
-    Command("map-svg", False, "draws these parts to scale, as a picture in SVG"),
-    Command("show", False, "prints all that FILE holds, but extensions that aren't known"),
-    Command("show-json", False, "prints the same as one JSON object"),
-    Command("trees", False, "prints id, entry count and path of each directory, as `git write-tree` makes them"),
-    Command("rewrite", True, "writes OUT anew: in version 4 if FILE is in that, else 2, or 3 where flags ask for it"),
-    Command("rewrite4", True, "writes OUT in version 4"),
+    Command(
+        "list", False, "prints mode, id, stage and path of each entry, as `git ls-files --stage` does, unquoted",
+        "List the entries, as `git ls-files --stage` does", LINES,
+    ),
+    Command(
+        "check", False, "prints `ok` where entries are in order, cached tree holds together and digest fits",
+        "Check the order of the entries, the cached tree and the digest",
+    ),
+    Command(
+        "check-trees", False, "prints `ok` where all that is so, and the cached tree fits the entries too",
+        "Check also that the cached tree fits the entries",
+    ),
+    Command(
+        "map", False, "prints offset, length and name of each part of FILE, up to its first fault",
+        "Name each part of the file, up to its first fault", LINES,
+    ),
+    Command("map-svg", False, "draws these parts to scale, as a picture in SVG", "Draw these parts as a picture (SVG)"),
+    Command("show", False, "prints all that FILE holds, but extensions that aren't known", "Show all that the file holds"),
+    Command("show-json", False, "prints the same as one JSON object", "Show the same as JSON"),
+    Command(
+        "trees", False, "prints id, entry count and path of each directory, as `git write-tree` makes them",
+        "List the trees that the entries make, as `git write-tree` would", LINES,
+    ),
+    Command(
+        "rewrite", True, "writes OUT anew: in version 4 if FILE is in that, else 2, or 3 where flags ask for it",
+        "Write the index again",
+    ),
+    Command("rewrite4", True, "writes OUT in version 4", "Write the index again in version 4"),
     Command(
         "rewrite-trees", True, "writes OUT with a cached tree made anew: counts and ids are those that FILE's has too",
-        "--missing-ok", "each directory has them, also where `git write-tree` has still to make its tree",
+        "Write the index with a cached tree made anew", (MISSING,),
     ),
-    Command("salvage", True, "writes to OUT the entries before the first fault of a damaged FILE, and says how many"),
+    Command(
+        "salvage", True, "writes to OUT the entries before the first fault of a damaged FILE, and says how many",
+        "Write what can be saved of a damaged index",
+    ),
 )
 READING = tuple(command.name for command in COMMANDS if not command.writes)
 WRITING = tuple(command.name for command in COMMANDS if command.writes)
-OPTIONS = {command.name: command.option for command in COMMANDS if command.option}
+NAMES = {command.name: command for command in COMMANDS}
+HELP = ("help", "Print this help, or that of a command")
+KIND = ("[KIND]", "How ids are made: `sha1` or `sha256` [default: as the file's own digest tells]")
+FILE = ("[FILE]", "The index, or `-` for the standard input [default: that of the work tree]")
+FILE_TO_WRITE = ("<FILE>", "The index that is read, or `-` for the standard input")
+OUT = ("<OUT>", "The path that is written to")
+HELP_OPTION, VERSION_OPTION = ("-h, --help", "Print help"), ("-V, --version", "Print version")
 
 
-def head(command):
-    """A command's words before KIND."""
-    return f"{command.name} [{command.option}]" if command.option else command.name
+def spelled(option):
+    """An option as it is typed."""
+    return f"--{option.name}" if option.name else f"-{option.letter}"
 
 
 def operands(command):
-    """The names of what stands behind these words."""
-    return ("KIND", "FILE", "OUT") if command.writes else ("KIND", "FILE")
+    """What stands behind a command's name and its options, with the help of each."""
+    return (KIND, FILE_TO_WRITE, OUT) if command.writes else (KIND, FILE)
 
 
-def usage():
-    """What the program says to words that are no command."""
-    kinds = "|".join(KINDS)
-    reading, writing = ("|".join(head(it) for it in COMMANDS if it.writes == writes) for writes in (False, True))
-    return f"usage: index-tool {reading} {kinds} FILE, or index-tool {writing} {kinds} FILE OUT"
+# ---- The help that the program prints
+
+
+def section(title, rows):
+    """Rows of two columns below a title."""
+    width = max(len(first) for first, _ in rows)
+    return f"\n{title}:\n" + "".join(f"  {first.ljust(width)}  {second}\n" for first, second in rows)
+
+
+def help_text():
+    """What `index-tool --help` prints."""
+    commands = [*((it.name, it.about) for it in COMMANDS), HELP]
+    options = [HELP_OPTION, VERSION_OPTION]
+    usage = f"{ABOUT}\n\nUsage: {PROGRAM} <COMMAND>\n"
+    return f"{usage}{section('Commands', commands)}{section('Options', options)}\n{STATUS}\n"
+
+
+def help_of(name):
+    """What `index-tool help NAME` prints of a command."""
+    if name == HELP[0]:
+        usage = f"{HELP[1]}\n\nUsage: {PROGRAM} help [COMMAND]\n"
+        return usage + section("Arguments", [("[COMMAND]", "The command that it is on")]) + section("Options", [HELP_OPTION])
+    command = NAMES[name]
+    words = [*(["[OPTIONS]"] if command.options else []), *(operand for operand, _ in operands(command))]
+    usage = f"{command.about}\n\nUsage: {PROGRAM} {name} {' '.join(words)}\n"
+    options = [(f"-{it.letter}" if it.letter else f"    --{it.name}", it.help) for it in command.options]
+    # (to clap each may be left out, as KIND stands before FILE)
+    arguments = [(f"[{operand[1:-1]}]", does) for operand, does in operands(command)]
+    return usage + section("Arguments", arguments) + section("Options", [*options, HELP_OPTION])

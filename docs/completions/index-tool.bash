@@ -1,17 +1,25 @@
 # Completes the words of index-tool in bash. Made by docs/words of tools/words.py.
 _index_tool() {
-  local command=${COMP_WORDS[1]} at=$COMP_CWORD last=3 words=
-  # (what stands behind an option counts as if it weren't there)
-  [[ $at -le 2 || ${COMP_WORDS[2]} != --* ]] || at=$((at - 1))
-  case $command in rewrite|rewrite4|rewrite-trees|salvage) last=4 ;; esac
-  case $at in
-    1) words="list check check-trees map map-svg show show-json trees rewrite rewrite4 rewrite-trees salvage" ;;
-    2)
-      words="sha1 sha256"
-      [ "$COMP_CWORD" -eq 2 ] && case $command in rewrite-trees) words+=" --missing-ok" ;; esac
-      ;;
-    *) [ "$at" -gt "$last" ] || compopt -o default ;;
+  local word=${COMP_WORDS[COMP_CWORD]} words="sha1 sha256" before=0 last=1 it
+  for it in "${COMP_WORDS[@]:2:COMP_CWORD-2}"; do
+    case $it in
+      sha1 | sha256) words= ;;
+      -?*) ;;
+      *) before=$((before + 1)) words= ;;
+    esac
+  done
+  case ${COMP_WORDS[1]} in
+    rewrite | rewrite4 | rewrite-trees | salvage) last=2 ;;
+    help) last=0 words="list check check-trees map map-svg show show-json trees rewrite rewrite4 rewrite-trees salvage" ;;
   esac
-  mapfile -t COMPREPLY < <(compgen -W "$words" -- "${COMP_WORDS[COMP_CWORD]}")
+  if [ "$COMP_CWORD" -eq 1 ]; then
+    words="list check check-trees map map-svg show show-json trees rewrite rewrite4 rewrite-trees salvage help --help --version"
+  elif [[ $word == -* ]]; then
+    words=--help
+    case ${COMP_WORDS[1]} in list) words+=' -z --quote' ;; map) words+=' -z --quote' ;; trees) words+=' -z --quote' ;; rewrite-trees) words+=' --missing-ok' ;; esac
+  elif [ "$before" -lt "$last" ]; then
+    compopt -o default
+  fi
+  mapfile -t COMPREPLY < <(compgen -W "$words" -- "$word")
 }
 complete -F _index_tool index-tool

@@ -17,6 +17,8 @@ FLAG_WORDS = (
     (entries.SKIP_WORKTREE, "skip-worktree"),
 )
 SIDES = ("base", "ours", "theirs")
+# The depth of the directories of a cached tree that stand furthest in, from the root's 0; those below them tell theirs.
+DEEPEST_INDENT = 32
 # Octal digits that every mode has, and those of a number that needs more.
 MODE_DIGITS, ALL_DIGITS = 6, 11
 
@@ -76,18 +78,23 @@ def entry(place, value):
     return [f"entry: {place}"] + further_in(fields + stat(value.stat))
 
 
-def node(value):
+def nodes(value, depth):
+    """The lines of a directory and of all below it, each with its indent."""
     count = -1 if value.count is None else value.count
     fields = [f"id: {value.id.hex()}", f"entries: {count}"]
+    if depth > DEEPEST_INDENT:
+        fields.insert(0, f"depth: {depth}")
+    indent = "  " * min(depth, DEEPEST_INDENT)
+    lines = [indent + line for line in [f"directory: {escaped(value.name)}"] + further_in(fields)]
     for child in value.children:
-        fields += node(child)
-    return [f"directory: {escaped(value.name)}"] + further_in(fields)
+        lines += nodes(child, depth + 1)
+    return lines
 
 
 def tree(value):
     if value is None:
         return ["cached tree: none"]
-    return ["cached tree:"] + further_in(node(value))
+    return ["cached tree:"] + further_in(nodes(value, 0))
 
 
 def places(ranges):
