@@ -7,11 +7,12 @@ import hashlib
 import random
 from typing import Callable, NamedTuple
 
-# What index-tool is told to do with a file, as a rule and at all; and the calls of index-times that make tables.
+# What index-tool is timed with as a rule; all that it can be told to do with a file; which of these have an OUT; and the
+# calls of index-times that make tables.
 COMMANDS = ("list", "check", "rewrite4")
-SHOWN = ("show", "show-json")
 TREES = "trees"
-TOLD = (*COMMANDS, *SHOWN, TREES)
+WRITING = ("rewrite", "rewrite4", "rewrite-trees", "salvage")
+TOLD = ("list", "check", "check-trees", "map", "map-svg", "show", "show-json", TREES, *WRITING)
 FOLDED, DIRECTORIES = "make-folded", "make-table"
 ONES = 1 | (2**32 - 1) << 1
 
@@ -131,8 +132,8 @@ class Case(NamedTuple):
     names: bytes = b"a\n"
     # By what more than twice as much may take, for files whose paths have more bytes than they.
     growth: float = 2.0
-    # The commands that tell of it, which tests/worst holds also to the memory that they take and to what they print.
-    told: tuple[str, ...] = ()
+    # So many bytes of memory for each of the file's have to do, beside what a program takes before it reads anything.
+    memory: int = 70
 
 
 CASES = (
@@ -167,7 +168,6 @@ CASES = (
                 b"\0-1 %d\n" % n + b"".join(b"%d\0-1 1\n" % at + b"a\0-1 1\n" * 2046 + b"a\0-1 0\n" for at in range(n)),
             ),
         ),
-        told=SHOWN,
     ),
     Case("nodes deeper than may be", 250_000, lambda n: index(2, 0, item(b"TREE", b"\0-1 1\n" + b"a\0-1 1\n" * n))),
     Case("small extensions before an end marker", 250_000, lambda n: marked(item(b"ABCD", b"") * n)),
@@ -267,4 +267,4 @@ def words(case, call, tool, times, path):
         names = path.with_name("names")
         names.write_bytes(case.names)
         return [times, "lookup", call, path, names]
-    return [tool, call, "sha1", path, *([path.with_name("out")] if call.startswith("rewrite") else [])]
+    return [tool, call, "sha1", path, *([path.with_name("out")] if call in WRITING else [])]
