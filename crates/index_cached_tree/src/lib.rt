@@ -89,6 +89,7 @@ pub fn decode(
         object_hash,
         alloc_limit_bytes,
         MAX_LEVELS,
+        1,
         data,
         &mut roots,
     )?

@@ -1,7 +1,8 @@
 //! A node and all below it.
 
 ghost use Rattle.std.specs.List.Sorted.{IsPermutation};
-ghost use Rattle.std.specs.Prelude.{◌≡◌, ℕ, false, List, [], ◌∷◌, ◌++◌, map, IsTrue, IfOk, IfErr, IfSome, IfNone};
+ghost use Rattle.std.specs.Prelude.{◌≡◌, ◌≤◌, ◌+◌, ℕ, length, max, false, List, [], ◌∷◌, ◌++◌, map, IsTrue, IfOk, IfErr, IfSome, IfNone};
+ghost use Rattle.std.specs.Vec.{vec_capacity};
 ghost use Rattle.index_cached_tree.specs.Tree.{Node, node, nodes_from, node_of, name_cmp, NamesRise, IsNode};
 ghost use Rattle.index_cached_tree.specs.Tree.{HasNodeHead};
 
@@ -36,11 +37,32 @@ fn sort_siblings(siblings: &mut Vec<Tree>) -> bool
     true
 }
 
+/// How many siblings a first one makes room for, where there are so many.
+const FIRST_ROOM: usize = 4;
+
+/// Makes room behind the siblings where it is used up: for as many as are there, or four, but never for more than are
+/// left to be read. So all that are read take no more than they need, and what is only declared takes nothing.
+fn make_room(siblings: &mut Vec<Tree>, left: u64) -> Result<(), AllocError>
+    ensures items { siblings.new.items ≡ siblings.old.items }
+    ensures few { vec_capacity siblings.new ≤ max (vec_capacity siblings.old)
+        (length siblings.old.items + max (length siblings.old.items) 4) }
+    ensures left { vec_capacity siblings.new
+        ≤ max (vec_capacity siblings.old) (length siblings.old.items + left) }
+{
+    let there = siblings.len();
+    if there == siblings.capacity() {
+        let most = there.max(FIRST_ROOM) as u64;
+        siblings.reserve_exact(left.min(most) as usize)?;
+    }
+    Ok(())
+}
+
 /// Puts a node with this head and these children behind its siblings, its children sorted; false where two of them have
-/// one name.
+/// one name. So many siblings are left to be put, with this one.
 fn push_tree(
     alloc: Global,
     head: NodeHead<'_>,
+    left: u64,
     mut children: Vec<Tree>,
     siblings: &mut Vec<Tree>,
 ) -> Result<bool, AllocError>
@@ -55,6 +77,7 @@ fn push_tree(
         return Ok(false);
     }
     let name = SmallVec::from_slice(alloc, head.name)?;
+    make_room(siblings, left)?;
     siblings.push(Tree {
         name,
         id: head.id,
@@ -65,7 +88,7 @@ fn push_tree(
 }
 
 /// Puts the node at the front behind its siblings, and gives the bytes behind it; None where no node stands there with
-/// at most so many levels below it.
+/// at most so many levels below it. So many siblings are left to be read, with this one.
 ///
 /// A child takes memory only once it was read. The call keeps little on the stack, since it is as deep as the tree.
 pub(super) fn push_node<'a>(
@@ -73,6 +96,7 @@ pub(super) fn push_node<'a>(
     kind: Kind,
     limit: Option<usize>,
     levels: u32,
+    left: u64,
     bytes: &'a [u8],
     siblings: &mut Vec<Tree>,
 ) -> Result<Option<&'a [u8]>, AllocError>
@@ -90,16 +114,25 @@ pub(super) fn push_node<'a>(
     };
     let mut children = Vec::new(alloc);
     let mut rest = tail;
-    for _i in 0..head.number {
+    for i in 0..head.number {
         if levels == 0 {
             return Ok(None);
         }
-        let Some(after) = push_node(alloc, kind, limit, levels - 1, rest, &mut children)? else {
+        let Some(after) = push_node(
+            alloc,
+            kind,
+            limit,
+            levels - 1,
+            head.number - i,
+            rest,
+            &mut children,
+        )?
+        else {
             return Ok(None);
         };
         rest = after;
     }
-    if !push_tree(alloc, head, children, siblings)? {
+    if !push_tree(alloc, head, left, children, siblings)? {
         return Ok(None);
     }
     Ok(Some(rest))

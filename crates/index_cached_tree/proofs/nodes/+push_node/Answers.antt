@@ -17,7 +17,7 @@ returns-then-levels-eq0-clause-none t c = λ u rest p.
     (lent_node_head c.in-Some.head) u (sym c.in-Some.ensures) p in
     let g = c.loop-i.invariant.1 r.nodes rest r.row in
     let f = first_of c.args.kind c.args.limit c.args.levels
-    (c.in-Some.head.number - c.loop-i._i) c.loop-i.rest.now rest g.0 (omega arith) g.1 in
+    (c.in-Some.head.number - c.loop-i.i) c.loop-i.rest.now rest g.0 (omega arith) g.1 in
     omega (arith, f.level)
 
 pub returns-in_default-2-clause-none : goal.returns-in_default-2-clause-none
@@ -26,7 +26,7 @@ returns-in_default-2-clause-none t c = λ u rest p.
     (lent_node_head c.in-Some.head) u (sym c.in-Some.ensures) p in
     let g = c.loop-i.invariant.1 r.nodes rest r.row in
     let f = first_of c.args.kind c.args.limit c.args.levels
-    (c.in-Some.head.number - c.loop-i._i) c.loop-i.rest.now rest g.0 (omega arith) g.1 in
+    (c.in-Some.head.number - c.loop-i.i) c.loop-i.rest.now rest g.0 (omega arith) g.1 in
     let none = rw c.in_default-2.is at c.in_ok-after.ensures.none in
     none f.first f.after f.is_first
 
@@ -35,7 +35,7 @@ loop-i-preserved t c =
     let some = rw c.in-Some-2.is at c.in_ok-after.ensures.some in
     let child = some.0 in
     let number = c.in-Some.head.number in
-    let i = c.loop-i._i in
+    let i = c.loop-i.i in
     let before = c.loop-i.rest.now in
     let after = c.in-Some-2.after.now in
     let longer : IsRow c.args.kind c.args.limit c.args.levels (i + 1) c.in-Some.tail.now
@@ -56,7 +56,7 @@ returns-then-not-branch-clause-none t c = λ u rest p.
     let children = map node_of c.loop-i.children.items in
     let r = row_of c.args.kind c.args.limit c.args.levels c.args.bytes.now c.in-Some.tail.now rest
     (lent_node_head c.in-Some.head) u (sym c.in-Some.ensures) p in
-    let all : c.loop-i._i ≡ c.in-Some.head.number = omega arith in
+    let all : c.loop-i.i ≡ c.in-Some.head.number = omega arith in
     let row : IsRow c.args.kind c.args.limit c.args.levels c.in-Some.head.number c.in-Some.tail.now children
     c.loop-i.rest.now = rw (← all) c.loop-i.invariant.0 in
     let same : r.nodes ≡ children = same_row c.args.kind c.args.limit c.args.levels c.in-Some.head.number
@@ -68,7 +68,7 @@ pub returns-clause-some : goal.returns-clause-some
 returns-clause-some t c =
     let children = map node_of c.loop-i.children.items in
     let made = c.in_ok-push_tree.ensures.pushed c.if-not-branch.false in
-    let all : c.loop-i._i ≡ c.in-Some.head.number = omega arith in
+    let all : c.loop-i.i ≡ c.in-Some.head.number = omega arith in
     let row : IsRow c.args.kind c.args.limit c.args.levels c.in-Some.head.number c.in-Some.tail.now children
     c.loop-i.rest.now = rw (← all) c.loop-i.invariant.0 in (
       _,

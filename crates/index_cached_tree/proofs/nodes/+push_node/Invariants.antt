@@ -9,6 +9,6 @@ decreases-push_node l = l.levels
 -- the children so far are a row, and each row of all children goes on from here
 abbrev pub invariant-loop-i : goal.invariant-loop-i
 invariant-loop-i l =
-    IsRow l.kind l.limit l.levels l._i l.initial.rest (map node_of l.children.items) l.rest
+    IsRow l.kind l.limit l.levels l.i l.initial.rest (map node_of l.children.items) l.rest
     × ((ts : List Node) (end : List ℕ) → IsRow l.kind l.limit l.levels l.head.number l.initial.rest ts end
-    → (us : List Node) × IsRow l.kind l.limit l.levels (l.head.number - l._i) l.rest us end)
+    → (us : List Node) × IsRow l.kind l.limit l.levels (l.head.number - l.i) l.rest us end)
