@@ -19,7 +19,7 @@ use Rattle.index_tree_writer.specs.Cached.{AreItemNodes, AreNodes, IsCached, IsN
 use Rattle.index_tree_writer.specs.Directory.{Item, Items, leaf, directory, no_more, IsName, IsItem, content}
 use Rattle.index_tree_writer.specs.Directory.{leaf_count, directory_bytes, directory_object, item_bytes, leaf_bytes}
 use Rattle.index_tree_writer.specs.Directory.{entries, entry_of, items_id, item_leaves, leaves, item_objects, objects}
-use Rattle.index_tree_writer.specs.Directory.{objects_below, key}
+use Rattle.index_tree_writer.specs.Directory.{AreItems, IsTreeOf, objects_below, key}
 use Rattle.index_tree_writer.specs.Objects.{Taken, tree_id, with_objects}
 use Rattle.index_tree_writer.specs.Staged.{Staged}
 use Rattle.index_tree_writer.specs.WritingSteps.{Ahead, IsBegunDirectory, IsFinished, IsMadeNode, any_later}
@@ -31,7 +31,7 @@ with_none : (known : Taken) → with_objects known [] ≡ known
 with_none None = refl
 with_none (Some taken) = ap Some (append-nil taken)
 
-with_both : (known : Taken) (a b : List (ObjectId × List ℕ))
+pub with_both : (known : Taken) (a b : List (ObjectId × List ℕ))
     → with_objects (with_objects known a) b ≡ with_objects known (a ++ b)
 with_both None a b = refl
 with_both (Some taken) a b = ap Some (append_assoc taken a b)
@@ -39,10 +39,28 @@ with_both (Some taken) a b = ap Some (append_assoc taken a b)
 abbrev Follows : List ℕ → TreeEntry → Type 0
 Follows last e = (s : List ℕ) → path_cmp last s ≡ Less → path_cmp (sorted_name e) s ≡ Less
 
-pub begun_none : (kind : Kind) (left : List Staged) (m : Made) (old : Taken) → m.bytes.items ≡ [] → m.children.items
-    ≡ [] → m.count ≡ 0 → m.later ≡ false → All (Ahead []) left → IsBegunDirectory kind [] left m old old
-begun_none kind left m old b n c l a = record {
-  items = no_more;
+-- the items of a directory that is begun, and what follows them
+pub record IsBegun (kind : Kind) (staged left : List Staged) (items : Items) : Type 0 where
+  pub made : AreItems kind items
+  pub ordered : IsGitOrdered (entries kind items)
+  pub last : List ℕ
+  pub follows : All (Follows last) (entries kind items)
+  pub ahead : All (Ahead last) left
+  pub listed : leaves [] items ≡ staged
+
+abbrev pub items_begun : (kind : Kind) (staged left : List Staged) (m : Made) (old new : Taken)
+    (h : IsBegunDirectory kind staged left m old new) → IsBegun kind staged left h.items
+items_begun kind staged left m old new h = record {
+  made = h.made;
+  ordered = h.ordered;
+  last = h.last;
+  follows = h.follows;
+  ahead = h.ahead;
+  listed = h.listed;
+}
+
+pub no_items : (kind : Kind) (left : List Staged) → All (Ahead []) left → IsBegun kind [] left no_more
+no_items kind left a = record {
   made = tt;
   ordered = record {
     components = All-nil (λ e. All (λ b. b ≢ 47) e.name);
@@ -52,12 +70,26 @@ begun_none kind left m old b n c l a = record {
   follows = All-nil (Follows []);
   ahead = a;
   listed = refl;
-  is_content = b;
-  nodes = ap (map node_of) n;
-  count = c;
-  later = l;
-  stored = sym (with_none old);
 }
+
+pub begun_none : (kind : Kind) (left : List Staged) (m : Made) (old : Taken) → m.bytes.items ≡ [] → m.children.items
+    ≡ [] → m.count ≡ 0 → m.later ≡ false → All (Ahead []) left → IsBegunDirectory kind [] left m old old
+begun_none kind left m old b n c l a =
+    let g = no_items kind left a in
+    record {
+      items = no_more;
+      made = g.made;
+      ordered = g.ordered;
+      last = g.last;
+      follows = g.follows;
+      ahead = g.ahead;
+      listed = g.listed;
+      is_content = b;
+      nodes = ap (map node_of) n;
+      count = c;
+      later = l;
+      stored = sym (with_none old);
+    }
 
 component_of : (kind : Kind) (x : Item) → IsItem kind x → All (λ b. b ≢ 47) (entry_of kind x).name
 component_of kind (leaf name k id later) h = h.0.component
@@ -72,41 +104,89 @@ any_later-append [] b = refl
 any_later-append (s ∷ a) b =
     ap (λ (x : Bool). s.later || x) (any_later-append a b) ∙ sym (or_assoc s.later (any_later a) (any_later b))
 
+pub leaf_sorted : (name : List ℕ) (k : EntryKind) (id : ObjectId) (later : Bool) (kind : Kind)
+    → sorted_name (entry_of kind (leaf name k id later)) ≡ key name k
+leaf_sorted name kinds.Tree id later kind = refl
+leaf_sorted name kinds.Blob id later kind = append-nil name
+leaf_sorted name kinds.BlobExecutable id later kind = append-nil name
+leaf_sorted name kinds.Link id later kind = append-nil name
+leaf_sorted name kinds.Commit id later kind = append-nil name
+
+some_leaves : (items : Items) (staged : List Staged) → leaves [] items ≡ staged → staged ≢ [] → items ≢ no_more
+some_leaves items staged e some nothing = some (sym e ∙ ap (leaves []) nothing)
+
+-- the leaves of a directory in another
+directory_leaves : (name shown : List ℕ) (inner later : List Staged) (w : Items) → shown ≡ name ++ 47 ∷ []
+    → map (under shown) inner ≡ later → leaves [] w ≡ inner → item_leaves [] (directory name w) ≡ later
+directory_leaves name shown inner later w is listed e =
+    ap (λ (p : List ℕ). leaves p w) (sym (append-nil (name ++ 47 ∷ [])))
+    ∙ leaves_under (name ++ 47 ∷ []) [] w ∙ ap (λ (p : List ℕ). map (under p) (leaves [] w)) (sym is)
+    ∙ ap (map (under shown)) e ∙ listed
+
 -- one more item, whose sorted name follows
+module _ (kind : Kind) (staged left : List Staged) (items : Items) (h : IsBegun kind staged left items) where
+  pub items_push : (x : Item) (shown : List ℕ) (more left_then : List Staged) → IsItem kind x
+      → sorted_name (entry_of kind x) ≡ shown → path_cmp h.last shown ≡ Less → All (Ahead shown) left_then
+      → item_leaves [] x ≡ more → IsBegun kind (staged ++ more) left_then (push items x)
+  items_push x shown more left_then made is follows ahead listed =
+      let less : (k : ℕ) (d : TreeEntry) → k < length (entries kind items)
+      → path_cmp (sorted_name (get_or (entries kind items) k d)) (sorted_name (entry_of kind x)) ≡ Less =
+      λ k d within. h.follows k d within (sorted_name (entry_of kind x))
+      (subst (λ (s : List ℕ). path_cmp h.last s ≡ Less) (sym is) follows) in
+      record {
+        made = made_push kind items x h.made made;
+        ordered = subst IsGitOrdered (sym (entries_push kind items x)) (record {
+          components = All-push (λ e. All (λ b. b ≢ 47) e.name) (entries kind items)
+              (entry_of kind x) h.ordered.components (component_of kind x made);
+          less = all_pairs_push (λ d e. path_cmp (sorted_name d) (sorted_name e) ≡ Less) (entries kind items)
+              (entry_of kind x) h.ordered.less less;
+        });
+        last = shown;
+        follows = subst (λ (es : List TreeEntry). All (Follows shown) es) (sym (entries_push kind items x))
+            (All-push (Follows shown) (entries kind items) (entry_of kind x)
+            (All-weaker (Follows h.last) (Follows shown)
+            (λ e f s lt. f s (nat_list_cmp_total.trans h.last shown s follows lt)) (entries kind items) h.follows)
+            (λ s lt. subst (λ (t : List ℕ). path_cmp t s ≡ Less) (sym is) lt));
+        ahead = ahead;
+        listed = leaves_push [] items x ∙ ap (λ (l : List Staged). l ++ item_leaves [] x) h.listed
+            ∙ ap (λ (l : List Staged). staged ++ l) listed;
+      }
+
+  pub items_leaf : (name : List ℕ) (s : Staged) (left_then : List Staged) → IsItem kind (leaf name s.kind s.id s.later)
+      → s.path ≡ key name s.kind → path_cmp h.last s.path ≡ Less → All (Ahead s.path) left_then
+      → IsBegun kind (staged ++ s ∷ []) left_then (push items (leaf name s.kind s.id s.later))
+  items_leaf name s left_then made is follows ahead =
+      items_push (leaf name s.kind s.id s.later) s.path (s ∷ []) left_then made
+      (leaf_sorted name s.kind s.id s.later kind ∙ sym is) follows ahead
+      (ap (λ (p : List ℕ). record { path = p; kind = s.kind; id = s.id; later = s.later } ∷ []) (sym is))
+
+  pub items_directory : (name shown : List ℕ) (inner later left_then : List Staged) (w : Items) → IsName name
+      → shown ≡ name ++ 47 ∷ [] → path_cmp h.last shown ≡ Less → All (Ahead shown) left_then → inner ≢ []
+      → map (under shown) inner ≡ later → IsTreeOf kind inner w
+      → IsBegun kind (staged ++ later) left_then (push items (directory name w))
+  items_directory name shown inner later left_then w named is follows ahead some listed t =
+      items_push (directory name w) shown later left_then
+      (named, some_leaves w inner t.leaves some, t.directory.made, t.directory.ordered) (sym is) follows ahead
+      (directory_leaves name shown inner later w is listed t.leaves)
+
+-- the same, with what is made of them
 pub begun_push : (kind : Kind) (staged left : List Staged) (m : Made) (old new : Taken)
     (h : IsBegunDirectory kind staged left m old new)
-    → (x : Item) (shown : List ℕ) (more left_then : List Staged) (n : Made) (newer : Taken) (us : List Node)
-    → IsItem kind x → sorted_name (entry_of kind x) ≡ shown → path_cmp h.last shown ≡ Less
-    → All (Ahead shown) left_then
-    → item_leaves [] x ≡ more → n.bytes.items ≡ m.bytes.items ++ item_bytes kind x
+    → (x : Item) (more left_then : List Staged) (n : Made) (newer : Taken) (us : List Node)
+    → IsBegun kind (staged ++ more) left_then (push h.items x) → n.bytes.items ≡ m.bytes.items ++ item_bytes kind x
     → map node_of n.children.items ≡ map node_of m.children.items ++ us → AreItemNodes kind x us
     → n.count ≡ m.count + length more → n.later ≡ m.later || any_later more
     → newer ≡ with_objects new (item_objects kind x)
     → IsBegunDirectory kind (staged ++ more) left_then n old newer
-begun_push kind staged left m old new h x shown more left_then n newer us made is follows ahead listed bytes children
-    nodes count later stored =
-    let less : (k : ℕ) (d : TreeEntry) → k < length (entries kind h.items)
-    → path_cmp (sorted_name (get_or (entries kind h.items) k d)) (sorted_name (entry_of kind x)) ≡ Less =
-    λ k d within. h.follows k d within (sorted_name (entry_of kind x))
-    (subst (λ (s : List ℕ). path_cmp h.last s ≡ Less) (sym is) follows) in
+begun_push kind staged left m old new h x more left_then n newer us g bytes children nodes count later stored =
     record {
       items = push h.items x;
-      made = made_push kind h.items x h.made made;
-      ordered = subst IsGitOrdered (sym (entries_push kind h.items x)) (record {
-        components = All-push (λ e. All (λ b. b ≢ 47) e.name) (entries kind h.items)
-            (entry_of kind x) h.ordered.components (component_of kind x made);
-        less = all_pairs_push (λ d e. path_cmp (sorted_name d) (sorted_name e) ≡ Less) (entries kind h.items)
-            (entry_of kind x) h.ordered.less less;
-      });
-      last = shown;
-      follows = subst (λ (es : List TreeEntry). All (Follows shown) es) (sym (entries_push kind h.items x))
-          (All-push (Follows shown) (entries kind h.items) (entry_of kind x)
-          (All-weaker (Follows h.last) (Follows shown)
-          (λ e f s lt. f s (nat_list_cmp_total.trans h.last shown s follows lt)) (entries kind h.items) h.follows)
-          (λ s lt. subst (λ (t : List ℕ). path_cmp t s ≡ Less) (sym is) lt));
-      ahead = ahead;
-      listed = leaves_push [] h.items x ∙ ap (λ (l : List Staged). l ++ item_leaves [] x) h.listed
-          ∙ ap (λ (l : List Staged). staged ++ l) listed;
+      made = g.made;
+      ordered = g.ordered;
+      last = g.last;
+      follows = g.follows;
+      ahead = g.ahead;
+      listed = g.listed;
       is_content = bytes ∙ ap (λ (l : List ℕ). l ++ item_bytes kind x) h.is_content ∙ sym (content_push kind h.items x);
       nodes = subst (AreNodes kind (push h.items x)) (sym children)
           (nodes_push kind h.items x (map node_of m.children.items) us h.nodes nodes);
@@ -118,14 +198,6 @@ begun_push kind staged left m old new h x shown more left_then n newer us made i
     }
 
 -- ---- a leaf
-
-pub leaf_sorted : (name : List ℕ) (k : EntryKind) (id : ObjectId) (later : Bool) (kind : Kind)
-    → sorted_name (entry_of kind (leaf name k id later)) ≡ key name k
-leaf_sorted name kinds.Tree id later kind = refl
-leaf_sorted name kinds.Blob id later kind = append-nil name
-leaf_sorted name kinds.BlobExecutable id later kind = append-nil name
-leaf_sorted name kinds.Link id later kind = append-nil name
-leaf_sorted name kinds.Commit id later kind = append-nil name
 
 or_false : (b : Bool) → b || false ≡ b
 or_false true = refl
@@ -140,15 +212,12 @@ pub begun_leaf : (kind : Kind) (staged left : List Staged) (m : Made) (old new :
     → n.count ≡ m.count + 1 → n.later ≡ m.later || s.later
     → IsBegunDirectory kind (staged ++ s ∷ []) left_then n old new
 begun_leaf kind staged left m old new h name s left_then n made is follows ahead bytes children count later =
-    begun_push kind staged left m old new h (leaf name s.kind s.id s.later) s.path (s ∷ []) left_then n new
-    (leaf_nodes name s.kind s.id s.later) made (leaf_sorted name s.kind s.id s.later kind ∙ sym is) follows ahead
-    (ap (λ (p : List ℕ). record { path = p; kind = s.kind; id = s.id; later = s.later } ∷ []) (sym is)) bytes children
-    refl count (later ∙ ap (λ (b : Bool). m.later || b) (sym (or_false s.later))) (sym (with_none new))
+    begun_push kind staged left m old new h (leaf name s.kind s.id s.later) (s ∷ []) left_then n new
+    (leaf_nodes name s.kind s.id s.later)
+    (items_leaf kind staged left h.items (items_begun kind staged left m old new h) name s left_then made is follows
+    ahead) bytes children refl count (later ∙ ap (λ (b : Bool). m.later || b) (sym (or_false s.later))) (sym (with_none new))
 
 -- ---- a directory
-
-some_leaves : (items : Items) (staged : List Staged) → leaves [] items ≡ staged → staged ≢ [] → items ≢ no_more
-some_leaves items staged e some nothing = some (sym e ∙ ap (leaves []) nothing)
 
 -- what is made of a directory
 pub finished_cached : (kind : Kind) (staged left : List Staged) (m : Made) (old new : Taken)
@@ -190,14 +259,14 @@ pub begun_directory : (kind : Kind) (staged left : List Staged) (m : Made) (old 
 begun_directory kind staged left m old new h name shown inner later left_then i n middle newer us named is follows ahead
     some listed w bytes children nodes count flag stored =
     let x : Item = directory name w.items in
-    let made : IsItem kind x = (named, some_leaves w.items inner w.listed some, w.made, w.ordered) in
-    let below : leaves ([] ++ (name ++ 47 ∷ [])) w.items ≡ later =
-    ap (λ (p : List ℕ). leaves p w.items) (sym (append-nil (name ++ 47 ∷ [])))
-    ∙ leaves_under (name ++ 47 ∷ []) [] w.items ∙ ap (λ (p : List ℕ). map (under p) (leaves [] w.items)) (sym is)
-    ∙ ap (map (under shown)) w.listed ∙ listed in
+    let t : IsTreeOf kind inner w.items =
+    record { directory = record { made = w.made; ordered = w.ordered }; leaves = w.listed } in
+    let g : IsBegun kind (staged ++ later) left_then (push h.items x) = items_directory kind staged left h.items
+    (items_begun kind staged left m old new h) name shown inner later left_then w.items named is follows ahead some
+    listed t in
     let number : length inner ≡ length later = sym (length-map inner (under shown)) ∙ ap length listed in
     let flags : any_later inner ≡ any_later later = later_under inner ∙ ap any_later listed in
-    begun_push kind staged left m old new h x shown later left_then n newer us made (sym is) follows ahead below
+    begun_push kind staged left m old new h x later left_then n newer us g
     (bytes ∙ ap (λ (l : List ℕ). m.bytes.items ++ directory_bytes kind name l) w.is_content) children
     (node_where i.bytes.items (content kind w.items) (IsFinished kind name i) (IsCached kind name w.items) us
     w.is_content (λ t f. finished_cached kind inner [] i new middle w name t f) nodes)

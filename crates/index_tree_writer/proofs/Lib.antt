@@ -3,6 +3,7 @@ pub mod Begun
 pub mod Behinds
 pub mod Beside
 pub mod Checked
+pub mod Complete
 pub mod Divided
 pub mod Gives
 pub mod Keeps

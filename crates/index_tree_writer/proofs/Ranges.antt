@@ -1,11 +1,11 @@
 -- Ranges of records, and what they stage.
-use Rattle.std.proofs.Common.{◌≡◌, ℕ, ◌+◌, ◌-◌, ◌<◌, ◌≤◌, List, [], ◌∷◌, ◌++◌, length, map, take, drop, get_or, Option}
-use Rattle.std.proofs.Common.{Some, None, refl, sym, ap, ◌∙◌, take-add, arith}
+use Rattle.std.proofs.Common.{◌≡◌, ℕ, ◌+◌, ◌-◌, ◌<◌, ◌≤◌, List, [], ◌∷◌, ◌++◌, All, length, map, take, drop, get_or}
+use Rattle.std.proofs.Common.{Option, Some, None, refl, sym, ap, ◌∙◌, take-add, arith}
 use Rattle.std.specs.List.{slice_range, HoldsAt, cons_option}
 use Rattle.std.specs.Option.{option_to_list}
 use Rattle.std.proofs.Math.Seq.{drop-cons}
 use Rattle.std.proofs.lemmas.List.{drop-drop, length-map, length-drop, length-take, map-append, take_all}
-use Rattle.std.proofs.lemmas.List.Elements.{filter_map-append}
+use Rattle.std.proofs.lemmas.List.Elements.{All-head, All-tail, filter_map-append}
 use Rattle.std.proofs.lemmas.List.Prefix.{front_rest}
 use Rattle.index_parts.specs.declared.hash.ObjectId.TheVariants as ids
 use Rattle.index_entries.specs.Record.{Record}
@@ -107,3 +107,13 @@ cut_under front shown s g =
     let same : shown ++ drop (front + length shown) p ≡ drop front p =
     ap (λ (t : List ℕ). shown ++ t) (sym (drop-drop (length shown) front p) ∙ rest) ∙ sym g.1 in
     ap (λ (q : List ℕ). record { path = q; kind = s.kind; id = s.id; later = s.later }) same
+
+pub cut_under_all : (front : ℕ) (shown : List ℕ) (ss : List Staged) → All (Goes front shown) ss
+    → map (under shown) (map (cut (front + length shown)) ss) ≡ map (cut front) ss
+cut_under_all front shown [] h = refl
+cut_under_all front shown (s ∷ ss) h =
+    let first : under shown (cut (front + length shown) s) ≡ cut front s =
+    cut_under front shown s (All-head (Goes front shown) s ss h) in
+    let rest : map (under shown) (map (cut (front + length shown)) ss) ≡ map (cut front) ss =
+    cut_under_all front shown ss (All-tail (Goes front shown) s ss h) in
+    rw (first, rest) refl

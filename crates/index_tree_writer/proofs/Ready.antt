@@ -13,9 +13,9 @@ use Rattle.index_entries.specs.Order.{path_cmp}
 use Rattle.index_tree_writer.specs.Directory.{IsName}
 use Rattle.index_tree_writer.specs.Refusals.{BeginsWith, IsInside}
 use Rattle.index_tree_writer.specs.Staged.{Staged}
-use Rattle.index_tree_writer.specs.WritingSteps.{Ahead, IsLeaf, IsReady}
+use Rattle.index_tree_writer.specs.WritingSteps.{Ahead, IsComponent, IsLeaf, IsReady}
 use Rattle.index_tree_writer.proofs.Aparts.{between}
-use Rattle.index_tree_writer.proofs.PathNames.{NoSlash, IsBehind, ahead_from, path_behind}
+use Rattle.index_tree_writer.proofs.PathNames.{NoSlash, IsBehind, ahead_from, path_behind, path_some}
 use Rattle.index_tree_writer.proofs.Pushes.{under}
 
 -- ---- parts
@@ -55,6 +55,10 @@ ready_front kind levels a b h = record {
   rise = pairs_front (λ s t. path_cmp s.path t.path ≡ Less) a b h.rise;
   outside = pairs_front (λ s t. IsInside t.path s → ⊥) a b h.outside;
 }
+
+pub all_back : (P : Staged → Type 0) (xs ys : List Staged) → All P (xs ++ ys) → All P ys
+all_back P [] ys h = h
+all_back P (x ∷ xs) ys h = all_back P xs ys (All-tail P x (xs ++ ys) h)
 
 -- ---- below a name
 
@@ -182,3 +186,19 @@ ahead_directory name shown rest (s ∷ ss) is slash less rise stops = All-cons (
         pairs_head (λ s t. path_cmp s.path t.path ≡ Less) s ss rise k d within in
         ahead_from shown t (below t.path lt)
         (inr (name, is, slash, λ b. no_first (between shown s.path t.path at_first up b)))
+
+first_behind : (path : List ℕ) (name shown : List ℕ) → path ≢ [] → IsComponent path name shown
+    → path_cmp [] shown ≡ Less
+first_behind path name [] some c = absurd (by c.is)
+  where
+    by : ([] ≡ name ++ 47 ∷ []) ⊎ (([] ≡ name) × (path ≡ name)) → ⊥
+    by (inl e) = absurd (omega (arith, ap length e, length-append name (47 ∷ [])))
+    by (inr e) = some (e.1 ∙ sym e.0)
+first_behind path name (b ∷ shown) some c = refl
+
+-- at first all is ahead
+pub ahead_none : (kind : Kind) (levels : ℕ) (left : List Staged) → IsReady kind levels left → All (Ahead []) left
+ahead_none kind levels left h = λ k d within name shown c.
+    let l = h.each k d within in
+    first_behind (get_or left k d).path name shown
+    (path_some l.check levels (get_or left k d).kind (get_or left k d).path l.path) c

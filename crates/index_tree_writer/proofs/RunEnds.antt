@@ -1,6 +1,6 @@
 -- Up to where records go on alike behind a front, and what they stage.
 use Rattle.std.proofs.Common.{◌≡◌, ℕ, zero, suc, ◌+◌, ◌-◌, ◌<◌, ◌≤◌, List, [], ◌∷◌, ◌++◌, All, true}
-use Rattle.std.proofs.Common.{false, Option, Some, None, length, map, take, drop, get_or, get_or-drop, refl, sym}
+use Rattle.std.proofs.Common.{false, Option, Some, length, map, take, drop, get_or, get_or-drop, refl, sym}
 use Rattle.std.proofs.Common.{ap, subst, ◌∙◌, arith}
 use Rattle.std.specs.Prelude.{◌≢◌, slice_range}
 use Rattle.std.specs.List.{AllWithin, HoldsAt}
@@ -11,7 +11,6 @@ use Rattle.std.specs.declared.cmp.Ordering.TheVariants.{Less, Equal, Greater}
 use Rattle.std.proofs.Math.ListN.{get_or-map}
 use Rattle.std.proofs.lemmas.Cmp.{nat_list_cmp_total, tied_itself}
 use Rattle.std.proofs.lemmas.List.{drop-drop, get_or-take, get_or_default, length-map, length-take, length-drop, take-append-drop}
-use Rattle.std.proofs.lemmas.List.Elements.{All-cons, All-head, All-nil, All-tail}
 use Rattle.std.proofs.lemmas.List.Prefix.{front_rest}
 use Rattle.std.proofs.lemmas.Map.Lookups.{exact_bytes}
 use Rattle.index_entries.specs.Order.{IsStrictlyOrdered, path_cmp}
@@ -24,7 +23,7 @@ use Rattle.index_lookups.proofs.Prefixes.{prefixes_rise}
 use Rattle.index_lookups.proofs.RunsFound.{rising_of}
 use Rattle.index_tree_writer.specs.EndSteps.{GoesOn, NeverFall, tail_answers}
 use Rattle.index_tree_writer.specs.Refusals.{BeginsWith}
-use Rattle.index_tree_writer.specs.Staged.{Staged, staged_entry, staged_in, staged_of}
+use Rattle.index_tree_writer.specs.Staged.{staged_entry, staged_in, staged_of}
 use Rattle.index_tree_writer.specs.WritingSteps.{Goes}
 use Rattle.index_tree_writer.specs.declared.leaf.Leaf.{Leaf}
 use Rattle.index_tree_writer.proofs.Checked.{some_staged, staged_each}

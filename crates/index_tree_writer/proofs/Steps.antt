@@ -1,45 +1,43 @@
 -- Steps of writing a directory.
-use Rattle.std.proofs.Common.{◌≡◌, ◌⊎◌, inl, inr, ℕ, zero, suc, ◌+◌, ◌-◌, ◌<◌, ◌≤◌, ◌^◌, ◌==◌, ◌||◌, List, [], ◌∷◌}
-use Rattle.std.proofs.Common.{◌++◌, All, Bool, false, Option, Some, None, length, map, drop, get_or, refl, sym, ap}
-use Rattle.std.proofs.Common.{subst, ◌∙◌, arith}
+use Rattle.std.proofs.Common.{◌≡◌, ◌⊎◌, inl, inr, ℕ, ◌+◌, ◌-◌, ◌<◌, ◌≤◌, ◌^◌, ◌==◌, ◌||◌, List, [], ◌∷◌}
+use Rattle.std.proofs.Common.{◌++◌, All, Bool, false, Option, Some, None, length, map, drop, refl, sym, ap}
+use Rattle.std.proofs.Common.{append_assoc, subst, ◌∙◌, arith}
 use Rattle.std.specs.Prelude.{◌≢◌}
 use Rattle.std.specs.List.{HoldsAt, slice_range}
 use Rattle.std.specs.Option.{option_map, option_to_list}
 use Rattle.std.specs.declared.cmp.Ordering.TheVariants.{Less}
-use Rattle.std.proofs.lemmas.List.{append-nil, length-append, length-drop}
-use Rattle.std.proofs.lemmas.List.Elements.{filter_map-append, All-append, All-cons, All-head, All-nil, All-tail}
+use Rattle.std.proofs.lemmas.List.{append-nil, length-drop}
+use Rattle.std.proofs.lemmas.List.Elements.{All-head}
 use Rattle.index_parts.specs.declared.hash.Kind.{Kind}
-use Rattle.index_objects.specs.declared.object.tree.EntryKind.{EntryKind}
-use Rattle.index_objects.specs.declared.object.tree.EntryKind.TheVariants as kinds
+use Rattle.index_parts.specs.declared.hash.ObjectId.{ObjectId}
 use Rattle.index_cached_tree.specs.Tree.{Node, node_of}
 use Rattle.index_entries.specs.Order.{path_cmp}
 use Rattle.index_entries.specs.Record.{Record}
 use Rattle.index_tree_writer.specs.Cached.{IsNodeWhere, leaf_nodes}
-use Rattle.index_tree_writer.specs.Directory.{IsName, directory_bytes, directory_object, key, leaf_bytes}
-use Rattle.index_tree_writer.specs.Refusals.{BeginsWith, IsInside}
+use Rattle.index_tree_writer.specs.Directory.{HoldsFirst, IsName, IsTreeOf, Items, directory, directory_bytes}
+use Rattle.index_tree_writer.specs.Directory.{content, directory_object, item_objects, key, leaf_bytes, objects_below}
+use Rattle.index_tree_writer.specs.Refusals.{BeginsWith}
 use Rattle.index_tree_writer.specs.Staged.{Staged, cut, staged_entry, staged_in, staged_of}
 use Rattle.index_tree_writer.specs.Objects.{Taken, with_objects}
 use Rattle.index_tree_writer.specs.WritingSteps.{Ahead, Goes, IsBegunDirectory, IsComponent, IsLeaf, IsMadeNode}
 use Rattle.index_tree_writer.specs.WritingSteps.{IsReady, staged_below}
 use Rattle.index_tree_writer.specs.declared.leaf.Leaf.{Leaf}
 use Rattle.index_tree_writer.specs.declared.write.Made.{Made}
-use Rattle.index_tree_writer.proofs.Begun.{begun_directory, begun_leaf, begun_same}
-use Rattle.index_tree_writer.proofs.PathNames.{Leaves, NoSlash, ahead_from, leaf_name, path_some, some_from}
+use Rattle.index_tree_writer.proofs.Begun.{begun_directory, begun_leaf, begun_same, items_begun, items_directory}
+use Rattle.index_tree_writer.proofs.Begun.{with_both}
+use Rattle.index_tree_writer.proofs.Complete.{holds_first, leaf_ahead}
+use Rattle.index_tree_writer.proofs.PathNames.{leaf_name, some_from}
 use Rattle.index_tree_writer.proofs.PathNames.{slash_behind, whole_component}
-use Rattle.index_tree_writer.proofs.Ranges.{below_few, below_parts, cut_under, no_record, one_of, range_none, range_one}
-use Rattle.index_tree_writer.proofs.Ranges.{range_parts, staged_at}
-use Rattle.index_tree_writer.proofs.Ready.{ahead_directory, named_behind, pairs_head, ready_back, ready_behind}
-use Rattle.index_tree_writer.proofs.Ready.{ready_front}
-use Rattle.index_tree_writer.proofs.Pushes.{under}
+use Rattle.index_tree_writer.proofs.Ranges.{below_few, below_parts, cut_under_all}
+use Rattle.index_tree_writer.proofs.Ranges.{staged_at}
+use Rattle.index_tree_writer.proofs.Ready.{ahead_directory, all_back, named_behind, pairs_head, ready_back}
+use Rattle.index_tree_writer.proofs.Ready.{ready_behind, ready_front}
+use Rattle.index_tree_writer.proofs.Pushes.{objects_push, push, under}
 
 pub node_some : (bytes : List ℕ) (r : Bool) → r ≡ (length bytes == 0) → r ≡ false → (P : Node → Type 0) (t : Node) → P t
     → IsNodeWhere bytes P (t ∷ [])
 node_some [] r e z P t h = absurd (some_from {X = ℕ} [] r e z (refl))
 node_some (b ∷ bytes) r e z P t h = (t, refl, h)
-
-all_back : (P : Staged → Type 0) (xs ys : List Staged) → All P (xs ++ ys) → All P ys
-all_back P [] ys h = h
-all_back P (x ∷ xs) ys h = all_back P xs ys (All-tail P x (xs ++ ys) h)
 
 -- ---- the record at a place
 
@@ -55,32 +53,6 @@ module _ (rs : List Record) (front a : ℕ) (o : Option Leaf) (lt : a < length r
       → staged_below front (slice_range rs a (a + 1)) ≡ cut front (staged_of leaf) ∷ []
   some_below leaf z = one_below ∙ ap (λ (p : Option Leaf). map (cut front) (option_to_list (option_map staged_of p))) z
 
-pub cut_under_all : (front : ℕ) (shown : List ℕ) (ss : List Staged) → All (Goes front shown) ss
-    → map (under shown) (map (cut (front + length shown)) ss) ≡ map (cut front) ss
-cut_under_all front shown [] h = refl
-cut_under_all front shown (s ∷ ss) h =
-    let first : under shown (cut (front + length shown) s) ≡ cut front s =
-    cut_under front shown s (All-head (Goes front shown) s ss h) in
-    let rest : map (under shown) (map (cut (front + length shown)) ss) ≡ map (cut front) ss =
-    cut_under_all front shown ss (All-tail (Goes front shown) s ss h) in
-    rw (first, rest) refl
-
-first_behind : (path : List ℕ) (name shown : List ℕ) → path ≢ [] → IsComponent path name shown
-    → path_cmp [] shown ≡ Less
-first_behind path name [] some c = absurd (by c.is)
-  where
-    by : ([] ≡ name ++ 47 ∷ []) ⊎ (([] ≡ name) × (path ≡ name)) → ⊥
-    by (inl e) = absurd (omega (arith, ap length e, length-append name (47 ∷ [])))
-    by (inr e) = some (e.1 ∙ sym e.0)
-first_behind path name (b ∷ shown) some c = refl
-
--- at first all is ahead
-pub ahead_none : (kind : Kind) (levels : ℕ) (left : List Staged) → IsReady kind levels left → All (Ahead []) left
-ahead_none kind levels left h = λ k d within name shown c.
-    let l = h.each k d within in
-    first_behind (get_or left k d).path name shown
-    (path_some l.check levels (get_or left k d).kind (get_or left k d).path l.path) c
-
 -- ---- one step
 
 module _ (rs : List Record) (kind : Kind) (front start at end levels : ℕ) (old new : Taken) (m : Made)
@@ -91,6 +63,21 @@ module _ (rs : List Record) (kind : Kind) (front start at end levels : ℕ) (old
     (o : Option Leaf) (h : HoldsAt (λ r. option_map staged_of o ≡ staged_entry r) rs at) where
   inside : at < length rs
   inside = omega arith
+
+  ready_at : IsReady kind levels (staged_below front (slice_range rs at end))
+  ready_at = ready_back kind levels (staged_below front (slice_range rs start at))
+      (staged_below front (slice_range rs at end))
+      (subst (IsReady kind levels) (below_parts front rs start at end low (omega arith)) ready)
+
+  -- what a sink holds, where no more is put
+  pub ended_here : HoldsFirst kind (staged_below front (slice_range rs start end)) old new
+  ended_here = subst (λ (l : List Staged). HoldsFirst kind l old new)
+      (sym (below_parts front rs start at end low (omega arith)))
+      (holds_first kind levels (staged_below front (slice_range rs start at))
+      (staged_below front (slice_range rs at end)) begun.items ready_at
+      (items_begun kind (staged_below front (slice_range rs start at)) (staged_below front (slice_range rs at end)) m
+      old new begun) old new (objects_below kind begun.items) [] (sym (append-nil (objects_below kind begun.items)))
+      begun.stored)
 
   -- what is left of a record that stages nothing
   pub begun_skip : o ≡ None → IsBegunDirectory kind (staged_below front (slice_range rs start (at + 1)))
@@ -121,9 +108,7 @@ module _ (rs : List Record) (kind : Kind) (front start at end levels : ℕ) (old
         ∙ ap (λ (l : List Staged). l ++ behind) (some_below rs front at o inside h leaf is)
 
     ready_left : IsReady kind levels (s ∷ behind)
-    ready_left = subst (IsReady kind levels) left (ready_back kind levels (staged_below front (slice_range rs start at))
-        (staged_below front (slice_range rs at end))
-        (subst (IsReady kind levels) (below_parts front rs start at end low (omega arith)) ready))
+    ready_left = subst (IsReady kind levels) left ready_at
 
     at_leaf : IsLeaf kind levels s
     at_leaf = All-head (IsLeaf kind levels) s behind ready_left.each
@@ -147,17 +132,7 @@ module _ (rs : List Record) (kind : Kind) (front start at end levels : ℕ) (old
           (subst (IsComponent s.path name) (sym whole) comp_s)
 
       ahead : All (Ahead s.path) behind
-      ahead = λ k d within.
-          let t = get_or behind k d in
-          ahead_from s.path t (above k d within)
-          (by s.kind refl t (pairs_head (λ s t. IsInside t.path s → ⊥) s behind ready_left.outside k d within))
-        where
-          by : (k : EntryKind) → s.kind ≡ k → (t : Staged) → (IsInside t.path s → ⊥) → Leaves s.path t.path
-          by kinds.Tree e t out = inr (name, named.1 ∙ ap (key name) e, named.0.component, λ b. out (e, b))
-          by kinds.Blob e t out = inl (subst NoSlash (sym (named.1 ∙ ap (key name) e)) named.0.component)
-          by kinds.BlobExecutable e t out = inl (subst NoSlash (sym (named.1 ∙ ap (key name) e)) named.0.component)
-          by kinds.Link e t out = inl (subst NoSlash (sym (named.1 ∙ ap (key name) e)) named.0.component)
-          by kinds.Commit e t out = inl (subst NoSlash (sym (named.1 ∙ ap (key name) e)) named.0.component)
+      ahead = leaf_ahead kind levels s behind name ready_left named.0.component named.1
 
       done : staged_below front (slice_range rs start (at + 1)) ≡ staged_below front (slice_range rs start at) ++ s ∷ []
       done = below_parts front rs start at (at + 1) low (omega arith)
@@ -209,9 +184,7 @@ module _ (rs : List Record) (kind : Kind) (front start at end levels : ℕ) (old
           (ready_front kind levels (staged_below front (slice_range rs at stop))
           (staged_below front (slice_range rs stop end))
           (subst (IsReady kind levels) (below_parts front rs at stop end (omega arith) high)
-          (ready_back kind levels (staged_below front (slice_range rs start at))
-          (staged_below front (slice_range rs at end))
-          (subst (IsReady kind levels) (below_parts front rs start at end low (omega arith)) ready))))
+          ready_at))
 
       pub ready_inner : IsReady kind (levels - 1) (staged_below (front + length shown) (slice_range rs at stop))
       ready_inner = subst (IsReady kind (levels - 1)) (sym inner_is)
@@ -270,6 +243,55 @@ module _ (rs : List Record) (kind : Kind) (front start at end levels : ℕ) (old
           (front + length shown) (slice_range rs at stop)) (staged_below front (slice_range rs at stop))
           (staged_below front (slice_range rs stop end)) i n middle newer nodes.0 a_level.0 slashed follows
           (ahead_dir f) (λ z. absurd (cc (inner_is, z))) listed w bytes nodes.1 nodes.2 count later stored)
+
+      -- what a sink holds, where no more is put than the first of the objects in this one
+      pub ended_over : All (λ s. Goes front shown s → ⊥) (staged_in (slice_range rs stop end)) → (w : Items)
+          → IsTreeOf kind (staged_below (front + length shown) (slice_range rs at stop)) w
+          → (first others : List (ObjectId × List ℕ)) → item_objects kind (directory name w) ≡ first ++ others
+          → (newer : Taken) → newer ≡ with_objects new first
+          → HoldsFirst kind (staged_below front (slice_range rs start end)) old newer
+      ended_over f w t first others is newer stored =
+          let done = staged_below front (slice_range rs start at) in
+          let own = staged_below front (slice_range rs at stop) in
+          let rest = staged_below front (slice_range rs stop end) in
+          let before = objects_below kind begun.items in
+          let all : staged_below front (slice_range rs start end) ≡ (done ++ own) ++ rest =
+          below_parts front rs start stop end (omega (arith, more)) high
+          ∙ ap (λ (l : List Staged). l ++ rest) (below_parts front rs start at stop low (omega (arith, more))) in
+          subst (λ (l : List Staged). HoldsFirst kind l old newer) (sym all)
+          (holds_first kind levels (done ++ own) rest (push begun.items (directory name w)) ready_stop
+          (items_directory kind done (staged_below front (slice_range rs at end)) begun.items
+          (items_begun kind done (staged_below front (slice_range rs at end)) m old new begun) name shown
+          (staged_below (front + length shown) (slice_range rs at stop)) own rest w a_level.0 slashed follows
+          (ahead_dir f) (λ z. absurd (cc (inner_is, z))) listed t) old newer (before ++ first) others
+          (objects_push kind begun.items (directory name w)
+          ∙ ap (λ (l : List (ObjectId × List ℕ)). before ++ l) is ∙ sym (append_assoc before first others))
+          (stored ∙ ap (λ (k : Taken). with_objects k first) begun.stored ∙ with_both old before first))
+
+      -- no more than a directory in this one has put before it ended
+      pub ended_inside : All (λ s. Goes front shown s → ⊥) (staged_in (slice_range rs stop end)) → (newer : Taken)
+          → HoldsFirst kind (staged_below (front + length shown) (slice_range rs at stop)) new newer
+          → HoldsFirst kind (staged_below front (slice_range rs start end)) old newer
+      ended_inside f newer h =
+          let own = directory_object kind (content kind h.items) in
+          ended_over f h.items h.is_tree h.first (h.others ++ own)
+          (ap (λ (l : List (ObjectId × List ℕ)). l ++ own) h.parts ∙ append_assoc h.first h.others own) newer h.stored
+
+      -- all that is put of a directory, with its own object or without
+      pub ended_behind : All (λ s. Goes front shown s → ⊥) (staged_in (slice_range rs stop end)) → (i : Made)
+          → (middle newer : Taken)
+          → IsBegunDirectory kind (staged_below (front + length shown) (slice_range rs at stop)) [] i new middle
+          → (newer ≡ middle) ⊎ (newer ≡ with_objects middle (directory_object kind i.bytes.items))
+          → HoldsFirst kind (staged_below front (slice_range rs start end)) old newer
+      ended_behind f i middle newer w (inl e) = ended_over f w.items
+          (record { directory = record { made = w.made; ordered = w.ordered }; leaves = w.listed })
+          (objects_below kind w.items) (directory_object kind (content kind w.items)) refl newer (e ∙ w.stored)
+      ended_behind f i middle newer w (inr e) = ended_over f w.items
+          (record { directory = record { made = w.made; ordered = w.ordered }; leaves = w.listed })
+          (item_objects kind (directory name w.items)) [] (sym (append-nil (item_objects kind (directory name w.items))))
+          newer (e ∙ ap (λ (k : Taken). with_objects k (directory_object kind i.bytes.items)) w.stored
+          ∙ with_both new (objects_below kind w.items) (directory_object kind i.bytes.items)
+          ∙ ap (λ (l : List ℕ). with_objects new (objects_below kind w.items ++ directory_object kind l)) w.is_content)
 
       pub counts_fit : length rs < 2 ^ 31 → (i : Made) (middle : Taken)
           → IsBegunDirectory kind (staged_below (front + length shown) (slice_range rs at stop)) [] i new middle

@@ -20,7 +20,7 @@ use Rattle.index_tree_writer.specs.WritingSteps.{IsLeaf, IsReady, staged_below}
 use Rattle.index_tree_writer.proofs.Checked.{staged_each, staged_rise}
 use Rattle.index_tree_writer.proofs.Ranges.{range_whole}
 
-cut_none : (ss : List Staged) → map (cut 0) ss ≡ ss
+pub cut_none : (ss : List Staged) → map (cut 0) ss ≡ ss
 cut_none [] = refl
 cut_none (s ∷ ss) = ap (λ (l : List Staged). s ∷ l) (cut_none ss)
 

@@ -9,7 +9,7 @@ use Rattle.index_parts.specs.declared.hash.ObjectId.{ObjectId}
 use Rattle.index_objects.specs.declared.object.tree.EntryKind.{EntryKind}
 use Rattle.index_objects.specs.declared.object.tree.EntryKind.TheVariants as kinds
 use Rattle.index_entries.specs.TreeOrder.{IsGitOrdered}
-use Rattle.index_tree_writer.specs.Objects.{tree_entry_bytes, tree_id}
+use Rattle.index_tree_writer.specs.Objects.{Taken, tree_entry_bytes, tree_id, with_objects}
 use Rattle.index_tree_writer.specs.Staged.{Staged}
 
 mutual
@@ -128,3 +128,15 @@ pub record IsDirectory (kind : Kind) (items : Items) : Type 0 where
 pub record IsTreeOf (kind : Kind) (staged : List Staged) (items : Items) : Type 0 where
   pub directory : IsDirectory kind items
   pub leaves : leaves [] items ≡ staged
+
+-- ---- where writing ended early
+
+-- A sink holds what it held before, and then the first objects of the directories below that of these entries: none,
+-- some, or all of them, but never its own.
+pub record HoldsFirst (kind : Kind) (staged : List Staged) (old new : Taken) : Type 0 where
+  pub items : Items
+  pub is_tree : IsTreeOf kind staged items
+  pub first : List (ObjectId × List ℕ)
+  pub others : List (ObjectId × List ℕ)
+  pub parts : objects_below kind items ≡ first ++ others
+  pub stored : new ≡ with_objects old first

@@ -1,5 +1,5 @@
 -- Where the entries of a directory end. Public clauses cite none of these.
-use Rattle.std.specs.Prelude.{◌≡◌, ◌≢◌, ℕ, ◌<◌, ◌≤◌, List, drop, map, slice_index_or}
+use Rattle.std.specs.Prelude.{◌≢◌, ℕ, ◌<◌, ◌≤◌, List, drop, map, slice_index_or}
 use Rattle.std.specs.declared.cmp.Ordering.{Ordering}
 use Rattle.std.specs.declared.cmp.Ordering.TheVariants.{Greater}
 use Rattle.index_entries.specs.Order.{path_cmp}

@@ -14,7 +14,7 @@ use Rattle.index_tree_writer.specs.Cached.{AreNodes, IsNodeWhere}
 use Rattle.index_tree_writer.specs.Directory.{Items, AreItems, content, entries, leaves, objects_below}
 use Rattle.index_tree_writer.specs.Objects.{Taken, tree_id, with_objects}
 use Rattle.index_tree_writer.specs.Refusals.{BeginsWith, Check, IsInside, IsTreePath}
-use Rattle.index_tree_writer.specs.Staged.{Staged, cut, staged_entry, staged_in}
+use Rattle.index_tree_writer.specs.Staged.{Staged, cut, staged_in}
 use Rattle.index_tree_writer.specs.declared.write.Made.{Made}
 
 -- the first component of a path's rest, without the slash behind it and with it

@@ -1,6 +1,6 @@
 //! Where the objects of trees go.
 
-ghost use Rattle.std.specs.Prelude.{◌≡◌, ℕ, Option, [], ◌∷◌, None, Some, OnOk, IfErr};
+ghost use Rattle.std.specs.Prelude.{◌≡◌, ℕ, Option, [], ◌∷◌, None, Some, OnOk, OnErr, IfErr};
 ghost use Rattle.index_tree_writer.specs.Objects.{Taken, with_objects};
 
 use index_parts::hash::ObjectId;
@@ -14,10 +14,12 @@ pub trait Sink {
     // The number of what is wrong, once it has refused a tree.
     ghost fault: { Self → Option ℕ };
 
-    /// Takes the tree with this id and these bytes. An error is the sink's own number of what is wrong.
+    /// Takes the tree with this id and these bytes. An error is the sink's own number of what is wrong; it has taken
+    /// nothing of that tree then.
     fn put(&mut self, id: &ObjectId, bytes: &[u8]) -> Result<(), u32>
         ensures stored { OnOk result
             (stored self.new ≡ with_objects (stored self.old) ((id.now, bytes.now) ∷ [])) }
+        ensures refused { OnErr result (stored self.new ≡ stored self.old) }
         ensures fault { IfErr result (λ number. fault self.new ≡ Some number) };
 }
 

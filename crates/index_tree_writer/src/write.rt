@@ -1,7 +1,7 @@
 //! Writing the trees of entries.
 
 ghost use Rattle.std.specs.Prelude.{◌≡◌, ◌⊎◌, ◌+◌, ◌<◌, ◌≤◌, ◌^◌, ◌++◌, ◌||◌, [], ◌∷◌, ℕ, List, IsTrue, false, length};
-ghost use Rattle.std.specs.Prelude.{drop, map, All, IfOk, IfErr, OnOk, Some, slice_range};
+ghost use Rattle.std.specs.Prelude.{drop, map, All, IfOk, IfErr, OnErr, OnOk, Some, slice_range};
 ghost use Rattle.std.specs.List.Sorted.{IsPermutation, IsSorted};
 ghost use Rattle.index_objects.specs.declared.object.tree.EntryKind.TheVariants as kinds;
 ghost use Rattle.index_entries.specs.Order.{IsStrictlyOrdered};
@@ -9,7 +9,7 @@ ghost use Rattle.index_cached_tree.specs.Tree.{Node, name_cmp, node_of};
 ghost use Rattle.index_cached_tree.specs.declared.Tree.TheViews.{out-Tree};
 ghost use Rattle.index_tree_writer.specs.Cached.{IsCached, leaf_nodes};
 ghost use Rattle.index_tree_writer.specs.Directory.{IsTreeOf, Items, directory_bytes, directory_object, leaf_bytes};
-ghost use Rattle.index_tree_writer.specs.Directory.{objects};
+ghost use Rattle.index_tree_writer.specs.Directory.{HoldsFirst, objects};
 ghost use Rattle.index_tree_writer.specs.EndSteps.{NeverFall};
 ghost use Rattle.index_tree_writer.specs.Objects.{tree_id, with_objects};
 ghost use Rattle.index_tree_writer.specs.Refusals.{AreFit, AreRefused, SaysTreesFault};
@@ -115,6 +115,9 @@ impl Made {
         ensures later { OnOk result (self.new.later ≡ self.old.later || inner.later) }
         ensures stored { OnOk result (S.stored sink.new
             ≡ with_objects (S.stored sink.old) (directory_object kind inner.bytes.items)) }
+        ensures ended { OnErr result ((S.stored sink.new ≡ S.stored sink.old)
+            ⊎ (S.stored sink.new
+            ≡ with_objects (S.stored sink.old) (directory_object kind inner.bytes.items))) }
         ensures fault { IfErr result
             (λ e. SaysTreesFault e (λ n. S.fault sink.new ≡ Some n) (λ f. ⊥)) }
     {
@@ -141,6 +144,7 @@ impl Made {
         ensures node { IfOk result (λ t. IsFinished kind name.now self (node_of t)) }
         ensures stored { OnOk result (S.stored sink.new ≡ with_objects (S.stored sink.old)
             ((tree_id kind self.bytes.items, self.bytes.items) ∷ [])) }
+        ensures ended { OnErr result (S.stored sink.new ≡ S.stored sink.old) }
         ensures fault { IfErr result
             (λ e. SaysTreesFault e (λ n. S.fault sink.new ≡ Some n) (λ f. ⊥)) }
     {
@@ -205,6 +209,9 @@ fn directory_of<S: Sink>(
     ensures made { IfOk result (λ m. IsBegunDirectory kind
         (staged_below run.prefix_len (slice_range entries.now run.start run.end)) [] m
         (S.stored sink.old) (S.stored sink.new)) }
+    ensures ended { OnErr result (HoldsFirst kind
+        (staged_below run.prefix_len (slice_range entries.now run.start run.end))
+        (S.stored sink.old) (S.stored sink.new)) }
     ensures fault { IfErr result
         (λ e. SaysTreesFault e (λ n. S.fault sink.new ≡ Some n) (λ f. ⊥)) }
 {
@@ -250,6 +257,8 @@ pub fn write_trees<S: Sink, C: ComponentCheck>(
         × (S.stored sink.new ≡ with_objects (S.stored sink.old) (objects kind items))) }
     ensures fit { IfOk result (λ _. AreFit (C.refusal check.now) kind entries.now) }
     ensures few { IfOk result (λ _. length entries.now < 2 ^ 31) }
+    ensures ended { OnErr result ((sink.new ≡ sink.old)
+        ⊎ HoldsFirst kind (staged_in entries.now) (S.stored sink.old) (S.stored sink.new)) }
     ensures fault { IfErr result (λ e. SaysTreesFault e (λ n. S.fault sink.new ≡ Some n)
         (λ f. AreRefused (C.refusal check.now) kind entries.now f × (sink.new ≡ sink.old))) }
 {

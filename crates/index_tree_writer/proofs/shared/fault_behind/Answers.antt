@@ -1,4 +1,4 @@
-use Rattle.std.proofs.Common.{◌≡◌, ℕ, ◌-◌, ◌≤◌, List, take, drop, ap, subst, ◌∙◌, arith, IfSome}
+use Rattle.std.proofs.Common.{◌≡◌, ℕ, ◌-◌, List, take, drop, ap, subst, ◌∙◌, arith, IfSome}
 use Rattle.std.specs.Prelude.{count_by}
 use Rattle.index_tree_writer.specs.Refusals.{IsMisnamed, IsTreePath}
 use Rattle.index_tree_writer.proofs.SharedPaths.{count_fits, is_slash, right_whole, wrong_some}

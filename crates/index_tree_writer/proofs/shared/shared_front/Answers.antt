@@ -1,4 +1,4 @@
-use Rattle.std.proofs.Common.{◌≤◌, ◌-◌, length, min, sym, arith}
+use Rattle.std.proofs.Common.{◌-◌, sym, arith}
 use Rattle.index_entries.specs.Shared.{shared_len}
 use Rattle.index_entries.proofs.SharedFronts.{shared_front}
 use Rattle.index_tree_writer.proofs.SharedPaths.{fewer}

@@ -3,10 +3,12 @@ use Rattle.std.specs.Prelude.{slice_range}
 use Rattle.index_tree_writer.specs.Staged.{Staged}
 use Rattle.index_tree_writer.specs.WritingSteps.{IsBegunDirectory, staged_below}
 use Rattle.index_tree_writer.proofs.Begun.{begun_none}
-use Rattle.index_tree_writer.proofs.RunEnds.{fall_behind, goes_staged, leaf_goes, stops_staged}
+use Rattle.index_tree_writer.proofs.Complete.{on_err}
+use Rattle.index_tree_writer.proofs.RunEnds.{fall_behind, goes_staged, stops_staged}
 use Rattle.index_tree_writer.proofs.Ranges.{range_none}
-use Rattle.index_tree_writer.proofs.Steps.{a_level, ahead_none, begun_more, begun_over, begun_skip, count_fits}
-use Rattle.index_tree_writer.proofs.Steps.{counts_fit, ready_inner}
+use Rattle.index_tree_writer.proofs.Ready.{ahead_none}
+use Rattle.index_tree_writer.proofs.Steps.{a_level, begun_more, begun_over, begun_skip, count_fits}
+use Rattle.index_tree_writer.proofs.Steps.{counts_fit, ended_behind, ended_here, ended_inside, ready_inner}
 use Rattle.index_tree_writer.proofs.write.+directory_of.Goals as goal
 
 pub loop-at-init : goal.loop-at-init
@@ -187,3 +189,65 @@ loop-at-preserved g t c =
           c.tail_of-tail.ensures c.component_of-component.ensures c.if-shown-tail.false c.push_leaf.new.self done.bytes
           done.children done.count done.later;
     }
+
+pub returns-in_err-inner-clause-ended : goal.returns-in_err-inner-clause-ended
+returns-in_err-inner-clause-ended g t c =
+    let rs = c.args.entries.now in
+    let kind = c.args.kind in
+    let prefix_len = c.args.run.prefix_len in
+    let at = c.loop-at.at in
+    let old = g.S.Sink.stored c.args.sink.now in
+    let new = g.S.Sink.stored c.loop-at.sink in
+    let m = c.loop-at.made in
+    let inv = c.loop-at.invariant in
+    let lt : at < c.args.run.end = c.loop-at-test.true in
+    on_err c.from_residual.result
+    (ended_inside rs kind prefix_len c.args.run.start at c.args.run.end c.args.levels old new m inv.low lt c.requires.within
+    c.requires.ready inv.begun c.leaf_at.result c.leaf_at.ensures c.in-Some.leaf c.in-Some.is
+    c.tail_of-tail.result.now c.component_of-component.result.name.now c.component_of-component.result.shown.now
+    c.tail_of-tail.ensures c.component_of-component.ensures c.if-shown-tail.true c.end_of-stop.result
+    c.end_of-stop.ensures.more c.end_of-stop.ensures.within
+    (goes_staged prefix_len c.component_of-component.result.shown.now rs at c.end_of-stop.result
+    (omega (arith, c.end_of-stop.ensures.within, c.requires.within)) c.end_of-stop.ensures.run)
+    (stops_staged prefix_len c.component_of-component.result.shown.now rs c.end_of-stop.result c.args.run.end
+    c.requires.within c.end_of-stop.ensures.stops)
+    (g.S.Sink.stored c.directory_of.new.sink) c.in_err-inner.ensures.ended)
+
+pub returns-in_err-push_directory-clause-ended : goal.returns-in_err-push_directory-clause-ended
+returns-in_err-push_directory-clause-ended g t c =
+    let rs = c.args.entries.now in
+    let kind = c.args.kind in
+    let prefix_len = c.args.run.prefix_len in
+    let at = c.loop-at.at in
+    let old = g.S.Sink.stored c.args.sink.now in
+    let new = g.S.Sink.stored c.loop-at.sink in
+    let m = c.loop-at.made in
+    let inv = c.loop-at.invariant in
+    let lt : at < c.args.run.end = c.loop-at-test.true in
+    on_err c.from_residual-in_err-push_directory.result
+    (ended_behind rs kind prefix_len c.args.run.start at c.args.run.end c.args.levels old new m inv.low lt c.requires.within
+    c.requires.ready inv.begun c.leaf_at.result c.leaf_at.ensures c.in-Some.leaf c.in-Some.is
+    c.tail_of-tail.result.now c.component_of-component.result.name.now c.component_of-component.result.shown.now
+    c.tail_of-tail.ensures c.component_of-component.ensures c.if-shown-tail.true c.end_of-stop.result
+    c.end_of-stop.ensures.more c.end_of-stop.ensures.within
+    (goes_staged prefix_len c.component_of-component.result.shown.now rs at c.end_of-stop.result
+    (omega (arith, c.end_of-stop.ensures.within, c.requires.within)) c.end_of-stop.ensures.run)
+    (stops_staged prefix_len c.component_of-component.result.shown.now rs c.end_of-stop.result c.args.run.end
+    c.requires.within c.end_of-stop.ensures.stops)
+    c.in_ok-inner.inner (g.S.Sink.stored c.directory_of.new.sink) (g.S.Sink.stored c.push_directory.new.sink)
+    c.in_ok-inner.ensures.made c.in_err-push_directory.ensures.ended)
+
+pub returns-in_err-push_leaf-clause-ended : goal.returns-in_err-push_leaf-clause-ended
+returns-in_err-push_leaf-clause-ended g t c =
+    let rs = c.args.entries.now in
+    let kind = c.args.kind in
+    let prefix_len = c.args.run.prefix_len in
+    let at = c.loop-at.at in
+    let old = g.S.Sink.stored c.args.sink.now in
+    let new = g.S.Sink.stored c.loop-at.sink in
+    let m = c.loop-at.made in
+    let inv = c.loop-at.invariant in
+    let lt : at < c.args.run.end = c.loop-at-test.true in
+    on_err c.from_residual-in_err-push_leaf.result
+    (ended_here rs kind prefix_len c.args.run.start at c.args.run.end c.args.levels old new m inv.low lt
+    c.requires.within c.requires.ready inv.begun c.leaf_at.result c.leaf_at.ensures)

@@ -1,8 +1,12 @@
-use Rattle.std.proofs.Common.{◌∙◌, [], ap, ℕ, subst, sym}
+use Rattle.std.proofs.Common.{◌∙◌, inl, inr, List, [], ap, refl, ℕ, subst, sym}
+use Rattle.std.proofs.lemmas.List.{append-nil}
 use Rattle.std.specs.Prelude.{slice_range}
 use Rattle.index_cached_tree.specs.Tree.{node_of}
+use Rattle.index_tree_writer.specs.Directory.{HoldsFirst, objects_below}
+use Rattle.index_tree_writer.specs.Staged.{Staged}
 use Rattle.index_tree_writer.specs.WritingSteps.{IsReady, staged_below}
 use Rattle.index_tree_writer.proofs.Begun.{finished_cached, begun_root}
+use Rattle.index_tree_writer.proofs.Complete.{on_err}
 use Rattle.index_tree_writer.proofs.Whole.{ready_whole, whole_below}
 use Rattle.index_tree_writer.proofs.write.write_trees.Goals as goal
 
@@ -26,3 +30,29 @@ returns-clause-written g c =
       finished_cached c.args.kind staged [] m old new h [] (node_of c.in_ok-root.root) c.in_ok-root.ensures.node,
       begun_root c.args.kind staged [] m old new h (g.S.Sink.stored c.finish.new.sink) c.in_ok-root.ensures.stored,
     )
+
+pub returns-in_err-check_entries-clause-ended : goal.returns-in_err-check_entries-clause-ended
+returns-in_err-check_entries-clause-ended g c = on_err c.from_residual.result (inl refl)
+
+pub returns-in_err-made-clause-ended : goal.returns-in_err-made-clause-ended
+returns-in_err-made-clause-ended g c =
+    let rs = c.args.entries.now in
+    let whole = ap (λ (n : ℕ). staged_below 0 (slice_range rs 0 n)) c.len.ensures ∙ whole_below rs in
+    on_err c.from_residual-in_err-made.result (inr (subst (λ (l : List Staged). HoldsFirst c.args.kind l
+    (g.S.Sink.stored c.args.sink.now) (g.S.Sink.stored c.directory_of.new.sink)) whole c.in_err-made.ensures.ended))
+
+pub returns-in_err-root-clause-ended : goal.returns-in_err-root-clause-ended
+returns-in_err-root-clause-ended g c =
+    let rs = c.args.entries.now in
+    let m = c.in_ok-made.made in
+    let h = c.in_ok-made.ensures.made in
+    let whole = ap (λ (n : ℕ). staged_below 0 (slice_range rs 0 n)) c.len.ensures ∙ whole_below rs in
+    let staged = staged_below 0 (slice_range rs 0 c.len.result) in
+    on_err c.from_residual-in_err-root.result (inr (record {
+      items = h.items;
+      is_tree = record { directory = record { made = h.made; ordered = h.ordered }; leaves = h.listed ∙ whole };
+      first = objects_below c.args.kind h.items;
+      others = [];
+      parts = sym (append-nil (objects_below c.args.kind h.items));
+      stored = c.in_err-root.ensures.ended ∙ h.stored;
+    }))
