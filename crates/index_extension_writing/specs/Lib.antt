@@ -1,0 +1,3 @@
+pub mod BitmapImage
+pub mod MonitorImage
+pub mod ResolveUndoImage

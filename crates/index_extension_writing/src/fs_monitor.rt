@@ -1,0 +1,120 @@
+//! Writing what a file system monitor said (gitformat-index, "File System Monitor cache").
+
+ghost use Rattle.std.specs.Prelude.{◌≡◌, ◌++◌, ◌+◌, ◌<◌, ◌^◌, false, length};
+ghost use Rattle.index_cached_tree.specs.TreeWriting.{within_32};
+ghost use Rattle.index_extensions.specs.Encoding.{item_bytes};
+ghost use Rattle.index_parts.specs.Numbers.{be32};
+ghost use Rattle.index_parts.specs.Puts.{Puts};
+ghost use Rattle.index_small_extensions.specs.FsMonitor.{token_value};
+ghost use Rattle.index_extension_writing.specs.BitmapImage.{bitmap_bytes, lent_bitmap};
+ghost use Rattle.index_extension_writing.specs.MonitorImage.{lent_monitor, monitor_bytes, monitor_item};
+ghost use Rattle.index_extension_writing.specs.MonitorImage.{sized_bitmap_bytes, token_bytes, version_of};
+
+use crate::ewah;
+use crate::ewah::LentVec;
+use crate::pieces::{put_head, put_number, put_text, put_word};
+use index_parts::hash::io::Out;
+use index_small_extensions::fs_monitor::{SIGNATURE, Token};
+use std::io;
+
+/// The bytes of a version and of the size of a bitmap.
+const NUMBERS_LEN: u64 = 8;
+
+/// The bytes of nanoseconds.
+const TIME_LEN: u64 = 8;
+
+/// The version that has such a token.
+fn version_of(token: &Token) -> u32
+    ensures { result ≡ version_of (token_value token.now) }
+{
+    match token {
+        Token::V1 { .. } => 1,
+        Token::V2 { .. } => 2,
+    }
+}
+
+/// How many bytes a token has.
+fn token_len(token: &Token) -> u64
+    ensures len { result ≡ length (token_bytes (token_value token.now)) }
+    ensures fits { result < 2 ^ 63 + 8 }
+{
+    match token {
+        Token::V1 { .. } => TIME_LEN,
+        Token::V2 { token } => token.as_bytes().len() as u64 + 1,
+    }
+}
+
+/// Writes a token.
+fn put_token<W: Out>(token: &Token, out: &mut W) -> io::Result<()>
+    requires { W.failed out.old ≡ false }
+    ensures { Puts W.Out out.old out.new result (token_bytes (token_value token.now)) }
+{
+    match token {
+        Token::V1 { nanos_since_1970 } => put_word(*nanos_since_1970, out),
+        Token::V2 { token } => put_text(token.as_bytes(), out),
+    }
+}
+
+/// Writes the size of a bitmap, and the bitmap.
+#[tactic(auto, unfolding(crate::specs::MonitorImage::sized_bitmap_bytes))]
+fn put_sized_bitmap<W: Out>(dirty: LentVec<'_>, size: u32, out: &mut W) -> io::Result<()>
+    requires size { size ≡ length (bitmap_bytes (lent_bitmap dirty)) }
+    requires unfailed { W.failed out.old ≡ false }
+    ensures { Puts W.Out out.old out.new result (sized_bitmap_bytes (lent_bitmap dirty.entry)) }
+{
+    put_number(size, out)?;
+    ewah::put(dirty, out)
+}
+
+/// Writes a token, and what stands behind it.
+fn put_behind_version<W: Out>(
+    token: &Token,
+    dirty: LentVec<'_>,
+    size: u32,
+    out: &mut W,
+) -> io::Result<()>
+    requires size { size ≡ length (bitmap_bytes (lent_bitmap dirty)) }
+    requires unfailed { W.failed out.old ≡ false }
+    ensures { Puts W.Out out.old out.new result
+        (token_bytes (token_value token.now) ++ sized_bitmap_bytes (lent_bitmap dirty.entry)) }
+{
+    put_token(token, out)?;
+    put_sized_bitmap(dirty, size, out)
+}
+
+/// Writes the content of the extension, whose bitmap has this size.
+fn put_content<W: Out>(token: &Token, dirty: LentVec<'_>, size: u32, out: &mut W) -> io::Result<()>
+    requires size { size ≡ length (bitmap_bytes (lent_bitmap dirty)) }
+    requires unfailed { W.failed out.old ≡ false }
+    ensures { Puts W.Out out.old out.new result (monitor_bytes (lent_monitor token.now dirty.entry)) }
+{
+    put_number(version_of(token), out)?;
+    put_behind_version(token, dirty, size, out)
+}
+
+/// How many bytes the content of the extension has; None where it has more than 2^32 - 1. It takes no memory.
+pub fn content_len(token: &Token, dirty: LentVec<'_>) -> Option<u32>
+    ensures { result ≡ within_32 (length (monitor_bytes (lent_monitor token.now dirty.entry))) }
+{
+    let size = ewah::content_len(dirty)?;
+    let len = NUMBERS_LEN + token_len(token) + u64::from(size);
+    if len > u64::from(u32::MAX) {
+        return None;
+    }
+    Some(len as u32)
+}
+
+/// Writes what a file system monitor said as the extension of a file (gitformat-index, "File System Monitor cache"). Its
+/// content has this length, which [`content_len`] counts.
+///
+/// An error comes only where the writer failed, which then took a prefix of the bytes. No memory is taken.
+pub fn put_item<W: Out>(token: &Token, dirty: LentVec<'_>, len: u32, out: &mut W) -> io::Result<()>
+    requires len { len ≡ length (monitor_bytes (lent_monitor token.now dirty)) }
+    requires unfailed { W.failed out.old ≡ false }
+    ensures written { Puts W.Out out.old out.new result
+        (item_bytes (monitor_item (lent_monitor token.now dirty.entry))) }
+{
+    let size = (u64::from(len) - NUMBERS_LEN - token_len(token)) as u32;
+    put_head(SIGNATURE, len, out)?;
+    put_content(token, dirty, size, out)
+}

@@ -1,0 +1,35 @@
+//! Laws of the bytes that are written: they are read as the values that they are made of. A law computes nothing.
+
+ghost use Rattle.std.specs.Prelude.{◌≡◌, ◌<◌, ◌++◌, ℕ, List, All};
+ghost use Rattle.index_bitmaps.specs.Bitmap.{Bitmap, IsBitmap};
+ghost use Rattle.index_parts.specs.declared.hash.Kind.{Kind};
+ghost use Rattle.index_small_extensions.specs.FsMonitor.{IsMonitor, Monitor};
+ghost use Rattle.index_small_extensions.specs.ResolveUndo.{IsResolveUndo, PathStages};
+ghost use Rattle.index_extension_writing.specs.BitmapImage.{bitmap_bytes, IsSpellableBitmap};
+ghost use Rattle.index_extension_writing.specs.MonitorImage.{monitor_bytes, IsSpellableMonitor};
+ghost use Rattle.index_extension_writing.specs.ResolveUndoImage.{resolve_undo_bytes, AreSpellablePaths};
+
+/// What is written of a bitmap is read as the bitmap, whatever stands behind it. A bitmap that was read can be written
+/// so.
+pub fn bitmap_reads_back()
+    ensures read { (b : Bitmap) (rest : List ℕ) → IsSpellableBitmap b
+        → IsBitmap (bitmap_bytes b ++ rest) b rest }
+    ensures spellable { (bytes : List ℕ) (b : Bitmap) (rest : List ℕ) → All (λ n. n < 256) bytes
+        → IsBitmap bytes b rest → IsSpellableBitmap b }
+{}
+
+/// What is written of a file system monitor is read as what it said. What was read can be written so.
+pub fn monitor_reads_back()
+    ensures read { (m : Monitor) → IsSpellableMonitor m → IsMonitor (monitor_bytes m) m }
+    ensures spellable { (bytes : List ℕ) (m : Monitor) → All (λ n. n < 256) bytes
+        → IsMonitor bytes m → IsSpellableMonitor m }
+{}
+
+/// What is written of resolve-undo is read as the same paths, by the kind of their ids. Paths that were read can be
+/// written so.
+pub fn resolve_undo_reads_back()
+    ensures read { (kind : Kind) (paths : List PathStages) → AreSpellablePaths kind paths
+        → IsResolveUndo kind (resolve_undo_bytes paths) paths }
+    ensures spellable { (kind : Kind) (bytes : List ℕ) (paths : List PathStages)
+        → IsResolveUndo kind bytes paths → AreSpellablePaths kind paths }
+{}

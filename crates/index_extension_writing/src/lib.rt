@@ -1,0 +1,9 @@
+//! Writing the extensions that are read of a file and aren't made anew: resolve-undo and file system monitor
+//! (gitformat-index, "Extensions").
+#![tactic(auto)]
+
+pub mod ewah;
+pub mod fs_monitor;
+pub mod laws;
+mod pieces;
+pub mod resolve_undo;
