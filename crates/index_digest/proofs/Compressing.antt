@@ -14,7 +14,7 @@ unfolding compressed
 compressed_next hash bytes n = rw add-one refl
 
 -- a block of a part of the bytes
-block_of_part : (bytes part : List ℕ) (a n len : ℕ) → part ≡ take len (drop (a * 64) bytes) → n * 64 + 64 ≤ len → block part n ≡ block bytes (a + n)
+pub block_of_part : (bytes part : List ℕ) (a n len : ℕ) → part ≡ take len (drop (a * 64) bytes) → n * 64 + 64 ≤ len → block part n ≡ block bytes (a + n)
 block_of_part bytes part a n len e fits =
     let behind : ℕ = len - n * 64 in
     let split : len ≡ n * 64 + behind = omega arith in

@@ -11,7 +11,7 @@ use Rattle.index_digest.specs.Blocks.{block}
 use Rattle.index_digest.specs.Lanes.{lane, AreWords, AreKeyed, IsKeyed, IsSpread}
 
 -- a table with one word more
-more_lanes : (P : ℕ → ℕ → ℕ → Type 0) (table : List (List ℕ)) (t : ℕ) (word : List ℕ) → t < length table
+pub more_lanes : (P : ℕ → ℕ → ℕ → Type 0) (table : List (List ℕ)) (t : ℕ) (word : List ℕ) → t < length table
     → ((s j : ℕ) → s < t → j < 4 → P s j (lane table s j)) → ((j : ℕ) → j < 4 → P t j (slice_index word j))
     → (s j : ℕ) → s < t + 1 → j < 4 → P s j (lane (slice_set table t word) s j)
 more_lanes P table t word fits held at s j lt jlt = elim (cases_lt s t) [
@@ -24,7 +24,7 @@ more_lanes P table t word fits held at s j lt jlt = elim (cases_lt s t) [
 ]
 
 -- a word of a block is that of its group, at the block's place
-word_in_block : (group : List ℕ) (i j : ℕ) → i < 16 → word_at group (4 * i + 64 * j) ≡ word_at (block group j) (4 * i)
+pub word_in_block : (group : List ℕ) (i j : ℕ) → i < 16 → word_at group (4 * i + 64 * j) ≡ word_at (block group j) (4 * i)
 word_in_block group i j lt =
     let at : (k : ℕ) → k < 4 → slice_index group (4 * i + 64 * j + k) ≡ slice_index (block group j) (4 * i + k) = λ k h.
     ap (λ (n : ℕ). slice_index group n) (omega arith) ∙ sym (get_or-chunk (j * 64) 64 group (4 * i + k) 0 (omega arith)) in
@@ -64,14 +64,14 @@ pub column : (keyed : List (List ℕ)) (group : List ℕ) (j : ℕ) → j < 4 �
 column keyed group j jlt held = λ t lt. held t j lt jlt
 
 -- the lanes of a turned vector
-below_four : (P : ℕ → Type 0) → P 0 → P 1 → P 2 → P 3 → (j : ℕ) → j < 4 → P j
+pub below_four : (P : ℕ → Type 0) → P 0 → P 1 → P 2 → P 3 → (j : ℕ) → j < 4 → P j
 below_four P p0 p1 p2 p3 zero h = p0
 below_four P p0 p1 p2 p3 (suc zero) h = p1
 below_four P p0 p1 p2 p3 (suc (suc zero)) h = p2
 below_four P p0 p1 p2 p3 (suc (suc (suc zero))) h = p3
 below_four P p0 p1 p2 p3 (suc (suc (suc (suc n)))) h = absurd (omega arith)
 
-four_lanes : (P : List ℕ → Type 0) → ((a b c d : ℕ) → P (a ∷ b ∷ c ∷ d ∷ [])) → (xs : List ℕ) → length xs ≡ 4 → P xs
+pub four_lanes : (P : List ℕ → Type 0) → ((a b c d : ℕ) → P (a ∷ b ∷ c ∷ d ∷ [])) → (xs : List ℕ) → length xs ≡ 4 → P xs
 four_lanes P p (a ∷ b ∷ c ∷ d ∷ []) h = p a b c d
 four_lanes P p [] h = absurd (omega arith)
 four_lanes P p (a ∷ []) h = absurd (omega arith)

@@ -1,5 +1,10 @@
 mod Absorbing
+mod Absorbing256
+mod Chaining256
 mod Compressing
 mod Functions
+mod Functions256
 mod Lanes
+mod Lanes256
 mod Steps
+mod Steps256

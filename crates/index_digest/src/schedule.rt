@@ -27,7 +27,7 @@ fn word_at(bytes: &[u8], at: usize) -> u32
 
 /// The word at this byte of each block.
 #[inline(always)]
-fn words_at(group: &[u8], at: usize) -> u32x4
+pub fn words_at(group: &[u8], at: usize) -> u32x4
     requires { at + 196 ≤ length group.now }
     ensures { (j : ℕ) → j < 4 → slice_index result j ≡ word_at group.now (at + 64 * j) }
 {
@@ -59,7 +59,7 @@ fn next_words(a: u32x4, b: u32x4, c: u32x4, d: u32x4) -> u32x4
 
 /// The words with a round's constant added to each.
 #[inline(always)]
-fn keyed_by(words: u32x4, k: u32) -> [u32; 4]
+pub fn keyed_by(words: u32x4, k: u32) -> [u32; 4]
     ensures { (j : ℕ) → j < 4 → slice_index result j ≡ add32 (slice_index words j) k }
 {
     (words + u32x4::splat(k)).to_array()

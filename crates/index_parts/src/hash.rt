@@ -7,8 +7,7 @@ ghost use Rattle.index_parts.specs.Digest.{digest, hasher_kind, Holds};
 ghost use Rattle.index_parts.specs.Id.{make_id};
 
 use crate::bytes;
-use index_digest::Sha1;
-use sha2::{Digest, Sha256};
+use index_digest::{Sha1, Sha256};
 use std::fmt;
 
 pub mod io;
