@@ -1,5 +1,5 @@
 pub mod Lengths
-pub mod OctalDigits
+mod OctalDigits
 pub mod WrittenBitmaps
 pub mod WrittenMonitors
 pub mod WrittenPaths
