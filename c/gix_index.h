@@ -3,26 +3,35 @@
  * Link libindex_c.a, and behind it liblibc_c.a (malloc, realloc and free), as gix_index.pc says.
  *
  * Memory. What a call reads and writes is the caller's. A pointer goes with a length, counts elements of its type,
- * and has to be valid for all of them during the call, and aligned as its type is. No pointer may be null; for a
- * length of 0 any address that is aligned will do. What a call writes may not overlap anything else that it is
- * given. Calls take memory by malloc and give all of it back before they return: there is no handle and nothing to
- * free.
+ * and has to be valid for all of them during the call, and aligned as its type is. With a length of 0 it may be NULL,
+ * and is never followed; a pointer without a length may not be NULL. What a call writes may not overlap anything else
+ * that it is given. Calls take memory by malloc and give all of it back before they return: there is no handle and
+ * nothing to free.
  *
  * Threads. Calls share nothing. Any number of them may run at once over memory of their own, and may read the same
  * memory. None may be made in a signal handler, nor in the child that a process with threads has forked.
  *
  * A bool is 0 or 1. Ids are bytes, and not base 16. Paths are bytes without a NUL at their end, and with slashes. The
- * standard is git's document gitformat-index. */
+ * standard is git's document gitformat-index. The language is C since C99, or C++ since C++98. */
 #ifndef GIX_INDEX_H
 #define GIX_INDEX_H
 
+#ifndef __cplusplus
 #include <stdbool.h>
+#endif
 #include <stddef.h>
 #include <stdint.h>
 
 #ifdef __cplusplus
 extern "C" {
 #endif
+
+/* ---- The version of the library, which is that of the crate gix-index that it ports */
+
+#define GIX_INDEX_VERSION "0.55.0"
+#define GIX_INDEX_VERSION_MAJOR 0
+#define GIX_INDEX_VERSION_MINOR 55
+#define GIX_INDEX_VERSION_PATCH 0
 
 /* ---- Statuses: what a call answers */
 
@@ -156,8 +165,8 @@ typedef struct {
  *
  * DONE: the first entries of rows and the first path_bytes of paths are the table, in the order of the file.
  * REFUSED: text has what is wrong, in words, as far as there is room, without a NUL behind it.
- * NO_ROOM: the same call with the sizes of the summary has room. So a call with both lengths 0 asks for the sizes;
- * an index without entries is DONE then.
+ * NO_ROOM: the same call with the sizes of the summary has room. So a call with both lengths 0, and NULL for rows and
+ * paths, asks for the sizes; an index without entries is DONE then.
  * WRONG_NUMBER: kind is none.
  * With each status but DONE, rows and paths are as they were; with DONE, what lies behind the table is. Of text no
  * byte is written behind text_bytes. */
@@ -249,11 +258,11 @@ size_t gix_index_closest(const gix_index_row *rows, size_t rows_len, const uint8
  * the shared entries, and shouldn't be written; one of gix_index_read_split may be.
  *
  * DONE: the first told->bytes of bytes are the index. NO_ROOM: the same call with as many bytes as are told has room;
- * so a call with the length 0 asks for it. REFUSED: the place is the first row that isn't such, and the fault is MODE
- * where its mode is none of the five, else ROW; or it is ORDER, and all are such, and the place is the first that isn't
- * above the one before it, those that are passed over left aside; or COUNT, or LENGTH. MEMORY: malloc or realloc gave
- * nothing, and the rows are such and in order. WRONG_NUMBER: the form's kind or version is none. With each status but
- * DONE bytes is as it was; with DONE, what lies behind the index is.
+ * so a call with NULL and the length 0 asks for it. REFUSED: the place is the first row that isn't such, and the fault
+ * is MODE where its mode is none of the five, else ROW; or it is ORDER, and all are such, and the place is the first
+ * that isn't above the one before it, those that are passed over left aside; or COUNT, or LENGTH. MEMORY: malloc or
+ * realloc gave nothing, and the rows are such and in order. WRONG_NUMBER: the form's kind or version is none. With each
+ * status but DONE bytes is as it was; with DONE, what lies behind the index is.
  *
  * gix_index_file.h reads a path with its link followed, and writes a table to one, by way of a lock. */
 uint32_t gix_index_write(const gix_index_row *rows, size_t rows_len, const uint8_t *paths, size_t paths_len,

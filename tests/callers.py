@@ -36,15 +36,25 @@ def preload(room):
     return made
 
 
+def compiled(room, source, compiler, standard, flags):
+    """What a compiler makes of a source, with the library."""
+    words = (*compiler, f"-std={standard}", "-O1", "-g", "-Wall", "-Wextra", "-Werror", *flags)
+    links = (f"-I{room}/prefix/include", f"-L{room}/prefix/lib", "-lindex_c", "-llibc_c", "-lpthread")
+    made = room / f"{source.stem}-{standard}"
+    run((*words, "-o", made, source, *links))
+    return made
+
+
 def in_c(room, name, *flags):
     """A caller in C: an example, or one of tests/."""
     example = TOP / "c" / "examples" / f"{name}.c"
     source = example if example.is_file() else TOP / "tests" / f"{name}.c"
-    words = ("cc", "-std=c11", "-O1", "-g", "-Wall", "-Wextra", "-Werror", *flags)
-    links = (f"-I{room}/prefix/include", f"-L{room}/prefix/lib", "-lindex_c", "-llibc_c", "-lpthread")
-    made = room / f"{name}-c"
-    run((*words, "-o", made, source, *links))
-    return made
+    return compiled(room, source, ("cc",), "c11", flags)
+
+
+def in_cxx(room, name, standard, *flags):
+    """A caller of tests/ in C that is C++ too, as this standard of that."""
+    return compiled(room, TOP / "tests" / f"{name}.c", ("g++", "-x", "c++"), standard, flags)
 
 
 def in_rust_here(room):

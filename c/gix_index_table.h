@@ -1,0 +1,245 @@
+/* Reading and checking the index at a path, with its link followed, for POSIX systems. gix_index_file.h has all of it,
+ * and writes an index too.
+ *
+ * The library itself opens no files, so this stands in C beside it, and isn't proved. With -std=c99 and the like,
+ * _POSIX_C_SOURCE has to be 200809L before the first header is included. */
+#ifndef GIX_INDEX_TABLE_H
+#define GIX_INDEX_TABLE_H
+
+#include "gix_index.h"
+
+#include <errno.h>
+#include <fcntl.h>
+#include <stdio.h>
+#include <stdlib.h>
+#include <string.h>
+#include <sys/stat.h>
+#include <time.h>
+#include <unistd.h>
+
+#ifndef UTIME_OMIT
+#error "gix_index_table.h takes POSIX of 2008: define _POSIX_C_SOURCE as 200809L before the first header is included"
+#endif
+
+/* What calls for files answer beside the statuses of gix_index.h: a call of the system failed, and errno says why.
+ * Among others EFBIG is a file with more than GIX_INDEX_MOST_BYTES, or without an end; EISDIR a directory that was to
+ * be read. */
+#define GIX_INDEX_SYSTEM 6u
+
+/* The most bytes that a file of an index may have: 2 to the 32nd, and the longest trailer. */
+#define GIX_INDEX_MOST_BYTES (((uint64_t)1 << 32) + 32)
+
+/* A table in memory of its own, and the bytes of the file that it was read from. */
+typedef struct {
+    gix_index_row *rows;
+    uint8_t *paths;
+    uint8_t *bytes;
+    size_t bytes_len;
+    struct timespec mtime; /* of that file, as it was when it was read; zeros where the table wasn't read from one */
+    gix_index_summary said;
+} gix_index_table;
+
+static inline void gix_index_drop_table(gix_index_table *t) {
+    free(t->rows);
+    free(t->paths);
+    free(t->bytes);
+    memset(t, 0, sizeof *t);
+}
+
+/* Opens a file, also where a signal interrupts that. One that is made has the permissions that the umask leaves. */
+static inline int gix_index_open(const char *path, int flags) {
+    int file;
+    do file = open(path, flags | O_CLOEXEC, 0666);
+    while (file < 0 && errno == EINTR);
+    return file;
+}
+
+/* A room for twice as many bytes, but none for more than a file may have and one; or NULL, and errno says why. The old
+ * one is gone then. */
+static inline uint8_t *gix_index_grow(uint8_t *bytes, size_t *room) {
+    uint64_t most = GIX_INDEX_MOST_BYTES + 1, more = *room < most / 2 ? 2 * (uint64_t)*room : most;
+    uint8_t *grown = more <= (size_t)-1 ? (uint8_t *)realloc(bytes, (size_t)more) : NULL;
+    if (!grown) {
+        free(bytes);
+        errno = ENOMEM;
+    }
+    *room = (size_t)more;
+    return grown;
+}
+
+/* All bytes of an open file from its place on, which the caller frees; NULL where they can't be read or are too many,
+ * and errno says why. The first room is for so many bytes, of which there is one at least. */
+static inline uint8_t *gix_index_bytes_behind(int file, size_t room, size_t *len) {
+    const size_t most_at_once = 1 << 30;
+    uint8_t *bytes = (uint8_t *)malloc(room);
+    for (*len = 0; bytes;) {
+        size_t left = room - *len;
+        ssize_t got = read(file, bytes + *len, left < most_at_once ? left : most_at_once);
+        if (got == 0) break;
+        if (got < 0 && errno == EINTR) continue;
+        *len += got > 0 ? (size_t)got : 0;
+        if (got < 0 || *len > GIX_INDEX_MOST_BYTES) {
+            int error = got < 0 ? errno : EFBIG;
+            free(bytes);
+            errno = error;
+            return NULL;
+        }
+        if (*len == room) bytes = gix_index_grow(bytes, &room);
+    }
+    return bytes;
+}
+
+/* The same of the file at a path, with the time at which it was written last, or zeros of a pipe or a device. */
+static inline uint8_t *gix_index_bytes_and_time_of(const char *path, size_t *len, struct timespec *mtime) {
+    int file = gix_index_open(path, O_RDONLY);
+    if (file < 0) return NULL;
+    struct stat said;
+    uint8_t *bytes = NULL;
+    if (fstat(file, &said) == 0) {
+        /* (the size says only how much room is asked for first, as the file may change) */
+        bool is_size = said.st_size > 0 && (uint64_t)said.st_size <= GIX_INDEX_MOST_BYTES;
+        bytes = gix_index_bytes_behind(file, is_size ? (size_t)said.st_size + 1 : 1 << 16, len);
+        memset(mtime, 0, sizeof *mtime);
+        if (S_ISREG(said.st_mode)) *mtime = said.st_mtim;
+    }
+    int error = errno;
+    close(file);
+    errno = error;
+    return bytes;
+}
+
+/* All bytes of a file, which the caller frees; NULL where it can't be read or is too long, and errno says why. */
+static inline uint8_t *gix_index_bytes_of(const char *path, size_t *len) {
+    struct timespec mtime;
+    return gix_index_bytes_and_time_of(path, len, &mtime);
+}
+
+/* Whether an index links to a shared one that has an id. */
+static inline bool gix_index_links(const gix_index_summary *said) {
+    uint8_t some = 0;
+    for (size_t i = 0; i < sizeof said->shared_id; i++) some |= said->shared_id[i];
+    return said->has_link && some;
+}
+
+/* The path of the shared index that the index at a path links to, which the caller frees; NULL where malloc gives
+ * nothing. */
+static inline char *gix_index_shared_path(const char *path, uint32_t kind, const gix_index_summary *said) {
+    const char *slash = strrchr(path, '/');
+    size_t folder = slash ? (size_t)(slash + 1 - path) : 0, len = kind == GIX_INDEX_SHA1 ? 20 : 32;
+    char *shared = (char *)malloc(folder + sizeof "sharedindex." + 2 * len);
+    if (!shared) return NULL;
+    memcpy(shared, path, folder);
+    char *end = shared + folder + sprintf(shared + folder, "sharedindex.");
+    for (size_t i = 0; i < len; i++) end += sprintf(end, "%02x", said->shared_id[i]);
+    return shared;
+}
+
+/* Whether there is room for as many rows and bytes for paths as the summary has. */
+static inline bool gix_index_make_room(gix_index_table *t) {
+    t->rows = (gix_index_row *)calloc(t->said.entries + 1, sizeof *t->rows);
+    t->paths = (uint8_t *)malloc(t->said.path_bytes + 1);
+    return t->rows && t->paths;
+}
+
+/* Fills the table from its bytes, which have no link, by the sizes in its summary. Those are zeros where a reading was
+ * refused before, as this one is then. */
+static inline uint32_t gix_index_fill(gix_index_table *t, uint32_t kind, uint8_t *text, size_t text_len) {
+    if (!gix_index_make_room(t)) return GIX_INDEX_MEMORY;
+    return gix_index_read(t->bytes, t->bytes_len, kind, false, t->rows, t->said.entries, t->paths, t->said.path_bytes,
+                          text, text_len, &t->said);
+}
+
+/* Fills the table from its bytes and those of the shared index, of which there may be none where the link has no id.
+ * The first call asks for the sizes, and leaves the digests alone; where it refuses, they are looked at too, as a wrong
+ * one is told before all other faults. */
+static inline uint32_t gix_index_fill_of_both(gix_index_table *t, const uint8_t *shared, size_t shared_len,
+                                              uint32_t kind, uint8_t *text, size_t text_len) {
+    for (int skip_hash = 1; skip_hash >= 0; skip_hash--) {
+        uint32_t status = gix_index_read_split(t->bytes, t->bytes_len, shared, shared_len, kind, skip_hash != 0, NULL,
+                                               0, NULL, 0, text, text_len, &t->said);
+        if (status == GIX_INDEX_DONE || status == GIX_INDEX_NO_ROOM) break;
+        if (status != GIX_INDEX_REFUSED || !skip_hash) return status;
+    }
+    if (!gix_index_make_room(t)) return GIX_INDEX_MEMORY;
+    return gix_index_read_split(t->bytes, t->bytes_len, shared, shared_len, kind, false, t->rows, t->said.entries,
+                                t->paths, t->said.path_bytes, text, text_len, &t->said);
+}
+
+/* The bytes of the shared index that these bytes, of the index at a path, link to, which the caller frees. NULL with
+ * DONE where there is none to follow, as the bytes don't link or are refused. REFUSED, MEMORY: of these bytes, as
+ * gix_index_read answers; MEMORY also where malloc gives nothing for the path. SYSTEM: the file of the shared index
+ * can't be read, and errno says why. */
+static inline uint32_t gix_index_shared_of(const char *path, const uint8_t *bytes, size_t bytes_len, uint32_t kind,
+                                           uint8_t *text, size_t text_len, gix_index_summary *said, uint8_t **shared,
+                                           size_t *shared_len) {
+    *shared = NULL;
+    *shared_len = 0;
+    uint32_t status = gix_index_read(bytes, bytes_len, kind, true, NULL, 0, NULL, 0, text, text_len, said);
+    if (status == GIX_INDEX_MEMORY) return status;
+    if (!gix_index_links(said)) return GIX_INDEX_DONE;
+    /* (a wrong digest is told before a shared index is looked for) */
+    status = gix_index_read(bytes, bytes_len, kind, false, NULL, 0, NULL, 0, text, text_len, said);
+    if (status != GIX_INDEX_DONE && status != GIX_INDEX_NO_ROOM) return status;
+    char *shared_path = gix_index_shared_path(path, kind, said);
+    if (!shared_path) memset(said, 0, sizeof *said);
+    if (!shared_path) return GIX_INDEX_MEMORY;
+    *shared = gix_index_bytes_of(shared_path, shared_len);
+    int error = errno;
+    free(shared_path);
+    errno = error;
+    said->of_shared = 1;
+    return *shared ? GIX_INDEX_DONE : GIX_INDEX_SYSTEM;
+}
+
+/* Reads the index at a path into a table. A link to a shared index is followed: that is the file sharedindex.ID beside
+ * it.
+ *
+ * Statuses, the summary in the table and the text are those of gix_index_read_split; NO_ROOM isn't answered. MEMORY
+ * also where malloc gives nothing for the table. SYSTEM: a file can't be read, and errno says why; with
+ * t->said.of_shared it is the shared one. With each status gix_index_drop_table gives the memory back. */
+static inline uint32_t gix_index_read_file(const char *path, uint32_t kind, uint8_t *text, size_t text_len,
+                                           gix_index_table *t) {
+    uint8_t *shared;
+    size_t shared_len;
+    memset(t, 0, sizeof *t);
+    t->bytes = gix_index_bytes_and_time_of(path, &t->bytes_len, &t->mtime);
+    if (!t->bytes) return GIX_INDEX_SYSTEM;
+    uint32_t status = gix_index_shared_of(path, t->bytes, t->bytes_len, kind, text, text_len, &t->said, &shared,
+                                          &shared_len);
+    if (status == GIX_INDEX_DONE && t->said.has_link)
+        status = gix_index_fill_of_both(t, shared, shared_len, kind, text, text_len);
+    else if (status == GIX_INDEX_DONE)
+        status = gix_index_fill(t, kind, text, text_len);
+    free(shared);
+    if (status == GIX_INDEX_MEMORY) {
+        gix_index_summary told = t->said;
+        memset(&t->said, 0, sizeof t->said);
+        t->said.text_bytes = told.text_bytes;
+        t->said.of_shared = told.of_shared;
+    }
+    return status;
+}
+
+/* Checks the index at a path as gix_index_check_split checks bytes, which is what `index-tool check` does. A link to a
+ * shared index is followed, as gix_index_read_file follows it.
+ *
+ * Statuses, the summary and the text are those of gix_index_check_split. MEMORY also where malloc gives nothing for
+ * a path. SYSTEM: a file can't be read, and errno says why; with said->of_shared it is the shared one. */
+static inline uint32_t gix_index_check_file(const char *path, uint32_t kind, uint8_t *text, size_t text_len,
+                                            gix_index_summary *said) {
+    uint8_t *shared;
+    size_t len, shared_len;
+    memset(said, 0, sizeof *said);
+    uint8_t *bytes = gix_index_bytes_of(path, &len);
+    if (!bytes) return GIX_INDEX_SYSTEM;
+    uint32_t status = gix_index_shared_of(path, bytes, len, kind, text, text_len, said, &shared, &shared_len);
+    if (status == GIX_INDEX_DONE)
+        status = gix_index_check_split(bytes, len, shared, shared_len, kind, false, text, text_len, said);
+    int error = errno;
+    free(bytes);
+    free(shared);
+    errno = error;
+    return status;
+}
+
+#endif
