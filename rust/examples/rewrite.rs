@@ -13,13 +13,10 @@ use gix_index_proved::{Index, Kind};
 use std::env;
 use std::process::ExitCode;
 
-/// Reads the one and writes the other, in version 4 where the one is of it or the caller asks for it.
-fn rewrite(kind: Kind, file: &str, to: &str, mut version: VersionChoice) -> Result<(), String> {
+/// Reads the one and writes the other.
+fn rewrite(kind: Kind, file: &str, to: &str, version: VersionChoice) -> Result<(), String> {
     let locked = Index::lock(to).map_err(|error| format!("{to}: {error}"))?;
     let (index, bytes) = Index::open_with_bytes(file, kind).map_err(|error| format!("{file}: {error}"))?;
-    if index.version() == 4 {
-        version = VersionChoice::V4;
-    }
     let options = Options { version, sync: true, ..Options::default() };
     locked.commit_over(&index, &bytes, options).map(|_| ()).map_err(|error| format!("{to}: {error}"))
 }
@@ -27,8 +24,8 @@ fn rewrite(kind: Kind, file: &str, to: &str, mut version: VersionChoice) -> Resu
 fn main() -> ExitCode {
     let words: Vec<_> = env::args().skip(1).collect();
     let (kind, file, to, version) = match words.iter().map(String::as_str).collect::<Vec<_>>().as_slice() {
-        ["sha1", file, to] => (Kind::Sha1, *file, *to, VersionChoice::Smallest),
-        ["sha256", file, to] => (Kind::Sha256, *file, *to, VersionChoice::Smallest),
+        ["sha1", file, to] => (Kind::Sha1, *file, *to, VersionChoice::Kept),
+        ["sha256", file, to] => (Kind::Sha256, *file, *to, VersionChoice::Kept),
         ["sha1", file, to, "4"] => (Kind::Sha1, *file, *to, VersionChoice::V4),
         ["sha256", file, to, "4"] => (Kind::Sha256, *file, *to, VersionChoice::V4),
         _ => {

@@ -102,7 +102,7 @@ fn main() -> ExitCode {
     match run(kind, Path::new(folder)) {
         Ok(()) => ExitCode::SUCCESS,
         Err(error) => {
-            eprintln!("status: {}: {error}", folder.display());
+            eprintln!("status: {}: {error}", Path::new(folder).display());
             ExitCode::FAILURE
         }
     }

@@ -2,6 +2,7 @@
 
 use crate::raw::Row;
 use crate::{Entry, Error, Index, Kind, Stat};
+use std::fmt;
 
 /// The bits of the flags that are the stage.
 const STAGE_MASK: u32 = 0x3000;
@@ -9,10 +10,23 @@ const STAGE_MASK: u32 = 0x3000;
 /// An entry of an index, lent to be changed. Its path stays.
 pub struct EntryMut<'a> {
     row: &'a mut Row,
+    paths: &'a [u8],
     kind: Kind,
 }
 
+impl fmt::Debug for EntryMut<'_> {
+    fn fmt(&self, f: &mut fmt::Formatter<'_>) -> fmt::Result {
+        f.debug_tuple("EntryMut").field(&self.entry()).finish()
+    }
+}
+
 impl EntryMut<'_> {
+    /// The entry as it is now.
+    #[must_use]
+    pub fn entry(&self) -> Entry<'_> {
+        Entry { row: self.row, paths: self.paths }
+    }
+
     /// Sets what the file system says of the file.
     pub fn set_stat(&mut self, stat: Stat) {
         self.row.set_stat(stat);
@@ -61,6 +75,7 @@ impl Row {
 
 impl Index {
     /// An index with no entry, for ids of this kind.
+    #[must_use]
     pub fn new(kind: Kind) -> Index {
         let (rows, paths) = (Vec::new(), Vec::new());
         Index { rows, paths, kind, version: 2, has_link: false, shared_id: [0; 32], timestamp: None }
@@ -117,8 +132,23 @@ impl Index {
     }
 
     /// The entry at a place, counted from 0, to be changed.
+    #[must_use]
     pub fn entry_mut(&mut self, place: usize) -> Option<EntryMut<'_>> {
-        let kind = self.kind;
-        self.rows.get_mut(place).map(|row| EntryMut { row, kind })
+        let row = self.rows.get_mut(place)?;
+        Some(EntryMut { row, paths: &self.paths, kind: self.kind })
+    }
+
+    /// The entry at the path and the stage, to be changed, or None, as
+    /// [`entry_index_by_path_and_stage`](Index::entry_index_by_path_and_stage) has its place.
+    #[must_use]
+    pub fn entry_mut_by_path_and_stage(&mut self, path: &[u8], stage: u32) -> Option<EntryMut<'_>> {
+        self.entry_mut(self.entry_index_by_path_and_stage(path, stage)?)
+    }
+
+    /// The entries, in their order, to be changed.
+    #[must_use]
+    pub fn entries_mut(&mut self) -> impl ExactSizeIterator<Item = EntryMut<'_>> + DoubleEndedIterator {
+        let (paths, kind) = (&self.paths, self.kind);
+        self.rows.iter_mut().map(move |row| EntryMut { row, paths, kind })
     }
 }

@@ -133,17 +133,36 @@ impl Fault {
     }
 }
 
+impl fmt::Display for Fault {
+    fn fmt(&self, f: &mut fmt::Formatter<'_>) -> fmt::Result {
+        match self {
+            Fault::Header => f.write_str("the header is at fault"),
+            Fault::Version => f.write_str("the version isn't 2, 3 or 4"),
+            Fault::Entry(place) => write!(f, "entry {place} can't be read"),
+            Fault::Extension => f.write_str("a mandatory extension isn't understood"),
+            Fault::Link => f.write_str("the link to a shared index is at fault"),
+            Fault::Trailer => f.write_str("the trailer is too short or too long"),
+            Fault::Digest => f.write_str("the digest isn't the trailer"),
+            Fault::Order(place) => write!(f, "entry {place} isn't above the one before it, by path and stage"),
+            Fault::CachedTree => f.write_str("the cached tree is at fault"),
+            Fault::Row(place) => {
+                write!(f, "entry {place} can't be written: its path, its id or its stage is at fault")
+            }
+            Fault::Count => f.write_str("the index has more entries than the 4294967295 that a file can count"),
+            Fault::Length => f.write_str("the index would take more bytes than the 4294967295 that a file can have"),
+            Fault::Mode(place) => write!(f, "entry {place} can't be written: its mode is none that git has"),
+            Fault::Other(number) => write!(f, "fault {number}"),
+        }
+    }
+}
+
 impl Error {
     /// What a call that refused entries said.
     pub(crate) fn of_written(told: &Written) -> Error {
         let fault = Fault::of(told.fault, told.fault_place);
         let text = match fault {
-            Fault::Row(place) => format!("entry {place} can't be written: its path, its id or its stage is at fault"),
-            Fault::Mode(place) => format!("entry {place} can't be written: its mode is none that git has"),
-            Fault::Order(place) => format!("entry {place} isn't above the one before it, by path and stage"),
-            Fault::Count => "the index has more entries than the 4294967295 that a file can count".into(),
-            Fault::Length => "the index would take more bytes than the 4294967295 that a file can have".into(),
-            fault => format!("the index that is written over is refused: {fault:?}"),
+            Fault::Row(_) | Fault::Mode(_) | Fault::Order(_) | Fault::Count | Fault::Length => fault.to_string(),
+            fault => format!("the index that is written over is refused: {fault}"),
         };
         Error::Refused { fault, text }
     }
@@ -211,3 +230,32 @@ impl std::error::Error for Error {
         }
     }
 }
+
+impl From<Error> for io::Error {
+    /// The same fault, of which [`io::Error::get_ref`] gives this one again; but for want of memory, which takes none.
+    fn from(error: Error) -> io::Error {
+        let kind = match &error {
+            Error::Memory => return io::ErrorKind::OutOfMemory.into(),
+            Error::Refused { .. } | Error::RefusedShared { .. } => io::ErrorKind::InvalidData,
+            Error::Split | Error::Id { .. } => io::ErrorKind::InvalidInput,
+            Error::Locked { .. } => io::ErrorKind::AlreadyExists,
+            Error::LeadsNowhere { .. } => io::ErrorKind::NotFound,
+            Error::NotRegular { .. } | Error::TooManyLinks { .. } | Error::TooLong { .. } => io::ErrorKind::Other,
+            Error::Io { error, .. } => error.kind(),
+        };
+        io::Error::new(kind, error)
+    }
+}
+
+/// A text is none of a [`Kind`](crate::Kind).
+#[derive(Clone, Copy, Debug, PartialEq, Eq, Hash)]
+#[non_exhaustive]
+pub struct UnknownKind;
+
+impl fmt::Display for UnknownKind {
+    fn fmt(&self, f: &mut fmt::Formatter<'_>) -> fmt::Result {
+        f.write_str("the kind of an index's ids is sha1 or sha256")
+    }
+}
+
+impl std::error::Error for UnknownKind {}

@@ -5,12 +5,34 @@
 //! `crates/index_c/README.md`; this crate isn't proved: it hands slices to the library's calls and takes their answers.
 //! It has no dependencies, so its errors implement [`std::error::Error`] by hand.
 //!
-//! Safe beside git, which may write the same index, is [`Index::lock`], then a reading, then [`Locked::commit`]: what
-//! is read is what is replaced. [`Index::write`] locks only when it writes, so what another process wrote between the
-//! reading and it is lost.
+//! Safe beside git, which may write the same index, is [`Index::lock`], then [`Locked::open`], then
+//! [`Locked::commit`]: what is read is what is replaced, and what a change leaves right stays. [`Index::write`] locks
+//! only when it writes, so what another process wrote between the reading and it is lost.
+//!
+//! ```no_run
+//! use gix_index_proved::write::Options;
+//! use gix_index_proved::{Error, Index, Kind};
+//!
+//! /// Takes a path out of an index, at each stage, and tells whether it was there.
+//! fn unstage(index: &str, path: &[u8]) -> Result<bool, Error> {
+//!     let mut locked = Index::lock(index)?;
+//!     let mut index = locked.open(Kind::Sha1)?;
+//!     let before = index.entries().len();
+//!     index.remove_entries(|_, there, _| there == path);
+//!     let is_changed = index.entries().len() < before;
+//!     if is_changed {
+//!         locked.commit(&index, Options::default())?;
+//!     }
+//!     Ok(is_changed)
+//! }
+//! # let _ = unstage;
+//! ```
+
+#![deny(missing_docs, missing_debug_implementations)]
 
 mod check;
 mod edit;
+mod entry;
 mod error;
 mod lock;
 mod raw;
@@ -19,14 +41,18 @@ pub mod write;
 
 pub use check::{verify, verify_file, verify_split};
 pub use edit::EntryMut;
-pub use error::{Error, Fault};
+use entry::Hex;
+pub use entry::{Entry, Stat, Time, flags, mode};
+pub use error::{Error, Fault, UnknownKind};
 pub use lock::Locked;
 use raw::{Places, Row};
+use std::fmt;
 use std::ops::Range;
+use std::str::FromStr;
 use std::time::SystemTime;
 
-/// Which hash function a repository names its objects by.
-#[derive(Clone, Copy, Debug, PartialEq, Eq, Hash)]
+/// Which hash function a repository names its objects by. Its text is `sha1` or `sha256`.
+#[derive(Clone, Copy, Debug, PartialEq, Eq, PartialOrd, Ord, Hash)]
 pub enum Kind {
     /// SHA-1, with ids of 20 bytes.
     Sha1,
@@ -36,7 +62,8 @@ pub enum Kind {
 
 impl Kind {
     /// How many bytes an id of this kind has: 20 or 32.
-    pub fn len_in_bytes(self) -> usize {
+    #[must_use]
+    pub const fn len_in_bytes(self) -> usize {
         match self {
             Kind::Sha1 => 20,
             Kind::Sha256 => 32,
@@ -51,112 +78,29 @@ impl Kind {
     }
 }
 
-/// A time of an entry, in the 32 bits of each part that a file stores, since the begin of 1970.
-#[derive(Clone, Copy, Debug, Default, PartialEq, Eq, PartialOrd, Ord, Hash)]
-pub struct Time {
-    /// Whole seconds.
-    pub secs: u32,
-    /// Nanoseconds on top.
-    pub nsecs: u32,
-}
-
-/// The stat numbers of an entry, each in the 32 bits that a file stores (gitformat-index, "Index entry").
-#[derive(Clone, Copy, Debug, Default, PartialEq, Eq, Hash)]
-pub struct Stat {
-    /// When the contents changed last.
-    pub mtime: Time,
-    /// When the file's own data changed last.
-    pub ctime: Time,
-    /// The device.
-    pub dev: u32,
-    /// The inode.
-    pub ino: u32,
-    /// The owner.
-    pub uid: u32,
-    /// The owner's group.
-    pub gid: u32,
-    /// The size in bytes, modulo 2 to the 32nd.
-    pub size: u32,
-}
-
-/// The mode of an entry's file: the kind, and whether its owner may run it.
-pub mod mode {
-    /// A directory of a sparse index.
-    pub const DIR: u32 = 0o040000;
-    /// A file.
-    pub const FILE: u32 = 0o100644;
-    /// A file that its owner may run.
-    pub const FILE_EXECUTABLE: u32 = 0o100755;
-    /// A symbolic link.
-    pub const SYMLINK: u32 = 0o120000;
-    /// A submodule.
-    pub const COMMIT: u32 = 0o160000;
-}
-
-/// Flags of an entry; bits 12 and 13 are its stage.
-pub mod flags {
-    /// The file has a second word of flags of the entry.
-    pub const EXTENDED: u32 = 0x4000;
-    /// The file is taken for unchanged.
-    pub const ASSUME_VALID: u32 = 0x8000;
-    /// In memory alone: an index that is written leaves the entry out.
-    pub const REMOVE: u32 = 0x2_0000;
-    /// The path is to be added later.
-    pub const INTENT_TO_ADD: u32 = 0x2000_0000;
-    /// The file isn't wanted in the work tree.
-    pub const SKIP_WORKTREE: u32 = 0x4000_0000;
-}
-
-/// An entry of an index, lent.
-#[derive(Clone, Copy)]
-pub struct Entry<'a> {
-    row: &'a Row,
-    paths: &'a [u8],
-}
-
-impl<'a> Entry<'a> {
-    /// The path from the top of the work tree, with slashes.
-    pub fn path(&self) -> &'a [u8] {
-        &self.paths[self.row.path_start..][..self.row.path_len]
+impl fmt::Display for Kind {
+    fn fmt(&self, f: &mut fmt::Formatter<'_>) -> fmt::Result {
+        f.pad(match self {
+            Kind::Sha1 => "sha1",
+            Kind::Sha256 => "sha256",
+        })
     }
+}
 
-    /// The id of the object that holds the contents: 20 or 32 bytes.
-    pub fn id(&self) -> &'a [u8] {
-        let len = if self.row.kind == raw::SHA256 { 32 } else { 20 };
-        &self.row.id[..len]
-    }
+impl FromStr for Kind {
+    type Err = UnknownKind;
 
-    /// What the file system said of the file.
-    pub fn stat(&self) -> Stat {
-        let row = self.row;
-        Stat {
-            mtime: Time { secs: row.mtime_secs, nsecs: row.mtime_nsecs },
-            ctime: Time { secs: row.ctime_secs, nsecs: row.ctime_nsecs },
-            dev: row.dev,
-            ino: row.ino,
-            uid: row.uid,
-            gid: row.gid,
-            size: row.size,
+    fn from_str(text: &str) -> Result<Kind, UnknownKind> {
+        match text {
+            "sha1" => Ok(Kind::Sha1),
+            "sha256" => Ok(Kind::Sha256),
+            _ => Err(UnknownKind),
         }
     }
-
-    /// The kind of file: one of those in [`mode`].
-    pub fn mode(&self) -> u32 {
-        self.row.mode
-    }
-
-    /// What else is noted of the entry: those in [`flags`], and others that live in memory alone.
-    pub fn flags(&self) -> u32 {
-        self.row.flags
-    }
-
-    /// The stage: 0, or in a conflict 1 for the common ancestor, 2 for our side, 3 for theirs.
-    pub fn stage(&self) -> u32 {
-        self.row.stage
-    }
 }
 
-/// The entries of an index, in the order of its file.
+/// The entries of an index, in the order of its file. Two are equal where their entries are, one by one, and all that
+/// is told of the files that they were read from.
 #[derive(Clone)]
 pub struct Index {
     rows: Vec<Row>,
@@ -178,28 +122,33 @@ fn room<T: Copy>(value: T, len: usize) -> Result<Vec<T>, Error> {
 
 impl Index {
     /// The kind of the ids.
+    #[must_use]
     pub fn object_hash(&self) -> Kind {
         self.kind
     }
 
     /// The version of the file that was read: 2, 3 or 4; of a new index 2.
+    #[must_use]
     pub fn version(&self) -> u32 {
         self.version
     }
 
     /// When the file was written last that this was read from, or None where it wasn't read from one: the time that
     /// the index gets that is written, so that git trusts no more entries of it than of the one that was read.
+    #[must_use]
     pub fn timestamp(&self) -> Option<SystemTime> {
         self.timestamp
     }
 
     /// Whether the bytes link to a shared index, which wasn't followed.
+    #[must_use]
     pub fn has_link(&self) -> bool {
         self.has_link
     }
 
     /// The id of the shared index that the bytes link to, which wasn't followed. None where there is no link, or its id
     /// is null, as there is none to follow then.
+    #[must_use]
     pub fn shared_id(&self) -> Option<&[u8]> {
         let id = &self.shared_id[..self.kind.len_in_bytes()];
         (self.has_link && id.iter().any(|byte| *byte != 0)).then_some(id)
@@ -210,20 +159,23 @@ impl Index {
     }
 
     /// The entries, in the order of the file.
+    #[must_use]
     pub fn entries(&self) -> impl ExactSizeIterator<Item = Entry<'_>> + DoubleEndedIterator {
         self.rows.iter().map(|row| self.lend(row))
     }
 
     /// The entry at a place, counted from 0.
+    #[must_use]
     pub fn entry(&self, place: usize) -> Option<Entry<'_>> {
         self.rows.get(place).map(|row| self.lend(row))
     }
 
-    /// The entry at the path and the stage, or None.
+    /// The place of the entry at the path and the stage, counted from 0, or None.
     ///
-    /// It is promised over entries that strictly increase by path, then stage. Over other entries an entry that is
-    /// given still has the path and the stage.
-    pub fn entry_by_path_and_stage(&self, path: &[u8], stage: u32) -> Option<Entry<'_>> {
+    /// It is promised over entries that strictly increase by path, then stage. Over other entries an entry at a place
+    /// that is given still has the path and the stage.
+    #[must_use]
+    pub fn entry_index_by_path_and_stage(&self, path: &[u8], stage: u32) -> Option<usize> {
         // SAFETY: each pointer goes with the length of its slice, and nothing is written.
         let place = unsafe {
             raw::gix_index_find(
@@ -236,13 +188,21 @@ impl Index {
                 stage,
             )
         };
-        self.entry(place)
+        (place < self.rows.len()).then_some(place)
+    }
+
+    /// The entry at the path and the stage, or None, as
+    /// [`entry_index_by_path_and_stage`](Index::entry_index_by_path_and_stage) has its place.
+    #[must_use]
+    pub fn entry_by_path_and_stage(&self, path: &[u8], stage: u32) -> Option<Entry<'_>> {
+        self.entry(self.entry_index_by_path_and_stage(path, stage)?)
     }
 
     /// The places of the entries whose path begins with the bytes of the prefix, counted from 0, or None where there
     /// are none. The empty prefix has all places, also of no entries: `0..0`.
     ///
     /// Over entries whose paths never fall they are all such places. Over other entries they are places of the index.
+    #[must_use]
     pub fn prefixed_entries_range(&self, prefix: &[u8]) -> Option<Range<usize>> {
         let mut places = Places::default();
         // SAFETY: each pointer goes with the length of its slice, and what is written is apart from these.
@@ -262,6 +222,7 @@ impl Index {
 
     /// The entries whose path begins with the bytes of the prefix, or None where there are none, as
     /// [`prefixed_entries_range`](Index::prefixed_entries_range) has their places.
+    #[must_use]
     pub fn prefixed_entries(
         &self,
         prefix: &[u8],
@@ -276,6 +237,7 @@ impl Index {
     ///
     /// It is promised over entries whose paths never fall. Over other entries an entry that is given still is the
     /// directory or stands below it.
+    #[must_use]
     pub fn entry_closest_to_directory_or_directory(&self, directory: &[u8]) -> Option<Entry<'_>> {
         // SAFETY: each pointer goes with the length of its slice, and nothing is written.
         let place = unsafe {
@@ -293,7 +255,28 @@ impl Index {
 
     /// The entry at the path: that at stage 0, or else that at stage 2, our side of a merge, or else None; as
     /// [`entry_by_path_and_stage`](Index::entry_by_path_and_stage) finds them.
+    #[must_use]
     pub fn entry_by_path(&self, path: &[u8]) -> Option<Entry<'_>> {
         self.entry_by_path_and_stage(path, 0).or_else(|| self.entry_by_path_and_stage(path, 2))
+    }
+}
+
+impl PartialEq for Index {
+    fn eq(&self, other: &Index) -> bool {
+        let told = |index: &Index| (index.kind, index.version, index.has_link, index.shared_id, index.timestamp);
+        told(self) == told(other) && self.entries().eq(other.entries())
+    }
+}
+
+impl Eq for Index {}
+
+impl fmt::Debug for Index {
+    fn fmt(&self, f: &mut fmt::Formatter<'_>) -> fmt::Result {
+        let mut shown = f.debug_struct("Index");
+        shown.field("kind", &self.kind).field("version", &self.version).field("entries", &self.rows.len());
+        if let Some(id) = self.shared_id() {
+            shown.field("shared_id", &format_args!("{}", Hex(id)));
+        }
+        shown.field("timestamp", &self.timestamp).finish_non_exhaustive()
     }
 }

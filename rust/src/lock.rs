@@ -1,8 +1,10 @@
 //! Locking the index at a path, and writing in its place.
 
-use crate::write::{CachedTree, Options};
-use crate::{Error, Index};
+use crate::read::{Opened, or_default};
+use crate::write::{CachedTree, Options, VersionChoice};
+use crate::{Error, Index, Kind};
 use std::ffi::OsString;
+use std::fmt;
 use std::fs::{self, File, Metadata};
 use std::io::{self, Write};
 use std::path::{Path, PathBuf};
@@ -28,14 +30,34 @@ impl Drop for LockFile {
 
 /// The index at a path, locked: until this is committed or dropped, nobody writes it who heeds the lock, as git does.
 ///
-/// What is read of [`path`](Locked::path) meanwhile is what a commit replaces, so that no change of another process is
-/// lost. Dropped, it leaves the index as it was, and removes the lock file.
+/// What is read meanwhile, mostly by [`open`](Locked::open), is what a commit replaces, so that no change of another
+/// process is lost. Dropped, it leaves the index as it was, and removes the lock file.
 #[must_use = "dropped, it gives the lock up"]
 pub struct Locked {
     file: File,
     lock: LockFile,
     path: PathBuf,
     old: Option<Metadata>,
+    opened: Option<Kept>,
+}
+
+/// What is kept of the index that was opened under the lock.
+struct Kept {
+    bytes: Vec<u8>,
+    kind: Kind,
+    version: u32,
+    shared_id: Option<Vec<u8>>,
+}
+
+impl fmt::Debug for Locked {
+    fn fmt(&self, f: &mut fmt::Formatter<'_>) -> fmt::Result {
+        let mut shown = f.debug_struct("Locked");
+        shown.field("path", &self.path).field("lock", &self.lock.path);
+        if let Some(Kept { bytes, kind, version, .. }) = &self.opened {
+            shown.field("bytes", &bytes.len()).field("kind", kind).field("version", version);
+        }
+        shown.finish_non_exhaustive()
+    }
 }
 
 fn fault(path: &Path) -> impl FnOnce(io::Error) -> Error {
@@ -111,17 +133,45 @@ impl Locked {
         if let Some(old) = &old {
             file.set_permissions(old.permissions()).map_err(fault(&lock.path))?;
         }
-        Ok(Locked { file, lock, path, old })
+        Ok(Locked { file, lock, path, old, opened: None })
     }
 
     /// The file that is locked: the path that was given, behind all symbolic links.
+    #[must_use]
     pub fn path(&self) -> &Path {
         &self.path
     }
 
+    /// Reads the index that is locked, as [`Index::open`] does, and keeps its bytes: [`commit`](Locked::commit) then
+    /// keeps what they have and a change leaves right.
+    pub fn open(&mut self, kind: Kind) -> Result<Index, Error> {
+        let Opened { index, bytes, shared_id } = Opened::at(&self.path, kind)?;
+        self.opened = Some(Kept { bytes, kind, version: index.version, shared_id });
+        Ok(index)
+    }
+
+    /// The same, or an index with no entry where no file is there yet.
+    pub fn open_or_default(&mut self, kind: Kind) -> Result<Index, Error> {
+        let opened = self.open(kind);
+        or_default(opened, &self.path, kind)
+    }
+
+    /// All bytes of the index that was [opened](Locked::open).
+    #[must_use]
+    pub fn bytes(&self) -> Option<&[u8]> {
+        Some(&self.opened.as_ref()?.bytes)
+    }
+
+    /// The id of the shared index that the index which was [opened](Locked::open) links to. Its entries are those of
+    /// both, and what is committed has them all and no link.
+    #[must_use]
+    pub fn shared_id(&self) -> Option<&[u8]> {
+        self.opened.as_ref()?.shared_id.as_deref()
+    }
+
     /// Puts the bytes to the lock file, and lets it take the place of the index.
     pub(crate) fn replace(self, bytes: &[u8], timestamp: Option<SystemTime>, sync: bool) -> Result<(), Error> {
-        let Locked { mut file, mut lock, path, old } = self;
+        let Locked { mut file, mut lock, path, old, .. } = self;
         let old = old.and_then(|old| old.modified().ok());
         file.write_all(bytes).map_err(fault(&lock.path))?;
         if let Some(time) = timestamp.filter(is_time).or(old.filter(is_time)) {
@@ -136,7 +186,12 @@ impl Locked {
         Ok(())
     }
 
-    /// Writes what [`write_to`](Index::write_to) gives as the index that is locked.
+    /// Writes an index in place of the one that is locked, and tells what became of that one's cached tree.
+    ///
+    /// Where that was [opened](Locked::open), with ids of the same kind, this is what
+    /// [`write_to_over`](Index::write_to_over) gives over its bytes: the mark of a sparse index and a cached tree that
+    /// still tells what the entries give are kept. So is version 4, where the options don't ask for another. Else it is
+    /// what [`write_to`](Index::write_to) gives, without extensions.
     ///
     /// The file has the permissions of the one that it takes the place of, or else those that the umask leaves. Its
     /// time is the index's [`timestamp`](Index::timestamp), so that git looks at each file that it would have looked at
@@ -144,8 +199,14 @@ impl Locked {
     /// its making. A time of 0 seconds isn't put, as git would trust every entry by it.
     ///
     /// After an error the index is as it was. The lock file is gone in each case, if that can be done.
-    pub fn commit(self, index: &Index, options: Options) -> Result<(), Error> {
-        self.replace(&index.write_to(options)?, index.timestamp, options.sync)
+    pub fn commit(mut self, index: &Index, mut options: Options) -> Result<CachedTree, Error> {
+        let opened = self.opened.take().filter(|opened| opened.kind == index.kind);
+        if options.version == VersionChoice::Kept && opened.as_ref().is_some_and(|opened| opened.version == 4) {
+            options.version = VersionChoice::V4;
+        }
+        let (bytes, tree) = index.image(opened.as_ref().map(|opened| &opened.bytes[..]), options)?;
+        self.replace(&bytes, index.timestamp, options.sync)?;
+        Ok(tree)
     }
 
     /// The same of what [`write_to_over`](Index::write_to_over) gives over these bytes of an index.
@@ -157,8 +218,8 @@ impl Locked {
 }
 
 impl Index {
-    /// Locks the index at a path as git locks it, to read it, change it and write it without a loss: what is read
-    /// behind this call is what [`commit`](Locked::commit) or [`commit_over`](Locked::commit_over) replaces.
+    /// Locks the index at a path as git locks it, to read it, change it and write it without a loss: what
+    /// [`Locked::open`] reads is what [`Locked::commit`] replaces.
     ///
     /// Symbolic links are followed first, five at most; a sixth is [`Error::TooManyLinks`]. What the last one names
     /// needn't be there. Where it is a directory, a device, a fifo or a socket, the error is [`Error::NotRegular`].

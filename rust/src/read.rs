@@ -1,5 +1,6 @@
 //! Reading an index from bytes, and from its path.
 
+use crate::entry::Hex;
 use crate::raw::{self, Row, Summary};
 use crate::{Error, Index, Kind, room};
 use std::fs::{File, Metadata};
@@ -68,8 +69,7 @@ impl Files<'_> {
     /// before all others.
     fn index(self) -> Result<Index, Error> {
         let (mut rows, mut paths) = (Vec::new(), Vec::new());
-        let mut said =
-            self.read(true, &mut rows, &mut paths).or_else(|_| self.read(false, &mut rows, &mut paths))?;
+        let mut said = self.read(true, &mut rows, &mut paths).or_else(|_| self.read(false, &mut rows, &mut paths))?;
         loop {
             rows = room(Row::default(), said.1.entries)?;
             paths = room(0, said.1.path_bytes)?;
@@ -109,8 +109,7 @@ pub(crate) fn bytes_of(path: PathBuf) -> Result<Vec<u8>, Error> {
 
 /// The bytes of the shared index with this id, beside the index at a path.
 fn beside(path: &Path, id: &[u8]) -> Result<Vec<u8>, Error> {
-    let name: String = id.iter().map(|byte| format!("{byte:02x}")).collect();
-    bytes_of(path.with_file_name(format!("sharedindex.{name}")))
+    bytes_of(path.with_file_name(format!("sharedindex.{}", Hex(id))))
 }
 
 /// The bytes of the shared index that these bytes, of the index at a path, link to. None where there is none to follow,
@@ -152,20 +151,51 @@ impl Index {
     ///
     /// A file with more than 2^32 bytes and a trailer, or without an end, is [`Error::TooLong`].
     pub fn open(path: impl AsRef<Path>, kind: Kind) -> Result<Index, Error> {
-        Ok(Index::open_with_bytes(path, kind)?.0)
+        Ok(Opened::at(path.as_ref(), kind)?.index)
     }
 
-    /// The same, with the bytes of the file, over which [`write_to_over`](Index::write_to_over) writes.
-    pub fn open_with_bytes(path: impl AsRef<Path>, kind: Kind) -> Result<(Index, Vec<u8>), Error> {
+    /// The same, or an index with no entry where no file is at the path, as in a fresh repository.
+    pub fn open_or_default(path: impl AsRef<Path>, kind: Kind) -> Result<Index, Error> {
         let path = path.as_ref();
+        or_default(Index::open(path, kind), path, kind)
+    }
+
+    /// The same as [`open`](Index::open), with the bytes of the file, over which
+    /// [`write_to_over`](Index::write_to_over) writes.
+    pub fn open_with_bytes(path: impl AsRef<Path>, kind: Kind) -> Result<(Index, Vec<u8>), Error> {
+        let Opened { index, bytes, .. } = Opened::at(path.as_ref(), kind)?;
+        Ok((index, bytes))
+    }
+}
+
+/// An index with no entry in place of the fault that no file is at the path.
+pub(crate) fn or_default(opened: Result<Index, Error>, at: &Path, kind: Kind) -> Result<Index, Error> {
+    match opened {
+        Err(Error::Io { path, error }) if error.kind() == io::ErrorKind::NotFound && path == at => Ok(Index::new(kind)),
+        opened => opened,
+    }
+}
+
+/// An index that was read from a path, with its link followed.
+pub(crate) struct Opened {
+    pub index: Index,
+    /// All bytes of the file at the path.
+    pub bytes: Vec<u8>,
+    /// The id of the shared index that they link to.
+    pub shared_id: Option<Vec<u8>>,
+}
+
+impl Opened {
+    pub fn at(path: &Path, kind: Kind) -> Result<Opened, Error> {
         let (bytes, said) = bytes_and_metadata_of(path.into())?;
         let mut index = Index::from_bytes(&bytes, kind)?;
+        let shared_id = index.shared_id().map(<[u8]>::to_vec);
         if index.has_link {
-            let shared = index.shared_id().map(|id| beside(path, id)).transpose()?.unwrap_or_default();
+            let shared = shared_id.as_ref().map(|id| beside(path, id)).transpose()?.unwrap_or_default();
             index = Index::from_split_bytes(&bytes, &shared, kind)?;
         }
         // (a pipe or a device says nothing of when an index was written)
         index.timestamp = if said.is_file() { said.modified().ok() } else { None };
-        Ok((index, bytes))
+        Ok(Opened { index, bytes, shared_id })
     }
 }

@@ -11,8 +11,11 @@ const BESIDE_ENTRIES: usize = 44;
 /// Which version is written.
 #[derive(Clone, Copy, Debug, Default, PartialEq, Eq, Hash)]
 pub enum VersionChoice {
-    /// 3 where an entry has [`EXTENDED`](crate::flags::EXTENDED), and else 2.
+    /// 4 where the index was read from a file of version 4, or replaces such a file that [`Locked`](crate::Locked)
+    /// opened; and else the smallest.
     #[default]
+    Kept,
+    /// 3 where an entry has [`EXTENDED`](crate::flags::EXTENDED), and else 2.
     Smallest,
     /// 4, in which paths are shortened.
     V4,
@@ -54,7 +57,11 @@ impl Index {
     /// Puts the index into the room, over another where its bytes are given, and tells of it; Err where there is less
     /// room than is told.
     fn put(&self, over: Option<&[u8]>, options: Options, bytes: &mut [u8]) -> Result<Result<Written, usize>, Error> {
-        let version = if options.version == VersionChoice::V4 { 4 } else { 2 };
+        let version = match options.version {
+            VersionChoice::Kept if self.version == 4 => 4,
+            VersionChoice::V4 => 4,
+            _ => 2,
+        };
         let form = Form { kind: self.kind.number(), version, skip_hash: options.skip_hash };
         let mut told = Written::default();
         let (rows, paths) = (&self.rows, &self.paths);
@@ -94,7 +101,7 @@ impl Index {
     }
 
     /// All bytes of the index, and what became of the other's cached tree.
-    fn image(&self, over: Option<&[u8]>, options: Options) -> Result<(Vec<u8>, CachedTree), Error> {
+    pub(crate) fn image(&self, over: Option<&[u8]>, options: Options) -> Result<(Vec<u8>, CachedTree), Error> {
         if self.has_link {
             return Err(Error::Split);
         }

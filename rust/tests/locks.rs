@@ -1,35 +1,17 @@
 //! Holds locks on an index against what they keep, and what a commit leaves. `tests/linked` at the top of the
 //! repository runs it, and `tests/live` has git work beside them.
 
+mod common;
+
+use common::Folder;
 use gix_index_proved::write::Options;
 use gix_index_proved::{Error, Index, Kind, Stat, mode};
 use std::fs::{self, File};
 use std::io::ErrorKind;
 use std::os::unix::fs::{MetadataExt, PermissionsExt, symlink};
 use std::os::unix::net::UnixListener;
-use std::path::{Path, PathBuf};
+use std::path::Path;
 use std::time::{Duration, SystemTime, UNIX_EPOCH};
-
-/// A folder of a test's own, which is removed with it.
-struct Folder(PathBuf);
-
-impl Folder {
-    fn new(name: &str) -> Folder {
-        let path = std::env::temp_dir().join(format!("gix-index-locks-{}-{name}", std::process::id()));
-        fs::create_dir(&path).expect("it isn't there");
-        Folder(path)
-    }
-
-    fn at(&self, name: &str) -> PathBuf {
-        self.0.join(name)
-    }
-}
-
-impl Drop for Folder {
-    fn drop(&mut self) {
-        let _ = fs::remove_dir_all(&self.0);
-    }
-}
 
 fn index_of(path: &[u8]) -> Index {
     let mut index = Index::new(Kind::Sha1);
@@ -68,7 +50,7 @@ fn a_lock_that_is_dropped_leaves_the_index() {
     make(&path, &index_of(b"old"), past(1_500_000_000));
     let locked = Index::lock(&path).expect("it can be locked");
     assert_eq!(locked.path(), path);
-    let error = Index::lock(&path).err().expect("it is locked");
+    let error = Index::lock(&path).expect_err("it is locked");
     assert!(matches!(&error, Error::Locked { lock: named } if *named == lock), "{error}");
     assert!(error.to_string().contains("index.lock is there: another process writes the index, or died"), "{error}");
     let error = index_of(b"new").write(&path, Options::default()).expect_err("it is locked");
@@ -128,17 +110,17 @@ fn links_are_followed() {
         symlink((number - 1).to_string(), folder.at(&number.to_string())).expect("it isn't there");
     }
     symlink("loop", folder.at("loop")).expect("it isn't there");
-    let error = Index::lock(folder.at("5")).err().expect("nothing is there");
+    let error = Index::lock(folder.at("5")).expect_err("nothing is there");
     assert!(matches!(&error, Error::LeadsNowhere { path, .. } if *path == folder.at("5")), "{error}");
     index_of(b"b").write(folder.at("new"), Options::default()).expect("it can be written");
     index_of(b"a").write(folder.at("5"), Options::default()).expect("it can be written");
     assert_eq!(paths_at(&folder.at("new")), [b"a"]);
     assert!(folder.at("5").is_symlink() && folder.at("inner/1").is_symlink());
     for name in ["6", "loop"] {
-        let error = Index::lock(folder.at(name)).err().expect("it has more links");
+        let error = Index::lock(folder.at(name)).expect_err("it has more links");
         assert!(matches!(&error, Error::TooManyLinks { path } if *path == folder.at(name)), "{error}");
     }
-    let error = Index::lock("").err().expect("it is no path");
+    let error = Index::lock("").expect_err("it is no path");
     assert!(matches!(&error, Error::Io { error, .. } if error.kind() == ErrorKind::NotFound), "{error}");
 }
 
@@ -157,6 +139,6 @@ fn what_is_no_file_is_not_replaced() {
         }
         fs::remove_file(folder.at("link")).expect("it is there");
     }
-    let error = Index::open(folder.at("directory"), Kind::Sha1).err().expect("it is no file");
+    let error = Index::open(folder.at("directory"), Kind::Sha1).expect_err("it is no file");
     assert!(matches!(&error, Error::Io { error, .. } if error.kind() == ErrorKind::IsADirectory), "{error}");
 }

@@ -1,0 +1,181 @@
+//! An entry of an index: its stat numbers, its mode, its flags, and the entry itself, lent.
+
+use crate::raw::{self, Row};
+use std::fmt;
+use std::fs::Metadata;
+use std::hash::{Hash, Hasher};
+use std::os::unix::fs::MetadataExt;
+
+/// A time of an entry, in the 32 bits of each part that a file stores, since the begin of 1970.
+#[derive(Clone, Copy, Debug, Default, PartialEq, Eq, PartialOrd, Ord, Hash)]
+pub struct Time {
+    /// Whole seconds.
+    pub secs: u32,
+    /// Nanoseconds on top.
+    pub nsecs: u32,
+}
+
+/// The stat numbers of an entry, each in the 32 bits that a file stores (gitformat-index, "Index entry").
+#[derive(Clone, Copy, Debug, Default, PartialEq, Eq, Hash)]
+pub struct Stat {
+    /// When the contents changed last.
+    pub mtime: Time,
+    /// When the file's own data changed last.
+    pub ctime: Time,
+    /// The device.
+    pub dev: u32,
+    /// The inode.
+    pub ino: u32,
+    /// The owner.
+    pub uid: u32,
+    /// The owner's group.
+    pub gid: u32,
+    /// The size in bytes, modulo 2 to the 32nd.
+    pub size: u32,
+}
+
+impl Stat {
+    /// What the file system says of a file, each number modulo 2 to the 32nd, as git stores it: mostly what
+    /// [`symlink_metadata`](std::fs::symlink_metadata) says.
+    #[must_use]
+    pub fn from_fs(said: &Metadata) -> Stat {
+        Stat {
+            mtime: Time { secs: said.mtime() as u32, nsecs: said.mtime_nsec() as u32 },
+            ctime: Time { secs: said.ctime() as u32, nsecs: said.ctime_nsec() as u32 },
+            dev: said.dev() as u32,
+            ino: said.ino() as u32,
+            uid: said.uid(),
+            gid: said.gid(),
+            size: said.len() as u32,
+        }
+    }
+}
+
+impl From<&Metadata> for Stat {
+    fn from(said: &Metadata) -> Stat {
+        Stat::from_fs(said)
+    }
+}
+
+/// The mode of an entry's file: the kind, and whether its owner may run it.
+pub mod mode {
+    /// A directory of a sparse index.
+    pub const DIR: u32 = 0o040000;
+    /// A file.
+    pub const FILE: u32 = 0o100644;
+    /// A file that its owner may run.
+    pub const FILE_EXECUTABLE: u32 = 0o100755;
+    /// A symbolic link.
+    pub const SYMLINK: u32 = 0o120000;
+    /// A submodule.
+    pub const COMMIT: u32 = 0o160000;
+}
+
+/// Flags of an entry; bits 12 and 13 are its stage.
+pub mod flags {
+    /// The file has a second word of flags of the entry.
+    pub const EXTENDED: u32 = 0x4000;
+    /// The file is taken for unchanged.
+    pub const ASSUME_VALID: u32 = 0x8000;
+    /// In memory alone: an index that is written leaves the entry out.
+    pub const REMOVE: u32 = 0x2_0000;
+    /// The path is to be added later.
+    pub const INTENT_TO_ADD: u32 = 0x2000_0000;
+    /// The file isn't wanted in the work tree.
+    pub const SKIP_WORKTREE: u32 = 0x4000_0000;
+}
+
+/// An entry of an index, lent. Two are equal where all that is read of them is.
+#[derive(Clone, Copy)]
+pub struct Entry<'a> {
+    pub(crate) row: &'a Row,
+    pub(crate) paths: &'a [u8],
+}
+
+impl<'a> Entry<'a> {
+    /// The path from the top of the work tree, with slashes.
+    #[must_use]
+    pub fn path(&self) -> &'a [u8] {
+        &self.paths[self.row.path_start..][..self.row.path_len]
+    }
+
+    /// The id of the object that holds the contents: 20 or 32 bytes.
+    #[must_use]
+    pub fn id(&self) -> &'a [u8] {
+        let len = if self.row.kind == raw::SHA256 { 32 } else { 20 };
+        &self.row.id[..len]
+    }
+
+    /// What the file system said of the file.
+    #[must_use]
+    pub fn stat(&self) -> Stat {
+        let row = self.row;
+        Stat {
+            mtime: Time { secs: row.mtime_secs, nsecs: row.mtime_nsecs },
+            ctime: Time { secs: row.ctime_secs, nsecs: row.ctime_nsecs },
+            dev: row.dev,
+            ino: row.ino,
+            uid: row.uid,
+            gid: row.gid,
+            size: row.size,
+        }
+    }
+
+    /// The kind of file: one of those in [`mode`].
+    #[must_use]
+    pub fn mode(&self) -> u32 {
+        self.row.mode
+    }
+
+    /// What else is noted of the entry: those in [`flags`], and others that live in memory alone.
+    #[must_use]
+    pub fn flags(&self) -> u32 {
+        self.row.flags
+    }
+
+    /// The stage: 0, or in a conflict 1 for the common ancestor, 2 for our side, 3 for theirs.
+    #[must_use]
+    pub fn stage(&self) -> u32 {
+        self.row.stage
+    }
+
+    /// All that is read of it. The stage is that of the flags.
+    fn all(&self) -> (&'a [u8], &'a [u8], Stat, u32, u32) {
+        (self.path(), self.id(), self.stat(), self.mode(), self.flags())
+    }
+}
+
+impl PartialEq for Entry<'_> {
+    fn eq(&self, other: &Entry<'_>) -> bool {
+        self.all() == other.all()
+    }
+}
+
+impl Eq for Entry<'_> {}
+
+impl Hash for Entry<'_> {
+    fn hash<H: Hasher>(&self, state: &mut H) {
+        self.all().hash(state);
+    }
+}
+
+/// Bytes in lower-case base 16, as an id is shown.
+pub(crate) struct Hex<'a>(pub &'a [u8]);
+
+impl fmt::Display for Hex<'_> {
+    fn fmt(&self, f: &mut fmt::Formatter<'_>) -> fmt::Result {
+        self.0.iter().try_for_each(|byte| write!(f, "{byte:02x}"))
+    }
+}
+
+impl fmt::Debug for Entry<'_> {
+    fn fmt(&self, f: &mut fmt::Formatter<'_>) -> fmt::Result {
+        f.debug_struct("Entry")
+            .field("path", &String::from_utf8_lossy(self.path()))
+            .field("id", &format_args!("{}", Hex(self.id())))
+            .field("mode", &format_args!("{:06o}", self.mode()))
+            .field("flags", &format_args!("{:#x}", self.flags()))
+            .field("stage", &self.stage())
+            .finish_non_exhaustive()
+    }
+}
