@@ -211,7 +211,7 @@ uint32_t gix_index_check(const uint8_t *bytes, size_t bytes_len, uint32_t kind, 
  * the first entry of both that isn't above the one before it; or CACHED_TREE, and the entries of both are in order. All
  * else is as there.
  *
- * gix_index_file.h checks a path with its link followed. */
+ * gix_index_table.h checks a path with its link followed. */
 uint32_t gix_index_check_split(const uint8_t *bytes, size_t bytes_len, const uint8_t *shared, size_t shared_len,
                                uint32_t kind, bool skip_hash, uint8_t *text, size_t text_len,
                                gix_index_summary *summary);
