@@ -1,10 +1,10 @@
 //! The trees of the entries.
 
-ghost use Rattle.std.specs.Prelude.{◌≡◌, ◌<◌, ◌^◌, [], Some, IfOk, IfErr, IfSome, MatchOption, length};
+ghost use Rattle.std.specs.Prelude.{◌≡◌, ◌⊎◌, ◌<◌, ◌^◌, [], Some, IfOk, IfErr, IfSome, MatchOption, OnErr, length};
 ghost use Rattle.index_cached_tree.specs.Tree.{Node, node_of};
 ghost use Rattle.index_entries.specs.Order.{IsStrictlyOrdered};
 ghost use Rattle.index_tree_writer.specs.Cached.{IsCached};
-ghost use Rattle.index_tree_writer.specs.Directory.{IsTreeOf, Items, objects};
+ghost use Rattle.index_tree_writer.specs.Directory.{HoldsFirst, IsTreeOf, Items, objects};
 ghost use Rattle.index_tree_writer.specs.Kept.{KeepsCounts};
 ghost use Rattle.index_tree_writer.specs.Objects.{with_objects};
 ghost use Rattle.index_tree_writer.specs.Refusals.{AreFit, AreRefused, SaysTreesFault};
@@ -32,7 +32,8 @@ impl State {
     /// Each name of a path goes through `check`, a link's also as such.
     ///
     /// The first entry that has no place in a tree is the error, before anything goes to the sink; then it may be the
-    /// sink's own, or want of memory.
+    /// sink's own, or want of memory. After one of these the sink has the first of the objects in that order, or none,
+    /// and never the root.
     pub fn write_trees<S: Sink, C: ComponentCheck>(
         &self,
         alloc: Global,
@@ -49,6 +50,9 @@ impl State {
         ensures fit { IfOk result
             (λ _. AreFit (C.refusal check.now) (contents self.now).kind (records self.now)) }
         ensures few { IfOk result (λ _. length (records self.now) < 2 ^ 31) }
+        ensures ended { OnErr result ((sink.new ≡ sink.old)
+            ⊎ HoldsFirst (contents self.now).kind (staged_in (records self.now))
+            (S.stored sink.old) (S.stored sink.new)) }
         ensures fault { IfErr result (λ e. SaysTreesFault e (λ n. S.fault sink.new ≡ Some n)
             (λ f. AreRefused (C.refusal check.now) (contents self.now).kind (records self.now) f
             × (sink.new ≡ sink.old))) }
