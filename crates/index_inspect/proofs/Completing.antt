@@ -1,6 +1,7 @@
 -- An index that is merged with its shared one, or stays as it is.
-use Rattle.std.proofs.Common.{◌≡◌, ℕ, ◌==◌, ◌||◌, Bool, false, List, [], ◌∷◌, Option, Some, None, refl, sym, ap}
-use Rattle.std.proofs.Common.{subst, ◌∙◌}
+use Rattle.std.proofs.Common.{◌≡◌, ◌⊎◌, inl, inr, ℕ, ◌==◌, ◌||◌, Bool, true, false, List, [], ◌∷◌, Option, Some, None}
+use Rattle.std.proofs.Common.{Result, Err, option_map, refl, sym, ap, subst, ◌∙◌}
+use Rattle.std.specs.Prelude.{IsOk, IsSome, is_some}
 use Rattle.std.specs.List.{list_any}
 use Rattle.gix_index.specs.Contents.{Contents}
 use Rattle.gix_index.specs.Dissolve.{IsDissolved, IsDissolveFault, MergesBy}
@@ -9,16 +10,19 @@ use Rattle.gix_index.specs.EntryType.{Entry}
 use Rattle.gix_index.specs.FileTime.{FileTime}
 use Rattle.gix_index.specs.Id.{id_bytes, is_null}
 use Rattle.gix_index.specs.Kind.{Kind}
-use Rattle.gix_index.specs.Link.{BitmapPair, LinkFault, LinkValue}
+use Rattle.gix_index.specs.Link.{BitmapPair, LinkFault, LinkValue, link_of}
 use Rattle.gix_index.specs.Mode.{directory_mode}
 use Rattle.gix_index.specs.Record.{Record, has_directory, records_in}
+use Rattle.gix_index.specs.Sorted.{IsOrdered}
 use Rattle.gix_index.specs.Outcome.{Outcome, no_extension}
 use Rattle.gix_index.specs.State.{PathsInStorage, contents, entries_of, records, storage_of}
 use Rattle.gix_index.specs.StateType.{State}
 use Rattle.gix_index.specs.Storable.{IsStorable}
 use Rattle.gix_index.specs.Version.TheVariants.{V2}
 use Rattle.index_inspect.specs.Remains.{IsPlainIndex, with_mark}
-use Rattle.index_inspect.specs.Salvage.{CanBeShared, IsCompleted, absent, merged, unfit, unlinked, unread, unshared}
+use Rattle.index_inspect.specs.Salvage.{CanBeShared, IsCompleted, IsWanted, MergesByBitmaps, MergesOrSorts}
+use Rattle.index_inspect.specs.Salvage.{absent, merged, unfit, unlinked, unread, unshared}
+use Rattle.index_inspect.specs.declared.remains.Remains.{Remains}
 use Rattle.index_inspect.specs.SalvageSteps.{Completes, IsIndexOf}
 use Rattle.index_inspect.specs.declared.salvage.SharedEntries.{SharedEntries}
 use Rattle.index_inspect.specs.declared.salvage.SharedEntries.TheVariants as fates
@@ -134,6 +138,51 @@ fits_not l found own new shared fault named h is_fault u placed =
       same_kind = ap (λ (c : Contents). c.kind) u.same_contents;
       index = index_moved own new e h placed (subst IsStorable (sym u.same_contents) h.storable);
     }
+
+-- ---- where memory is asked for
+
+pub linked : {A B : Type 0} (f : A → B) (o : Option A) → is_some o ≡ true → IsSome (option_map f o)
+linked f None e = absurd cc
+linked f (Some x) e = refl
+
+pub unlinked_on : {A B : Type 0} (f : A → B) (o : Option A) → is_some o ≡ false → option_map f o ≡ None
+unlinked_on f None e = refl
+unlinked_on f (Some x) e = absurd cc
+
+-- a refusal of what succeeds without bitmaps has some
+pub has_bitmaps : {A E : Type 0} (b : Option BitmapPair) (r : Result A E) (e : E) → r ≡ Err e → (b ≡ None → IsOk r)
+    → IsSome b
+has_bitmaps None r e is h = absurd cc (subst IsOk is (h refl))
+has_bitmaps (Some b) r e is h = refl
+
+bitmaps_or_own : (b : Option BitmapPair) (s v : Contents) (own all : List Record)
+    → MergesBy b s (with_records v own) (with_records v all) → IsSome b ⊎ (all ≡ own)
+bitmaps_or_own None s v own all e = inr (ap (λ (c : Contents). c.records) e)
+bitmaps_or_own (Some b) s v own all h = inl refl
+
+merges_or : (link : Option LinkValue) (shared : Option Contents) (l : LinkValue) (s : Contents) (own all : List Record)
+    → IsWanted link l → shared ≡ Some s → s.extensions.link ≡ None → IsSome l.bitmaps ⊎ (all ≡ own)
+    → MergesByBitmaps link shared ⊎ (all ≡ own)
+merges_or link shared l s own all wanted given alone (inl some) =
+    inl (record { l = l; s = s; wanted = wanted; given = given; bitmaps = some; alone = alone })
+merges_or link shared l s own all wanted given alone (inr same) = inr same
+
+-- without a merge by bitmaps the entries are the file's own
+pub merged_or_own : (link : Option LinkValue) (found : Bool) (shared : Option Contents) (own all : List Record)
+    (fate : SharedEntries) → IsCompleted link found shared own all fate → MergesByBitmaps link shared ⊎ (all ≡ own)
+merged_or_own link found shared own all fate (unlinked e n same f) = inr same
+merged_or_own link found shared own all fate (unshared l e n same f) = inr same
+merged_or_own link found shared own all fate (unread e n same f) = inr same
+merged_or_own link found shared own all fate (absent l w e same f) = inr same
+merged_or_own link found shared own all fate (unfit l s v fault w e b same f) = inr same
+merged_or_own link found shared own all fate (merged l s v w e d f) =
+    merges_or link shared l s own all w e d.alone (bitmaps_or_own l.bitmaps s v own all d.merged)
+
+pub merges_or_sorts : (r : Remains) (shared : Option Contents) (all : List Record)
+    → MergesByBitmaps (option_map link_of r.link) shared ⊎ (all ≡ records r.front) → (IsOrdered all → ⊥)
+    → MergesOrSorts r shared
+merges_or_sorts r shared all (inl merges) unordered = inl merges
+merges_or_sorts r shared all (inr same) unordered = inr (λ up. unordered (subst IsOrdered (sym same) up))
 
 -- ---- with no shared index
 

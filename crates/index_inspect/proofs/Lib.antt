@@ -3,6 +3,7 @@ mod Covered
 mod Divided
 mod Endings
 mod Fronts
+mod Keeping
 mod KeptLinks
 mod Laid
 mod LastLinks

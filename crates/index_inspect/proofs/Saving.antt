@@ -1,4 +1,4 @@
--- The firsts of a list of records, and what a sort and a walk over it make of them.
+-- The firsts of a list of records, what a sort makes of them, and one more of them.
 use Rattle.std.proofs.Common.{◌≡◌, ◌≢◌, ◌⊎◌, inl, inr, ℕ, suc, ◌+◌, ◌-◌, ◌<◌, ◌≤◌, Bool, true, false, cond, not, ◌&&◌}
 use Rattle.std.proofs.Common.{List, [], ◌∷◌, ◌++◌, length, take, get_or, All, refl, sym, ap, subst}
 use Rattle.std.proofs.Common.{◌∙◌, length-append, arith}
@@ -6,22 +6,22 @@ use Rattle.std.specs.Cmp.{IsTotalOrder}
 use Rattle.std.specs.Prelude.{◌==◌, ◌↔◌, IsTrue}
 use Rattle.std.specs.List.{Contains}
 use Rattle.std.specs.List.Sorted.{IsStable, ties}
-use Rattle.std.specs.Ordering.{is_eq, is_lt, ordering_reverse}
+use Rattle.std.specs.Ordering.{is_eq, is_lt, nat_cmp, ordering_reverse, ordering_then}
 use Rattle.std.specs.declared.cmp.Ordering.{Ordering}
 use Rattle.std.specs.declared.cmp.Ordering.TheVariants.{Less, Equal, Greater}
 use Rattle.std.proofs.lemmas.Bool.{cases_lt, eqb-true}
 use Rattle.std.proofs.lemmas.Cmp.{nat_cmp_total, nat_list_cmp_total, on_total, then_total, tied_itself}
-use Rattle.std.proofs.lemmas.List.{get_or-take, get_or_default, length-take, take_all, take_more}
+use Rattle.std.proofs.lemmas.List.{get_or-take, length-take, take_more}
 use Rattle.std.proofs.lemmas.List.Elements.{All-filter, All-from_get_or, All-head, All-nil, All-tail}
 use Rattle.std.proofs.lemmas.List.Elements.{Contains-append_left, Contains-get_or, Contains-push, Contains-push_cases}
-use Rattle.std.proofs.lemmas.List.Elements.{filter-append, filter_agree}
+use Rattle.std.proofs.lemmas.List.Elements.{filter-append, filter_agree, filter_passes}
 use Rattle.std.proofs.lemmas.List.Quantifiers.{all_pairs_push}
 use Rattle.std.proofs.lemmas.List.Sorted.{ranks_by, sorted_far}
-use Rattle.gix_index.specs.Order.{record_cmp, record_stage}
+use Rattle.gix_index.specs.Order.{IsStrictlyOrdered, path_cmp, record_cmp, record_stage}
 use Rattle.gix_index.specs.Record.{Record}
 use Rattle.gix_index.specs.Sorted.{IsOrdered}
 use Rattle.index_inspect.specs.Salvage.{IsFirst, IsSavedOf, with_key_of}
-use Rattle.index_inspect.specs.SalvageSteps.{IsAbove, TakesNext}
+use Rattle.index_inspect.specs.SalvageSteps.{IsAbove}
 
 pub records_total : IsTotalOrder record_cmp
 records_total = then_total (on_total (λ (r : Record). r.path) nat_list_cmp_total) (on_total record_stage nat_cmp_total)
@@ -83,6 +83,11 @@ first_holds : (P : Record → Type 0) (rs : List Record) (r : Record) → All P 
 first_holds P rs r all h =
     All-head P r h.others (subst (All P) h.first (All-filter (λ q. is_eq (record_cmp r q)) P rs all))
 
+-- what holds of all records holds of all that are saved of them
+pub saved_hold : (P : Record → Type 0) (rs kept : List Record) → All P rs → IsSavedOf rs kept → All P kept
+saved_hold P rs kept all h k d lt =
+    first_holds P rs (get_or kept k d) all ((h.are (get_or kept k d)).0 (Contains-get_or kept k d lt))
+
 -- a record above all others is kept
 pub saved_more : (rs kept : List Record) (x : Record) → All (λ q. record_cmp q x ≡ Less) rs → x.path ≢ []
     → IsSavedOf rs kept → IsSavedOf (rs ++ x ∷ []) (kept ++ x ∷ [])
@@ -104,7 +109,7 @@ saved_more rs kept x above named h = record {
     back r (inr e) = subst (Contains (kept ++ x ∷ [])) e.0 (Contains-push kept x)
 
 -- one that has no path, or isn't the first with its path and stage, isn't
-saved_same : (rs kept : List Record) (x : Record) → (with_key_of x rs ≡ [] → x.path ≡ []) → IsSavedOf rs kept
+pub saved_same : (rs kept : List Record) (x : Record) → (with_key_of x rs ≡ [] → x.path ≡ []) → IsSavedOf rs kept
     → IsSavedOf (rs ++ x ∷ []) kept
 saved_same rs kept x none h = record {
   ordered = h.ordered;
@@ -192,13 +197,97 @@ saved_sorted rs ys kept s h = record {
   );
 }
 
--- ---- a walk over a list in order
+-- ---- one more of a list in order
 
 pub saved_none : IsSavedOf [] []
 saved_none = record {
   ordered = record { less = λ i j d lt le. absurd (omega arith) };
   are = λ r. (λ c. absurd (omega (arith, c.1)), λ f. absurd cc (f.first));
 }
+
+less_or : (o : Ordering) → (is_lt o ≡ false → ⊥) → o ≡ Less
+less_or Less h = refl
+less_or Equal h = absurd (h refl)
+less_or Greater h = absurd (h refl)
+
+-- one that agrees with none before it is above them all
+pub above_all : (rs : List Record) (i : ℕ) (d : Record) → IsOrdered rs → i < length rs
+    → with_key_of (get_or rs i d) (take i rs) ≡ [] → All (λ q. record_cmp q (get_or rs i d) ≡ Less) (take i rs)
+above_all rs i d up lt none = by (cases_lt 0 i)
+  where
+    by : (0 < i) ⊎ (i ≤ 0) → All (λ q. record_cmp q (get_or rs i d) ≡ Less) (take i rs)
+    by (inl pos) = all_below rs i (get_or rs i d) d up pos (omega arith)
+        (less_or (record_cmp (get_or rs (i - 1) d) (get_or rs i d))
+        (λ not_less. some_alike rs i d up pos lt not_less none))
+    by (inr first) =
+        let e : i ≡ 0 = omega arith in
+        subst (λ (n : ℕ). All (λ q. record_cmp q (get_or rs i d) ≡ Less) (take n rs)) (sym e)
+        (All-nil (λ q. record_cmp q (get_or rs i d) ≡ Less))
+
+eq_of : (o : Ordering) → is_eq o ≡ true → o ≡ Equal
+eq_of Less e = absurd cc
+eq_of Equal e = refl
+eq_of Greater e = absurd cc
+
+-- one that agrees with a record without a path has none
+nameless_alike : (x r : Record) → record_cmp x r ≡ Equal → r.path ≡ [] → x.path ≡ []
+nameless_alike x r alike none = by x.path refl
+  where
+    by : (p : List ℕ) → x.path ≡ p → x.path ≡ []
+    by [] e = e
+    by (b ∷ p) e =
+        let greater : record_cmp x r ≡ Greater =
+        ap (λ (q : List ℕ). ordering_then (path_cmp q r.path) (nat_cmp (record_stage x) (record_stage r))) e
+        ∙ ap (λ (q : List ℕ). ordering_then (path_cmp (b ∷ p) q) (nat_cmp (record_stage x) (record_stage r))) none in
+        absurd cc
+
+-- one of those in strict order is the last of them, or below it
+below_last : (kept : List Record) (x r : Record) → IsStrictlyOrdered kept → Contains kept r
+    → record_cmp (get_or kept (length kept - 1) r) x ≡ Less → record_cmp r x ≡ Less
+below_last kept x r up (k, lt, is) less = by (cases_lt k (length kept - 1))
+  where
+    by : (k < length kept - 1) ⊎ (length kept - 1 ≤ k) → record_cmp r x ≡ Less
+    by (inl before) =
+        let rises : record_cmp (get_or kept k r) (get_or kept (length kept - 1) r) ≡ Less =
+        up.less k (length kept - 1) r before (omega arith) in
+        records_total.trans r (get_or kept (length kept - 1) r) x
+        (subst (λ (q : Record). record_cmp q (get_or kept (length kept - 1) r) ≡ Less) is rises) less
+    by (inr last) =
+        let e : length kept - 1 ≡ k = omega arith in
+        subst (λ (q : Record). record_cmp q x ≡ Less) (ap (λ (n : ℕ). get_or kept n r) e ∙ is) less
+
+-- a record is above the last of a list, where that has one
+abbrev pub IsAboveLast : List Record → Record → Type 0
+IsAboveLast kept x = (d : Record) → 0 < length kept → record_cmp (get_or kept (length kept - 1) d) x ≡ Less
+
+-- one that has a path and is above the last of those that are saved agrees with none before it
+pub agrees_with_none : (rs kept : List Record) (x : Record) → IsSavedOf rs kept → x.path ≢ [] → IsAboveLast kept x
+    → with_key_of x rs ≡ []
+agrees_with_none rs kept x h named above = by (with_key_of x rs) refl
+  where
+    by : (l : List Record) → with_key_of x rs ≡ l → with_key_of x rs ≡ []
+    by [] e = e
+    by (r ∷ others) e =
+        let passes = subst (All (λ q. is_eq (record_cmp x q) ≡ true)) e (filter_passes (λ q. is_eq (record_cmp x q)) rs) in
+        let alike : record_cmp x r ≡ Equal = eq_of (record_cmp x r)
+        (All-head (λ q. is_eq (record_cmp x q) ≡ true) r others passes) in
+        let same : with_key_of r rs ≡ with_key_of x rs =
+        filter_agree (λ q. is_eq (record_cmp r q)) (λ q. is_eq (record_cmp x q))
+        (λ q. ap is_eq (sym (records_total.congr x r q alike))) rs in
+        let first : IsFirst rs r =
+        record { named = λ none. named (nameless_alike x r alike none); others = others; first = same ∙ e } in
+        let c = (h.are r).1 first in
+        let less = below_last kept x r h.ordered c (above r (omega (arith, c.1))) in
+        let turned : record_cmp x r ≡ Greater = records_total.antisymm x r ∙ ap ordering_reverse less in
+        absurd cc
+
+-- one that agrees with none before it is above the last of those that are saved
+pub above_last : (rs kept : List Record) (x : Record) → IsSavedOf rs kept → All (λ q. record_cmp q x ≡ Less) rs
+    → IsAboveLast kept x
+above_last rs kept x h above d pos =
+    saved_hold (λ q. record_cmp q x ≡ Less) rs kept above h (length kept - 1) d (omega arith)
+
+-- ---- by its path and the order of the two
 
 long_path : (path : List ℕ) → (length path == 0) ≡ false → path ≢ []
 long_path [] e n = absurd cc
@@ -217,59 +306,17 @@ less_of Less e = refl
 less_of Equal e = absurd cc
 less_of Greater e = absurd cc
 
-less_or : (o : Ordering) → (is_lt o ≡ false → ⊥) → o ≡ Less
-less_or Less h = refl
-less_or Equal h = absurd (h refl)
-less_or Greater h = absurd (h refl)
-
--- whether a record stands above the one before it, by its path and by the order of the two
-module _ (rs : List Record) (i : ℕ) (path : List ℕ) (is : (d : Record) → (get_or rs i d).path ≡ path) where
-  pub never_nameless : i < length rs → (length path == 0) ≡ true → IsAbove rs i → ⊥
+-- whether a record stands above the last of those that are kept, by its path and by the order of the two
+module _ (rs : List Record) (kept i : ℕ) (path : List ℕ) (is : (d : Record) → (get_or rs i d).path ≡ path) where
+  pub never_nameless : i < length rs → (length path == 0) ≡ true → IsAbove rs kept i → ⊥
   never_nameless lt none h = let d = first_at rs i lt in (h d).0 (is d ∙ no_path path none)
 
-  pub above_none : i ≡ 0 → (length path == 0) ≡ false → IsAbove rs i
+  pub above_none : kept ≡ 0 → (length path == 0) ≡ false → IsAbove rs kept i
   above_none e named d = (λ none. long_path path named (sym (is d) ∙ none), λ pos. absurd (omega arith))
 
-  pub above_by : (b : Bool) (o : Ordering) → i < length rs → 0 < i → (length path == 0) ≡ false → b ≡ is_lt o
-      → ((d : Record) → record_cmp (get_or rs (i - 1) d) (get_or rs i d) ≡ o) → IsTrue b ↔ IsAbove rs i
+  pub above_by : (b : Bool) (o : Ordering) → i < length rs → 0 < kept → (length path == 0) ≡ false → b ≡ is_lt o
+      → ((d : Record) → record_cmp (get_or rs (kept - 1) d) (get_or rs i d) ≡ o) → IsTrue b ↔ IsAbove rs kept i
   above_by b o lt pos named e stands = (
     λ t d. (λ none. long_path path named (sym (is d) ∙ none), λ _. stands d ∙ less_of o (sym e ∙ t)),
     λ h. let d = first_at rs i lt in e ∙ ap is_lt (sym (stands d) ∙ (h d).1 pos),
   )
-
--- one that isn't above has no path, where none before it has its path and stage
-nameless : (rs : List Record) (i : ℕ) (d : Record) (path : List ℕ) → IsOrdered rs → i < length rs
-    → (IsAbove rs i → ⊥) → with_key_of (get_or rs i d) (take i rs) ≡ [] → (get_or rs i d).path ≡ path
-    → (get_or rs i d).path ≡ []
-nameless rs i d [] up lt below none e = e
-nameless rs i d (b ∷ path) up lt below none e = absurd (below (λ f.
-    let same : get_or rs i f ≡ get_or rs i d = get_or_default rs i f d lt in (
-      λ empty.
-          let clash : b ∷ path ≡ [] = sym e ∙ sym (ap (λ (r : Record). r.path) same) ∙ empty in
-          absurd cc,
-      λ pos. less_or (record_cmp (get_or rs (i - 1) f) (get_or rs i f)) (λ less. some_alike rs i f up pos lt less
-          (subst (λ (q : Record). with_key_of q (take i rs) ≡ []) (sym same) none)),
-    )))
-
-pub takes_next : (b : Bool) (rs : List Record) (i : ℕ) → IsOrdered rs → i < length rs → (IsTrue b ↔ IsAbove rs i)
-    → TakesNext rs i b
-takes_next true rs i up lt h kept d saved =
-    let x = get_or rs i d in
-    let above = h.0 refl d in
-    subst (λ (l : List Record). IsSavedOf l (kept ++ x ∷ [])) (sym (take_more rs i d lt))
-    (saved_more (take i rs) kept x (below above.1 (cases_lt 0 i)) above.0 saved)
-  where
-    below : (0 < i → record_cmp (get_or rs (i - 1) d) (get_or rs i d) ≡ Less) → (0 < i) ⊎ (i ≤ 0)
-        → All (λ q. record_cmp q (get_or rs i d) ≡ Less) (take i rs)
-    below rises (inr none) =
-        let e : i ≡ 0 = omega arith in
-        subst (λ (n : ℕ). All (λ q. record_cmp q (get_or rs i d) ≡ Less) (take n rs)) (sym e)
-        (All-nil (λ q. record_cmp q (get_or rs i d) ≡ Less))
-    below rises (inl pos) = all_below rs i (get_or rs i d) d up pos (omega arith) (rises pos)
-takes_next false rs i up lt h kept d saved =
-    subst (λ (l : List Record). IsSavedOf l kept) (sym (take_more rs i d lt))
-    (saved_same (take i rs) kept (get_or rs i d)
-    (λ none. nameless rs i d (get_or rs i d).path up lt (λ a. absurd cc (h.1 a)) none refl) saved)
-
-pub saved_all : (rs kept : List Record) (n : ℕ) → length rs ≤ n → IsSavedOf (take n rs) kept → IsSavedOf rs kept
-saved_all rs kept n le h = subst (λ (l : List Record). IsSavedOf l kept) (take_all n rs le) h

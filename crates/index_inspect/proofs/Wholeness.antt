@@ -42,7 +42,7 @@ module _ (rs : List Record) (i : ℕ) (d : Record) (h : AreWhole (take i rs)) (l
       subst (λ (q : Record). record_cmp q (get_or rs i d) ≡ Less) (sym (get_or-take i rs k d inside))
       (below_at k inside))
 
-pub whole_more : (rs : List Record) (i : ℕ) → i < length rs → IsAbove rs i → AreWhole (take i rs)
+pub whole_more : (rs : List Record) (i : ℕ) → i < length rs → IsAbove rs i i → AreWhole (take i rs)
     → AreWhole (take (i + 1) rs)
 whole_more rs i lt above h =
     let d = first_at rs i lt in
@@ -63,7 +63,7 @@ whole_more rs i lt above h =
         subst (λ (n : ℕ). All (λ q. record_cmp q (get_or rs i d) ≡ Less) (take n rs)) (sym e)
         (All-nil (λ q. record_cmp q (get_or rs i d) ≡ Less))
 
-pub above_at : (rs : List Record) (i : ℕ) → i < length rs → AreWhole rs → IsAbove rs i
+pub above_at : (rs : List Record) (i : ℕ) → i < length rs → AreWhole rs → IsAbove rs i i
 above_at rs i lt h = λ d. (h.named i d lt, λ pos. h.ordered.less (i - 1) i d (omega arith) lt)
 
 pub whole_all : (rs : List Record) (n : ℕ) → length rs ≤ n → AreWhole (take n rs) → AreWhole rs

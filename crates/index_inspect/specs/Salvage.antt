@@ -1,7 +1,7 @@
 -- What is saved of a file that may be damaged: the front of its entries, with those of its shared index where the two
 -- can be merged, put in order (gitformat-index, "Split index", "Index entries are sorted in ascending order").
 use Rattle.std.specs.Prelude.{◌≡◌, ◌≢◌, ◌↔◌, Bool, true, false, List, [], ◌∷◌, Contains, length, filter}
-use Rattle.std.specs.Prelude.{Option, Some, None}
+use Rattle.std.specs.Prelude.{Option, Some, None, IsSome, ◌⊎◌}
 use Rattle.std.specs.Option.{option_map}
 use Rattle.std.specs.Ordering.{is_eq}
 use Rattle.gix_index.specs.Contents.{Contents}
@@ -11,6 +11,7 @@ use Rattle.gix_index.specs.Id.{id_bytes, is_null}
 use Rattle.gix_index.specs.Link.{LinkFault, LinkValue, link_of}
 use Rattle.gix_index.specs.Order.{IsStrictlyOrdered, record_cmp}
 use Rattle.gix_index.specs.Record.{Record}
+use Rattle.gix_index.specs.Sorted.{IsOrdered}
 use Rattle.gix_index.specs.State.{PathsInStorage, contents, records}
 use Rattle.gix_index.specs.StateType.{State}
 use Rattle.gix_index.specs.Storable.{IsStorable}
@@ -60,6 +61,21 @@ pub data IsCompleted (link : Option LinkValue) (found : Bool) (shared : Option C
   merged : (l : LinkValue) (s v : Contents) → IsWanted link l → shared ≡ Some s
       → IsDissolved l s (with_records v own) (with_records v all) → fate ≡ fates.Merged
       → IsCompleted link found shared own all fate
+
+-- ---- where memory is asked for
+
+-- a shared index is wanted and given, and merged by the bitmaps of the link, as it has no link of its own
+pub record MergesByBitmaps (link : Option LinkValue) (shared : Option Contents) : Type 0 where
+  pub l : LinkValue
+  pub s : Contents
+  pub wanted : IsWanted link l
+  pub given : shared ≡ Some s
+  pub bitmaps : IsSome l.bitmaps
+  pub alone : s.extensions.link ≡ None
+
+-- entries are merged by bitmaps, or those of the file are sorted, as they aren't in order
+abbrev pub MergesOrSorts : Remains → Option Contents → Type 0
+MergesOrSorts r shared = MergesByBitmaps (option_map link_of r.link) shared ⊎ (IsOrdered (records r.front) → ⊥)
 
 -- ---- what is given
 

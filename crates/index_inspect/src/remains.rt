@@ -1,20 +1,17 @@
 //! What remains of an index file that may be damaged: the entries that can be read, and the link to a shared index.
 
-ghost use Rattle.std.specs.Prelude.{◌≡◌, ◌<◌, ◌∷◌, ◌++◌, [], ℕ, List, IfErr, IfOk, IfSome, IsOk, IsSomeAnd, OnOk, length, slice_index_or};
+ghost use Rattle.std.specs.Prelude.{◌≡◌, ℕ, IfErr, IfOk, IfSome, IsOk, IsSomeAnd, Some, length};
 ghost use Rattle.std.specs.Option.{option_map};
 ghost use Rattle.gix_index.specs.ExtensionValue.{IsValue};
 ghost use Rattle.gix_index.specs.Header.{header_of};
-ghost use Rattle.gix_index.specs.Kind.{Kind as KindType};
 ghost use Rattle.gix_index.specs.Link.{HasDelete, IsLink, link_of};
-ghost use Rattle.gix_index.specs.Record.{Record};
 ghost use Rattle.gix_index.specs.State.{contents, records};
 ghost use Rattle.index_map.specs.Piece.{LieBetween};
 ghost use Rattle.index_inspect.specs.Remains.{IsPlainIndex, Remain, SaysLost, has_link, is_link_content, is_link_fault, is_link_head, last_begin, last_link, link_content, wanted_id};
-ghost use Rattle.index_inspect.specs.SalvageSteps.{IsHeld, IsIndexOf};
+ghost use Rattle.index_inspect.specs.SalvageSteps.{IsIndexOf};
 ghost use Rattle.index_inspect.specs.declared.remains.Error.TheVariants.{Memory};
 
 use crate::division::{Division, divide_ending};
-use gix_index::decode::entry::EntrySlice;
 use gix_index::decode::header;
 use gix_index::entry::FileTime;
 use gix_index::extension::decode::Error as ExtensionError;
@@ -85,22 +82,6 @@ impl Remains {
         }
         Some(id)
     }
-}
-
-/// Puts an entry of a list behind those of a state.
-pub(crate) fn push_from(
-    state: &mut State,
-    entries: &EntrySlice<'_>,
-    place: usize,
-) -> Result<(), AllocError>
-    requires { place < length entries.now }
-    ensures { OnOk result ((kind : KindType) (rs : List Record) (d : Record)
-        → IsIndexOf kind rs state.old → IsHeld kind (slice_index_or entries.now place d)
-        → IsIndexOf kind (rs ++ slice_index_or entries.now place d ∷ []) state.new) }
-{
-    let entry = entries.entry(place);
-    let path = entries.path(place);
-    state.dangerously_push_entry(entry.stat, entry.id, entry.flags, entry.mode, path)
 }
 
 /// The index with the mark of a sparse one where an entry stands for a directory, and without it where none does.

@@ -1,25 +1,23 @@
 //! What can be saved of a damaged index file.
 
-ghost use Rattle.std.specs.Prelude.{◌≡◌, ◌<◌, ◌+◌, ◌↔◌, Bool, All, IfOk, IfSome, IsOk, IsTrue, OnOk, Some, false, length, take};
-ghost use Rattle.std.specs.List.Sorted.{IsStable};
+ghost use Rattle.std.specs.Prelude.{◌≡◌, ◌<◌, ◌≤◌, ◌+◌, ◌↔◌, All, Bool, List, IfErr, IfOk, IfSome, IsTrue, Some, false, length};
 ghost use Rattle.std.specs.Option.{option_map};
 ghost use Rattle.gix_index.specs.Id.{id_bytes, is_null};
-ghost use Rattle.gix_index.specs.Kind.{Kind as KindType};
 ghost use Rattle.gix_index.specs.Link.{link_of};
-ghost use Rattle.gix_index.specs.Order.{record_cmp};
+ghost use Rattle.gix_index.specs.Record.{IsPlaced, Record, records_in};
 ghost use Rattle.gix_index.specs.Sorted.{IsOrdered};
 ghost use Rattle.gix_index.specs.State.{contents, records};
 ghost use Rattle.index_inspect.specs.Laws.{AreWhole};
 ghost use Rattle.index_inspect.specs.Remains.{IsPlainIndex};
-ghost use Rattle.index_inspect.specs.Salvage.{CanBeShared, IsSavedOf, Saves};
-ghost use Rattle.index_inspect.specs.SalvageSteps.{Completes, IsAbove, IsHeld, IsIndexOf};
+ghost use Rattle.index_inspect.specs.Salvage.{CanBeShared, IsSavedOf, MergesByBitmaps, MergesOrSorts, Saves};
+ghost use Rattle.index_inspect.specs.SalvageSteps.{AreKept, Completes, IsAbove, IsIndexOf};
 
-use crate::remains::{FirstFault, Remains, marked, push_from};
-use gix_index::State;
+use crate::remains::{FirstFault, Remains, marked};
 use gix_index::decode::entry::EntrySlice;
-use gix_index::entry::FileTime;
 use gix_index::extension::{Link, link};
-use gix_index::hash::Kind;
+use gix_index::{Entry, State, Version};
+use index_format::Parts;
+use index_format::extension::Outcome;
 use std::alloc::{AllocError, Global};
 
 /// What became of the entries of a shared index.
@@ -65,14 +63,23 @@ struct Completed {
     shared: SharedEntries,
 }
 
-/// The entries of these indices merged by the link; or those of the first alone, where the two don't fit.
+/// The entries of these indices merged by the link; or those of the first alone, where the two don't fit. Memory is
+/// asked for where the link has bitmaps, and the shared index has no link of its own.
 fn joined(alloc: Global, link: Link, mut own: State, shared: State) -> Result<Completed, AllocError>
     requires named { is_null (id_bytes link.shared_index_checksum) ≡ false }
     requires plain { IsPlainIndex own }
     requires shared { CanBeShared own shared }
-    ensures { IfOk result (λ c. (found : Bool)
+    ensures completed { IfOk result (λ c. (found : Bool)
         → Completes (Some (link_of link)) found (Some (contents shared)) own c) }
+    ensures memory { IfErr result
+        (λ _. MergesByBitmaps (Some (link_of link)) (Some (contents shared))) }
 {
+    if shared.link().is_some() {
+        return Ok(Completed {
+            state: own,
+            shared: SharedEntries::Missing,
+        });
+    }
     match link.dissolve_into(alloc, &mut own, shared) {
         Ok(()) => Ok(Completed {
             state: own,
@@ -100,8 +107,10 @@ fn with_shared(
 ) -> Result<Completed, AllocError>
     requires plain { IsPlainIndex own }
     requires shared { IfSome shared (CanBeShared own) }
-    ensures { IfOk result
+    ensures completed { IfOk result
         (Completes (option_map link_of link) has_link (option_map contents shared) own) }
+    ensures memory { IfErr result
+        (λ _. MergesByBitmaps (option_map link_of link) (option_map contents shared)) }
 {
     let Some(link) = link else {
         let shared = if has_link {
@@ -126,59 +135,73 @@ fn with_shared(
     joined(alloc, link, own, shared)
 }
 
-/// An index in order by path and stage. Entries that agree in both keep their order.
-fn sorted(mut state: State) -> Result<State, AllocError>
-    requires { IsIndexOf (contents state).kind (records state) state }
-    ensures index { IfOk result (λ s. IsIndexOf (contents state).kind (records s) s) }
-    ensures ordered { IfOk result (λ s. IsOrdered (records s)) }
-    ensures stable { IfOk result (λ s. IsStable record_cmp (records state) (records s)) }
-{
-    state.sort_entries()?;
-    Ok(state)
-}
-
-/// Whether the entry at a place has a path, and stands above the one before it.
-fn is_above(entries: &EntrySlice<'_>, place: usize) -> bool
-    requires { place < length entries.now }
-    ensures { IsTrue result ↔ IsAbove entries.now place }
+/// Whether the entry at a place has a path, and stands above the last of the first ones, so many of which are kept.
+fn is_above(entries: &EntrySlice<'_>, kept: usize, place: usize) -> bool
+    requires within { kept ≤ place }
+    requires inside { place < length entries.now }
+    ensures { IsTrue result ↔ IsAbove entries.now kept place }
 {
     if entries.path(place).is_empty() {
         return false;
     }
-    if place == 0 {
+    if kept == 0 {
         return true;
     }
-    entries.compare(place - 1, place).is_lt()
+    entries.compare(kept - 1, place).is_lt()
 }
 
-/// Puts an entry of a list in order behind those of a state, if it is the first with its path and stage.
-fn push_first(state: &mut State, entries: &EntrySlice<'_>, place: usize) -> Result<(), AllocError>
-    requires inside { place < length entries.now }
-    requires ordered { IsOrdered entries.now }
-    ensures { OnOk result ((kind : KindType) → All (IsHeld kind) entries.now
-        → IsIndexOf kind (records state.old) state.old
-        → IsSavedOf (take place entries.now) (records state.old)
-        → IsIndexOf kind (records state.new) state.new
-        × IsSavedOf (take (place + 1) entries.now) (records state.new)) }
+/// Puts the entry at a place behind the first ones that are kept, if it has a path and stands above the last of them;
+/// and says how many are kept then. No entry behind the place moves.
+fn keep_at(entries: &mut Vec<Entry>, storage: &[u8], kept: usize, place: usize) -> usize
+    requires placed { All (IsPlaced (length storage.now)) entries.old.items }
+    requires within { kept ≤ place }
+    requires inside { place < length entries.old.items }
+    ensures placed { All (IsPlaced (length storage.now)) entries.new.items }
+    ensures kept { (rs : List Record) → IsOrdered rs
+        → AreKept rs place (records_in storage.now entries.old.items) kept
+        → AreKept rs (place + 1) (records_in storage.now entries.new.items) result }
 {
-    if is_above(entries, place) {
-        return push_from(state, entries, place);
+    if is_above(&EntrySlice::new(entries, storage), kept, place) {
+        entries.swap(kept, place);
+        return kept + 1;
     }
-    Ok(())
+    kept
 }
 
-/// An index of entries that are in order: without those that have no path, and of each path and stage the first.
-fn firsts(alloc: Global, kind: Kind, entries: &EntrySlice<'_>) -> Result<State, AllocError>
-    requires held { All (IsHeld kind) entries.now }
-    requires ordered { IsOrdered entries.now }
-    ensures saved { IfOk result (λ s. IsSavedOf entries.now (records s)) }
-    ensures index { IfOk result (λ s. IsIndexOf kind (records s) s) }
+/// Drops, of entries in order, those that have no path, and keeps of each path and stage the first.
+fn keep_firsts(entries: &mut Vec<Entry>, storage: &[u8])
+    requires placed { All (IsPlaced (length storage.now)) entries.old.items }
+    requires ordered { IsOrdered (records_in storage.now entries.old.items) }
+    ensures placed { All (IsPlaced (length storage.now)) entries.new.items }
+    ensures saved { IsSavedOf (records_in storage.now entries.old.items)
+        (records_in storage.now entries.new.items) }
 {
-    let mut state = State::new(alloc, kind, FileTime::EPOCH);
+    let mut kept = 0;
     for place in 0..entries.len() {
-        push_first(&mut state, entries, place)?;
+        kept = keep_at(entries, storage, kept, place);
     }
-    Ok(state)
+    entries.truncate(kept);
+}
+
+/// An index of what is saved of the entries of another, which are in order. They stay where they are in memory.
+fn firsts(state: State) -> State
+    requires index { IsIndexOf (contents state).kind (records state) state }
+    requires ordered { IsOrdered (records state) }
+    ensures saved { IsSavedOf (records state) (records result) }
+    ensures index { IsIndexOf (contents state).kind (records result) result }
+{
+    let object_hash = state.object_hash();
+    let timestamp = state.timestamp();
+    let (mut entries, path_backing) = state.into_entries();
+    keep_firsts(&mut entries, &path_backing);
+    State::from(Parts {
+        object_hash,
+        timestamp,
+        version: Version::V2,
+        entries,
+        path_backing,
+        extensions: Outcome::none(),
+    })
 }
 
 /// Whether each of these entries has a path, and stands above the one before it.
@@ -186,30 +209,26 @@ fn are_whole(entries: &EntrySlice<'_>) -> bool
     ensures { IsTrue result ↔ AreWhole entries.now }
 {
     for place in 0..entries.len() {
-        if !is_above(entries, place) {
+        if !is_above(entries, place, place) {
             return false;
         }
     }
     true
 }
 
-/// An index of what is saved of the entries of another: that one itself, where none is left out.
-fn saved(alloc: Global, state: State) -> Result<State, AllocError>
+/// An index of what is saved of the entries of another: that one itself, where none is left out. Memory is asked for
+/// where the entries aren't in order.
+fn saved(mut state: State) -> Result<State, AllocError>
     requires { IsIndexOf (contents state).kind (records state) state }
     ensures saved { IfOk result (λ s. IsSavedOf (records state) (records s)) }
     ensures index { IfOk result (λ s. IsIndexOf (contents state).kind (records s) s) }
-    ensures memory { AreWhole (records state) → IsOk result }
+    ensures memory { IfErr result (λ _. IsOrdered (records state) → ⊥) }
 {
     if are_whole(&EntrySlice::new(state.entries(), state.path_backing())) {
         return Ok(state);
     }
-    let kind = state.object_hash();
-    let all = sorted(state)?;
-    let entries = EntrySlice::new(all.entries(), all.path_backing());
-    if are_whole(&entries) {
-        return Ok(all);
-    }
-    firsts(alloc, kind, &entries)
+    state.sort_entries()?;
+    Ok(firsts(state))
 }
 
 impl Remains {
@@ -223,7 +242,8 @@ impl Remains {
     /// the mark of a sparse index is there where an entry stands for a directory (gitformat-index, "Sparse Directory
     /// Entries"). The state can be written, and read again: its smallest version has all paths.
     ///
-    /// An error is want of memory. Time goes with n log n for n entries.
+    /// An error is want of memory. Memory is asked for where entries are merged by the link's bitmaps, or the file's
+    /// own aren't in order and are sorted, and nowhere else. Time goes with n log n for n entries.
     pub fn save(self, alloc: Global, shared: Option<State>) -> Result<Salvaged, AllocError>
         requires plain { IsPlainIndex self.front }
         requires shared { IfSome shared (CanBeShared self.front) }
@@ -231,6 +251,7 @@ impl Remains {
         ensures kind { IfOk result
             (λ s. (contents s.state).kind ≡ (contents self.front).kind) }
         ensures plain { IfOk result (λ s. IsPlainIndex s.state) }
+        ensures memory { IfErr result (λ _. MergesOrSorts self (option_map contents shared)) }
     {
         let Remains {
             front,
@@ -241,7 +262,7 @@ impl Remains {
         } = self;
         let read = front.entries().len();
         let Completed { state, shared } = with_shared(alloc, link, has_link, front, shared)?;
-        let state = saved(alloc, state)?;
+        let state = saved(state)?;
         let state = marked(state);
         Ok(Salvaged {
             state,

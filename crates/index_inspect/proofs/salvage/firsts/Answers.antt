@@ -1,10 +1,25 @@
-use Rattle.index_inspect.proofs.Saved.{saved_new}
+use Rattle.std.proofs.Common.{◌≡◌, List, refl, sym, ap, subst, ◌∙◌}
+use Rattle.gix_index.specs.Contents.{PartsInStorage, parts_contents}
+use Rattle.gix_index.specs.Outcome.{outcome_of}
+use Rattle.gix_index.specs.Record.{Record, records_in}
+use Rattle.gix_index.specs.State.{contents, records}
+use Rattle.index_inspect.specs.Salvage.{IsSavedOf}
+use Rattle.index_inspect.proofs.Saved.{index_saved, plain_contents}
 use Rattle.index_inspect.proofs.salvage.firsts.Goals as goal
 
-pub loop-place-init : goal.loop-place-init
-loop-place-init c = saved_new c.args.kind _ c.new-state.result c.new-state.ensures.empty c.new-state.ensures.placed
-    c.new-state.ensures.storable
-
-pub loop-place-preserved : goal.loop-place-preserved
-loop-place-preserved c =
-    c.in_ok-push_first.ensures c.args.kind c.requires.held c.loop-place.invariant.0 c.loop-place.invariant.1
+pub returns-clause-index : goal.returns-clause-index
+returns-clause-index c =
+    let old = c.args.state in
+    let taken = c.into_entries-entries.ensures in
+    let storage = c.into_entries-entries.result.1.items in
+    let entries = c.keep_firsts.new.entries.items in
+    let same : records_in storage c.into_entries-entries.result.0.items ≡ records old =
+    rw (taken.entries, taken.storage) refl in
+    let left : IsSavedOf (records old) (records_in storage entries) =
+    subst (λ (l : List Record). IsSavedOf l (records_in storage entries)) same
+    (rw c.deref.ensures.value at c.keep_firsts.ensures.saved) in
+    index_saved old c.from.result c.requires.index (rw c.from.ensures left)
+    (plain_contents old (contents c.from.result) c.object_hash-object_hash.result c.timestamp-timestamp.result storage
+    entries (outcome_of c.none.result) (ap parts_contents c.from.ensures) c.object_hash-object_hash.ensures
+    c.timestamp-timestamp.ensures c.none.ensures ∙ rw c.from.ensures refl)
+    (subst PartsInStorage (sym c.from.ensures) (rw c.deref.ensures.value at c.keep_firsts.ensures.placed))

@@ -1,7 +1,10 @@
+use Rattle.std.proofs.Common.{subst}
+use Rattle.gix_index.specs.Kind.{Kind}
 use Rattle.gix_index.specs.State.{records}
 use Rattle.index_inspect.specs.Laws.{AreWhole}
+use Rattle.index_inspect.specs.SalvageSteps.{IsIndexOf}
 use Rattle.index_inspect.proofs.Sameness.{saved_itself}
-use Rattle.index_inspect.proofs.Saved.{if_ok}
+use Rattle.index_inspect.proofs.Saved.{index_itself, index_sorted, kind_is}
 use Rattle.index_inspect.proofs.Saving.{saved_sorted}
 use Rattle.index_inspect.proofs.salvage.saved.Goals as goal
 
@@ -12,15 +15,18 @@ returns-then-are_whole-clause-saved c =
     (c.are_whole.ensures.0 c.if-are_whole.true))) in
     saved_itself own whole.ordered whole.named
 
-pub returns-then-are_whole-2-clause-saved : goal.returns-then-are_whole-2-clause-saved
-returns-then-are_whole-2-clause-saved c =
-    let all = records c.in_ok-all.all in
-    let whole : AreWhole all = rw c.path_backing-2.ensures at (rw c.entries-2.ensures at (rw c.new-entries.ensures at
-    (c.are_whole-2.ensures.0 c.if-are_whole-2.true))) in
-    saved_sorted (records c.args.state) all all c.in_ok-all.ensures.stable (saved_itself all whole.ordered whole.named)
+pub firsts-requires-clause-index : goal.firsts-requires-clause-index
+firsts-requires-clause-index c =
+    let e = c.in_ok-sort_entries.ensures in
+    index_itself _ _ _ (index_sorted _ _ c.args.state c.sort_entries.new.self c.requires e.others e.placed e.storable)
 
 pub returns-clause-saved : goal.returns-clause-saved
-returns-clause-saved c =
-    if_ok c.firsts.result (λ s h.
-    saved_sorted (records c.args.state) (records c.in_ok-all.all) (records s) c.in_ok-all.ensures.stable
-    (rw c.path_backing-2.ensures at (rw c.entries-2.ensures at (rw c.new-entries.ensures at h)))) c.firsts.ensures.saved
+returns-clause-saved c = saved_sorted (records c.args.state) (records c.sort_entries.new.self) (records c.firsts.result)
+    c.in_ok-sort_entries.ensures.stable c.firsts.ensures.saved
+
+pub returns-clause-index : goal.returns-clause-index
+returns-clause-index c =
+    let e = c.in_ok-sort_entries.ensures in
+    let sorted = index_sorted _ _ c.args.state c.sort_entries.new.self c.requires e.others e.placed e.storable in
+    subst (λ (k : Kind). IsIndexOf k (records c.firsts.result) c.firsts.result) (kind_is _ _ _ sorted)
+    c.firsts.ensures.index

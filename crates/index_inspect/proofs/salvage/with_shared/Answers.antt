@@ -7,8 +7,8 @@ use Rattle.index_inspect.proofs.Saved.{if_ok}
 use Rattle.index_inspect.proofs.salvage.with_shared.Goals.{else-has_link, then-has_link}
 use Rattle.index_inspect.proofs.salvage.with_shared.Goals as goal
 
-pub returns-in_default : goal.returns-in_default
-returns-in_default c =
+pub returns-in_default-clause-completed : goal.returns-in_default-clause-completed
+returns-in_default-clause-completed c =
     let none = ap (option_map link_of) c.in_default.is in
     elim c.if-has_link.branch [
       | then-has_link w ↦
@@ -17,19 +17,22 @@ returns-in_default c =
           stays _ _ _ c.args.own _ c.requires.plain (unlinked none w.if-has_link.false refl w.shared-is)
     ]
 
-pub returns-then-is_null : goal.returns-then-is_null
-returns-then-is_null c =
+pub returns-then-is_null-clause-completed : goal.returns-then-is_null-clause-completed
+returns-then-is_null-clause-completed c =
     let is = unshared (link_of c.in-Some.link) (ap (option_map link_of) c.in-Some.is)
     (sym c.is_null.ensures ∙ c.if-is_null.true) refl refl in
     stays _ _ _ c.args.own _ c.requires.plain is
 
-pub returns-in_default-shared : goal.returns-in_default-shared
-returns-in_default-shared c =
+pub returns-in_default-shared-clause-completed : goal.returns-in_default-shared-clause-completed
+returns-in_default-shared-clause-completed c =
     let is = absent (link_of c.in-Some.link) (
       ap (option_map link_of) c.in-Some.is,
       sym c.is_null.ensures ∙ c.if-is_null.false,
     ) (ap (option_map contents) c.in_default-shared.is) refl refl in
     stays _ _ _ c.args.own _ c.requires.plain is
 
-pub returns : goal.returns
-returns c = rw (c.in-Some.is, c.in-Some-shared.is) (if_ok c.joined.result (λ x h. h c.args.has_link) c.joined.ensures)
+pub returns-clause-completed : goal.returns-clause-completed
+returns-clause-completed c = rw (c.in-Some.is, c.in-Some-shared.is) (if_ok c.joined.result (λ x h. h c.args.has_link) c.joined.ensures.completed)
+
+pub returns-clause-memory : goal.returns-clause-memory
+returns-clause-memory c = rw (c.in-Some.is, c.in-Some-shared.is) c.joined.ensures.memory
