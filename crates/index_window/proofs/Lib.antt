@@ -1,3 +1,4 @@
+mod Abridging
 mod Endings
 pub mod EntrySkips
 mod Fronts

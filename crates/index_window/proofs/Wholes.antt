@@ -23,8 +23,8 @@ use Rattle.index_format.specs.Answer.{IsAnswer, IsEnding, IsBehindHeader, has}
 use Rattle.index_format.specs.Contents.{parts_contents}
 use Rattle.index_format.proofs.Answers.{answer_from}
 use Rattle.index_window.specs.Behind.{FollowEntries}
-use Rattle.index_window.specs.Windowed.{Moment, IsReadOn}
-use Rattle.index_window.specs.declared.windows.Plan.{Plan}
+use Rattle.index_window.specs.Windowed.{Moment, IsPassedOn, IsReadOn}
+use Rattle.index_window.specs.declared.plan.Plan.{Plan}
 
 -- four bytes at a place stay where bytes come behind
 number_grows : (bytes more : List ℕ) (at : ℕ) → at + 4 ≤ length bytes
@@ -59,55 +59,55 @@ pub header_long : (kind : Kind) (bytes : List ℕ) (v : Version) → header_of k
 header_long kind bytes v h = ltb-false _ _ (guarded (ltb (length bytes) (12 + id_len kind)) _ _ v h)
 
 module _ (plan : Plan) (a b : Moment) (n : ℕ) (tail more : List ℕ) where
-  parts_of : (r : IsReadOn plan a b n) → tail ≡ b.window ++ more → r.taken ++ tail ≡ a.window ++ (r.more ++ more)
-  parts_of r tail-is = ap (λ (l : List ℕ). r.taken ++ l) tail-is ∙ sym (append_assoc r.taken b.window more)
-      ∙ ap (λ (l : List ℕ). l ++ more) (sym r.bytes) ∙ append_assoc a.window r.more more
+  parts_of : (r : IsReadOn plan a b n) → tail ≡ b.window ++ more → r.moved.taken ++ tail ≡ a.window ++ (r.moved.more ++ more)
+  parts_of r tail-is = ap (λ (l : List ℕ). r.moved.taken ++ l) tail-is ∙ sym (append_assoc r.moved.taken b.window more)
+      ∙ ap (λ (l : List ℕ). l ++ more) (sym r.moved.bytes) ∙ append_assoc a.window r.moved.more more
 
   -- the bytes are those that a reader with known bytes had left
   pub whole_of_windows : (all end : Option (List ℕ)) → (r : IsReadOn plan a b n) → tail ≡ b.window ++ more
       → Consumes all a.left a.window → Consumes b.left end more → IsAtEnd end
-      → IfSome all (λ left. r.taken ++ tail ≡ left)
+      → IfSome all (λ left. r.moved.taken ++ tail ≡ left)
   whole_of_windows all end r tail-is front rest at-end =
-      let parts : r.taken ++ tail ≡ a.window ++ (r.more ++ more) = parts_of r tail-is in
-      Consumes-whole all end (a.window ++ (r.more ++ more)) (λ left. r.taken ++ tail ≡ left)
-      (Consumes-trans all a.left end a.window (r.more ++ more) front
-      (Consumes-trans a.left b.left end r.more more r.consumed rest)) at-end parts
+      let parts : r.moved.taken ++ tail ≡ a.window ++ (r.moved.more ++ more) = parts_of r tail-is in
+      Consumes-whole all end (a.window ++ (r.moved.more ++ more)) (λ left. r.moved.taken ++ tail ≡ left)
+      (Consumes-trans all a.left end a.window (r.moved.more ++ more) front
+      (Consumes-trans a.left b.left end r.moved.more more r.moved.consumed rest)) at-end parts
 
   -- the header of all bytes is that of the first window
   header_of_windows : header_of plan.kind a.window ≡ Ok plan.version → (r : IsReadOn plan a b n)
-      → tail ≡ b.window ++ more → header_of plan.kind (r.taken ++ tail) ≡ Ok plan.version
+      → tail ≡ b.window ++ more → header_of plan.kind (r.moved.taken ++ tail) ≡ Ok plan.version
   header_of_windows header r tail-is =
       ap (header_of plan.kind) (parts_of r tail-is)
-      ∙ header_grows plan.kind a.window (r.more ++ more) (header_long plan.kind a.window plan.version header) ∙ header
+      ∙ header_grows plan.kind a.window (r.moved.more ++ more) (header_long plan.kind a.window plan.version header) ∙ header
 
   -- so is the count
   count_of_windows : header_of plan.kind a.window ≡ Ok plan.version → plan.count ≡ count_of a.window
-      → (r : IsReadOn plan a b n) → tail ≡ b.window ++ more → count_of (r.taken ++ tail) ≡ plan.count
+      → (r : IsReadOn plan a b n) → tail ≡ b.window ++ more → count_of (r.moved.taken ++ tail) ≡ plan.count
   count_of_windows header counted r tail-is =
       let long = header_long plan.kind a.window plan.version header in
-      ap count_of (parts_of r tail-is) ∙ rw (number_grows a.window (r.more ++ more) 8 (omega arith)) refl ∙ sym counted
+      ap count_of (parts_of r tail-is) ∙ rw (number_grows a.window (r.moved.more ++ more) 8 (omega arith)) refl ∙ sym counted
 
   -- the entries stand behind it
   entries_of_windows : header_of plan.kind a.window ≡ Ok plan.version → a.decoded ≡ 12 → a.records ≡ []
       → (r : IsReadOn plan a b n) → tail ≡ b.window ++ more
-      → AreEntries plan.version plan.kind None (drop 12 (r.taken ++ tail)) b.records (drop b.decoded tail)
+      → AreEntries plan.version plan.kind None (drop 12 (r.moved.taken ++ tail)) b.records (drop b.decoded tail)
   entries_of_windows header at none r tail-is =
       let first : List ℕ = a.window in
       let long = header_long plan.kind first plan.version header in
-      let body : drop 12 (r.taken ++ tail) ≡ (drop 12 first ++ r.more) ++ more = ap (drop 12) (parts_of r tail-is)
-      ∙ drop-append-le 12 first (r.more ++ more) (omega arith) ∙ sym (append_assoc (drop 12 first) r.more more) in
+      let body : drop 12 (r.moved.taken ++ tail) ≡ (drop 12 first ++ r.moved.more) ++ more = ap (drop 12) (parts_of r tail-is)
+      ∙ drop-append-le 12 first (r.moved.more ++ more) (omega arith) ∙ sym (append_assoc (drop 12 first) r.moved.more more) in
       let rest : drop b.decoded tail ≡ drop b.decoded b.window ++ more =
-      ap (drop b.decoded) tail-is ∙ drop-append-le b.decoded b.window more r.inside in
+      ap (drop b.decoded) tail-is ∙ drop-append-le b.decoded b.window more r.moved.inside in
       let start : AreEntries plan.version plan.kind None (drop 12 first) a.records (drop a.decoded first) =
       rw (none, at) refl in
-      rw (body, rest) (entries_grow plan.version plan.kind None (drop 12 first ++ r.more) b.records
+      rw (body, rest) (entries_grow plan.version plan.kind None (drop 12 first ++ r.moved.more) b.records
       (drop b.decoded b.window) more (r.read (drop 12 first) start))
 
   -- what follows them
   pub ending_of_windows : header_of plan.kind a.window ≡ Ok plan.version → plan.count ≡ count_of a.window
       → a.decoded ≡ 12 → a.records ≡ [] → length b.records ≡ plan.count
       → (r : IsReadOn plan a b n) → tail ≡ b.window ++ more
-      → FollowEntries plan.kind (r.taken ++ tail) (drop b.decoded tail)
+      → FollowEntries plan.kind (r.moved.taken ++ tail) (drop b.decoded tail)
   ending_of_windows header counted at none all-read r tail-is = record {
     version = plan.version;
     header = header_of_windows header r tail-is;
@@ -124,19 +124,19 @@ module _ (plan : Plan) (a b : Moment) (n : ℕ) (tail more : List ℕ) where
       → is_too_large options.alloc_limit_bytes plan.count len offset plan.kind plan.version ≡ false
       → a.decoded ≡ 12 → a.records ≡ [] → length b.records ≡ plan.count
       → (r : IsReadOn plan a b n) → tail ≡ b.window ++ more → length a.window + n + length more ≡ len
-      → IsMarker plan.kind (r.taken ++ tail) offset
+      → IsMarker plan.kind (r.moved.taken ++ tail) offset
       → IsEnding plan.kind time options plan.version b.records (drop b.decoded tail)
       (Ok (parts_contents x.0, x.1))
-      → IsAnswer plan.kind time options (r.taken ++ tail) (Ok (parts_contents x.0, x.1))
+      → IsAnswer plan.kind time options (r.moved.taken ++ tail) (Ok (parts_contents x.0, x.1))
   answer_of_windows time options offset len x header counted few small at none all-read r tail-is len-is marker ending =
-      let bytes : List ℕ = r.taken ++ tail in
+      let bytes : List ℕ = r.moved.taken ++ tail in
       let size : length bytes ≡ len =
       omega (
         arith,
         ap length (parts_of r tail-is),
-        length-append a.window (r.more ++ more),
-        length-append r.more more,
-        r.len,
+        length-append a.window (r.moved.more ++ more),
+        length-append r.moved.more more,
+        r.moved.len,
         len-is,
       ) in
       let total : count_of bytes ≡ plan.count = count_of_windows header counted r tail-is in
@@ -146,17 +146,30 @@ module _ (plan : Plan) (a b : Moment) (n : ℕ) (tail more : List ℕ) where
       answer_from plan.kind time options bytes plan.version offset (Ok x)
       (header_of_windows header r tail-is) marker (rw (size, total) few) (rw (size, total) small) is-behind
 
+-- the same where extensions were passed behind the entries
+module _ (plan : Plan) (b c : Moment) (n : ℕ) (passed tail more : List ℕ) (p : IsPassedOn plan b c n passed)
+    (tail-is : tail ≡ c.window ++ more) where
+  pub bytes_of_passed : b.window ++ (p.moved.more ++ more) ≡ p.moved.taken ++ tail
+  bytes_of_passed = sym (append_assoc b.window p.moved.more more) ∙ ap (λ (l : List ℕ). l ++ more) p.moved.bytes
+      ∙ append_assoc p.moved.taken c.window more ∙ ap (λ (l : List ℕ). p.moved.taken ++ l) (sym tail-is)
+
+  pub behind_passed : b.decoded ≤ length b.window
+      → drop b.decoded (b.window ++ (p.moved.more ++ more)) ≡ passed ++ drop c.decoded tail
+  behind_passed inside =
+      let rest : drop c.decoded tail ≡ drop c.decoded c.window ++ more =
+      ap (drop c.decoded) tail-is ∙ drop-append-le c.decoded c.window more p.moved.inside in
+      drop-append-le b.decoded b.window (p.moved.more ++ more) inside
+      ∙ sym (append_assoc (drop b.decoded b.window) p.moved.more more)
+      ∙ ap (λ (l : List ℕ). l ++ more) p.behind ∙ append_assoc passed (drop c.decoded c.window) more
+      ∙ ap (λ (l : List ℕ). passed ++ l) (sym rest)
+
 -- ---- what is said of a value, if there is one
 
 pub some_then : {A : Type 0} (o : Option A) (P Q : A → Type 0) → ((x : A) → P x → Q x) → IfSome o P → IfSome o Q
 some_then None P Q f h = tt
 some_then (Some x) P Q f h = f x h
 
-pub some_both : {A : Type 0} (o : Option A) (P Q : A → Type 0) → IfSome o P → IfSome o Q → IfSome o (λ x. P x × Q x)
-some_both None P Q p q = tt
-some_both (Some x) P Q p q = (p, q)
-
-pub some_with : {A : Type 0} (o : Option A) (P Q R S T : A → Type 0) → ((x : A) → P x → Q x → R x → S x → T x)
-    → IfSome o P → IfSome o Q → IfSome o R → IfSome o S → IfSome o T
-some_with None P Q R S T f p q r s = tt
-some_with (Some x) P Q R S T f p q r s = f x p q r s
+pub some_two : {A : Type 0} (o : Option A) (P Q R : A → Type 0) → IfSome o P → IfSome o Q → ((x : A) → P x → Q x → R x)
+    → IfSome o R
+some_two None P Q R p q f = tt
+some_two (Some x) P Q R p q f = f x p q

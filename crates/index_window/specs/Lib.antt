@@ -1,3 +1,4 @@
+pub mod Abridged
 pub mod Behind
 pub mod Intact
 pub mod Passed

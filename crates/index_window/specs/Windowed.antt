@@ -5,7 +5,7 @@ use Rattle.index_parts.specs.Digest.{hasher_kind, Holds}
 use Rattle.index_parts.specs.declared.hash.Hasher.{Hasher}
 use Rattle.index_entries.specs.Entries.{AreEntries}
 use Rattle.index_entries.specs.Record.{Record, AreBytes}
-use Rattle.index_window.specs.declared.windows.Plan.{Plan}
+use Rattle.index_window.specs.declared.plan.Plan.{Plan}
 
 -- where the reading of a file stands: what is left to read, where it is known; the hasher; the bytes at hand; how many
 -- of them were decoded; and the records so far
@@ -16,9 +16,8 @@ pub record Moment : Type 0 where
   pub decoded : ℕ
   pub records : List Record
 
--- So many bytes more came to hand. Those that left the window were hashed, if they are to be. What was decoded, up to a
--- place in the window, was and is the front of whatever bytes end with the window.
-pub record IsReadOn (plan : Plan) (old new : Moment) (count : ℕ) : Type 0 where
+-- So many bytes more came to hand. Those that left the window were hashed, if they are to be.
+pub record IsMovedOn (plan : Plan) (old new : Moment) (count : ℕ) : Type 0 where
   pub more : List ℕ
   pub taken : List ℕ
   pub bytes : old.window ++ more ≡ taken ++ new.window
@@ -28,6 +27,15 @@ pub record IsReadOn (plan : Plan) (old new : Moment) (count : ℕ) : Type 0 wher
   pub kind_stays : hasher_kind new.hasher ≡ hasher_kind old.hasher
   pub hashed : plan.is_hashed ≡ true → (message : List ℕ) → Holds old.hasher message
       → Holds new.hasher (message ++ taken)
-  pub read : (all : List ℕ) → AreEntries plan.version plan.kind None all old.records (drop old.decoded old.window)
-      → AreEntries plan.version plan.kind None (all ++ more) new.records (drop new.decoded new.window)
   pub inside : new.decoded ≤ length new.window
+
+-- What was decoded, up to a place in the window, was and is the front of whatever bytes end with the window.
+pub record IsReadOn (plan : Plan) (old new : Moment) (count : ℕ) : Type 0 where
+  pub moved : IsMovedOn plan old new count
+  pub read : (all : List ℕ) → AreEntries plan.version plan.kind None all old.records (drop old.decoded old.window)
+      → AreEntries plan.version plan.kind None (all ++ moved.more) new.records (drop new.decoded new.window)
+
+-- These bytes were passed, from one place to a later one.
+pub record IsPassedOn (plan : Plan) (old new : Moment) (count : ℕ) (passed : List ℕ) : Type 0 where
+  pub moved : IsMovedOn plan old new count
+  pub behind : drop old.decoded old.window ++ moved.more ≡ passed ++ drop new.decoded new.window

@@ -10,7 +10,8 @@ ghost use Rattle.index_window.specs.Behind.{FollowEntries};
 ghost use Rattle.index_window.specs.Intact.{IsIntact};
 
 use crate::ReadOptions;
-use crate::windows::{KEPT_LEN, WindowedIndex, lacks_marker, offset_in, windowed};
+use crate::plan::KEPT_LEN;
+use crate::windows::{WindowedIndex, lacks_marker, offset_in, windowed};
 use index_folder::folder::Source;
 use index_folder::pieces::fill;
 use index_folder::whole::{MAX_LEN, too_long};
@@ -45,11 +46,12 @@ fn ends_in_null(kind: Kind, end: &[u8]) -> bool {
 
 /// Reads a plain file in windows, and gives the index in it. It is None of a small file, of what is no plain file, as a
 /// pipe, and where the index isn't sound, or changes meanwhile: then a plain file stands at its start again, and has to
-/// be read whole.
+/// be read whole. Where not all bytes behind the entries are wanted, extensions that aren't known are left out of them.
 pub fn in_windows<S: Source>(
     alloc: Global,
     file: &mut S,
     reading: ReadOptions,
+    keeps_ending: bool,
 ) -> io::Result<Option<WindowedIndex>>
     requires { S.remaining file.old ≡ whole_of (S.stored file.old) }
     ensures read { IfOk result (λ o. IfSome o (λ x. (bytes : List ℕ)
@@ -57,7 +59,7 @@ pub fn in_windows<S: Source>(
         × IsIntact reading.skip_hash reading.object_hash bytes
         × IsAnswer reading.object_hash reading.timestamp reading.options bytes
         (Ok (parts_contents x.parts, x.checksum))
-        × FollowEntries reading.object_hash bytes x.ending.items)) }
+        × (keeps_ending ≡ true → FollowEntries reading.object_hash bytes x.ending.items))) }
     ensures back { IfOk result
         (λ o. IfNone o (S.remaining file.new ≡ whole_of (S.stored file.new))) }
     ensures stored { S.stored file.new ≡ S.stored file.old }
@@ -82,7 +84,7 @@ pub fn in_windows<S: Source>(
     // (whether a marker that stands there fits is seen once the entries are read)
     let offset = (!lacks_marker(&end)).then(|| offset_in(&end));
     let is_hashed = !reading.skip_hash && !ends_in_null(reading.object_hash, &end);
-    if let Ok(Some(read)) = windowed(alloc, file, len, is_hashed, offset, reading) {
+    if let Ok(Some(read)) = windowed(alloc, file, len, is_hashed, offset, reading, keeps_ending) {
         return Ok(Some(read));
     }
     file.go_to(0)?;

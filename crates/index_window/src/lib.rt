@@ -7,8 +7,10 @@ use index_metadata::entry::FileTime;
 use index_parts::hash::Kind;
 
 pub mod disk;
+mod extensions;
 pub mod large;
 pub mod passed;
+mod plan;
 pub mod windows;
 
 /// How an index file is read.

@@ -15,6 +15,8 @@ ghost use Rattle.index_window.specs.Intact.{IsIntact};
 ghost use Rattle.index_window.specs.Windowed.{IsReadOn};
 
 use crate::ReadOptions;
+use crate::extensions::{Place, joined, pass_extensions, read_rest};
+use crate::plan::{KEPT_LEN, Plan, WINDOW_LEN, hash_piece};
 use index_entries::Version;
 use index_entries::list::EntryList;
 use index_entries::sizes::HEADER_LEN;
@@ -30,12 +32,6 @@ use index_reading::trailer;
 use std::alloc::{AllocError, Global};
 use std::io;
 
-/// How many bytes are read at once.
-const WINDOW_LEN: usize = 262_144;
-
-/// So many of the bytes that were decoded stay in the window: an end marker and the trailer have room there.
-pub const KEPT_LEN: usize = 52;
-
 /// An index that was read in windows.
 #[derive(Drop)]
 pub struct WindowedIndex {
@@ -43,33 +39,9 @@ pub struct WindowedIndex {
     pub parts: Parts,
     /// The trailer's id, or None where it is null.
     pub checksum: Option<ObjectId>,
-    /// The bytes behind the entries: the extensions and the trailer.
+    /// The bytes behind the entries: the extensions and the trailer. Extensions that aren't known are left out where
+    /// that was allowed.
     pub ending: Vec<u8>,
-}
-
-/// What is read, and whether it is hashed.
-#[derive(Clone, Copy)]
-struct Plan {
-    version: Version,
-    kind: Kind,
-    count: u32,
-    is_hashed: bool,
-    /// How many bytes the file has.
-    len: usize,
-    /// Where the extensions begin, if an end marker says so.
-    offset: Option<usize>,
-}
-
-/// Hashes these bytes, if they are to be hashed.
-fn hash_piece(plan: Plan, hasher: &mut Hasher, bytes: &[u8])
-    ensures kind { hasher_kind hasher.new ≡ hasher_kind hasher.old }
-    ensures more { plan.is_hashed ≡ true → (message : List ℕ) → Holds hasher.old message
-        → Holds hasher.new (message ++ bytes.now) }
-    ensures are_bytes { AreBytes bytes.now }
-{
-    if plan.is_hashed {
-        hasher.update(bytes);
-    }
 }
 
 /// Decodes the entries that stand whole in the window from a place on, and hashes and takes away most of what was
@@ -225,44 +197,42 @@ fn is_intact(plan: Plan, mut hasher: Hasher, tail: &[u8], skip_hash: bool) -> bo
     plan.is_hashed && hasher.finalize() == expected
 }
 
-/// The index of entries that were read, and of what follows them in the window from a place on. None unless all is
-/// sound, and the end marker is that of the plan. The hasher took in all bytes before the window, if they were to be
-/// hashed.
+/// Whether the end marker is that of the plan, and the digest the trailer's. The hasher took in all bytes before the
+/// tail, if they were to be hashed.
+fn is_sound(plan: Plan, hasher: Hasher, tail: &[u8], skip_hash: bool) -> bool
+    ensures intact { result ≡ true → hasher_kind hasher ≡ plan.kind → (message : List ℕ)
+        → (plan.is_hashed ≡ true → Holds hasher message)
+        → IsIntact skip_hash plan.kind (message ++ tail.now) }
+    ensures marker { result ≡ true → (before : List ℕ)
+        → length before + length tail.now ≡ plan.len
+        → IsMarker plan.kind (before ++ tail.now) plan.offset }
+    ensures are_bytes { AreBytes tail.now }
+{
+    is_marked(plan, tail) && is_intact(plan, hasher, tail, skip_hash)
+}
+
+/// The index of entries that were read, and of what is held of the bytes behind them. None unless all is sound.
 fn ending_of(
     alloc: Global,
     plan: Plan,
     first: FirstEntries,
-    hasher: Hasher,
-    mut window: Vec<u8>,
-    start: usize,
+    ending: Vec<u8>,
     reading: ReadOptions,
 ) -> Option<WindowedIndex>
     requires ids { All (λ r. id_kind r.id ≡ plan.kind) first.list.records }
     requires sparse { first.sparse ≡ has_directory first.list.records }
-    requires start { start ≤ vec_len window }
     ensures ending { IfSome result (λ x. IsEnding plan.kind reading.timestamp reading.options
-        plan.version first.list.records (drop start window.items)
-        (Ok (parts_contents x.parts, x.checksum))) }
-    ensures intact { IfSome result (λ _. hasher_kind hasher ≡ plan.kind → (message : List ℕ)
-        → (plan.is_hashed ≡ true → Holds hasher message)
-        → IsIntact reading.skip_hash plan.kind (message ++ window.items)) }
-    ensures marker { IfSome result (λ _. (before : List ℕ)
-        → length before + length window.items ≡ plan.len
-        → IsMarker plan.kind (before ++ window.items) plan.offset) }
-    ensures are_bytes { IfSome result (λ _. AreBytes window.items) }
-    ensures behind { IfSome result (λ x. x.ending.items ≡ drop start window.items) }
+        plan.version first.list.records ending.items (Ok (parts_contents x.parts, x.checksum))) }
+    ensures behind { IfSome result (λ x. x.ending.items ≡ ending.items) }
     ensures placed { IfSome result (λ x. PartsInStorage x.parts) }
     ensures ids { IfSome result (λ x. IdsAreOf plan.kind (parts_entries x.parts)) }
     ensures extension_ids { IfSome result
         (λ x. ExtensionIdsAreOf plan.kind (parts_contents x.parts).extensions) }
 {
-    if !is_marked(plan, &window) || !is_intact(plan, hasher, &window, reading.skip_hash) {
-        return None;
-    }
     let read = ReadEntries {
         list: first.list,
         sparse: first.sparse,
-        rest: &window[start..],
+        rest: &ending,
     };
     let read_as = ReadAs {
         timestamp: reading.timestamp,
@@ -271,14 +241,11 @@ fn ending_of(
         options: reading.options,
     };
     match read_ending(alloc, read, read_as) {
-        Ok((parts, checksum)) => {
-            remove_front(&mut window, start);
-            Some(WindowedIndex {
-                parts,
-                checksum,
-                ending: window,
-            })
-        }
+        Ok((parts, checksum)) => Some(WindowedIndex {
+            parts,
+            checksum,
+            ending,
+        }),
         Err(_) => None,
     }
 }
@@ -303,13 +270,14 @@ pub fn windowed<S: Source>(
     is_hashed: bool,
     offset: Option<usize>,
     reading: ReadOptions,
+    keeps_ending: bool,
 ) -> io::Result<Option<WindowedIndex>>
     ensures read { IfOk result (λ o. IfSome o (λ x. (bytes : List ℕ)
         × IfSome (S.remaining file.old) (λ left. bytes ≡ left) × AreBytes bytes
         × IsIntact reading.skip_hash reading.object_hash bytes
         × IsAnswer reading.object_hash reading.timestamp reading.options bytes
         (Ok (parts_contents x.parts, x.checksum))
-        × FollowEntries reading.object_hash bytes x.ending.items)) }
+        × (keeps_ending ≡ true → FollowEntries reading.object_hash bytes x.ending.items))) }
     ensures placed { IfOk result (λ o. IfSome o (λ x. PartsInStorage x.parts)) }
     ensures ids { IfOk result
         (λ o. IfSome o (λ x. IdsAreOf reading.object_hash (parts_entries x.parts))) }
@@ -336,6 +304,7 @@ pub fn windowed<S: Source>(
         is_hashed,
         len: len as usize,
         offset,
+        keeps_ending,
     };
     let mut hasher = Hasher::new(kind);
     let mut first = room_for(alloc, declared)?;
@@ -343,10 +312,17 @@ pub fn windowed<S: Source>(
     else {
         return Ok(None);
     };
-    window.reserve(left.saturating_add(1) as usize)?;
-    let more = fill(file, &mut window, usize::MAX)?;
-    if more as u64 != left {
+    let mut held = Vec::new(alloc);
+    let place = Place { start, left };
+    let Some(place) = pass_extensions(file, plan, &mut hasher, &mut window, &mut held, place)?
+    else {
+        return Ok(None);
+    };
+    if !read_rest(file, &mut window, &held, place.left)?
+        || !is_sound(plan, hasher, &window, reading.skip_hash)
+    {
         return Ok(None);
     }
-    Ok(ending_of(alloc, plan, first, hasher, window, start, reading))
+    let ending = joined(held, window, place.start)?;
+    Ok(ending_of(alloc, plan, first, ending, reading))
 }

@@ -72,7 +72,7 @@ fn read_file<S: Source>(
         (known_of (S.stored file)) reading.skip_hash reading.object_hash reading.timestamp
         reading.options) }
 {
-    match in_windows(alloc, &mut file, reading) {
+    match in_windows(alloc, &mut file, reading, false) {
         Ok(Some(read)) => {
             return Ok(File {
                 state: State::from(read.parts),

@@ -108,7 +108,7 @@ fn read_alone<S: Source>(
         (known_of (S.stored file)) reading.skip_hash reading.object_hash reading.timestamp
         reading.options) }
 {
-    match in_windows(alloc, &mut file, reading) {
+    match in_windows(alloc, &mut file, reading, true) {
         Ok(Some(read)) => {
             return Ok(Unfollowed {
                 index: File {

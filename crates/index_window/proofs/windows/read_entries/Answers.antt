@@ -39,7 +39,7 @@ windows-preserved g c =
     ) in
     let came = on_fill c.args.plan (g.S.Source.remaining c.windows.file)
     (g.S.Source.remaining c.fill.new.file) c.take_entries.new.hasher old new more c.in_ok-start.start
-    c.take_entries.new.first.list.records took.inside grown c.in_ok-came.ensures.consumes in
+    c.take_entries.new.first.list.records took.moved.inside grown c.in_ok-came.ensures.consumes in
     record {
       ids = c.in_ok-start.ensures.ids;
       stored = c.in_ok-came.ensures.stored ∙ c.windows.invariant.stored;

@@ -1,15 +1,24 @@
-use Rattle.std.proofs.Common.{rules, ◌≡◌, ◌≤◌, ◌<◌, ◌+◌, ◌++◌, ℕ, List, [], length, drop, refl, ap, ◌∙◌, arith}
-use Rattle.std.proofs.Common.{length-drop, length-append}
+use Rattle.std.proofs.Common.{rules, ◌≡◌, ◌≤◌, ◌<◌, ◌+◌, ◌++◌, ℕ, List, [], length, drop, true, refl, sym, ap, subst, ◌∙◌}
+use Rattle.std.proofs.Common.{append_assoc, arith, length-drop, length-append}
 use Rattle.std.specs.Prelude.{Ok}
 use Rattle.std.specs.Io.KnownBytes.{Consumes}
-use Rattle.std.proofs.KnownBytes.{starts_with_rest}
+use Rattle.std.proofs.KnownBytes.{Consumes-trans}
 use Rattle.std.proofs.lemmas.List.Elements.{All-append}
+use Rattle.index_parts.specs.Id.{id_len}
+use Rattle.index_entries.specs.Record.{AreBytes}
+use Rattle.index_extensions.specs.EndMarker.{IsMarker}
 use Rattle.index_entries.specs.Header.{header_of, count_of}
+use Rattle.index_format.specs.Answer.{IsEnding}
+use Rattle.index_format.specs.Contents.{parts_contents}
 use Rattle.index_format.proofs.ReadValues.{says_storable}
-use Rattle.index_window.specs.Windowed.{Moment, IsReadOn}
-use Rattle.index_window.specs.declared.windows.Plan.{Plan}
-use Rattle.index_window.proofs.Wholes.{answer_of_windows, ending_of_windows, some_both, some_then, some_with}
-use Rattle.index_window.proofs.Wholes.{whole_of_windows}
+use Rattle.index_window.specs.Abridged.{IsAbridgedOn}
+use Rattle.index_window.specs.Behind.{FollowEntries}
+use Rattle.index_window.specs.Intact.{IsIntact}
+use Rattle.index_window.specs.Windowed.{Moment, IsMovedOn, IsReadOn}
+use Rattle.index_window.specs.declared.plan.Plan.{Plan}
+use Rattle.index_window.proofs.Abridging.{ending_whole}
+use Rattle.index_window.proofs.Wholes.{answer_of_windows, ending_of_windows, some_then, some_two}
+use Rattle.index_window.proofs.Wholes.{behind_passed, bytes_of_passed, whole_of_windows}
 use Rattle.index_window.proofs.windows.windowed.Goals as goal
 
 pub returns-clause-read : goal.returns-clause-read
@@ -24,14 +33,21 @@ returns-clause-read g c =
       is_hashed = c.args.is_hashed;
       len = c.args.len;
       offset = c.args.offset;
+      keeps_ending = c.args.keeps_ending;
     } in
     let first = c.fill.new.bytes.items in
     let w1 = c.read_entries.new.window.items in
-    let tail = c.fill-2.new.bytes.items in
-    let more : List ℕ = drop (length w1) tail in
+    let w2 = c.pass_extensions.new.window.items in
+    let tail = c.read_rest.new.window.items in
     let start = c.in-Some-2.start in
+    let at = c.in-Some-3.place.start in
+    let records = c.read_entries.new.first.list.records in
     let r = rw c.in-Some-2.is at c.in_ok-start.ensures.read in
     let whole = rw c.in-Some-2.is at c.in_ok-start.ensures.whole in
+    let s = rw c.in-Some-3.is at c.in_ok-place.ensures.abridged in
+    let trailer = rw c.in-Some-3.is at c.in_ok-place.ensures.trailer in
+    let all-held : c.in_ok-read_rest.field-0 ≡ true = search rules in
+    let t = c.in_ok-read_rest.ensures.rest all-held in
     let a : Moment = record {
       left = g.S.Source.remaining c.fill.new.file;
       hasher = c.new-hasher.result;
@@ -44,12 +60,37 @@ returns-clause-read g c =
       hasher = c.read_entries.new.hasher;
       window = w1;
       decoded = start;
-      records = c.read_entries.new.first.list.records;
+      records = records;
     } in
-    let grown : tail ≡ w1 ++ more =
-    starts_with_rest tail w1 (rw c.in_ok-reserve.ensures.items at c.in_ok-more.ensures.appends) in
-    let rest : Consumes b.left (g.S.Source.remaining c.fill-2.new.file) more =
-    rw c.in_ok-reserve.ensures.items at c.in_ok-more.ensures.consumes in
+    let entries : Moment = record {
+      left = g.S.Source.remaining c.read_entries.new.file;
+      hasher = c.read_entries.new.hasher;
+      window = w1;
+      decoded = start;
+      records = [];
+    } in
+    let passed : Moment = record {
+      left = g.S.Source.remaining c.pass_extensions.new.file;
+      hasher = c.pass_extensions.new.hasher;
+      window = w2;
+      decoded = at;
+      records = [];
+    } in
+    let end = g.S.Source.remaining c.read_rest.new.file in
+    let h : IsAbridgedOn plan entries passed s.0 c.pass_extensions.new.held.items = s.2 in
+    let p : IsMovedOn plan entries passed s.0 = h.is_passed.moved in
+    let step : IsReadOn plan a b r.0 = r.2 in
+    let rest : List ℕ = t.0 in
+    let more : List ℕ = p.more ++ rest in
+    let all : List ℕ = w1 ++ more in
+    let same : all ≡ p.taken ++ tail = bytes_of_passed plan entries passed s.0 h.passed tail rest h.is_passed t.1 in
+    let behind : drop start all ≡ h.passed ++ drop at tail =
+    behind_passed plan entries passed s.0 h.passed tail rest h.is_passed t.1 step.moved.inside in
+    let hashed : List ℕ = step.moved.taken ++ p.taken in
+    let lent = c.deref-else-not-branch.result.now in
+    let value : lent ≡ tail = c.deref-else-not-branch.ensures.value in
+    let bytes : hashed ++ lent ≡ step.moved.taken ++ all = ap (λ (l : List ℕ). hashed ++ l) value
+    ∙ append_assoc step.moved.taken p.taken tail ∙ ap (λ (l : List ℕ). step.moved.taken ++ l) (sym same) in
     let front : Consumes (g.S.Source.remaining c.args.file.now) a.left first =
     rw c.in_ok-window.ensures.items at c.in_ok-came.ensures.consumes in
     let got : length first ≡ c.in_ok-came.came = omega (
@@ -59,46 +100,64 @@ returns-clause-read g c =
       c.in_ok-window.window.ok.0,
       ap length c.in_ok-window.ensures.items,
     ) in
-    let came : length more ≡ c.in_ok-more.more =
-    omega (
-      arith,
-      length-drop (length w1) tail,
-      c.in_ok-more.ensures.len,
-      c.fill-2.new.bytes.ok.0,
-      c.read_entries.new.window.ok.0,
-      c.reserve.new.self.ok.0,
-      ap length c.in_ok-reserve.ensures.items,
-    ) in
-    let left : c.in_ok-more.more ≡ c.in-Some-2.left = search rules in
     let within : c.in_ok-came.came ≤ c.args.len = search rules in
-    let size : length first + r.0 + length more ≡ c.args.len = omega (arith, r.1, got, came, left, within) in
+    let count : length more ≡ s.0 + length rest = omega (arith, length-append p.more rest, p.len) in
+    let size : length first + r.0 + length more ≡ c.args.len = omega (arith, r.1, s.1, t.2, got, within, count) in
     let header : header_of kind first ≡ Ok declared.version = rw c.deref.ensures.value at c.in-Some.ensures.header in
     let counted : declared.count ≡ count_of first = rw c.deref.ensures.value at c.in-Some.ensures.count in
     let none : a.records ≡ [] = c.in_ok-first.ensures.0 in
-    let step : IsReadOn plan a b r.0 = r.2 in
-    let total : length step.taken + length tail ≡ c.args.len = omega (
+    let total : length hashed + length lent ≡ c.args.len = omega (
       arith,
       size,
-      ap length step.bytes,
-      ap length grown,
-      step.len,
-      length-append first step.more,
-      length-append step.taken w1,
+      ap length step.moved.bytes,
+      step.moved.len,
+      length-append first step.moved.more,
+      length-append step.moved.taken w1,
+      ap length same,
+      ap length value,
       length-append w1 more,
+      length-append p.taken tail,
+      length-append step.moved.taken p.taken,
     ) in
-    some_with c.ending_of.result _ _ _ _ _ (λ x ending intact marker bytes. (
-      step.taken ++ tail,
-      whole_of_windows plan a b r.0 tail more (g.S.Source.remaining c.args.file.now)
-          (g.S.Source.remaining c.fill-2.new.file) step grown front rest (c.in_ok-more.ensures.end (search rules)),
-      All-append (λ b. b < 256) step.taken tail step.are_bytes bytes.0,
-      intact (step.kind_stays ∙ c.new-hasher.ensures.kind) step.taken
-          (λ is. step.hashed is [] c.new-hasher.ensures.empty),
-      answer_of_windows plan a b r.0 tail more reading.timestamp reading.options c.args.offset c.args.len
-          (x.parts, x.checksum) header counted c.in-Some.ensures.fits c.in-Some.ensures.small refl none whole step grown
-          size (marker step.taken total) ending,
-      rw bytes.1 (ending_of_windows plan a b r.0 tail more header counted refl none whole step grown),
-    )) c.ending_of.ensures.ending c.ending_of.ensures.intact c.ending_of.ensures.marker
-    (some_both c.ending_of.result _ _ c.ending_of.ensures.are_bytes c.ending_of.ensures.behind)
+    let room : id_len kind ≤ length (drop at tail) = omega (
+      arith,
+      trailer,
+      length-drop at tail,
+      ap length t.1,
+      length-append w2 rest,
+      t.2,
+      p.inside,
+      c.pass_extensions.new.window.ok.0,
+    ) in
+    let held-is : c.in_ok-ending.ending.items ≡ c.pass_extensions.new.held.items ++ drop at tail =
+    c.in_ok-ending.ensures in
+    let is-sound : c.is_sound.result ≡ true = search rules in
+    let are-bytes : AreBytes (step.moved.taken ++ all) =
+    subst AreBytes bytes (All-append (λ b. b < 256) hashed lent
+    (All-append (λ b. b < 256) step.moved.taken p.taken step.moved.are_bytes p.are_bytes) c.is_sound.ensures.are_bytes)
+    in
+    let intact : IsIntact reading.skip_hash kind (step.moved.taken ++ all) =
+    subst (IsIntact reading.skip_hash kind) bytes (c.is_sound.ensures.intact is-sound
+    (p.kind_stays ∙ step.moved.kind_stays ∙ c.new-hasher.ensures.kind) hashed
+    (λ is. p.hashed is step.moved.taken (step.moved.hashed is [] c.new-hasher.ensures.empty))) in
+    let marker : IsMarker kind (step.moved.taken ++ all) c.args.offset =
+    subst (λ (l : List ℕ). IsMarker kind l c.args.offset) bytes (c.is_sound.ensures.marker is-sound hashed total) in
+    let answer = answer_of_windows plan a b r.0 all more reading.timestamp reading.options c.args.offset c.args.len in
+    some_two c.ending_of.result _ _ _ c.ending_of.ensures.ending c.ending_of.ensures.behind (λ x ending behind-is. (
+      step.moved.taken ++ all,
+      whole_of_windows plan a b r.0 all more (g.S.Source.remaining c.args.file.now) end step refl front
+          (Consumes-trans b.left passed.left end p.more rest p.consumed t.3) t.4,
+      are-bytes,
+      intact,
+      answer (x.parts, x.checksum) header counted c.in-Some.ensures.fits c.in-Some.ensures.small refl none whole step
+          refl size marker (rw behind (ending_whole kind reading.timestamp reading.options declared.version records
+          h.items h.passed c.pass_extensions.new.held.items (drop at tail) (parts_contents x.parts, x.checksum) h.are
+          h.held_are room (subst (λ (l : List ℕ). IsEnding kind reading.timestamp reading.options declared.version
+          records l (Ok (parts_contents x.parts, x.checksum))) held-is ending))),
+      λ keeps. subst (FollowEntries kind (step.moved.taken ++ all))
+          (behind ∙ ap (λ (l : List ℕ). l ++ drop at tail) (sym (h.whole keeps)) ∙ sym held-is ∙ sym behind-is)
+          (ending_of_windows plan a b r.0 all more header counted refl none whole step refl),
+    ))
 
 pub returns-clause-storable : goal.returns-clause-storable
 returns-clause-storable g c =

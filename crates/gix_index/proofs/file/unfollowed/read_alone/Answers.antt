@@ -11,7 +11,7 @@ returns-in-Ok-Some-clause-read g c =
       held_by (g.S.Source.stored c.args.file) h.0 h.1,
       record {
         read = rw c.from.ensures (to_file r.skip_hash r.object_hash r.timestamp r.options h.0 _ h.2 h.3);
-        ending = h.4;
+        ending = h.4 refl;
       },
     )
 

@@ -1,0 +1,33 @@
+use Rattle.std.proofs.Common.{◌≡◌, ◌≤◌, ◌+◌, ◌++◌, ℕ, List, [], length}
+use Rattle.std.specs.Prelude.{vec_len, if◌then◌else◌}
+use Rattle.index_window.specs.Windowed.{IsPassedOn}
+use Rattle.index_window.proofs.extensions.pass_extension.Given as goal
+
+abbrev pub invariant-pieces : goal.invariant-pieces
+invariant-pieces g l = record {
+  inside : l.place.start ≤ vec_len l.window;
+  passed : (count : ℕ) × (count + l.place.left ≡ l.fn.place.left) × (passed : List ℕ)
+      × (length passed + l.rest ≡ l.extension.len)
+      × (l.held.items ≡ l.fn.held.items ++ (if l.extension.is_held then passed else []))
+      × IsPassedOn l.plan
+      (record {
+        left = g.S.Source.remaining l.fn.file;
+        hasher = l.fn.hasher;
+        window = l.fn.window.items;
+        decoded = l.fn.place.start;
+        records = [];
+      })
+      (record {
+        left = g.S.Source.remaining l.file;
+        hasher = l.hasher;
+        window = l.window.items;
+        decoded = l.place.start;
+        records = [];
+      })
+      count passed;
+  stored : g.S.Source.stored l.file ≡ g.S.Source.stored l.fn.file;
+  works : g.S.Source.works l.file ≡ g.S.Source.works l.fn.file;
+}
+
+abbrev pub decreases-pieces : goal.decreases-pieces
+decreases-pieces g l = l.place.left

@@ -1,0 +1,97 @@
+use Rattle.std.proofs.Common.{◌≡◌, ◌+◌, ◌-◌, ◌++◌, [], length, take, drop, refl, sym, ap, ◌∙◌, arith}
+use Rattle.std.proofs.Common.{length-drop, take_all}
+use Rattle.std.specs.Prelude.{if◌then◌else◌}
+use Rattle.index_window.specs.Windowed.{Moment}
+use Rattle.index_window.proofs.Abridging.{abridged_none, abridged_on, abridged_more}
+use Rattle.index_window.proofs.Steps.{pass_len}
+use Rattle.index_window.proofs.extensions.pass_extensions.Goals as goal
+
+pub extensions-init : goal.extensions-init
+extensions-init g c = record {
+  inside = c.requires.inside;
+  abridged = (
+    0,
+    omega arith,
+    abridged_none c.args.plan _ c.args.held.now.items (omega (arith, c.requires.inside, c.args.window.now.ok.0))
+        c.requires.none_yet,
+  );
+  stored = refl;
+  works = refl;
+}
+
+pub extensions-preserved : goal.extensions-preserved
+extensions-preserved g c =
+    let plan = c.args.plan in
+    let so-far = c.extensions.invariant.abridged in
+    let a : Moment = record {
+      left = g.S.Source.remaining c.args.file.now;
+      hasher = c.args.hasher.now;
+      window = c.args.window.now.items;
+      decoded = c.args.place.start;
+      records = [];
+    } in
+    let old : Moment = record {
+      left = g.S.Source.remaining c.extensions.file;
+      hasher = c.extensions.hasher;
+      window = c.extensions.window.items;
+      decoded = c.extensions.place.start;
+      records = [];
+    } in
+    let w = c.read_on.new.window.items in
+    let start = c.in-Some-2.next.start in
+    let mid : Moment = record {
+      left = g.S.Source.remaining c.read_on.new.file;
+      hasher = c.read_on.new.hasher;
+      window = w;
+      decoded = start;
+      records = [];
+    } in
+    let new : Moment = record {
+      left = g.S.Source.remaining c.pass_extension.new.file;
+      hasher = c.pass_extension.new.hasher;
+      window = c.pass_extension.new.window.items;
+      decoded = c.in-Some-3.behind.start;
+      records = [];
+    } in
+    let held = c.extensions.held.items in
+    let on = rw c.in-Some-2.is at c.in_ok-next.ensures.passed in
+    let is = abridged_on plan a old mid so-far.0 on.0 held so-far.2 on.2 in
+    let e = c.in-Some-extension_at.ensures in
+    let p = rw c.in-Some-3.is at c.in_ok-behind.ensures.passed in
+    let lent = c.deref.result.now in
+    let undone : take (length lent - start) (drop start lent) ≡ drop start w =
+    take_all (length lent - start) (drop start lent) (omega (arith, length-drop start lent))
+    ∙ ap (drop start) c.deref.ensures.value in
+    let more = abridged_more plan a mid new (so-far.0 + on.0) p.0 held c.pass_extension.new.held.items e.0 e.1 e.2
+    p.2 is p.5 (sym undone ∙ e.3) e.4 e.5 (p.3 ∙ e.6) (p.4 ∙ ap (λ b. held ++ (if b then p.2 else [])) e.7)
+    c.if-plan.false in
+    record {
+      inside = omega (arith, more.is_passed.moved.inside, c.pass_extension.new.window.ok.0);
+      abridged = (so-far.0 + on.0 + p.0, omega (arith, so-far.1, on.1, p.1), more);
+      stored = c.in_ok-behind.ensures.stored ∙ c.in_ok-next.ensures.stored ∙ c.extensions.invariant.stored;
+      works = c.in_ok-behind.ensures.works ∙ c.in_ok-next.ensures.works ∙ c.extensions.invariant.works;
+    }
+
+pub returns-then-before-extension-clause-abridged : goal.returns-then-before-extension-clause-abridged
+returns-then-before-extension-clause-abridged g c =
+    let so-far = c.extensions.invariant.abridged in
+    let on = rw c.in-Some-2.is at c.in_ok-next.ensures.passed in (
+      so-far.0 + on.0,
+      omega (arith, so-far.1, on.1),
+      abridged_on c.args.plan _ _ _ so-far.0 on.0 c.extensions.held.items so-far.2 on.2,
+    )
+
+pub extensions-smaller : goal.extensions-smaller
+extensions-smaller g c =
+    let on = rw c.in-Some-2.is at c.in_ok-next.ensures.passed in
+    let p = rw c.in-Some-3.is at c.in_ok-behind.ensures.passed in
+    let e = c.in-Some-extension_at.ensures in
+    omega (
+      arith,
+      pass_len c.args.plan _ _ on.0 [] on.2,
+      pass_len c.args.plan _ _ p.0 p.2 p.5,
+      on.1,
+      p.1,
+      p.3,
+      e.6,
+    )

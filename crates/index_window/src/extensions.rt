@@ -1,0 +1,307 @@
+//! The extensions of a large index that is read in windows: what is held of them.
+
+ghost use Rattle.std.specs.Prelude.{◌≡◌, ◌≤◌, ◌<◌, ◌+◌, ◌-◌, ◌++◌, ℕ, List, [], length, vec_len, IfOk, IfSome, OnOk};
+ghost use Rattle.std.specs.Prelude.{drop, not, true, if◌then◌else◌};
+ghost use Rattle.std.specs.Io.KnownBytes.{Consumes, IsAtEnd};
+ghost use Rattle.index_parts.specs.Id.{id_len};
+ghost use Rattle.index_parts.specs.Numbers.{be};
+ghost use Rattle.index_window.specs.Abridged.{IsAbridgedOn, is_known, is_unknown};
+ghost use Rattle.index_window.specs.Windowed.{IsPassedOn};
+
+use crate::plan::{KEPT_LEN, Plan, WINDOW_LEN, hash_piece};
+use index_cached_tree as tree;
+use index_extensions::{MIN_SIZE, Signature, end_of_index_entry, sparse};
+use index_folder::folder::Source;
+use index_folder::pieces::{fill, remove_front};
+use index_parts::hash::Hasher;
+use index_parts::util::from_be_u32;
+use index_reading::extension::is_understood;
+use index_small_extensions::{fs_monitor, index_entry_offset_table, resolve_undo};
+use index_split::link;
+use index_untracked as untracked_cache;
+use std::alloc::AllocError;
+use std::io;
+
+/// Where reading stands.
+#[derive(Clone, Copy)]
+pub(super) struct Place {
+    /// The place in the window from which on it isn't read.
+    pub(super) start: usize,
+    /// How many bytes of the file are left to come.
+    pub(super) left: u64,
+}
+
+/// An extension at the front of bytes.
+#[derive(Clone, Copy)]
+struct Extension {
+    /// How many bytes it has, with its head.
+    len: usize,
+    /// Whether its bytes are held.
+    is_held: bool,
+}
+
+/// Whether the library knows the extension.
+fn is_known(signature: Signature) -> bool
+    ensures { result ≡ is_known signature }
+{
+    signature == link::SIGNATURE
+        || signature == tree::SIGNATURE
+        || signature == resolve_undo::SIGNATURE
+        || signature == untracked_cache::SIGNATURE
+        || signature == fs_monitor::SIGNATURE
+        || signature == sparse::SIGNATURE
+        || signature == end_of_index_entry::SIGNATURE
+        || signature == index_entry_offset_table::SIGNATURE
+}
+
+/// Whether it doesn't, and may skip it.
+fn is_unknown(signature: Signature) -> bool
+    ensures { result ≡ is_unknown signature }
+{
+    is_understood(signature, &[]) && !is_known(signature)
+}
+
+/// Four bytes as a signature.
+fn signature_of(bytes: &[u8]) -> Signature
+    requires { length bytes.now ≡ 4 }
+    ensures { result ≡ bytes.now }
+{
+    [bytes[0], bytes[1], bytes[2], bytes[3]]
+}
+
+/// The extension whose head begins bytes, if they are as many as one has.
+fn extension_at(bytes: &[u8]) -> Option<Extension>
+    ensures { IfSome result (λ x. (signature : List ℕ) × (size : List ℕ) × (rest : List ℕ)
+        × (bytes.now ≡ signature ++ (size ++ rest)) × (length signature ≡ 4)
+        × (length size ≡ 4) × (x.len ≡ 8 + be size)
+        × (x.is_held ≡ not (is_unknown signature))) }
+{
+    if bytes.len() < MIN_SIZE {
+        return None;
+    }
+    let (signature, rest) = bytes.split_at(4);
+    let (size, _) = rest.split_at(4);
+    Some(Extension {
+        len: MIN_SIZE + from_be_u32(size) as usize,
+        is_held: !is_unknown(signature_of(signature)),
+    })
+}
+
+/// How many bytes stand before the trailer, of those at hand and those to come; None where there are fewer than it has.
+fn before_trailer(plan: Plan, at_hand: usize, left: u64) -> Option<u64>
+    ensures { IfSome result (λ n. n + id_len plan.kind ≡ at_hand + left) }
+{
+    (at_hand as u64)
+        .checked_add(left)?
+        .checked_sub(plan.kind.len_in_bytes() as u64)
+}
+
+/// Appends bytes that are held.
+fn hold(held: &mut Vec<u8>, is_held: bool, bytes: &[u8]) -> Result<(), AllocError>
+    ensures { OnOk result
+        (held.new.items ≡ held.old.items ++ (if is_held then bytes.now else [])) }
+{
+    if is_held {
+        held.extend_from_slice(bytes)?;
+    }
+    Ok(())
+}
+
+/// Reads on where fewer bytes are at hand than the head of an extension has: the window's start is hashed, and makes
+/// room. None where nothing comes, or where the file is longer than it said.
+fn read_on<S: Source>(
+    file: &mut S,
+    plan: Plan,
+    hasher: &mut Hasher,
+    window: &mut Vec<u8>,
+    place: Place,
+) -> io::Result<Option<Place>>
+    requires inside { place.start ≤ vec_len window.old }
+    ensures passed { IfOk result (λ o. IfSome o (λ x. (count : ℕ) × (count + x.left ≡ place.left)
+        × IsPassedOn plan
+        (record {
+          left = S.remaining file.old;
+          hasher = hasher.old;
+          window = window.old.items;
+          decoded = place.start;
+          records = [];
+        })
+        (record {
+          left = S.remaining file.new;
+          hasher = hasher.new;
+          window = window.new.items;
+          decoded = x.start;
+          records = [];
+        })
+        count [])) }
+    ensures comes { IfOk result
+        (λ o. IfSome o (λ x. vec_len window.old < place.start + 8 → x.left < place.left)) }
+    ensures stored { S.stored file.new ≡ S.stored file.old }
+    ensures works { S.works file.new ≡ S.works file.old }
+{
+    let Place { start, left } = place;
+    if window.len() - start >= MIN_SIZE {
+        return Ok(Some(place));
+    }
+    let done = start.saturating_sub(KEPT_LEN);
+    hash_piece(plan, hasher, &window[..done]);
+    remove_front(window, done);
+    let came = fill(file, window, WINDOW_LEN)? as u64;
+    if came == 0 || came > left {
+        return Ok(None);
+    }
+    Ok(Some(Place {
+        start: start - done,
+        left: left - came,
+    }))
+}
+
+/// Passes an extension, and holds its bytes if they are to be held. None where the file ends before, or is longer than
+/// it said.
+fn pass_extension<S: Source>(
+    file: &mut S,
+    plan: Plan,
+    hasher: &mut Hasher,
+    window: &mut Vec<u8>,
+    held: &mut Vec<u8>,
+    extension: Extension,
+    mut place: Place,
+) -> io::Result<Option<Place>>
+    requires inside { place.start ≤ vec_len window.old }
+    ensures passed { IfOk result (λ o. IfSome o (λ x. (count : ℕ) × (count + x.left ≡ place.left)
+        × (passed : List ℕ) × (length passed ≡ extension.len)
+        × (held.new.items ≡ held.old.items ++ (if extension.is_held then passed else []))
+        × IsPassedOn plan
+        (record {
+          left = S.remaining file.old;
+          hasher = hasher.old;
+          window = window.old.items;
+          decoded = place.start;
+          records = [];
+        })
+        (record {
+          left = S.remaining file.new;
+          hasher = hasher.new;
+          window = window.new.items;
+          decoded = x.start;
+          records = [];
+        })
+        count passed)) }
+    ensures stored { S.stored file.new ≡ S.stored file.old }
+    ensures works { S.works file.new ≡ S.works file.old }
+{
+    let mut rest = extension.len;
+    'pieces: loop {
+        let len = rest.min(window.len() - place.start);
+        let end = place.start + len;
+        hold(held, extension.is_held, &window[place.start..end])?;
+        place.start = end;
+        rest -= len;
+        if rest == 0 {
+            return Ok(Some(place));
+        }
+        let Some(next) = read_on(file, plan, hasher, window, place)? else {
+            return Ok(None);
+        };
+        place = next;
+    }
+}
+
+/// Passes all whole extensions before the trailer, and holds those that are known; or passes none, where all are to be
+/// kept, or an end marker is to be compared with their heads. None where the file isn't as long as it said.
+pub(super) fn pass_extensions<S: Source>(
+    file: &mut S,
+    plan: Plan,
+    hasher: &mut Hasher,
+    window: &mut Vec<u8>,
+    held: &mut Vec<u8>,
+    mut place: Place,
+) -> io::Result<Option<Place>>
+    requires inside { place.start ≤ vec_len window.old }
+    requires none_yet { held.old.items ≡ [] }
+    ensures abridged { IfOk result (λ o. IfSome o (λ x. (count : ℕ)
+        × (count + x.left ≡ place.left)
+        × IsAbridgedOn plan
+        (record {
+          left = S.remaining file.old;
+          hasher = hasher.old;
+          window = window.old.items;
+          decoded = place.start;
+          records = [];
+        })
+        (record {
+          left = S.remaining file.new;
+          hasher = hasher.new;
+          window = window.new.items;
+          decoded = x.start;
+          records = [];
+        })
+        count held.new.items)) }
+    ensures trailer { IfOk result (λ o. IfSome o
+        (λ x. id_len plan.kind ≤ vec_len window.new - x.start + x.left)) }
+    ensures stored { S.stored file.new ≡ S.stored file.old }
+    ensures works { S.works file.new ≡ S.works file.old }
+{
+    'extensions: loop {
+        let at_hand = window.len() - place.start;
+        let Some(before) = before_trailer(plan, at_hand, place.left) else {
+            return Ok(None);
+        };
+        if before < MIN_SIZE as u64 || plan.keeps_ending || plan.offset.is_some() {
+            return Ok(Some(place));
+        }
+        let Some(next) = read_on(file, plan, hasher, window, place)? else {
+            return Ok(None);
+        };
+        let Some(extension) = extension_at(&window[next.start..]) else {
+            return Ok(None);
+        };
+        if before < extension.len as u64 {
+            return Ok(Some(next));
+        }
+        let Some(behind) = pass_extension(file, plan, hasher, window, held, extension, next)? else {
+            return Ok(None);
+        };
+        place = behind;
+    }
+}
+
+/// Reads the rest of the file. Says no where the file isn't as long as it said, or where so much is left behind
+/// extensions that were passed that it is no trailer alone.
+pub(super) fn read_rest<S: Source>(
+    file: &mut S,
+    window: &mut Vec<u8>,
+    held: &[u8],
+    left: u64,
+) -> io::Result<bool>
+    ensures rest { IfOk result (λ is. is ≡ true → (more : List ℕ)
+        × (window.new.items ≡ window.old.items ++ more) × (length more ≡ left)
+        × Consumes (S.remaining file.old) (S.remaining file.new) more
+        × IsAtEnd (S.remaining file.new)) }
+    ensures stored { S.stored file.new ≡ S.stored file.old }
+    ensures works { S.works file.new ≡ S.works file.old }
+{
+    if left > WINDOW_LEN as u64 && !held.is_empty() {
+        return Ok(false);
+    }
+    window.reserve(left.saturating_add(1) as usize)?;
+    let came = fill(file, window, usize::MAX)?;
+    Ok(came as u64 == left)
+}
+
+/// What is held of the extensions, and what stands in the window from a place on.
+pub(super) fn joined(
+    mut held: Vec<u8>,
+    mut window: Vec<u8>,
+    start: usize,
+) -> Result<Vec<u8>, AllocError>
+    requires inside { start ≤ vec_len window }
+    ensures { IfOk result (λ x. x.items ≡ held.items ++ drop start window.items) }
+{
+    if held.is_empty() {
+        remove_front(&mut window, start);
+        return Ok(window);
+    }
+    held.extend_from_slice(&window[start..])?;
+    Ok(held)
+}
