@@ -22,7 +22,7 @@ HasRightTrees value = IfSome value.extensions.tree (AreRight value.kind value.re
 
 -- An index in a file, whose entries strictly increase by path, then stage, and whose cached tree, if it has one, is
 -- sound and counts no more than these entries; where it is compared with them, it tells what they give. The checksum,
--- unless it is null, fits the bytes that the file has when it is read again.
+-- unless it is null, fits the file's bytes, where they are known.
 pub record IsSoundInFile (ids : Bool) (disk : Disk) (kind : Kind) (value : Contents) (checksum : Option ObjectId) : Type 0 where
   pub read : IsInFile disk kind value checksum
   pub ordered : IsStrictlyOrdered value.records
@@ -42,7 +42,6 @@ abbrev pub IsOfCheck : List ℕ → Failure → Type 0
 IsOfCheck path (failures.Entries file e) = file.now ≡ path
 IsOfCheck path (failures.CachedTree file e) = file.now ≡ path
 IsOfCheck path (failures.TreeIds file e) = file.now ≡ path
-IsOfCheck path (failures.Changed file e) = file.now ≡ path
 IsOfCheck path failure = ⊥
 
 -- it can't be read, or doesn't pass them

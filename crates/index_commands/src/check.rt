@@ -71,9 +71,9 @@ fn verify_contents<'a>(
 ///
 /// Its entries have to increase strictly by path, then stage. Its cached tree has to hold together, and no node of it
 /// counts more entries than there are; objects aren't looked at. With `ids`, each node that has a count has to have the
-/// id and the count that the entries give, as `git write-tree` would make them. The file's bytes have to have the
-/// digest still that their trailer gave. Nothing goes to `out` before the last check has passed. Ok: `out` took the
-/// whole line. [`Failure::Output`]: it took a front. Any other failure: it took nothing.
+/// id and the count that the entries give, as `git write-tree` would make them. The digest of the file's bytes is
+/// compared with their trailer as they are read, once, unless that is null. Nothing goes to `out` before the last check
+/// has passed. Ok: `out` took the whole line. [`Failure::Output`]: it took a front. Any other failure: it took nothing.
 pub fn check<'a, D: Folder, W: Out>(
     folder: &D,
     alloc: Global,
@@ -93,9 +93,6 @@ pub fn check<'a, D: Folder, W: Out>(
 {
     let index = index_at(folder, alloc, kind, path)?;
     verify_contents(alloc, ids, &index, path)?;
-    if let Err(fault) = index.verify_integrity(folder, alloc) {
-        return Err(Failure::Changed { path, fault });
-    }
     match put_text(OK_LINE, out) {
         Ok(()) => Ok(()),
         Err(e) => Err(Failure::Output(e)),

@@ -318,17 +318,17 @@ fn named<'a>(command: &Command<'a>) -> (Option<Kind>, Option<Input<'a>>)
 /// The index that it is about is FILE: the file at that path, or the standard input, which is held first, so that it
 /// counts as the file [`STANDARD_INPUT`]; without the word the one that [`index_path`] finds. Its kind is KIND, or what
 /// [`kind_at`] tells of that file. `list` writes a line to `out` for each entry, of which some are read from the shared
-/// index that FILE links to. `check` writes `ok` and a newline where the entries are in order and the file has its
-/// digest still; `check-trees` does so where the cached tree tells what they give, too. `trees` writes a line to `out`
-/// for each directory of the trees that the entries make. Of FILE by itself, without its shared index, `map` writes a
-/// line to `out` for each part, up to the first fault, where it has one, `map-svg` a picture of these parts, `show` lines
-/// of what it holds, and `show-json` the same as JSON. `rewrite` writes the index to the path OUT, and nothing to `out`:
-/// OUT is locked, as git locks an index, before FILE is opened, and gets the time of FILE. `rewrite4` does so in version
-/// 4, and `rewrite-trees` with a cached tree made anew, in which a directory has a count and an id where that of FILE
-/// has the same; with `--missing-ok` each has them, also those of trees that no object store has yet. `salvage` writes
-/// what can be saved of FILE there, with the entries of its shared index where that can be read, and says on one line on
-/// `faults` how many entries were declared, read and kept, where the first fault is, and whether the entries of a shared
-/// index are there or missing.
+/// index that FILE links to. `check` writes `ok` and a newline where the file's digest fits as it is read, the entries
+/// are in order and the cached tree holds together; `check-trees` does so where that tree tells what they give, too.
+/// `trees` writes a line to `out` for each directory of the trees that the entries make. Of FILE by itself, without its
+/// shared index, `map` writes a line to `out` for each part, up to the first fault, where it has one, `map-svg` a
+/// picture of these parts, `show` lines of what it holds, and `show-json` the same as JSON. `rewrite` writes the index
+/// to the path OUT, and nothing to `out`: OUT is locked, as git locks an index, before FILE is opened, and gets the
+/// time of FILE. `rewrite4` does so in version 4, and `rewrite-trees` with a cached tree made anew, in which a
+/// directory has a count and an id where that of FILE has the same; with `--missing-ok` each has them, also those of
+/// trees that no object store has yet. `salvage` writes what can be saved of FILE there, with the entries of its shared
+/// index where that can be read, and says on one line on `faults` how many entries were declared, read and kept, where
+/// the first fault is, and whether the entries of a shared index are there or missing.
 ///
 /// [`DONE`]: the command did all that, or `out` took the help or the version that the words ask for. [`REFUSED`]: the
 /// index isn't found, a file can't be read or written, or is no such index, or `out` failed; nothing goes to `out` before

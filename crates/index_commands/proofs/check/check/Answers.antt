@@ -1,10 +1,12 @@
 use Rattle.std.proofs.Common.{inl, inr, refl}
 use Rattle.std.proofs.KnownBytes.{Keeps-refl}
 use Rattle.std.proofs.lemmas.Result.{err_from_is_err_and}
+use Rattle.gix_index.specs.Disk.{disk_at}
 use Rattle.gix_index.specs.State.{contents}
 use Rattle.gix_index.specs.File.{checksum_of, state_of}
 use Rattle.index_failures.specs.Telling.{part, untold}
 use Rattle.index_commands.specs.Checking.{ok_line}
+use Rattle.index_commands.proofs.Trailers.{fits_file}
 use Rattle.index_commands.proofs.check.check.Goals as goal
 
 pub returns-in_err-index-clause-refused : goal.returns-in_err-index-clause-refused
@@ -18,9 +20,6 @@ returns-in_err-verify_contents-clause-refused g c =
     c.from_residual-in_err-verify_contents.ensures.1 in
     rw (p.1, p.2) (untold (inr c.in_err-verify_contents.ensures.fault) (Keeps-refl (g.W.Out.taken c.args.out.now)))
 
-pub returns-in-Err-clause-refused : goal.returns-in-Err-clause-refused
-returns-in-Err-clause-refused g c = untold (inr refl) (Keeps-refl (g.W.Out.taken c.args.out.now))
-
 pub returns-in-Ok-clause-told : goal.returns-in-Ok-clause-told
 returns-in-Ok-clause-told g c = record {
   text = ok_line;
@@ -32,7 +31,8 @@ returns-in-Ok-clause-told g c = record {
       ordered = c.in_ok-verify_contents.ensures.ordered;
       tree = c.in_ok-verify_contents.ensures.tree;
       trees = c.in_ok-verify_contents.ensures.right;
-      intact = rw c.in_ok-index.ensures.path at c.in_default.ensures.ok;
+      intact = fits_file (disk_at (g.D.Folder.known c.args.folder.now) c.args.path.now) c.args.kind
+          (contents (state_of c.in_ok-index.index)) (checksum_of c.in_ok-index.index) c.in_ok-index.ensures.read;
     };
     is = refl;
   };
@@ -40,8 +40,8 @@ returns-in-Ok-clause-told g c = record {
 }
 
 pub returns-clause-refused : goal.returns-clause-refused
-returns-clause-refused g c = part c.in-Err-put_text.e refl
-    (λ n. rw c.in-Err-put_text.is at c.put_text.ensures.has_failed) (record {
+returns-clause-refused g c = part c.in-Err.e refl
+    (λ n. rw c.in-Err.is at c.put_text.ensures.has_failed) (record {
       text = ok_line;
       is = inl (record {
         value = contents (state_of c.in_ok-index.index);
@@ -51,9 +51,10 @@ returns-clause-refused g c = part c.in-Err-put_text.e refl
           ordered = c.in_ok-verify_contents.ensures.ordered;
           tree = c.in_ok-verify_contents.ensures.tree;
           trees = c.in_ok-verify_contents.ensures.right;
-          intact = rw c.in_ok-index.ensures.path at c.in_default.ensures.ok;
+          intact = fits_file (disk_at (g.D.Folder.known c.args.folder.now) c.args.path.now) c.args.kind
+              (contents (state_of c.in_ok-index.index)) (checksum_of c.in_ok-index.index) c.in_ok-index.ensures.read;
         };
         is = refl;
       });
-      grew = c.in-Err-put_text.ensures.err;
+      grew = c.in-Err.ensures.err;
     })
