@@ -1,3 +1,4 @@
 pub mod Mapping
+pub mod Report
 pub mod Salvaging
 pub mod Showing

@@ -59,9 +59,9 @@ pub record IsOfBytes (beside : ObjectId → Known) (kind : Kind) (bytes : List �
 -- the numbers of what is saved, with the file that it was saved of
 pub record Reports (path : List ℕ) (report : Report) (saved : Salvaged) : Type 0 where
   pub names : report.path.now ≡ path
-  pub declared : report.declared ≡ saved.declared
-  pub read : report.read ≡ saved.read
-  pub kept : report.kept ≡ length (records saved.state)
+  pub declared : report.counts.declared ≡ saved.declared
+  pub read : report.counts.read ≡ saved.read
+  pub kept : report.counts.kept ≡ length (records saved.state)
   pub fault : report.fault ≡ saved.fault
   pub shared : report.shared ≡ saved.shared
 

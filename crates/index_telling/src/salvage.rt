@@ -1,12 +1,13 @@
 //! The command `salvage`.
 
-ghost use Rattle.std.specs.Prelude.{◌≡◌, ℕ, List, Bool, true, IfErr, IfOk, OnErr};
+ghost use Rattle.std.specs.Prelude.{◌≡◌, ℕ, List, Bool, true, IfErr, IfOk, OnErr, Some};
 ghost use Rattle.gix_index.specs.Disk.{MayHave, disk_at};
 ghost use Rattle.gix_index.specs.InPlace.Locks.{Restores};
 ghost use Rattle.gix_index.specs.State.{contents};
 ghost use Rattle.gix_index.specs.Disk.World.{MayBe, World};
 ghost use Rattle.index_inspect.specs.Remains.{IsPlainIndex, Remain};
 ghost use Rattle.index_failures.specs.Reading.{FailsReading};
+ghost use Rattle.index_telling.specs.Report.{counts_text, fate_text, fault_place_text};
 ghost use Rattle.index_telling.specs.Salvaging.{FailsToSalvage, IsOfBytes, Salvages, SaysOfSaving};
 
 use crate::map::bytes_at;
@@ -27,17 +28,66 @@ use std::fmt;
 use std::fmt::Write as _;
 use std::path::PathBuf;
 
-/// What was saved of a file, for its line of faults.
-#[derive(Debug, Drop)]
-pub struct Report<'a> {
-    /// The file, as the command's words name it.
-    pub path: &'a str,
-    /// How many entries it declares.
+/// How many entries a file declares, and how many of them are read and kept.
+#[derive(Clone, Copy, Debug, PartialEq, Eq)]
+pub struct Counts {
+    /// How many it declares.
     pub declared: u32,
     /// How many of them were read, from the first on.
     pub read: usize,
     /// How many of these were kept: those that have a path, of each path and stage the first.
     pub kept: usize,
+}
+
+impl fmt::Display for Counts {
+    ghost output = { λ counts. Some (counts_text counts) };
+
+    fn fmt<W: fmt::Write>(&self, f: &mut fmt::Formatter<W>) -> fmt::Result {
+        write!(
+            f,
+            "{} declared, {} read, {} kept",
+            self.declared, self.read, self.kept
+        )
+    }
+}
+
+/// Where the first fault of a file is, by the number of bytes before it.
+#[derive(Clone, Copy)]
+struct FaultPlace(usize);
+
+impl fmt::Display for FaultPlace {
+    ghost output = { λ place. Some (fault_place_text place.0) };
+
+    fn fmt<W: fmt::Write>(&self, f: &mut fmt::Formatter<W>) -> fmt::Result {
+        write!(f, "; first fault at {}", self.0)
+    }
+}
+
+/// What became of the entries of a shared index, as the end of a line.
+#[derive(Clone, Copy)]
+struct Fate(SharedEntries);
+
+impl fmt::Display for Fate {
+    ghost output = { λ fate. Some (fate_text fate.0) };
+
+    fn fmt<W: fmt::Write>(&self, f: &mut fmt::Formatter<W>) -> fmt::Result {
+        match self.0 {
+            SharedEntries::Unlinked => Ok(()),
+            SharedEntries::Merged => f.write_str("; merged with the shared index"),
+            SharedEntries::Missing => {
+                f.write_str("; the entries of the shared index are missing")
+            }
+        }
+    }
+}
+
+/// What was saved of a file, for its line of faults.
+#[derive(Debug, Drop)]
+pub struct Report<'a> {
+    /// The file, as the command's words name it.
+    pub path: &'a str,
+    /// How many entries it declares, and how many of them were read and kept.
+    pub counts: Counts,
     /// The first fault, if it has one.
     pub fault: Option<FirstFault>,
     /// Whether the entries of the shared index that it links to are there too.
@@ -46,24 +96,11 @@ pub struct Report<'a> {
 
 impl fmt::Display for Report<'_> {
     fn fmt<W: fmt::Write>(&self, f: &mut fmt::Formatter<W>) -> fmt::Result {
-        write!(
-            f,
-            "{}: {} declared, {} read, {} kept",
-            OneLine(self.path),
-            self.declared,
-            self.read,
-            self.kept
-        )?;
+        write!(f, "{}: {}", OneLine(self.path), self.counts)?;
         if let Some(fault) = &self.fault {
-            write!(f, "; first fault at {}: {}", fault.offset, fault.error)?;
+            write!(f, "{}: {}", FaultPlace(fault.offset), fault.error)?;
         }
-        match self.shared {
-            SharedEntries::Unlinked => Ok(()),
-            SharedEntries::Merged => f.write_str("; merged with the shared index"),
-            SharedEntries::Missing => {
-                f.write_str("; the entries of the shared index are missing")
-            }
-        }
+        write!(f, "{}", Fate(self.shared))
     }
 }
 
@@ -163,22 +200,23 @@ pub fn salvage<'a, D: Folder>(
             return Err(failure);
         }
     };
-    let kept = saved.kept();
+    let counts = Counts {
+        declared: saved.declared,
+        read: saved.read,
+        kept: saved.kept(),
+    };
     let Salvaged {
         mut state,
-        declared,
-        read,
         fault,
         shared,
+        ..
     } = saved;
     state.set_timestamp(time);
     let index = File::from_state(state, PathBuf::new(alloc));
     commit_at(folder, alloc, index, lock, VersionChoice::Smallest, to)?;
     Ok(Report {
         path,
-        declared,
-        read,
-        kept,
+        counts,
         fault,
         shared,
     })

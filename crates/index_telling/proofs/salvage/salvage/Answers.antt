@@ -68,7 +68,7 @@ returns-clause-written g c =
         names = refl;
         declared = refl;
         read = refl;
-        kept = c.kept-kept.ensures;
+        kept = c.kept.ensures;
         fault = refl;
         shared = refl;
       };
