@@ -1,4 +1,4 @@
-use Rattle.std.proofs.Common.{inl, ◌∙◌}
+use Rattle.std.proofs.Common.{inl, refl, ◌∙◌}
 use Rattle.gix_index.proofs.Checks.{to_file}
 use Rattle.gix_index.proofs.FileFaults.{held_by}
 use Rattle.gix_index.proofs.file.unfollowed.read_alone.Goals as goal
