@@ -1,17 +1,17 @@
 //! The values of entries.
 
-ghost use Rattle.std.specs.Prelude.{◌≡◌, ◌≢◌, ◌++◌, IfErr, OnErr, OnOk, codes, false, length, true};
+ghost use Rattle.std.specs.Prelude.{◌≡◌, ◌≢◌, ◌+◌, ◌++◌, IfErr, OnErr, OnOk, codes, decimal, false, length, true};
 ghost use Rattle.std.specs.IoError.{error_kind};
 ghost use Rattle.index_entries.specs.Record.{IsPlaced, record_in};
+ghost use Rattle.index_metadata.specs.Flags.{stage_number};
 ghost use Rattle.index_state.specs.State.{PathsInStorage, contents, storage_of};
 ghost use Rattle.index_parts.specs.Taking.{AppendsPrefix};
 ghost use Rattle.index_text.specs.Blocks.{Passes};
-ghost use Rattle.index_json.specs.EntryValues.{entry_members, entry_value, file_members, stat_value, time_members, time_value};
-ghost use Rattle.index_json.specs.Values.{listed, member, separator};
+ghost use Rattle.index_text.specs.Prepending.{HasRoom, Prepends};
+ghost use Rattle.index_json.specs.EntryValues.{entry_value, stat_value, time_value};
+ghost use Rattle.index_json.specs.Values.{id_member, listed, member, number_member, separator};
 
-use crate::values::{
-    append_id_member, append_name, append_number_member, append_separator, append_text_member,
-};
+use crate::values::{append_separator, append_text_member};
 use bitflags::Flags as _;
 use index_entries::Entry;
 use index_metadata::entry::Stat;
@@ -20,93 +20,103 @@ use index_parts::hash::io::Out;
 use index_state::State;
 use index_text::append::Appended;
 use index_text::block::put_block;
+use index_text::prepend::{prepend, prepend_decimal, prepend_hex};
 use std::alloc::Global;
 use std::io::{self, ErrorKind};
 
-/// Appends a time.
-fn append_time(text: &mut Vec<u8>, time: Time) -> Appended
-    ensures { OnOk result (text.new.items ≡ text.old.items ++ time_value time) }
+/// How many bytes a stat takes at most.
+const STAT_LEN: usize = 271;
+
+/// How many bytes an entry takes at most behind its path.
+const BEHIND_PATH_LEN: usize = 438;
+
+/// Puts a number before the place `end` of the room, and before it what stands there as one piece: its name, and what
+/// is around that.
+#[inline(always)]
+fn prepend_number(room: &mut [u8], end: usize, before: &[u8], n: u32) -> usize
+    requires { HasRoom room.old end (length before.now + 20) }
+    ensures { Prepends room.old room.new end (length before.now + 20) result
+        (before.now ++ decimal n) }
 {
-    append_number_member(text, b"{", b"secs", u64::from(time.secs))?;
-    append_number_member(text, b",", b"nsecs", u64::from(time.nsecs))?;
-    text.extend_from_slice(b"}")
+    let end = prepend_decimal(room, end, u64::from(n));
+    prepend(room, end, before)
 }
 
-/// Appends a member that is a time.
+/// Puts a time, and before it what stands there.
+#[inline(always)]
 #[tactic(auto, unfolding(crate::specs::Values::member))]
-fn append_time_member(text: &mut Vec<u8>, before: &[u8], name: &[u8], time: Time) -> Appended
-    ensures { OnOk result
-        (text.new.items ≡ text.old.items ++ member before.now name.now (time_value time)) }
+fn prepend_time(room: &mut [u8], end: usize, before: &[u8], time: Time) -> usize
+    requires { HasRoom room.old end (length before.now + 58) }
+    ensures { Prepends room.old room.new end (length before.now + 58) result
+        (before.now ++ time_value time) }
 {
-    append_name(text, before, name)?;
-    append_time(text, time)
+    let end = prepend(room, end, b"}");
+    let end = prepend_number(room, end, b",\"nsecs\":", time.nsecs);
+    let end = prepend_number(room, end, b"{\"secs\":", time.secs);
+    prepend(room, end, before)
 }
 
-/// Appends the two times of a stat.
-#[tactic(auto, unfolding(crate::specs::EntryValues::time_members))]
-fn append_times(text: &mut Vec<u8>, stat: Stat) -> Appended
-    ensures { OnOk result (text.new.items ≡ text.old.items ++ time_members stat) }
+/// Puts a stat.
+#[inline(always)]
+fn prepend_stat(room: &mut [u8], end: usize, stat: Stat) -> usize
+    requires { HasRoom room.old end 271 }
+    ensures { Prepends room.old room.new end 271 result (stat_value stat) }
 {
-    append_time_member(text, b"{", b"mtime", stat.mtime)?;
-    append_time_member(text, b",", b"ctime", stat.ctime)
-}
-
-/// Appends the other numbers of a stat.
-#[tactic(auto, unfolding(crate::specs::EntryValues::file_members))]
-fn append_file(text: &mut Vec<u8>, stat: Stat) -> Appended
-    ensures { OnOk result (text.new.items ≡ text.old.items ++ file_members stat) }
-{
-    append_number_member(text, b",", b"dev", u64::from(stat.dev))?;
-    append_number_member(text, b",", b"ino", u64::from(stat.ino))?;
-    append_number_member(text, b",", b"uid", u64::from(stat.uid))?;
-    append_number_member(text, b",", b"gid", u64::from(stat.gid))?;
-    append_number_member(text, b",", b"size", u64::from(stat.size))
+    let end = prepend(room, end, b"}");
+    let end = prepend_number(room, end, b",\"size\":", stat.size);
+    let end = prepend_number(room, end, b",\"gid\":", stat.gid);
+    let end = prepend_number(room, end, b",\"uid\":", stat.uid);
+    let end = prepend_number(room, end, b",\"ino\":", stat.ino);
+    let end = prepend_number(room, end, b",\"dev\":", stat.dev);
+    let end = prepend_time(room, end, b",\"ctime\":", stat.ctime);
+    prepend_time(room, end, b"{\"mtime\":", stat.mtime)
 }
 
 /// Appends a stat.
-#[tactic(auto, unfolding(crate::specs::EntryValues::stat_value))]
 pub fn append_stat(text: &mut Vec<u8>, stat: Stat) -> Appended
     ensures { OnOk result (text.new.items ≡ text.old.items ++ stat_value stat) }
 {
-    append_times(text, stat)?;
-    append_file(text, stat)?;
-    text.extend_from_slice(b"}")
+    let mut room = [0; STAT_LEN];
+    let start = prepend_stat(&mut room, STAT_LEN, stat);
+    text.extend_from_slice(&room[start..])
 }
 
-/// Appends a member that is a stat.
+/// Appends what an entry has behind its path.
 #[tactic(auto, unfolding(crate::specs::Values::member))]
-pub fn append_stat_member(text: &mut Vec<u8>, before: &[u8], name: &[u8], stat: Stat) -> Appended
-    ensures { OnOk result
-        (text.new.items ≡ text.old.items ++ member before.now name.now (stat_value stat)) }
+fn append_behind_path(text: &mut Vec<u8>, entry: &Entry) -> Appended
+    ensures { OnOk result (text.new.items ≡ text.old.items
+        ++ (id_member (codes ",") (codes "id") entry.now.id
+        ++ number_member (codes ",") (codes "mode") entry.now.mode.0
+        ++ number_member (codes ",") (codes "stage") (stage_number entry.now.flags.0)
+        ++ number_member (codes ",") (codes "flags") entry.now.flags.0
+        ++ member (codes ",") (codes "stat") (stat_value entry.now.stat) ++ codes "}")) }
 {
-    append_name(text, before, name)?;
-    append_stat(text, stat)
-}
-
-/// Appends what an entry has beside its stat.
-#[tactic(auto, unfolding(crate::specs::EntryValues::entry_members))]
-fn append_entry_members(text: &mut Vec<u8>, alloc: Global, state: &State, entry: &Entry) -> Appended
-    requires { IsPlaced (length (storage_of state.now)) entry.now }
-    ensures { OnOk result (text.new.items
-        ≡ text.old.items ++ entry_members (record_in (storage_of state.now) entry.now)) }
-{
-    append_text_member(text, alloc, b"{", b"path", entry.path(state))?;
-    append_id_member(text, b",", b"id", &entry.id)?;
-    append_number_member(text, b",", b"mode", u64::from(entry.mode.bits()))?;
-    append_number_member(text, b",", b"stage", u64::from(entry.stage_raw()))?;
-    append_number_member(text, b",", b"flags", u64::from(entry.flags.bits()))
+    let mut room = [0; BEHIND_PATH_LEN];
+    let start = prepend(&mut room, BEHIND_PATH_LEN, b"}");
+    let start = prepend_stat(&mut room, start, entry.stat);
+    let start = prepend(&mut room, start, b",\"stat\":");
+    let start = prepend_number(&mut room, start, b",\"flags\":", entry.flags.bits());
+    let start = prepend_number(
+        &mut room,
+        start,
+        b",\"stage\":",
+        u32::from(entry.stage_raw()),
+    );
+    let start = prepend_number(&mut room, start, b"\",\"mode\":", entry.mode.bits());
+    let start = prepend_hex(&mut room, start, &entry.id);
+    let start = prepend(&mut room, start, b",\"id\":\"");
+    text.extend_from_slice(&room[start..])
 }
 
 /// Appends an entry.
-#[tactic(auto, unfolding(crate::specs::EntryValues::entry_value))]
+#[tactic(auto, unfolding(crate::specs::EntryValues::entry_value, crate::specs::EntryValues::entry_members))]
 fn append_entry(text: &mut Vec<u8>, alloc: Global, state: &State, entry: &Entry) -> Appended
     requires { IsPlaced (length (storage_of state.now)) entry.now }
     ensures { OnOk result (text.new.items
         ≡ text.old.items ++ entry_value (record_in (storage_of state.now) entry.now)) }
 {
-    append_entry_members(text, alloc, state, entry)?;
-    append_stat_member(text, b",", b"stat", entry.stat)?;
-    text.extend_from_slice(b"}")
+    append_text_member(text, alloc, b"{", b"path", entry.path(state))?;
+    append_behind_path(text, entry)
 }
 
 /// Appends an entry, and the comma before each but the first.

@@ -13,7 +13,7 @@ ghost use Rattle.index_json.specs.EntryValues.{stat_value};
 ghost use Rattle.index_json.specs.UntrackedValues.{cached_directory, exclude_members, exclude_or_null, name_value, naming_members, own_members, preamble_members, stat_or_null, untracked_or_null};
 ghost use Rattle.index_json.specs.Values.{array, id_or_null, json_bool, listed, member};
 
-use crate::entries::{append_stat, append_stat_member};
+use crate::entries::append_stat;
 use crate::values::{
     append_bool_member, append_id_member, append_id_or_null, append_name, append_number_member,
     append_separator, append_text_member,
@@ -30,14 +30,15 @@ use std::alloc::Global;
 use std::io::{self, ErrorKind};
 
 /// Appends the stat and the id of a file of exclude patterns, or `null`.
-#[tactic(auto, unfolding(crate::specs::UntrackedValues::exclude_or_null))]
+#[tactic(auto, unfolding(crate::specs::UntrackedValues::exclude_or_null, crate::specs::Values::member))]
 fn append_exclude(text: &mut Vec<u8>, file: Option<&OidStat>) -> Appended
     ensures { OnOk result (text.new.items
         ≡ text.old.items ++ exclude_or_null (option_map (λ f. f.now) file.entry)) }
 {
     match file {
         Some(file) => {
-            append_stat_member(text, b"{", b"stat", file.stat)?;
+            append_name(text, b"{", b"stat")?;
+            append_stat(text, file.stat)?;
             append_id_member(text, b",", b"id", &file.id)?;
             text.extend_from_slice(b"}")
         }
