@@ -43,7 +43,7 @@ static inline void gix_index_unlock(gix_index_lock *lock) {
 
 /* Gives a lock up: what is at the index's path stays as it was, the lock file is removed where it is this lock's, and
  * the memory is given back. errno is as it was, and the lock is zeros, of which nothing is to be given up. */
-static inline void gix_index_rollback(gix_index_lock *lock) {
+GIX_INDEX_API void gix_index_rollback(gix_index_lock *lock) {
     int error = errno;
     gix_index_unlock(lock);
     free(lock->path);
@@ -122,7 +122,7 @@ static inline uint32_t gix_index_make_lock(gix_index_lock *lock) {
  * MEMORY: malloc gives nothing. SYSTEM: a call of the system failed. With each but DONE no lock is held, and all files
  * are as they were; with each gix_index_rollback gives the memory back. The paths in the lock are those that were come
  * to, so that with EEXIST lock->lock_path is the file that is there. */
-static inline uint32_t gix_index_lock_file(const char *path, gix_index_lock *lock) {
+GIX_INDEX_API uint32_t gix_index_lock_file(const char *path, gix_index_lock *lock) {
     size_t size = strlen(path) + 1;
     memset(lock, 0, sizeof *lock);
     lock->file = -1;
@@ -217,7 +217,7 @@ static inline uint8_t *gix_index_image(const gix_index_row *rows, size_t rows_le
  * nothing for the bytes. SYSTEM: a call of the system failed. NO_ROOM isn't answered. With each but DONE the index is
  * as it was; with each the lock file is gone, if that can be done, and gix_index_rollback was called. told is written
  * with each status. */
-static inline uint32_t gix_index_commit(gix_index_lock *lock, const gix_index_table *t, const gix_index_form *form,
+GIX_INDEX_API uint32_t gix_index_commit(gix_index_lock *lock, const gix_index_table *t, const gix_index_form *form,
                                         bool is_synced, gix_index_written *told) {
     uint32_t status;
     uint8_t *bytes = gix_index_image(t->rows, t->said.entries, t->paths, t->said.path_bytes, t->bytes, t->bytes_len,
@@ -255,7 +255,7 @@ static inline uint32_t gix_index_put_file(const char *path, uint8_t *bytes, size
  * it was, another's lock is left where it is, and this one's is removed, if that can be done. REFUSED, MEMORY,
  * WRONG_NUMBER: as gix_index_write answers them, and no file was touched; MEMORY also where malloc gives nothing.
  * NO_ROOM isn't answered. told is written with each status. */
-static inline uint32_t gix_index_write_file(const char *path, const gix_index_row *rows, size_t rows_len,
+GIX_INDEX_API uint32_t gix_index_write_file(const char *path, const gix_index_row *rows, size_t rows_len,
                                             const uint8_t *paths, size_t paths_len, const gix_index_form *form,
                                             gix_index_written *told) {
     uint32_t status;
@@ -265,7 +265,7 @@ static inline uint32_t gix_index_write_file(const char *path, const gix_index_ro
 
 /* The same of what gix_index_write_over writes over the bytes of an index, as a table has them that was read from a
  * file: so its cached tree is kept, where it still tells what the rows give, and its mark of a sparse index. */
-static inline uint32_t gix_index_write_file_over(const char *path, const gix_index_row *rows, size_t rows_len,
+GIX_INDEX_API uint32_t gix_index_write_file_over(const char *path, const gix_index_row *rows, size_t rows_len,
                                                  const uint8_t *paths, size_t paths_len, const uint8_t *index,
                                                  size_t index_len, const gix_index_form *form,
                                                  gix_index_written *told) {

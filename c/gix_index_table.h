@@ -21,6 +21,12 @@
 #error "gix_index_table.h takes POSIX of 2008: define _POSIX_C_SOURCE as 200809L before the first header is included"
 #endif
 
+/* How the calls of the headers for files are linked: each source that includes these has functions of its own. The
+ * shared library has the same calls by the same names, for callers in other languages: gix_index_file.c makes them. */
+#ifndef GIX_INDEX_API
+#define GIX_INDEX_API static inline
+#endif
+
 /* What calls for files answer beside the statuses of gix_index.h: a call of the system failed, and errno says why.
  * Among others EFBIG is a file with more than GIX_INDEX_MOST_BYTES, or without an end; EISDIR a directory that was to
  * be read. */
@@ -39,11 +45,42 @@ typedef struct {
     gix_index_summary said;
 } gix_index_table;
 
-static inline void gix_index_drop_table(gix_index_table *t) {
+GIX_INDEX_API void gix_index_drop_table(gix_index_table *t) {
     free(t->rows);
     free(t->paths);
     free(t->bytes);
     memset(t, 0, sizeof *t);
+}
+
+/* Makes room for so many rows more, and so many bytes more of paths, behind those that the summary counts. False where
+ * there is no memory: the table is as it was. */
+static inline bool gix_index_more_room(gix_index_table *t, size_t rows, size_t path_bytes) {
+    size_t most = ((size_t)-1 >> 1) / sizeof *t->rows;
+    if (rows > most - t->said.entries || path_bytes > (size_t)-1 - t->said.path_bytes - 1) return false;
+    gix_index_row *more = (gix_index_row *)realloc(t->rows, (t->said.entries + rows + 1) * sizeof *more);
+    if (more) t->rows = more;
+    uint8_t *paths = more ? (uint8_t *)realloc(t->paths, t->said.path_bytes + path_bytes + 1) : NULL;
+    if (paths) t->paths = paths;
+    return paths != NULL;
+}
+
+/* Puts what the file system says of a file, mostly by lstat, into a row: its stat numbers, each modulo 2 to the 32nd as
+ * git stores it, and its mode. False where it is no regular file, no link and no directory, and the mode stays; that of
+ * a directory is that of a submodule. */
+static inline bool gix_index_set_stat(gix_index_row *row, const struct stat *seen) {
+    row->ctime_secs = (uint32_t)seen->st_ctim.tv_sec;
+    row->ctime_nsecs = (uint32_t)seen->st_ctim.tv_nsec;
+    row->mtime_secs = (uint32_t)seen->st_mtim.tv_sec;
+    row->mtime_nsecs = (uint32_t)seen->st_mtim.tv_nsec;
+    row->dev = (uint32_t)seen->st_dev;
+    row->ino = (uint32_t)seen->st_ino;
+    row->uid = (uint32_t)seen->st_uid;
+    row->gid = (uint32_t)seen->st_gid;
+    row->size = (uint32_t)seen->st_size;
+    if (S_ISREG(seen->st_mode)) row->mode = seen->st_mode & S_IXUSR ? GIX_INDEX_EXECUTABLE : GIX_INDEX_FILE;
+    if (S_ISLNK(seen->st_mode)) row->mode = GIX_INDEX_LINK;
+    if (S_ISDIR(seen->st_mode)) row->mode = GIX_INDEX_COMMIT;
+    return S_ISREG(seen->st_mode) || S_ISLNK(seen->st_mode) || S_ISDIR(seen->st_mode);
 }
 
 /* Opens a file, also where a signal interrupts that. One that is made has the permissions that the umask leaves. */
@@ -197,7 +234,7 @@ static inline uint32_t gix_index_shared_of(const char *path, const uint8_t *byte
  * Statuses, the summary in the table and the text are those of gix_index_read_split; NO_ROOM isn't answered. MEMORY
  * also where malloc gives nothing for the table. SYSTEM: a file can't be read, and errno says why; with
  * t->said.of_shared it is the shared one. With each status gix_index_drop_table gives the memory back. */
-static inline uint32_t gix_index_read_file(const char *path, uint32_t kind, uint8_t *text, size_t text_len,
+GIX_INDEX_API uint32_t gix_index_read_file(const char *path, uint32_t kind, uint8_t *text, size_t text_len,
                                            gix_index_table *t) {
     uint8_t *shared;
     size_t shared_len;
@@ -225,7 +262,7 @@ static inline uint32_t gix_index_read_file(const char *path, uint32_t kind, uint
  *
  * Statuses, the summary and the text are those of gix_index_check_split. MEMORY also where malloc gives nothing for
  * a path. SYSTEM: a file can't be read, and errno says why; with said->of_shared it is the shared one. */
-static inline uint32_t gix_index_check_file(const char *path, uint32_t kind, uint8_t *text, size_t text_len,
+GIX_INDEX_API uint32_t gix_index_check_file(const char *path, uint32_t kind, uint8_t *text, size_t text_len,
                                             gix_index_summary *said) {
     uint8_t *shared;
     size_t len, shared_len;

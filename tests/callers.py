@@ -1,12 +1,13 @@
-"""The callers in C and in Rust of the static library, as the tests beside git build them in a folder of their own."""
+"""The callers of the library in C, Rust and Python, as the tests beside git build them in a folder of their own."""
 import os
+import shlex
 import subprocess
 import sys
 
 from common import TOP, answer
 
 SANITIZE = ("-fsanitize=address,undefined", "-fno-sanitize-recover=all")
-EXAMPLES = ("list", "check", "status", "sample", "rewrite")
+EXAMPLES = ("list", "check", "status", "stage", "resolve", "sample", "rewrite")
 
 
 def run(words, **options):
@@ -67,3 +68,12 @@ def in_rust(room):
     words = ("cargo", "build", "--quiet", "--offline", "--release", "--examples")
     run(words, cwd=TOP / "rust", env=in_rust_here(room))
     return {name: room / "target" / "release" / "examples" / name for name in EXAMPLES}
+
+
+def in_python(room, name):
+    """An example in Python over the module that is installed, as a program."""
+    made, script = room / f"{name}-in-python", TOP / "python" / "examples" / f"{name}.py"
+    module = shlex.quote(f"PYTHONPATH={room / 'prefix' / 'lib' / 'python'}")
+    made.write_text(f"#!/bin/sh\nexec env {module} {shlex.quote(sys.executable)} -B {shlex.quote(str(script))} \"$@\"\n")
+    made.chmod(0o755)
+    return made

@@ -12,77 +12,35 @@
 #define _POSIX_C_SOURCE 200809L
 #include "table.h"
 
-#include <sys/stat.h>
-
-static bool is_same(const gix_index_row *row, const struct stat *seen) {
-    return row->mtime_secs == (uint32_t)seen->st_mtim.tv_sec && row->ctime_secs == (uint32_t)seen->st_ctim.tv_sec &&
-           row->ino == (uint32_t)seen->st_ino && row->uid == seen->st_uid && row->gid == seen->st_gid &&
-           row->size == (uint32_t)seen->st_size;
-}
-
-/* The letter of an entry, or 0, where its file has this path. */
+/* The letter of an entry whose file has this path, or 0. */
 static char letter_of(const gix_index_row *row, const char *path, time_t written) {
-    struct stat seen;
+    struct stat at;
+    gix_index_row seen = {0};
+    if (row->stage) return 'U';
     if (row->flags & (GIX_INDEX_ASSUME_VALID | GIX_INDEX_SKIP_WORKTREE)) return 0;
-    if (row->flags & GIX_INDEX_INTENT_TO_ADD) return 'A';
     if (row->mode == GIX_INDEX_COMMIT || row->mode == GIX_INDEX_DIRECTORY) return 0;
-    if (lstat(path, &seen) != 0 || S_ISDIR(seen.st_mode)) return 'D';
-    if (row->mode == GIX_INDEX_LINK ? !S_ISLNK(seen.st_mode) : !S_ISREG(seen.st_mode)) return 'T';
-    if (row->mode != GIX_INDEX_LINK && (row->mode == GIX_INDEX_EXECUTABLE) != !!(seen.st_mode & S_IXUSR)) return 'M';
-    if (!is_same(row, &seen)) return 'M';
+    if (lstat(path, &at) != 0 || S_ISDIR(at.st_mode)) return 'D';
+    if (row->flags & GIX_INDEX_INTENT_TO_ADD) return 'A';
+    if (!gix_index_set_stat(&seen, &at) || (row->mode == GIX_INDEX_LINK) != (seen.mode == GIX_INDEX_LINK)) return 'T';
+    if (row->mode != seen.mode || row->mtime_secs != seen.mtime_secs || row->ctime_secs != seen.ctime_secs ||
+        row->ino != seen.ino || row->uid != seen.uid || row->gid != seen.gid || row->size != seen.size)
+        return 'M';
     return row->mtime_secs >= (uint32_t)written ? 'R' : 0;
 }
 
-/* The folder, a slash and the row's path, in memory that the caller frees. */
-static char *path_of(const char *folder, const gix_index_row *row, const uint8_t *paths) {
-    size_t len = strlen(folder);
-    char *path = malloc(len + row->path_len + 2);
-    if (path) {
-        memcpy(path, folder, len);
-        path[len] = '/';
-        memcpy(path + len + 1, paths + row->path_start, row->path_len);
-        path[len + 1 + row->path_len] = 0;
-    }
-    return path;
-}
-
-/* Whether a row has the path of the one before it, as in a conflict. */
-static bool is_again(const gix_index_table *t, size_t i) {
-    if (i == 0) return false;
-    const gix_index_row *one = t->rows + i - 1, *two = t->rows + i;
-    const uint8_t *path = t->paths + one->path_start, *other = t->paths + two->path_start;
-    return one->path_len == two->path_len && !memcmp(path, other, one->path_len);
-}
-
-static bool print_status(const char *folder, const gix_index_table *t, time_t written) {
-    for (size_t i = 0; i < t->said.entries; i++) {
-        const gix_index_row *row = t->rows + i;
-        char *path = path_of(folder, row, t->paths);
-        if (!path) return false;
-        char letter = row->stage ? (is_again(t, i) ? 0 : 'U') : letter_of(row, path, written);
-        if (letter) {
-            printf("%c\t", letter);
-            fwrite(t->paths + row->path_start, 1, row->path_len, stdout);
-            putchar('\n');
-        }
-        free(path);
-    }
-    return true;
-}
-
 int main(int argc, char **argv) {
-    if (argc != 3 || !kind_of(argv[1])) {
-        fputs("usage: status sha1|sha256 FOLDER\n", stderr);
-        return 2;
+    gix_index_table t;
+    char path[4097] = "", last[sizeof path];
+    if (argc != 3 || !kind_of(argv[1])) return fputs("usage: status sha1|sha256 FOLDER\n", stderr), 2;
+    if (chdir(argv[2]) != 0) return perror(argv[2]), 1;
+    bool is_read = read_table("status", ".git/index", kind_of(argv[1]), &t);
+    for (size_t i = 0; is_read && i < t.said.entries; i++) {
+        const gix_index_row *row = t.rows + i;
+        memcpy(last, path, sizeof path);
+        snprintf(path, sizeof path, "%.*s", (int)row->path_len, (const char *)t.paths + row->path_start);
+        char letter = letter_of(row, path, t.mtime.tv_sec);
+        if (letter && strcmp(path, last) != 0) printf("%c\t%s\n", letter, path);
     }
-    struct stat index;
-    gix_index_table t = {0};
-    char *path = malloc(strlen(argv[2]) + sizeof "/.git/index");
-    bool is_done = path && sprintf(path, "%s/.git/index", argv[2]) > 0 && stat(path, &index) == 0;
-    if (!is_done) fprintf(stderr, "status: %s has no index\n", argv[2]);
-    is_done = is_done && read_table("status", path, kind_of(argv[1]), &t);
-    is_done = is_done && print_status(argv[2], &t, index.st_mtim.tv_sec);
     gix_index_drop_table(&t);
-    free(path);
-    return is_done && fflush(stdout) == 0 ? 0 : 1;
+    return is_read && fflush(stdout) == 0 ? 0 : 1;
 }

@@ -1,4 +1,4 @@
-/* What the examples share: a table of an index file, and what is said where there is none. */
+/* What the examples share: a table of an index file, which may be locked, and what is said where something fails. */
 #ifndef TABLE_H
 #define TABLE_H
 
@@ -26,6 +26,52 @@ static inline bool read_table(const char *name, const char *path, uint32_t kind,
     if (status == GIX_INDEX_DONE) return true;
     tell(name, path, status, &t->said, text);
     return false;
+}
+
+/* What stands at a lock's path that is no regular file. */
+static inline const char *name_of(const gix_index_lock *lock) {
+    mode_t mode = lock->mode;
+    return S_ISDIR(mode) ? "directory" : S_ISFIFO(mode) ? "fifo" : S_ISSOCK(mode) ? "socket" : "device";
+}
+
+/* Locks a file. Where that can't be done, it tells why. */
+static inline bool lock_file(const char *name, const char *path, gix_index_lock *lock) {
+    uint32_t status = gix_index_lock_file(path, lock);
+    const char *at = lock->lock_path ? lock->lock_path : lock->path ? lock->path : path;
+    if (status == GIX_INDEX_SYSTEM && errno == EEXIST)
+        fprintf(stderr, "%s: %s: %s is there: another process writes the index, or died while it did; if none runs, "
+                "remove that file\n", name, path, at);
+    else if (status == GIX_INDEX_NOT_REGULAR)
+        fprintf(stderr, "%s: %s: %s is a %s, and no regular file: it isn't replaced\n", name, path, lock->path,
+                name_of(lock));
+    else if (status != GIX_INDEX_DONE)
+        fprintf(stderr, "%s: %s: %s: %s\n", name, path, at,
+                status == GIX_INDEX_MEMORY ? "out of memory" : strerror(errno));
+    return status == GIX_INDEX_DONE;
+}
+
+/* Locks a file, and reads it. The lock is to be given up and the table to be dropped in each case. */
+static inline bool read_locked(const char *name, const char *path, uint32_t kind, gix_index_lock *lock,
+                               gix_index_table *t) {
+    memset(t, 0, sizeof *t);
+    return lock_file(name, path, lock) && read_table(name, lock->path, kind, t);
+}
+
+/* Writes a table in place of the file that is locked, in the version that it was read from, or in a larger one. Where
+ * it isn't written, it tells why. */
+static inline bool commit_table(const char *name, const char *path, gix_index_lock *lock, const gix_index_table *t,
+                                uint32_t kind, uint32_t version) {
+    gix_index_form form = {kind, t->said.version > version ? t->said.version : version, false};
+    gix_index_written told;
+    uint32_t status = gix_index_commit(lock, t, &form, true, &told);
+    if (status == GIX_INDEX_REFUSED)
+        fprintf(stderr, "%s: %s: %s (%zu)\n", name, path,
+                told.fault == GIX_INDEX_FAULT_ORDER ? "an entry isn't above the one before it"
+                : told.fault == GIX_INDEX_FAULT_ROW ? "an entry can't be written"
+                                                    : "there is too much for a file", told.fault_place);
+    else if (status != GIX_INDEX_DONE)
+        fprintf(stderr, "%s: %s: %s\n", name, path, status == GIX_INDEX_MEMORY ? "out of memory" : strerror(errno));
+    return status == GIX_INDEX_DONE;
 }
 
 #endif

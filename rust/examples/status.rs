@@ -8,102 +8,38 @@
 //! tell. A: it is only meant to be added. U: it is in conflict. Submodules, directories of a sparse index, and entries
 //! that are taken for unchanged or are skipped are left alone.
 //!
-//! The status is 1 where the index can't be read, and 2 for wrong words.
+//! The status is 1 where the index can't be read, and 2 for too few words or too many.
 
-use gix_index_proved::{Entry, Index, Kind, flags, mode};
-use std::env;
-use std::error::Error;
-use std::ffi::OsStr;
-use std::fs::{self, Metadata};
-use std::io::{self, BufWriter, Write};
+use gix_index_proved::{Entry, Index, Stat, Time, flags, mode};
+use std::io::Write;
 use std::os::unix::ffi::OsStrExt;
-use std::os::unix::fs::MetadataExt;
-use std::path::Path;
-use std::process::ExitCode;
 
-fn is_same(entry: Entry<'_>, seen: &Metadata) -> bool {
-    let stat = entry.stat();
-    stat.mtime.secs == seen.mtime() as u32
-        && stat.ctime.secs == seen.ctime() as u32
-        && stat.ino == seen.ino() as u32
-        && stat.uid == seen.uid()
-        && stat.gid == seen.gid()
-        && stat.size == seen.len() as u32
+/// The letter of an entry of the index, if there is one to print.
+fn letter_of(entry: Entry<'_>, index: &Index) -> Option<u8> {
+    let key = |stat: Stat| (stat.mtime.secs, stat.ctime.secs, stat.ino, stat.uid, stat.gid, stat.size);
+    let last_moment = std::time::SystemTime::from(Time { nsecs: 999_999_999, ..entry.stat().mtime });
+    let seen = std::fs::symlink_metadata(std::ffi::OsStr::from_bytes(entry.path()));
+    match seen.ok().filter(|seen| !seen.is_dir()) {
+        _ if entry.stage() != 0 => Some(b'U'),
+        _ if entry.flags() & (flags::ASSUME_VALID | flags::SKIP_WORKTREE) != 0 => None,
+        _ if matches!(entry.mode(), mode::COMMIT | mode::DIR) => None,
+        None => Some(b'D'),
+        _ if entry.flags() & flags::INTENT_TO_ADD != 0 => Some(b'A'),
+        Some(at) if at.is_symlink() != (entry.mode() == mode::SYMLINK) || mode::from_fs(&at).is_none() => Some(b'T'),
+        Some(at) if mode::from_fs(&at) != Some(entry.mode()) || key(Stat::from(&at)) != key(entry.stat()) => Some(b'M'),
+        Some(_) => (index.timestamp() <= Some(last_moment)).then_some(b'R'),
+    }
 }
 
-/// The letter of an entry, if there is one to print, by what was seen at its path.
-fn letter_of(entry: Entry<'_>, seen: io::Result<Metadata>, written: i64) -> Option<u8> {
-    if entry.flags() & flags::INTENT_TO_ADD != 0 {
-        return Some(b'A');
-    }
-    let Ok(seen) = seen else {
-        return Some(b'D');
+fn main() -> Result<(), Box<dyn std::error::Error>> {
+    let [kind, folder] = &std::env::args().skip(1).collect::<Vec<_>>()[..] else {
+        eprintln!("usage: status sha1|sha256 FOLDER");
+        std::process::exit(2);
     };
-    let is_link = entry.mode() == mode::SYMLINK;
-    let is_executable = entry.mode() == mode::FILE_EXECUTABLE;
-    if seen.is_dir() {
-        Some(b'D')
-    } else if if is_link { !seen.is_symlink() } else { !seen.is_file() } {
-        Some(b'T')
-    } else if !is_link && is_executable != (seen.mode() & 0o100 != 0) || !is_same(entry, &seen) {
-        Some(b'M')
-    } else if i64::from(entry.stat().mtime.secs) >= written {
-        Some(b'R')
-    } else {
-        None
-    }
-}
-
-/// Whether the entry is left alone: it is no file, or isn't to be looked at.
-fn is_left_alone(entry: Entry<'_>) -> bool {
-    entry.flags() & (flags::ASSUME_VALID | flags::SKIP_WORKTREE) != 0
-        || entry.flags() & flags::INTENT_TO_ADD == 0 && matches!(entry.mode(), mode::COMMIT | mode::DIR)
-}
-
-fn print_status(folder: &Path, index: &Index, written: i64) -> io::Result<()> {
-    let mut out = BufWriter::new(io::stdout().lock());
-    let mut last: Option<&[u8]> = None;
-    for entry in index.entries() {
-        let path = entry.path();
-        let letter = if entry.stage() != 0 {
-            (last != Some(path)).then_some(b'U')
-        } else if is_left_alone(entry) {
-            None
-        } else {
-            letter_of(entry, fs::symlink_metadata(folder.join(OsStr::from_bytes(path))), written)
-        };
-        last = Some(path);
-        if let Some(letter) = letter {
-            out.write_all(&[letter, b'\t'])?;
-            out.write_all(path)?;
-            out.write_all(b"\n")?;
-        }
-    }
-    out.flush()
-}
-
-fn run(kind: Kind, folder: &Path) -> Result<(), Box<dyn Error>> {
-    let path = folder.join(".git/index");
-    let written = fs::metadata(&path)?.mtime();
-    let index = Index::open(&path, kind)?;
-    Ok(print_status(folder, &index, written)?)
-}
-
-fn main() -> ExitCode {
-    let words: Vec<_> = env::args_os().skip(1).collect();
-    let (kind, folder) = match words.as_slice() {
-        [kind, folder] if kind == "sha1" => (Kind::Sha1, folder),
-        [kind, folder] if kind == "sha256" => (Kind::Sha256, folder),
-        _ => {
-            eprintln!("usage: status sha1|sha256 FOLDER");
-            return ExitCode::from(2);
-        }
-    };
-    match run(kind, Path::new(folder)) {
-        Ok(()) => ExitCode::SUCCESS,
-        Err(error) => {
-            eprintln!("status: {}: {error}", Path::new(folder).display());
-            ExitCode::FAILURE
-        }
-    }
+    std::env::set_current_dir(folder)?;
+    let index = Index::open(".git/index", kind.parse()?)?;
+    let line_of = |entry| Some([&[letter_of(entry, &index)?, b'\t'], entry.path(), b"\n"].concat());
+    let mut lines: Vec<_> = index.entries().filter_map(line_of).collect();
+    lines.dedup();
+    Ok(std::io::stdout().write_all(&lines.concat())?)
 }

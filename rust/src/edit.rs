@@ -1,11 +1,9 @@
 //! Changing the entries of an index in memory.
 
+use crate::entry::flags::STAGE_MASK;
 use crate::raw::Row;
 use crate::{Entry, Error, Index, Kind, Stat};
 use std::fmt;
-
-/// The bits of the flags that are the stage.
-const STAGE_MASK: u32 = 0x3000;
 
 /// An entry of an index, lent to be changed. Its path stays.
 pub struct EntryMut<'a> {

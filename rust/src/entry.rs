@@ -5,6 +5,7 @@ use std::fmt;
 use std::fs::Metadata;
 use std::hash::{Hash, Hasher};
 use std::os::unix::fs::MetadataExt;
+use std::time::{Duration, SystemTime, UNIX_EPOCH};
 
 /// A time of an entry, in the 32 bits of each part that a file stores, since the begin of 1970.
 #[derive(Clone, Copy, Debug, Default, PartialEq, Eq, PartialOrd, Ord, Hash)]
@@ -13,6 +14,12 @@ pub struct Time {
     pub secs: u32,
     /// Nanoseconds on top.
     pub nsecs: u32,
+}
+
+impl From<Time> for SystemTime {
+    fn from(time: Time) -> SystemTime {
+        UNIX_EPOCH + Duration::new(time.secs.into(), time.nsecs)
+    }
 }
 
 /// The stat numbers of an entry, each in the 32 bits that a file stores (gitformat-index, "Index entry").
@@ -59,6 +66,9 @@ impl From<&Metadata> for Stat {
 
 /// The mode of an entry's file: the kind, and whether its owner may run it.
 pub mod mode {
+    use std::fs::Metadata;
+    use std::os::unix::fs::MetadataExt;
+
     /// A directory of a sparse index.
     pub const DIR: u32 = 0o040000;
     /// A file.
@@ -69,10 +79,28 @@ pub mod mode {
     pub const SYMLINK: u32 = 0o120000;
     /// A submodule.
     pub const COMMIT: u32 = 0o160000;
+
+    /// The mode that an entry of what stands at its path has, by what
+    /// [`symlink_metadata`](std::fs::symlink_metadata) says: of a directory that of a submodule. None where it is a
+    /// device, a fifo or a socket.
+    #[must_use]
+    pub fn from_fs(said: &Metadata) -> Option<u32> {
+        if said.is_symlink() {
+            Some(SYMLINK)
+        } else if said.is_dir() {
+            Some(COMMIT)
+        } else if said.is_file() {
+            Some(if said.mode() & 0o100 == 0 { FILE } else { FILE_EXECUTABLE })
+        } else {
+            None
+        }
+    }
 }
 
 /// Flags of an entry; bits 12 and 13 are its stage.
 pub mod flags {
+    /// The bits that are the stage.
+    pub const STAGE_MASK: u32 = 0x3000;
     /// The file has a second word of flags of the entry.
     pub const EXTENDED: u32 = 0x4000;
     /// The file is taken for unchanged.

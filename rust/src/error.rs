@@ -1,6 +1,6 @@
 //! Why an index isn't read or written.
 
-use crate::raw::{Summary, Written};
+use crate::raw::{self, Summary, Written};
 use std::fmt;
 use std::fs::FileType;
 use std::io;
@@ -115,19 +115,19 @@ impl Fault {
     /// The fault of a number, with the place that it names.
     fn of(number: u32, place: usize) -> Fault {
         match number {
-            1 => Fault::Header,
-            2 => Fault::Version,
-            4 => Fault::Entry(place),
-            5 => Fault::Extension,
-            6 => Fault::Link,
-            7 => Fault::Trailer,
-            8 => Fault::Digest,
-            10 => Fault::Order(place),
-            11 => Fault::CachedTree,
-            12 => Fault::Row(place),
-            13 => Fault::Count,
-            14 => Fault::Length,
-            15 => Fault::Mode(place),
+            raw::FAULT_HEADER => Fault::Header,
+            raw::FAULT_VERSION => Fault::Version,
+            raw::FAULT_ENTRY => Fault::Entry(place),
+            raw::FAULT_EXTENSION => Fault::Extension,
+            raw::FAULT_LINK => Fault::Link,
+            raw::FAULT_TRAILER => Fault::Trailer,
+            raw::FAULT_DIGEST => Fault::Digest,
+            raw::FAULT_ORDER => Fault::Order(place),
+            raw::FAULT_CACHED_TREE => Fault::CachedTree,
+            raw::FAULT_ROW => Fault::Row(place),
+            raw::FAULT_COUNT => Fault::Count,
+            raw::FAULT_LENGTH => Fault::Length,
+            raw::FAULT_MODE => Fault::Mode(place),
             number => Fault::Other(number),
         }
     }

@@ -1,4 +1,5 @@
-//! The calls of `libindex_c.a`, as `c/gix_index.h` declares them. Nothing compares the two but `tests/linked`.
+//! The calls of `libindex_c.a`, as `c/gix_index.h` declares them. Numbers and fields are compared by `tests/numbers`,
+//! the rest by `tests/linked` alone.
 
 pub const DONE: u32 = 0;
 pub const MEMORY: u32 = 2;
@@ -10,6 +11,20 @@ pub const TREE_LEFT_OUT: u32 = 2;
 
 pub const SHA1: u32 = 1;
 pub const SHA256: u32 = 2;
+
+pub const FAULT_HEADER: u32 = 1;
+pub const FAULT_VERSION: u32 = 2;
+pub const FAULT_ENTRY: u32 = 4;
+pub const FAULT_EXTENSION: u32 = 5;
+pub const FAULT_LINK: u32 = 6;
+pub const FAULT_TRAILER: u32 = 7;
+pub const FAULT_DIGEST: u32 = 8;
+pub const FAULT_ORDER: u32 = 10;
+pub const FAULT_CACHED_TREE: u32 = 11;
+pub const FAULT_ROW: u32 = 12;
+pub const FAULT_COUNT: u32 = 13;
+pub const FAULT_LENGTH: u32 = 14;
+pub const FAULT_MODE: u32 = 15;
 
 #[repr(C)]
 #[derive(Clone, Copy, Default)]

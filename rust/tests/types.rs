@@ -1,14 +1,19 @@
 //! Holds what the public types are beside what they do: shown, compared, and sent to threads. `tests/linked` at the top
 //! of the repository runs it.
 
+mod common;
+
+use common::Folder;
 use gix_index_proved::write::Options;
 use gix_index_proved::{
     Entry, EntryMut, Error, Fault, Index, Kind, Locked, Stat, Time, UnknownKind, flags, mode, write,
 };
 use std::collections::HashSet;
 use std::fmt::{Debug, Display};
+use std::fs;
 use std::io;
-use std::path::PathBuf;
+use std::os::unix::fs::{PermissionsExt, symlink};
+use std::path::{Path, PathBuf};
 
 /// An index of these paths, all of them of one file.
 fn index_of(paths: &[&[u8]]) -> Index {
@@ -73,6 +78,22 @@ fn a_file_has_its_stat() {
     assert_eq!(u64::from(stat.size), said.len());
     let time = said.modified().expect("it has one").duration_since(std::time::UNIX_EPOCH).expect("it is later");
     assert_eq!((u64::from(stat.mtime.secs), stat.mtime.nsecs), (time.as_secs(), time.subsec_nanos()));
+    assert_eq!(std::time::SystemTime::from(stat.mtime), said.modified().expect("it has one"));
+}
+
+#[test]
+fn what_is_there_has_its_mode() {
+    let folder = Folder::new("modes");
+    let (file, link) = (folder.at("file"), folder.at("link"));
+    fs::write(&file, b"").expect("it can be written");
+    symlink("file", &link).expect("it can be made");
+    let mode_of = |path: &Path| mode::from_fs(&fs::symlink_metadata(path).expect("it is there"));
+    for (bits, wanted) in [(0o644, mode::FILE), (0o755, mode::FILE_EXECUTABLE), (0o655, mode::FILE)] {
+        fs::set_permissions(&file, fs::Permissions::from_mode(bits)).expect("it is one's own");
+        assert_eq!(mode_of(&file), Some(wanted));
+    }
+    assert_eq!((mode_of(&link), mode_of(&folder.at(""))), (Some(mode::SYMLINK), Some(mode::COMMIT)));
+    assert_eq!(mode_of(Path::new("/dev/null")), None);
 }
 
 #[test]

@@ -1,4 +1,4 @@
-"""What `index_change_rows` has to answer: edits, merges, verified trees, writing, and files of a working tree."""
+"""What `test_change_rows` has to answer: edits, merges, verified trees, writing, and files of a working tree."""
 
 import edits
 import extensions

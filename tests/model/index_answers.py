@@ -1,4 +1,4 @@
-"""What `index_rows` has to answer: indexes, extensions, numbers and values of an entry. Each call answers lines."""
+"""What `test_rows` has to answer: indexes, extensions, numbers and values of an entry. Each call answers lines."""
 
 import bitmaps
 import entries

@@ -1,4 +1,4 @@
-"""What `index_lookup_rows` has to answer: each lookup for some paths over a list of entries, and single searches."""
+"""What `test_lookup_rows` has to answer: each lookup for some paths over a list of entries, and single searches."""
 
 import lookups
 import show

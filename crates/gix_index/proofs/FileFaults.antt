@@ -20,7 +20,7 @@ use Rattle.gix_index.specs.File.{state_of, checksum_of}
 use Rattle.gix_index.specs.Checked.{IsFileAnswer, SaysFile}
 use Rattle.index_file_faults.specs.ReadErrors.{link_error_of}
 use Rattle.gix_index.specs.Disk.{Disk, MayHave, known_of, shared_path}
-use Rattle.gix_index.specs.FileFaults.{IsOfFile, SaysOfFile, SaysOfFiles}
+use Rattle.gix_index.specs.FileFaults.{IsOfFile, SaysOfBoth, SaysOfFile, SaysOfFiles}
 use Rattle.gix_index.specs.Linked.{IsOnDisk, IsReadAs, IsSplit, expecting, own, joined}
 use Rattle.index_file_faults.specs.declared.init.Error.{Error}
 use Rattle.index_file_faults.specs.declared.init.Error.TheVariants as errors
@@ -181,13 +181,32 @@ module _ (skip : Bool) (kind : Kind) (time : FileTime) (options : Options) where
   of_shared path works disk split checksum link (errors.LinkExtension e) is h = absurd h
   of_shared path works disk split checksum link errors.Memory is h = tt
 
-  pub of_link : (path : List ℕ) (works : Bool) (disk : Disk) (split : Contents) (checksum : Option ObjectId) (link : LinkValue)
+  -- ---- of the bytes of both
+
+  pub own_of_both : (disk : Disk) (bytes : List ℕ) (e : Error) → MayHave disk.own bytes
+      → SaysFile (Err e) (IsFileAnswer skip kind time options bytes) → SaysOfBoth disk skip kind time options e
+  own_of_both disk bytes (errors.Io fault) m h = absurd h
+  own_of_both disk bytes (errors.Decode e) m h = inl (bytes, m, h)
+  own_of_both disk bytes (errors.LinkExtension e) m h = absurd h
+  own_of_both disk bytes errors.Memory m h = tt
+
+  pub shared_of_both : (disk : Disk) (bytes : List ℕ) (split : Contents) (checksum : Option ObjectId) (link : LinkValue)
+      (e : Error) → IsSplit disk.own skip kind time options split checksum link
+      → MayHave (disk.shared link.shared) bytes
+      → SaysFile (Err e) (IsFileAnswer skip kind time (expecting options link.shared) bytes)
+      → SaysOfBoth disk skip kind time options e
+  shared_of_both disk bytes split checksum link (errors.Io fault) is m h = absurd h
+  shared_of_both disk bytes split checksum link (errors.Decode e) is m h =
+      inr (record { split = split; checksum = checksum; link = link; is_split = is; refuses = (bytes, m, h) })
+  shared_of_both disk bytes split checksum link (errors.LinkExtension e) is m h = absurd h
+  shared_of_both disk bytes split checksum link errors.Memory is m h = tt
+
+  pub link_of_both : (disk : Disk) (split : Contents) (checksum : Option ObjectId) (link : LinkValue)
       (shared : Contents) (shared_checksum : Option ObjectId) (e : LinkError)
       → IsSplit disk.own skip kind time options split checksum link
       → IsReadAs (disk.shared link.shared) skip kind time (expecting options link.shared) shared shared_checksum
-      → SaysDissolve e link shared (without_link split)
-      → SaysOfFiles path works disk skip kind time options (link_error_of e)
-  of_link path works disk split checksum link shared shared_checksum (links.Corrupt text) is read h = record {
+      → SaysDissolve e link shared (without_link split) → SaysOfBoth disk skip kind time options (link_error_of e)
+  link_of_both disk split checksum link shared shared_checksum (links.Corrupt text) is read h = record {
     split = split;
     checksum = checksum;
     link = link;
@@ -199,7 +218,7 @@ module _ (skip : Bool) (kind : Kind) (time : FileTime) (options : Options) where
     stands_for = refl;
     is_fault = h;
   }
-  of_link path works disk split checksum link shared shared_checksum (links.BitmapDecode error name) is read h = record {
+  link_of_both disk split checksum link shared shared_checksum (links.BitmapDecode error name) is read h = record {
     split = split;
     checksum = checksum;
     link = link;
@@ -211,4 +230,39 @@ module _ (skip : Bool) (kind : Kind) (time : FileTime) (options : Options) where
     stands_for = refl;
     is_fault = h;
   }
-  of_link path works disk split checksum link shared shared_checksum links.Memory is read h = tt
+  link_of_both disk split checksum link shared shared_checksum links.Memory is read h = tt
+
+  files_of_both : (path : List ℕ) (works : Bool) (disk : Disk) (e : Error) → SaysOfBoth disk skip kind time options e
+      → SaysOfFiles path works disk skip kind time options e
+  files_of_both path works disk (errors.Io fault) h = absurd h
+  files_of_both path works disk (errors.Decode e) h = h
+  files_of_both path works disk (errors.LinkExtension e) h = h
+  files_of_both path works disk errors.Memory h = h
+
+  pub of_link : (path : List ℕ) (works : Bool) (disk : Disk) (split : Contents) (checksum : Option ObjectId) (link : LinkValue)
+      (shared : Contents) (shared_checksum : Option ObjectId) (e : LinkError)
+      → IsSplit disk.own skip kind time options split checksum link
+      → IsReadAs (disk.shared link.shared) skip kind time (expecting options link.shared) shared shared_checksum
+      → SaysDissolve e link shared (without_link split)
+      → SaysOfFiles path works disk skip kind time options (link_error_of e)
+  of_link path works disk split checksum link shared shared_checksum e is read h =
+      files_of_both path works disk (link_error_of e)
+      (link_of_both disk split checksum link shared shared_checksum e is read h)
+
+  -- ---- what is read by itself, and then followed
+
+  pub read_followed : (disk : Known → Disk) (known : Known) (v : Contents) (c : Option ObjectId) (r : Result File Error)
+      → IsReadAs known skip kind time options v c
+      → IfOk r (λ f. (own : Known) → IsReadAs own skip kind time options v c
+      → IsOnDisk (disk own) skip kind time options (contents (state_of f)) (checksum_of f))
+      → IfOk r (λ f. IsOnDisk (disk known) skip kind time options (contents (state_of f)) (checksum_of f))
+  read_followed disk known v c (Ok f) read h = h known read
+  read_followed disk known v c (Err e) read h = tt
+
+  pub fault_followed : (path : List ℕ) (works : Bool) (disk : Known → Disk) (known : Known) (v : Contents)
+      (c : Option ObjectId) (r : Result File Error) → IsReadAs known skip kind time options v c
+      → IfErr r (λ e. (own : Known) → IsReadAs own skip kind time options v c
+      → SaysOfFiles path works (disk own) skip kind time options e)
+      → IfErr r (SaysOfFiles path works (disk known) skip kind time options)
+  fault_followed path works disk known v c (Ok f) read h = tt
+  fault_followed path works disk known v c (Err e) read h = h known read

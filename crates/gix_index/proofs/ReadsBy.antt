@@ -10,12 +10,12 @@ use Rattle.index_format.specs.declared.decode.Options.{Options}
 use Rattle.index_state.specs.State.{contents}
 use Rattle.gix_index.specs.Disk.{IsTimeFor, disk_at, disk_beside, known_of}
 use Rattle.gix_index.specs.File.{IsEmptyFile, checksum_of, state_of}
-use Rattle.gix_index.specs.FileFaults.{FailsUnderLock, SaysOfFiles}
+use Rattle.gix_index.specs.FileFaults.{FailsUnderLock, SaysOfFile, SaysOfFiles}
 use Rattle.gix_index.specs.Linked.{IsOnDisk, IsOnDiskSince}
 use Rattle.gix_index.specs.declared.file.File.{File}
 use Rattle.index_file_faults.specs.declared.init.Error.{Error}
 use Rattle.index_file_faults.specs.declared.init.Error.TheVariants as errors
-use Rattle.gix_index.proofs.FileFaults.{disk_there, faults_there, opened_so}
+use Rattle.gix_index.proofs.FileFaults.{disk_there, fault_there, faults_there, of_own, opened_so}
 use Rattle.gix_index.proofs.Times.{since}
 
 -- the time of an opened file is that of the file at the path
@@ -58,6 +58,19 @@ module _ (skip : Bool) (kind : Kind) (options : Options) where
     time,
     given_by wanted given time (known_of stored) t,
     faults_there skip kind time options path works k stored shared e o h,
+  )
+
+  pub own_fault_at : (works opened wanted : Bool) (given time : FileTime) (path : List ℕ) (k : Known)
+      (stored : Option Stored) (shared : ObjectId → Known) (e : Error) → (works ≡ true → opened ≡ true)
+      → MayBe k (λ there. stored ≡ Some there) → IsTimeFor wanted given (known_of stored) time
+      → SaysOfFile path opened (known_of stored) skip kind time options e
+      → (t : FileTime) × (wanted ≡ false → t ≡ given)
+      × SaysOfFiles path works (record { own = k; shared = shared }) skip kind t options e
+  own_fault_at works opened wanted given time path k stored shared e so o t h = (
+    time,
+    given_by wanted given time (known_of stored) t,
+    of_own skip kind time options path works (record { own = k; shared = shared }) e
+        (fault_there skip kind time options path works opened k stored e so o h),
   )
 
   -- with the time of the file

@@ -26,6 +26,13 @@ disk_beside own world path = record { own = own; shared = λ id. world (shared_p
 abbrev pub disk_at : World → List ℕ → Disk
 disk_at world path = disk_beside (world path) world path
 
+-- bytes in hand: those of an index, and those of the shared index, whatever its id; no time of theirs counts
+abbrev pub disk_in_hand : List ℕ → List ℕ → FileTime → Disk
+disk_in_hand bytes shared time = record {
+  own = Holds (record { bytes = bytes; time = time });
+  shared = λ id. Holds (record { bytes = shared; time = time });
+}
+
 -- the file has these bytes, where it is known
 abbrev pub MayHave : Known → List ℕ → Type 0
 MayHave known bytes = MayBe known (λ file. bytes ≡ file.bytes)

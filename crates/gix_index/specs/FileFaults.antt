@@ -77,15 +77,23 @@ pub record NamesShared (path : List ℕ) (works : Bool) (disk : Disk) (skip : Bo
   pub is_split : IsSplit disk.own skip kind time options split checksum link
   pub names : IsOfFile (shared_path path link.shared) works (disk.shared link.shared) fault
 
+-- what an error says of the bytes of an index and of the shared index that it links to; want of memory says nothing
+abbrev pub SaysOfBoth : Disk → Bool → Kind → FileTime → ReadOptions → ReadFault → Type 0
+SaysOfBoth disk skip kind time options (reads.Io fault) = ⊥
+SaysOfBoth disk skip kind time options (reads.Decode e) =
+    RefusesBytes disk.own skip kind time options e ⊎ RefusesShared disk skip kind time options e
+SaysOfBoth disk skip kind time options (reads.LinkExtension e) = RefusesLink disk skip kind time options e
+SaysOfBoth disk skip kind time options reads.Memory = Unit {0}
+
 -- what an error says of the file at a path and the shared index that it links to
 abbrev pub SaysOfFiles : List ℕ → Bool → Disk → Bool → Kind → FileTime → ReadOptions → ReadFault → Type 0
 SaysOfFiles path works disk skip kind time options (reads.Io fault) =
     IsOfFile path works disk.own fault ⊎ NamesShared path works disk skip kind time options fault
 SaysOfFiles path works disk skip kind time options (reads.Decode e) =
-    RefusesBytes disk.own skip kind time options e ⊎ RefusesShared disk skip kind time options e
+    SaysOfBoth disk skip kind time options (reads.Decode e)
 SaysOfFiles path works disk skip kind time options (reads.LinkExtension e) =
-    RefusesLink disk skip kind time options e
-SaysOfFiles path works disk skip kind time options reads.Memory = Unit {0}
+    SaysOfBoth disk skip kind time options (reads.LinkExtension e)
+SaysOfFiles path works disk skip kind time options reads.Memory = SaysOfBoth disk skip kind time options reads.Memory
 
 -- the file that a path leads to was locked, and what stood there behind that isn't read, by this error
 pub record FailsUnderLock (path : List ℕ) (works guards : Bool) (world : World) (skip : Bool) (kind : Kind)

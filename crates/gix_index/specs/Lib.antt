@@ -36,6 +36,7 @@ pub use Rattle.index_entries.specs.Held
 pub use Rattle.index_entry_reading.specs.Lent
 pub use Rattle.index_entries.specs.Limits
 pub use Rattle.index_entries.specs.Order
+pub use Rattle.index_entries.specs.PathRange
 pub use Rattle.index_entries.specs.Record
 pub use Rattle.index_entries.specs.Removed
 pub use Rattle.index_entries.specs.Shared

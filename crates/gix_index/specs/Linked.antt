@@ -27,6 +27,16 @@ abbrev pub IsUnfollowed : Option LinkValue → Type 0
 IsUnfollowed None = Unit {0}
 IsUnfollowed (Some l) = is_null (id_bytes l.shared) ≡ true
 
+-- this link is followed: its id isn't null
+pub record IsFollowed (link : Option LinkValue) (l : LinkValue) : Type 0 where
+  pub has_link : link ≡ Some l
+  pub followed : is_null (id_bytes l.shared) ≡ false
+
+-- the link that is followed, where there is one
+abbrev pub Follows : Option LinkValue → Option LinkValue → Type 0
+Follows link None = IsUnfollowed link
+Follows link (Some l) = IsFollowed link l
+
 -- the file's bytes are read so by themselves
 pub record IsReadAs (own : Known) (skip : Bool) (kind : Kind) (time : FileTime) (options : Options) (v : Contents)
     (checksum : Option ObjectId) : Type 0 where

@@ -2,7 +2,7 @@
 -- are made of them (the library's own names).
 pub use Rattle.index_objects.specs.NameCheck
 pub use Rattle.index_objects.specs.TreeObject
-pub use Rattle.index_trees.specs.Leaves
+pub use Rattle.index_tree_reader.specs.Leaves
 pub use Rattle.index_tree_writer.specs.Kept
 pub use Rattle.index_tree_writer.specs.Objects
 pub use Rattle.index_laws.specs.TreesAnswer
@@ -15,8 +15,8 @@ pub use Rattle.index_objects.specs.declared.object.tree.EntryRef
 pub use Rattle.index_objects.specs.declared.object.tree.Entries as TreeEntries
 pub use Rattle.index_objects.specs.declared.object.tree.Malformed as MalformedTree
 pub use Rattle.index_objects.specs.declared.object.NoObjects
-pub use Rattle.index_trees.specs.declared.error.Error as FromTreeError
-pub use Rattle.index_trees.specs.declared.error.Traversal
+pub use Rattle.index_tree_reader.specs.declared.error.Error as FromTreeError
+pub use Rattle.index_tree_reader.specs.declared.error.Traversal
 pub use Rattle.index_tree_writer.specs.declared.sink.Discard
 pub use Rattle.index_tree_writer.specs.declared.sink.Sink
 pub use Rattle.index_tree_writer.specs.declared.error.NameFault

@@ -42,6 +42,13 @@ impl Vec {
         self.num_bits
     }
 
+    /// The words of the compressed form: run words, each with the literal words that it counts behind it.
+    pub fn words(&self) -> &[u64]
+        ensures { result.now ≡ (bitmap self.now).words }
+    {
+        &self.words
+    }
+
     /// The positions of the bits that are set, counted from 0 and ascending; they aren't cut at the number of bits.
     ///
     /// Nothing is unpacked before it is asked for. Where a run word lacks some of its literal words, the positions of

@@ -1,61 +1,35 @@
 -- What stands at a directory or below it, among rows that were searched.
 use Rattle.std.proofs.Common.{◌≡◌, ℕ, ◌<◌, ◌≤◌, ◌⊎◌, inl, inr, Bool, true, false, List, [], ◌∷◌, ◌++◌, length, get_or}
-use Rattle.std.proofs.Common.{map, Some, None, Err, Ok, refl, sym, ap, ◌∙◌, subst, arith}
+use Rattle.std.proofs.Common.{map, Option, Some, None, refl, sym, ap, ◌∙◌, subst, arith}
 use Rattle.std.proofs.Math.ListN.{get_or-map as shift}
 use Rattle.std.specs.List.{AllWithin, HoldsAt, list_any, position}
 use Rattle.std.specs.Ordering.{is_eq, is_lt}
+use Rattle.std.specs.Prelude.{IfSome}
 use Rattle.std.specs.declared.cmp.Ordering.{Ordering}
 use Rattle.std.specs.declared.cmp.Ordering.TheVariants.{Less, Equal, Greater}
 use Rattle.std.proofs.lemmas.Bool.{cases_lt}
 use Rattle.std.proofs.lemmas.List.{append-nil, get_or-map as at_map, length-map}
-use Rattle.gix_index.specs.Closest.{is_below, is_itself}
+use Rattle.gix_index.specs.Closest.{is_below, is_itself, stands_in}
 use Rattle.gix_index.specs.Order.{IsOrderedByPath, path_cmp}
 use Rattle.gix_index.specs.Range.{is_at}
 use Rattle.gix_index.specs.Record.{Record}
-use Rattle.index_lookups.specs.SearchSteps.{IsGapAt, IsPartedAt, prefix_answers, prefix_cmp}
-use Rattle.index_lookups.proofs.Closest.{any_none, below_first, below_found}
-use Rattle.index_lookups.proofs.Halving.{position_is, position_none}
+use Rattle.index_lookups.specs.SearchSteps.{prefix_answers}
+use Rattle.index_lookups.proofs.Closest.{any_none, below_in}
 use Rattle.index_lookups.proofs.Lookup.{split_by_path}
-use Rattle.index_lookups.proofs.OrderedAnswers.{gap_of}
-use Rattle.index_lookups.proofs.Parting.{bracket_whole, gap_behind, gap_other, less_from}
-use Rattle.index_lookups.proofs.Places.{mapped_at}
-use Rattle.index_lookups.proofs.Prefixes.{below_by_prefix}
-use Rattle.index_lookups.proofs.RunsFound.{at_is, rising_prefixes}
+use Rattle.index_lookups.proofs.RunsFound.{at_is}
+use Rattle.index_search.specs.Halving.{IsPartedAt}
+use Rattle.index_search.specs.Prefix.{prefix_cmp}
+use Rattle.index_search.proofs.Halving.{position_is, position_none}
+use Rattle.index_search.proofs.Parting.{less_from}
+use Rattle.index_search.proofs.Prefixes.{below_by_prefix}
 
--- ---- below a directory
-
-module _ (directory : List ℕ) (rs : List Record) (low : ℕ) where
-  abbrev front : List ℕ
-  front = directory ++ 47 ∷ []
-
-  many : length (prefix_answers front rs) ≡ length rs
-  many = length-map rs (λ (r : Record). prefix_cmp front r.path)
-
-  pub below_here : low < length rs → HoldsAt (λ r. prefix_cmp front r.path ≡ Equal) rs low → (low < length rs)
-      × HoldsAt (λ r. is_below directory r ≡ true) rs low
-  below_here within here = below_found directory rs (Ok low) (record { in_range = within; here = here })
-
-  module _ (ordered : IsOrderedByPath rs) (parted : IsPartedAt false (prefix_answers front rs) low) where
-    pub first_is : low < length rs → HoldsAt (λ r. prefix_cmp front r.path ≡ Equal) rs low
-        → Some low ≡ position (is_below directory) rs
-    first_is within here = below_first directory rs (Ok low) (record { in_range = within; here = here }) parted tt
-
-    none_is : IsGapAt (λ r. prefix_cmp front r.path) rs low → None ≡ position (is_below directory) rs
-    none_is gap = below_first directory rs (Err low) tt tt gap
-
-    pub none_here : (o : Ordering) → low < length rs → HoldsAt (λ r. prefix_cmp front r.path ≡ o) rs low
-        → is_eq o ≡ false → None ≡ position (is_below directory) rs
-    none_here o within read other =
-        let inside : low < length (prefix_answers front rs) = omega (arith, within, many) in
-        none_is (gap_of (λ (r : Record). prefix_cmp front r.path) rs low
-        (gap_other (prefix_answers front rs) low o (rising_prefixes front rs ordered) parted inside
-        (mapped_at (λ (r : Record). prefix_cmp front r.path) rs low o inside read) other))
-
-    pub none_behind : length rs ≤ low → None ≡ position (is_below directory) rs
-    none_behind past =
-        let end : low ≡ length (prefix_answers front rs) = omega (arith, past, many, parted.in_range) in
-        none_is (gap_of (λ (r : Record). prefix_cmp front r.path) rs low
-        (gap_behind (prefix_answers front rs) 0 low low (bracket_whole (prefix_answers front rs) low end) parted refl))
+-- what stands below a directory stands in it
+pub below_stands : (directory : List ℕ) (rs : List Record) (count : ℕ) (o : Option ℕ) → length rs ≡ count
+    → IfSome o (λ i. (i < count) × HoldsAt (λ r. is_below directory r ≡ true) rs i)
+    → IfSome o (λ i. (i < count) × HoldsAt (λ r. stands_in directory r ≡ true) rs i)
+below_stands directory rs count (Some i) many h =
+    let inside : i < length rs = omega (arith, h.0, many) in (h.0, (below_in directory rs i (inside, h.1)).1)
+below_stands directory rs count None many h = tt
 
 -- ---- where paths begin that aren't below the directory's
 

@@ -1,3 +1,7 @@
+mod Checks
 mod Directories
 mod Finds
 mod Prefixes
+mod Refusals
+mod Tellings
+mod Writings

@@ -1,21 +1,11 @@
--- What a search among the rows of a table gives (the library's own; the order is that of gitformat-index, "Index
--- entries are sorted in ascending order").
-use Rattle.std.specs.Prelude.{◌≡◌, ◌≢◌, ℕ, nat_eq, nat_lt, List, length, Option, Some, None, if◌then◌else◌}
-use Rattle.std.specs.List.{AllWithin}
-use Rattle.std.specs.declared.cmp.Ordering.TheVariants.{Less}
-use Rattle.gix_index.specs.Order.{key_cmp}
-use Rattle.gix_index.specs.Record.{Record}
+-- What a search among the rows of a table tells of places (the library's own).
+use Rattle.std.specs.Prelude.{ℕ, nat_eq, nat_lt, Option, Some, None, if◌then◌else◌}
 use Rattle.std.specs.declared.ops.Range.{Range}
 use Rattle.index_c.specs.declared.prefix.Places.{Places}
 
 -- a place among so many, of which one past the last stands for none
 abbrev pub place_among : ℕ → ℕ → Option ℕ
 place_among count place = if nat_lt place count then Some place else None
-
--- the records before one place are below a path and a stage, and those from another on aren't
-pub record IsParted (path : List ℕ) (stage : ℕ) (rs : List Record) (low high : ℕ) : Type 0 where
-  pub below : AllWithin (λ r. key_cmp path stage r ≡ Less) rs 0 low
-  pub behind : AllWithin (λ r. key_cmp path stage r ≢ Less) rs high (length rs)
 
 -- ---- ranges
 

@@ -1,2 +1,6 @@
 pub mod Checking
 pub mod Finding
+pub mod Joined
+pub mod Numbers
+pub mod Summaries
+pub mod Written

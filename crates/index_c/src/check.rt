@@ -1,22 +1,46 @@
 //! Checking that an index is in order and that its cached tree holds together, with its shared index or without.
 
-ghost use Rattle.std.specs.Prelude.{◌≡◌, ◌↔◌, ◌≤◌, ◌⊎◌, IfSome, IsSomeAnd, None};
+ghost use Rattle.std.specs.Prelude.{◌≡◌, ◌↔◌, ◌≤◌, ◌⊎◌, IfErr, IfOk, IsSomeAnd, None};
 ghost use Rattle.gix_index.specs.State.{PathsInStorage, contents};
-ghost use Rattle.index_c.specs.Checking.{AreSoundBoth, AreUnsoundBoth, IsFoundSound, IsFoundUnsound, IsSoundIndex, IsUnsoundIndex, order_place, tree_place, unsound_told};
-ghost use Rattle.index_table.specs.Joining.{AreRefusedBoth, LackMemory};
-ghost use Rattle.index_table.specs.Reading.{HasText, IsRefusedIndex, IsUnread, TellsOfMemory, blank, value_told};
-ghost use Rattle.index_table.specs.Table.{kind_numbered};
+ghost use Rattle.index_c.specs.Checking.{AreSoundBoth, AreUnsoundBoth, IsFound, IsJudged, IsSoundIndex, IsUnsoundIndex, TellsCheck, TellsFlaw, flaw_number, flaw_place, order_place, tree_place};
+ghost use Rattle.index_c.specs.Joined.{AreRefusedBoth, LackMemory};
+ghost use Rattle.index_c.specs.Numbers.{kind_numbered};
+ghost use Rattle.index_c.specs.Summaries.{HasText, IsRefusedIndex, IsUnread, blank};
+ghost use Rattle.index_c.specs.declared.status.TheConstants.{WRONG_NUMBER};
+ghost use Rattle.index_table.specs.Joining.{AreReadSo, FailBoth};
+ghost use Rattle.index_table.specs.Reading.{FailsOwn, IsReadSo};
 
+use crate::fault::{CACHED_TREE, ORDER, put_fault};
+use crate::number::kind_of;
+use crate::status::{DONE, MEMORY, REFUSED};
+use crate::summary::{Summary, blank, summary_of, tell_failure, tell_wrong_number};
 use gix_index::State;
 use gix_index::extension::tree;
 use gix_index::hash::Kind;
 use gix_index::object::NoObjects;
 use gix_index::verify::entries;
-use index_table::fault::{CACHED_TREE, ORDER, put_fault};
-use index_table::read::{Outcome, Summary, index_of, kind_of, nothing, refused, summary_of};
+use index_table::fault::{Failure, Whose};
+use index_table::read::{Sizes, index_of, sizes_of};
 use index_table::split::both_of;
-use index_table::status::{DONE, MEMORY, REFUSED, WRONG_NUMBER};
 use std::alloc::Global;
+
+/// Why a state that was read isn't sound.
+#[derive(Drop)]
+enum Flaw {
+    /// Its entries aren't in order.
+    Order(entries::Error),
+    /// Its cached tree doesn't hold together.
+    CachedTree(tree::verify::Error),
+}
+
+/// What a check finds of a state that was read.
+#[derive(Drop)]
+struct Found {
+    /// What is told of the state, but for the bytes of its paths.
+    sizes: Sizes,
+    /// Whether it is sound.
+    judged: Result<(), Flaw>,
+}
 
 /// The place of the entry that is out of order, or None where memory lacked to name it.
 fn order_place(e: &entries::Error) -> Option<usize>
@@ -38,78 +62,72 @@ fn tree_place(e: &tree::verify::Error) -> Option<usize>
     }
 }
 
-/// What is told of a state, but for the bytes of its paths.
-fn told_of(state: &State) -> Summary
-    ensures { result ≡ value_told (contents state.now) 0 }
+/// The place that is told of a flaw, or None where memory lacked to name it.
+fn flaw_place(flaw: &Flaw) -> Option<usize>
+    ensures { result ≡ flaw_place flaw.now }
 {
-    summary_of(state, state.entries().len(), 0)
+    match flaw {
+        Flaw::Order(e) => order_place(e),
+        Flaw::CachedTree(e) => tree_place(e),
+    }
 }
 
-/// Tells of a state that isn't sound, or, where no place is given, of want of memory to name its fault.
-fn unsound(state: &State, number: u32, place: Option<usize>, text_bytes: usize) -> Outcome
-    ensures memory { place ≡ None → result.status ≡ MEMORY }
-    ensures nothing { place ≡ None → TellsOfMemory 0 result.summary }
-    ensures refused { IfSome place (λ _. result.status ≡ REFUSED) }
-    ensures told { IfSome place
-        (λ p. result.summary ≡ unsound_told (contents state.now) number p text_bytes) }
-    ensures text { result.summary.text_bytes ≡ text_bytes }
+/// The number of a flaw.
+fn flaw_number(flaw: &Flaw) -> u32
+    ensures { result ≡ flaw_number flaw.now }
 {
-    match place {
-        Some(fault_place) => Outcome {
-            status: REFUSED,
-            summary: Summary {
-                text_bytes,
-                fault_place,
-                fault: number,
-                ..told_of(state)
-            },
-        },
-        None => Outcome {
-            status: MEMORY,
-            summary: Summary {
-                text_bytes,
-                ..nothing(MEMORY).summary
-            },
-        },
+    match flaw {
+        Flaw::Order(_) => ORDER,
+        Flaw::CachedTree(_) => CACHED_TREE,
+    }
+}
+
+/// Writes what a flaw says.
+fn put_flaw(alloc: Global, flaw: &Flaw, text: &mut [u8]) -> usize
+    ensures { HasText result text.old text.new }
+{
+    match flaw {
+        Flaw::Order(e) => put_fault(alloc, e, text),
+        Flaw::CachedTree(e) => put_fault(alloc, e, text),
     }
 }
 
 /// Whether a state is sound, and else why not.
-fn judge(alloc: Global, state: &State, text: &mut [u8]) -> Outcome
+fn judge(alloc: Global, state: &State) -> Result<(), Flaw>
     requires { PathsInStorage state.now }
-    ensures status { result.status ≤ MEMORY }
-    ensures sound { result.status ≡ DONE → IsFoundSound result.summary (contents state.now) }
-    ensures unsound { result.status ≡ REFUSED
-        → IsFoundUnsound result.summary (contents state.now) }
-    ensures memory { result.status ≡ MEMORY → TellsOfMemory 0 result.summary }
-    ensures text { HasText result.summary.text_bytes text.old text.new }
+    ensures { IsJudged result (contents state.now) }
 {
     if let Err(e) = state.verify_entries() {
-        let text_bytes = put_fault(alloc, &e, text);
-        return unsound(state, ORDER, order_place(&e), text_bytes);
+        return Err(Flaw::Order(e));
     }
     if let Err(e) = state.verify_extensions(alloc, false, &NoObjects) {
-        let text_bytes = put_fault(alloc, &e, text);
-        return unsound(state, CACHED_TREE, tree_place(&e), text_bytes);
+        return Err(Flaw::CachedTree(e));
     }
-    Outcome {
-        status: DONE,
-        summary: told_of(state),
+    Ok(())
+}
+
+/// What a check finds of a state.
+fn found_of(alloc: Global, state: &State) -> Found
+    requires { PathsInStorage state.now }
+    ensures { IsFound result (contents state.now) }
+{
+    Found {
+        sizes: sizes_of(state, state.entries().len(), 0),
+        judged: judge(alloc, state),
     }
 }
 
 /// Checks the index of these bytes.
-fn checked(alloc: Global, bytes: &[u8], kind: Kind, skip_hash: bool, text: &mut [u8]) -> Outcome
-    ensures status { result.status ≤ MEMORY }
-    ensures done { result.status ≡ DONE → IsSoundIndex skip_hash kind bytes.now result.summary }
-    ensures refused { result.status ≡ REFUSED → IsRefusedIndex skip_hash kind bytes.now result.summary
-        ⊎ IsUnsoundIndex skip_hash kind bytes.now result.summary }
-    ensures memory { result.status ≡ MEMORY → IsUnread skip_hash kind bytes.now result.summary }
-    ensures text { HasText result.summary.text_bytes text.old text.new }
+fn checked(alloc: Global, bytes: &[u8], kind: Kind, skip_hash: bool) -> Result<Found, Failure>
+    ensures found { IfOk result (λ found. IsReadSo skip_hash kind bytes.now (IsFound found)) }
+    ensures failed { IfErr result (FailsOwn skip_hash kind bytes.now) }
 {
     match index_of(alloc, bytes, kind, skip_hash, None) {
-        Ok(state) => judge(alloc, &state, text),
-        Err(e) => refused(alloc, e, 0, text),
+        Ok(state) => Ok(found_of(alloc, &state)),
+        Err(error) => Err(Failure {
+            error,
+            whose: Whose::Own,
+        }),
     }
 }
 
@@ -120,22 +138,66 @@ fn checked_both(
     shared: &[u8],
     kind: Kind,
     skip_hash: bool,
-    text: &mut [u8],
-) -> Outcome
-    ensures status { result.status ≤ MEMORY }
-    ensures done { result.status ≡ DONE
-        → AreSoundBoth skip_hash kind bytes.now shared.now result.summary }
-    ensures refused { result.status ≡ REFUSED
-        → AreRefusedBoth skip_hash kind bytes.now shared.now result.summary
-        ⊎ AreUnsoundBoth skip_hash kind bytes.now shared.now result.summary }
-    ensures memory { result.status ≡ MEMORY
-        → LackMemory skip_hash kind bytes.now shared.now result.summary }
-    ensures text { HasText result.summary.text_bytes text.old text.new }
+) -> Result<Found, Failure>
+    ensures found { IfOk result
+        (λ found. AreReadSo skip_hash kind bytes.now shared.now (IsFound found)) }
+    ensures failed { IfErr result (FailBoth skip_hash kind bytes.now shared.now) }
 {
-    match both_of(alloc, bytes, shared, kind, skip_hash, text) {
-        Ok(state) => judge(alloc, &state, text),
-        Err(told) => told,
+    match both_of(alloc, bytes, shared, kind, skip_hash) {
+        Ok(state) => Ok(found_of(alloc, &state)),
+        Err(failure) => Err(failure),
     }
+}
+
+/// Tells why a state isn't sound, or, where no place is named, of want of memory to name its flaw.
+fn tell_flaw(
+    alloc: Global,
+    sizes: &Sizes,
+    flaw: &Flaw,
+    text: &mut [u8],
+    summary: &mut Summary,
+) -> u32
+    ensures status { result ≤ MEMORY }
+    ensures told { TellsFlaw flaw.now sizes.now result summary.new }
+    ensures text { HasText summary.new.text_bytes text.old text.new }
+{
+    let text_bytes = put_flaw(alloc, flaw, text);
+    let Some(fault_place) = flaw_place(flaw) else {
+        *summary = Summary {
+            text_bytes,
+            ..blank()
+        };
+        return MEMORY;
+    };
+    *summary = Summary {
+        text_bytes,
+        fault_place,
+        fault: flaw_number(flaw),
+        ..summary_of(sizes)
+    };
+    REFUSED
+}
+
+/// Tells what comes of a check.
+fn tell(
+    alloc: Global,
+    checked: &Result<Found, Failure>,
+    text: &mut [u8],
+    summary: &mut Summary,
+) -> u32
+    ensures status { result ≤ MEMORY }
+    ensures told { TellsCheck checked.now result summary.new }
+    ensures text { HasText summary.new.text_bytes text.old text.new }
+{
+    let found = match checked {
+        Ok(found) => found,
+        Err(failure) => return tell_failure(alloc, failure, text, summary),
+    };
+    if let Err(flaw) = &found.judged {
+        return tell_flaw(alloc, &found.sizes, flaw, text, summary);
+    }
+    *summary = summary_of(&found.sizes);
+    DONE
 }
 
 /// Checks an index, given as all bytes of its file: they are read as `gix_index_read` reads them, the entries have to
@@ -167,12 +229,11 @@ pub extern "C" fn gix_index_check(
     ensures blank { result ≡ WRONG_NUMBER → summary.new ≡ blank }
     ensures text { HasText summary.new.text_bytes text.old text.new }
 {
-    let outcome = match kind_of(kind) {
-        Some(kind) => checked(alloc, bytes, kind, skip_hash, text),
-        None => nothing(WRONG_NUMBER),
+    let Some(kind) = kind_of(kind) else {
+        return tell_wrong_number(summary);
     };
-    *summary = outcome.summary;
-    outcome.status
+    let found = checked(alloc, bytes, kind, skip_hash);
+    tell(alloc, &found, text, summary)
 }
 
 /// Checks an index, given as all bytes of its file, with the shared index that it links to, given as all bytes of that
@@ -205,10 +266,9 @@ pub extern "C" fn gix_index_check_split(
     ensures blank { result ≡ WRONG_NUMBER → summary.new ≡ blank }
     ensures text { HasText summary.new.text_bytes text.old text.new }
 {
-    let outcome = match kind_of(kind) {
-        Some(kind) => checked_both(alloc, bytes, shared, kind, skip_hash, text),
-        None => nothing(WRONG_NUMBER),
+    let Some(kind) = kind_of(kind) else {
+        return tell_wrong_number(summary);
     };
-    *summary = outcome.summary;
-    outcome.status
+    let found = checked_both(alloc, bytes, shared, kind, skip_hash);
+    tell(alloc, &found, text, summary)
 }

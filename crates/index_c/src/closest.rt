@@ -5,11 +5,12 @@ ghost use Rattle.std.specs.Prelude.{◌≡◌, ◌≤◌, ◌<◌, ℕ, IfSome, 
 ghost use Rattle.gix_index.specs.Closest.{closest, is_below, is_directory, is_itself, stands_in};
 ghost use Rattle.gix_index.specs.Order.{IsOrderedByPath, path_cmp};
 ghost use Rattle.gix_index.specs.Range.{is_at};
-ghost use Rattle.index_lookups.specs.SearchSteps.{IsPartedAt};
+ghost use Rattle.index_search.specs.Halving.{IsPartedAt};
 ghost use Rattle.index_c.specs.Finding.{place_among};
 ghost use Rattle.index_table.specs.Table.{records_of};
 
-use crate::prefix::{compare_prefix, part};
+use crate::prefix::ByPrefix;
+use index_search::ordered::{part, search_within};
 use index_table::row::{Row, path_of};
 
 /// Whether the row at a place has the path.
@@ -58,11 +59,13 @@ fn first_below(rows: &[Row], paths: &[u8], directory: &[u8]) -> Option<usize>
     ensures answer { IsOrderedByPath (records_of paths.now rows.now)
         → result ≡ position (is_below directory.now) (records_of paths.now rows.now) }
 {
-    let low = part(rows, paths, directory, b"/", false);
-    if low < rows.len() && compare_prefix(rows, paths, low, directory, b"/").is_eq() {
-        return Some(low);
-    }
-    None
+    let places = ByPrefix {
+        rows,
+        paths,
+        prefix: directory,
+        tail: b"/",
+    };
+    search_within(&places, 0, rows.len()).0.ok()
 }
 
 /// The place that is nearest to the directory, where there is one.
@@ -72,7 +75,13 @@ fn closest_place(rows: &[Row], paths: &[u8], directory: &[u8]) -> Option<usize>
     ensures answer { IsOrderedByPath (records_of paths.now rows.now)
         → result ≡ closest directory.now (records_of paths.now rows.now) }
 {
-    let low = part(rows, paths, directory, &[], false);
+    let places = ByPrefix {
+        rows,
+        paths,
+        prefix: directory,
+        tail: &[],
+    };
+    let low = part(&places, false).0;
     if low < rows.len() && has_path(rows, paths, low, directory) {
         return first_itself(rows, paths, directory, low);
     }

@@ -1,12 +1,13 @@
 //! Searches among the rows of a table.
 
 ghost use Rattle.std.specs.List.{HoldsAt};
-ghost use Rattle.std.specs.Prelude.{◌≡◌, ◌≤◌, ◌<◌, length};
+ghost use Rattle.std.specs.Prelude.{◌≡◌, ◌≤◌, ◌<◌, length, map};
 ghost use Rattle.gix_index.specs.Lookup.{IsKeyAt, place_of};
 ghost use Rattle.gix_index.specs.Order.{IsStrictlyOrdered, key_cmp};
-ghost use Rattle.index_c.specs.Finding.{IsParted, place_among};
+ghost use Rattle.index_c.specs.Finding.{place_among};
 ghost use Rattle.index_table.specs.Table.{records_of};
 
+use index_search::ordered::{Ordered, search_within};
 use index_table::row::{Row, path_of, stage_of};
 use std::cmp::Ordering;
 
@@ -22,23 +23,25 @@ fn compare(rows: &[Row], paths: &[u8], place: usize, path: &[u8], stage: u32) ->
         .then(stage_of(row.flags).cmp(&stage))
 }
 
-/// The first place of a row that isn't below a path and a stage, among rows in order.
-fn first_from(rows: &[Row], paths: &[u8], path: &[u8], stage: u32) -> usize
-    ensures in_range { result ≤ length rows.now }
-    ensures parted { IsStrictlyOrdered (records_of paths.now rows.now)
-        → IsParted path.now stage (records_of paths.now rows.now) result result }
-{
-    let mut low = 0;
-    let mut high = rows.len();
-    while low < high {
-        let middle = low + (high - low) / 2;
-        if compare(rows, paths, middle, path, stage).is_lt() {
-            low = middle + 1;
-        } else {
-            high = middle;
-        }
+/// Rows by path and stage, to those that are looked for.
+#[derive(Clone, Copy)]
+struct ByKey<'a> {
+    rows: &'a [Row],
+    paths: &'a [u8],
+    path: &'a [u8],
+    stage: u32,
+}
+
+impl Ordered for ByKey<'_> {
+    ghost answers = { λ s. map (key_cmp s.path.now s.stage) (records_of s.paths.now s.rows.now) };
+
+    fn len(&self) -> usize {
+        self.rows.len()
     }
-    low
+
+    fn compare(&self, place: usize) -> Ordering {
+        compare(self.rows, self.paths, place, self.path, self.stage)
+    }
 }
 
 /// The place of the row with the path and the stage, counted from 0, or the number of rows where there is none.
@@ -55,9 +58,14 @@ pub extern "C" fn gix_index_find(rows: &[Row], paths: &[u8], path: &[u8], stage:
         → place_among (length rows.now) result
         ≡ place_of path.now stage (records_of paths.now rows.now) }
 {
-    let place = first_from(rows, paths, path, stage);
-    if place < rows.len() && compare(rows, paths, place, path, stage).is_eq() {
-        return place;
+    let places = ByKey {
+        rows,
+        paths,
+        path,
+        stage,
+    };
+    match search_within(&places, 0, rows.len()).0 {
+        Ok(place) => place,
+        Err(_) => rows.len(),
     }
-    rows.len()
 }

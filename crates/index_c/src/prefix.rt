@@ -1,15 +1,18 @@
 //! Searches among the rows of a table by what their paths begin with.
 
 ghost use Rattle.std.specs.List.{HoldsAt};
-ghost use Rattle.std.specs.Prelude.{◌≡◌, ◌≢◌, ◌≤◌, ◌<◌, ◌⊎◌, ◌++◌, IfSome, drop, length, take};
+ghost use Rattle.std.specs.Prelude.{◌≡◌, ◌≢◌, ◌≤◌, ◌<◌, ◌⊎◌, ◌++◌, IfSome, length};
 ghost use Rattle.gix_index.specs.Order.{IsOrderedByPath};
 ghost use Rattle.gix_index.specs.Range.{IsPrefixRange, LiesWithin};
-ghost use Rattle.index_lookups.specs.SearchSteps.{IsPartedAt, is_before, prefix_answers, prefix_cmp};
 ghost use Rattle.index_c.specs.Finding.{range_of, range_told};
+ghost use Rattle.index_lookups.specs.SearchSteps.{prefix_answers};
+ghost use Rattle.index_search.specs.Prefix.{prefix_cmp};
 ghost use Rattle.index_table.specs.Table.{records_of};
 
+use crate::status::{DONE, NONE};
+use index_search::ordered::{Ordered, part, part_within};
+use index_search::prefix::compare_pieces;
 use index_table::row::{Row, path_of};
-use index_table::status::{DONE, NONE};
 use std::cmp::Ordering;
 use std::ops::Range;
 
@@ -23,64 +26,36 @@ pub struct Places {
     pub end: usize,
 }
 
-/// The first bytes, as many as asked or all; and the bytes behind them.
-fn cut(bytes: &[u8], len: usize) -> (&[u8], &[u8])
-    ensures first { result.0.now ≡ take len bytes.now }
-    ensures rest { result.1.now ≡ drop len bytes.now }
-{
-    bytes.split_at(len.min(bytes.len()))
-}
-
-/// Where the first bytes of a path stand to a prefix, which is given in two pieces.
-fn compare_front(path: &[u8], prefix: &[u8], tail: &[u8]) -> Ordering
-    ensures { result ≡ prefix_cmp (prefix.now ++ tail.now) path.now }
-{
-    let (first, rest) = cut(path, prefix.len());
-    let (next, _) = cut(rest, tail.len());
-    first.cmp(prefix).then(next.cmp(tail))
-}
-
-/// Where the path of the row at a place stands to such a prefix: equal where it begins with it.
-pub(crate) fn compare_prefix(
-    rows: &[Row],
-    paths: &[u8],
-    place: usize,
-    prefix: &[u8],
-    tail: &[u8],
-) -> Ordering
+/// Where the path of the row at a place stands to a prefix in two pieces: equal where it begins with it.
+fn compare(rows: &[Row], paths: &[u8], place: usize, prefix: &[u8], tail: &[u8]) -> Ordering
     requires { place < length rows.now }
     ensures { HoldsAt (λ r. prefix_cmp (prefix.now ++ tail.now) r.path ≡ result)
         (records_of paths.now rows.now) place }
 {
     let row = rows[place];
-    compare_front(path_of(&row, paths), prefix, tail)
+    compare_pieces(path_of(&row, paths), prefix, tail)
 }
 
-/// Whether a row that stands so is in front of those that begin with a prefix or, with `after`, not behind them.
-fn passes(order: Ordering, after: bool) -> bool
-    ensures { result ≡ is_before after order }
-{
-    if after { order.is_le() } else { order.is_lt() }
+/// Rows by what their paths begin with, to a prefix that is given in two pieces.
+#[derive(Clone, Copy)]
+pub(crate) struct ByPrefix<'a> {
+    pub(crate) rows: &'a [Row],
+    pub(crate) paths: &'a [u8],
+    pub(crate) prefix: &'a [u8],
+    pub(crate) tail: &'a [u8],
 }
 
-/// The first place of a row that isn't in front of those that begin with a prefix or, with `after`, the first that is
-/// behind them, among rows in order by path. The prefix is given in two pieces.
-pub(crate) fn part(rows: &[Row], paths: &[u8], prefix: &[u8], tail: &[u8], after: bool) -> usize
-    ensures in_range { result ≤ length rows.now }
-    ensures parted { IsOrderedByPath (records_of paths.now rows.now) → IsPartedAt after
-        (prefix_answers (prefix.now ++ tail.now) (records_of paths.now rows.now)) result }
-{
-    let mut low = 0;
-    let mut high = rows.len();
-    while low < high {
-        let middle = low + (high - low) / 2;
-        if passes(compare_prefix(rows, paths, middle, prefix, tail), after) {
-            low = middle + 1;
-        } else {
-            high = middle;
-        }
+impl Ordered for ByPrefix<'_> {
+    ghost answers = { λ s. prefix_answers (s.prefix.now ++ s.tail.now)
+        (records_of s.paths.now s.rows.now) };
+
+    fn len(&self) -> usize {
+        self.rows.len()
     }
-    low
+
+    fn compare(&self, place: usize) -> Ordering {
+        compare(self.rows, self.paths, place, self.prefix, self.tail)
+    }
 }
 
 /// The places of the rows whose paths begin with a prefix, where there are any.
@@ -94,8 +69,14 @@ fn prefixed(rows: &[Row], paths: &[u8], prefix: &[u8]) -> Option<Range<usize>>
     if prefix.is_empty() {
         return Some(0..rows.len());
     }
-    let low = part(rows, paths, prefix, &[], false);
-    let high = part(rows, paths, prefix, &[], true);
+    let places = ByPrefix {
+        rows,
+        paths,
+        prefix,
+        tail: &[],
+    };
+    let low = part(&places, false).0;
+    let high = part_within(&places, true, low, places.len()).0;
     if low < high { Some(low..high) } else { None }
 }
 

@@ -1,24 +1,34 @@
 //! Reading an index into a caller's table.
 
 ghost use Rattle.std.specs.Prelude.{◌≡◌, ◌≢◌, ◌≤◌, ◌↔◌, IsSomeAnd, None};
-ghost use Rattle.index_table.specs.Joining.{AreReadSo, AreRefusedBoth, LackMemory};
-ghost use Rattle.index_table.specs.Reading.{Fills, HasText, IsFilled, IsRefusedIndex, IsTooSmall, IsUnread, LacksRoom, blank};
-ghost use Rattle.index_table.specs.Table.{kind_numbered};
-ghost use Rattle.index_table.specs.declared.status.TheConstants.{DONE, MEMORY, NO_ROOM, REFUSED};
+ghost use Rattle.index_c.specs.Joined.{AreRefusedBoth, LackMemory};
+ghost use Rattle.index_c.specs.Numbers.{kind_numbered};
+ghost use Rattle.index_c.specs.Summaries.{HasText, IsFilled, IsRefusedIndex, IsToldWith, IsUnread, LacksRoom, Tells, blank};
+ghost use Rattle.index_c.specs.declared.status.TheConstants.{MEMORY, REFUSED, WRONG_NUMBER};
+ghost use Rattle.index_table.specs.Joining.{AreReadSo};
+ghost use Rattle.index_table.specs.Reading.{Fills, IsTooSmall};
 
-use index_table::read::{Summary, kind_of, nothing, read_table};
+use crate::number::kind_of;
+use crate::status::{DONE, NO_ROOM};
+use crate::summary::{Summary, summary_of, tell_failure, tell_wrong_number};
+use index_table::read::{Sizes, Unread, read_table};
 use index_table::row::Row;
 use index_table::split::read_split;
-use index_table::status::WRONG_NUMBER;
 use std::alloc::Global;
 
-/// Tells that the number of a kind is none.
-fn wrong_number(summary: &mut Summary) -> u32
-    ensures status { result ≡ WRONG_NUMBER }
-    ensures blank { summary.new ≡ blank }
+/// Tells what comes of reading bytes into a table.
+fn tell(alloc: Global, read: Result<Sizes, Unread>, text: &mut [u8], summary: &mut Summary) -> u32
+    ensures status { result ≤ NO_ROOM }
+    ensures told { Tells read result summary.new }
+    ensures text { HasText summary.new.text_bytes text.old text.new }
 {
-    *summary = nothing(WRONG_NUMBER).summary;
-    WRONG_NUMBER
+    let (status, sizes) = match read {
+        Ok(sizes) => (DONE, sizes),
+        Err(Unread::NoRoom(sizes)) => (NO_ROOM, sizes),
+        Err(Unread::Failed(failure)) => return tell_failure(alloc, &failure, text, summary),
+    };
+    *summary = summary_of(&sizes);
+    status
 }
 
 /// Reads an index from all bytes of its file into a table in the caller's memory.
@@ -56,11 +66,10 @@ pub extern "C" fn gix_index_read(
     ensures text { HasText summary.new.text_bytes text.old text.new }
 {
     let Some(kind) = kind_of(kind) else {
-        return wrong_number(summary);
+        return tell_wrong_number(summary);
     };
-    let outcome = read_table(alloc, bytes, kind, skip_hash, rows, paths, text);
-    *summary = outcome.summary;
-    outcome.status
+    let read = read_table(alloc, bytes, kind, skip_hash, rows, paths);
+    tell(alloc, read, text, summary)
 }
 
 /// Reads an index from all bytes of its file, with the shared index that it links to, given as all bytes of that one's
@@ -86,14 +95,14 @@ pub extern "C" fn gix_index_read_split(
     ensures status { result ≤ WRONG_NUMBER }
     ensures done { result ≡ DONE → IsSomeAnd (kind_numbered kind)
         (λ k. AreReadSo skip_hash k bytes.now shared.now
-        (λ v. Fills v summary.new rows.old rows.new paths.old paths.new)) }
+        (IsToldWith summary.new (λ v. Fills v rows.old rows.new paths.old paths.new))) }
     ensures refused { result ≡ REFUSED → IsSomeAnd (kind_numbered kind)
         (λ k. AreRefusedBoth skip_hash k bytes.now shared.now summary.new) }
     ensures memory { result ≡ MEMORY → IsSomeAnd (kind_numbered kind)
         (λ k. LackMemory skip_hash k bytes.now shared.now summary.new) }
     ensures no_room { result ≡ NO_ROOM → IsSomeAnd (kind_numbered kind)
         (λ k. AreReadSo skip_hash k bytes.now shared.now
-        (λ v. IsTooSmall v summary.new rows.old paths.old)) }
+        (IsToldWith summary.new (λ v. IsTooSmall v rows.old paths.old))) }
     ensures wrong_number { (result ≡ WRONG_NUMBER) ↔ (kind_numbered kind ≡ None) }
     ensures blank { result ≡ WRONG_NUMBER → summary.new ≡ blank }
     ensures rows { result ≢ DONE → rows.new ≡ rows.old }
@@ -101,9 +110,8 @@ pub extern "C" fn gix_index_read_split(
     ensures text { HasText summary.new.text_bytes text.old text.new }
 {
     let Some(kind) = kind_of(kind) else {
-        return wrong_number(summary);
+        return tell_wrong_number(summary);
     };
-    let outcome = read_split(alloc, bytes, shared, kind, skip_hash, rows, paths, text);
-    *summary = outcome.summary;
-    outcome.status
+    let read = read_split(alloc, bytes, shared, kind, skip_hash, rows, paths);
+    tell(alloc, read, text, summary)
 }

@@ -1,15 +1,140 @@
 //! Writing a caller's table as an index.
 
-ghost use Rattle.std.specs.Prelude.{◌≡◌, ◌≢◌, ◌≤◌, ◌↔◌, None, false};
-ghost use Rattle.index_table.specs.Overwriting.{IsAskedOver, IsUnwrittenOver, WritesOver};
+ghost use Rattle.std.specs.Prelude.{◌≡◌, ◌≢◌, ◌≤◌, ◌↔◌, IfSome, None, false};
+ghost use Rattle.index_c.specs.Numbers.{tree_number};
+ghost use Rattle.index_c.specs.Written.{Asks, HasWrongNumber, IsAsked, IsFaultTold, IsImageTold, IsImageToldOver, IsRefusedOver, LeavesBlank, Tells, TellsOver, TellsUnread, fault_told, image_told};
+ghost use Rattle.index_table.specs.Fitting.{IsFitTable};
+ghost use Rattle.index_table.specs.Overwriting.{WritesOver, full_options};
 ghost use Rattle.index_table.specs.Reading.{LacksMemory};
-ghost use Rattle.index_table.specs.Writing.{HasImage, HasWrongNumber, IsAsked, IsFitTable, IsUnwritten, LeavesBlank, PassesRoom, Spells};
-ghost use Rattle.index_table.specs.declared.status.TheConstants.{DONE, MEMORY, NO_ROOM, NO_TREE, REFUSED, WRONG_NUMBER};
+ghost use Rattle.index_table.specs.Writing.{HasImage, IsUnwritten, PassesRoom, Spells, plain_options};
+ghost use Rattle.index_table.specs.declared.over.CachedTree.TheVariants.{Absent};
 
-use index_table::over::write_over;
+use crate::fault::{number_of_error, number_of_table, status_of_error};
+use crate::number::{NO_TREE, choice_of, kind_of, number_of_tree, number_of_version};
+use crate::status::{DONE, MEMORY, NO_ROOM, REFUSED, WRONG_NUMBER};
+use gix_index::file;
+use index_table::over::{CachedTree, Replacement, write_over};
 use index_table::row::Row;
-use index_table::write::{Form, Written, write_table};
+use index_table::write::{Format, Image, Unwritten, write_table};
 use std::alloc::Global;
+
+/// How a table is to be written.
+#[repr(C)]
+#[derive(Clone, Copy)]
+pub struct Form {
+    /// The kind of the ids, and of the digest.
+    pub kind: u32,
+    /// 4, or 2 or 3, which both ask for the smaller of these that has the flags.
+    pub version: u32,
+    /// Whether the trailer is zeros in place of the digest.
+    pub skip_hash: bool,
+}
+
+/// What a call that writes says beside its status.
+#[repr(C)]
+#[derive(Clone, Copy)]
+pub struct Written {
+    /// How many bytes the index has.
+    pub bytes: usize,
+    /// The place that the fault names, or 0.
+    pub fault_place: usize,
+    /// The fault's number, or 0.
+    pub fault: u32,
+    /// The version: 2, 3 or 4.
+    pub version: u32,
+    /// What became of the cached tree of an index that was written over.
+    pub tree: u32,
+}
+
+/// The format that a form asks for, where its numbers are some.
+fn format_of(form: &Form) -> Option<Format>
+    ensures asks { IfSome result (Asks form.now) }
+    ensures wrong { result ≡ None ↔ HasWrongNumber form.now }
+{
+    Some(Format {
+        kind: kind_of(form.kind)?,
+        version: choice_of(form.version)?,
+        skip_hash: form.skip_hash,
+    })
+}
+
+/// What is told of an image, and of a cached tree.
+fn told_of_image(image: &Image, tree: CachedTree) -> Written
+    ensures { result ≡ image_told image.now tree }
+{
+    Written {
+        bytes: image.bytes,
+        fault_place: 0,
+        fault: 0,
+        version: number_of_version(image.version),
+        tree: number_of_tree(tree),
+    }
+}
+
+/// What is told of a fault at a place, and of a cached tree.
+fn told_of_fault(fault: u32, fault_place: usize, tree: CachedTree) -> Written
+    ensures { result ≡ fault_told fault fault_place tree }
+{
+    Written {
+        bytes: 0,
+        fault_place,
+        fault,
+        version: 0,
+        tree: number_of_tree(tree),
+    }
+}
+
+/// Tells what comes of writing a table, and of a cached tree.
+fn tell(written: &Result<Image, Unwritten>, tree: CachedTree, told: &mut Written) -> u32
+    ensures status { result ≤ NO_ROOM }
+    ensures told { Tells written.now tree result told.new }
+    ensures blank { LeavesBlank result told.new }
+{
+    let (status, said) = match written {
+        Ok(image) => (DONE, told_of_image(image, tree)),
+        Err(Unwritten::NoRoom(image)) => (NO_ROOM, told_of_image(image, tree)),
+        Err(Unwritten::Refused(fault)) => {
+            let fault = number_of_table(*fault);
+            (REFUSED, told_of_fault(fault.number, fault.place, tree))
+        }
+        Err(Unwritten::Memory) => (MEMORY, told_of_fault(0, 0, tree)),
+    };
+    *told = said;
+    status
+}
+
+/// Tells why the bytes of the index that is written over aren't read.
+fn tell_unread(e: &file::init::Error, told: &mut Written) -> u32
+    ensures status { result ≤ MEMORY }
+    ensures told { TellsUnread e.now result told.new }
+    ensures blank { LeavesBlank result told.new }
+{
+    let fault = number_of_error(e);
+    *told = told_of_fault(fault.number, fault.place, CachedTree::Absent);
+    status_of_error(e)
+}
+
+/// Tells what comes of writing a table over an index.
+fn tell_over(over: &Result<Replacement, file::init::Error>, told: &mut Written) -> u32
+    ensures status { result ≤ NO_ROOM }
+    ensures told { TellsOver over.now result told.new }
+    ensures blank { LeavesBlank result told.new }
+{
+    match over {
+        Ok(replaced) => tell(&replaced.written, replaced.tree, told),
+        Err(e) => tell_unread(e, told),
+    }
+}
+
+/// Tells that a number of the form is none.
+fn tell_wrong_number(told: &mut Written) -> u32
+    ensures status { result ≡ WRONG_NUMBER }
+    ensures tree { told.new.tree ≡ NO_TREE }
+    ensures blank { LeavesBlank result told.new }
+{
+    *told = told_of_fault(0, 0, CachedTree::Absent);
+    WRONG_NUMBER
+}
 
 /// Writes a table, as `gix_index_read` fills one, as all bytes of an index without extensions.
 ///
@@ -28,22 +153,26 @@ pub extern "C" fn gix_index_write(
     told: &mut Written,
 ) -> u32
     ensures status { result ≤ WRONG_NUMBER }
-    ensures done { result ≡ DONE → IsAsked form.now (λ kind options. Spells kind paths.now rows.now
-        (λ v. HasImage v options told.new bytes.old bytes.new)) }
+    ensures done { result ≡ DONE → IsAsked form.now (λ format. IsImageTold told.new Absent
+        (λ image. Spells format.kind paths.now rows.now
+        (HasImage (plain_options format) image bytes.old bytes.new))) }
     ensures refused { result ≡ REFUSED → IsAsked form.now
-        (λ kind options. IsUnwritten kind options paths.now rows.now told.new) }
+        (λ format. IsFaultTold told.new Absent (IsUnwritten format paths.now rows.now)) }
     ensures memory { result ≡ MEMORY → IsAsked form.now
-        (λ kind options. IsFitTable kind false paths.now rows.now) }
-    ensures no_room { result ≡ NO_ROOM → IsAsked form.now (λ kind options. Spells kind paths.now rows.now
-        (λ v. PassesRoom v options told.new bytes.old)) }
+        (λ format. IsFitTable format.kind false paths.now rows.now) }
+    ensures no_room { result ≡ NO_ROOM → IsAsked form.now (λ format. IsImageTold told.new Absent
+        (λ image. Spells format.kind paths.now rows.now
+        (PassesRoom (plain_options format) image bytes.old))) }
     ensures wrong_number { (result ≡ WRONG_NUMBER) ↔ HasWrongNumber form.now }
     ensures tree { told.new.tree ≡ NO_TREE }
     ensures blank { LeavesBlank result told.new }
     ensures bytes { result ≢ DONE → bytes.new ≡ bytes.old }
 {
-    let answer = write_table(alloc, rows, paths, form, bytes);
-    *told = answer.told;
-    answer.status
+    let Some(format) = format_of(form) else {
+        return tell_wrong_number(told);
+    };
+    let written = write_table(alloc, rows, paths, &format, bytes);
+    tell(&written, CachedTree::Absent, told)
 }
 
 /// Writes a table as all bytes of an index that takes the place of another, given as all bytes of its file. They are
@@ -67,21 +196,23 @@ pub extern "C" fn gix_index_write_over(
     told: &mut Written,
 ) -> u32
     ensures status { result ≤ WRONG_NUMBER }
-    ensures done { result ≡ DONE → IsAskedOver form.now
-        (λ kind options. WritesOver kind index.now paths.now rows.now told.new
-        (λ v. HasImage v options told.new bytes.old bytes.new)) }
-    ensures refused { result ≡ REFUSED → IsAskedOver form.now
-        (λ kind options. IsUnwrittenOver kind options index.now paths.now rows.now told.new) }
-    ensures memory { result ≡ MEMORY
-        → IsAskedOver form.now (λ kind options. LacksMemory None false kind index.now) }
-    ensures no_room { result ≡ NO_ROOM → IsAskedOver form.now
-        (λ kind options. WritesOver kind index.now paths.now rows.now told.new
-        (λ v. PassesRoom v options told.new bytes.old)) }
+    ensures done { result ≡ DONE → IsAsked form.now (λ format. IsImageToldOver told.new
+        (λ tree image. WritesOver format.kind index.now paths.now rows.now tree
+        (HasImage (full_options format) image bytes.old bytes.new))) }
+    ensures refused { result ≡ REFUSED → IsAsked form.now
+        (λ format. IsRefusedOver format index.now paths.now rows.now told.new) }
+    ensures memory { result ≡ MEMORY → IsAsked form.now
+        (λ format. LacksMemory None false format.kind index.now) }
+    ensures no_room { result ≡ NO_ROOM → IsAsked form.now (λ format. IsImageToldOver told.new
+        (λ tree image. WritesOver format.kind index.now paths.now rows.now tree
+        (PassesRoom (full_options format) image bytes.old))) }
     ensures wrong_number { (result ≡ WRONG_NUMBER) ↔ HasWrongNumber form.now }
     ensures blank { LeavesBlank result told.new }
     ensures bytes { result ≢ DONE → bytes.new ≡ bytes.old }
 {
-    let answer = write_over(alloc, rows, paths, index, form, bytes);
-    *told = answer.told;
-    answer.status
+    let Some(format) = format_of(form) else {
+        return tell_wrong_number(told);
+    };
+    let over = write_over(alloc, rows, paths, index, &format, bytes);
+    tell_over(&over, told)
 }

@@ -20,7 +20,7 @@ module _ (s : List ℕ) (es : List Entry) (r : Record) (t : List ℕ) (fs : List
 
   wider : (x : Entry) → IsPlaced (length s) x → IsPlaced (length t) x
   wider x p =
-      record { forward = p.forward; inside = omega (arith, p.inside, ap length a.storage, length-append s r.path) }
+      record { inside = omega (arith, p.inside, ap length a.storage, length-append s r.path) }
 
   pub appended_placed : All (IsPlaced (length t)) fs
   appended_placed = rw a.entries (All-push (IsPlaced (length t)) es a.entry

@@ -8,6 +8,7 @@ use Rattle.std.proofs.lemmas.List.Elements.{All-head, All-tail}
 use Rattle.index_entries.specs.declared.Entry.{Entry}
 use Rattle.index_entries.specs.Entries.{last_path}
 use Rattle.index_entries.specs.Held.{IsFrontOfLast}
+use Rattle.index_entries.specs.PathRange.{range_end, range_start}
 use Rattle.index_entries.specs.Record.{IsPlaced, record_in, records_in}
 
 last_is : (s : List ℕ) (p : Option (List ℕ)) (es : List Entry) (e : Entry) → Some e ≡ slice_get es (length es - 1)
@@ -34,32 +35,28 @@ last_placed n (x ∷ y ∷ es) e h a =
 
 pub last_front : (s : List ℕ) (es : List Entry) (e : Entry) → Some e ≡ slice_get es (length es - 1)
     → All (IsPlaced (length s)) es → (shared : ℕ) → shared ≤ length (unwrap_or (last_path None (records_in s es)) [])
-    → IsFrontOfLast (record { records = records_in s es; storage = s }) shared e.path.start
+    → IsFrontOfLast (record { records = records_in s es; storage = s }) shared (range_start e.path)
 last_front s es e h a shared le =
-    let a0 = e.path.start in
-    let b0 = e.path.end in
+    let a0 = range_start e.path in
+    let b0 = range_end e.path in
     let p : IsPlaced (length s) e = last_placed (length s) es e h a in
     let is : last_path None (records_in s es) ≡ Some (slice_range s a0 b0) = last_is s None es e h in
     let few : shared ≤ length (slice_range s a0 b0) = rw is at le in
     let long : length (slice_range s a0 b0) ≡ b0 - a0 =
-    omega (arith, p.forward, p.inside, length-take (b0 - a0) (drop a0 s), length-drop a0 s) in
+    omega (arith, p.inside, length-take (b0 - a0) (drop a0 s), length-drop a0 s) in
     let n : a0 + shared - a0 ≡ shared = omega arith in
     record {
-      inside = omega (arith, p.forward, p.inside, few, long);
+      inside = omega (arith, p.inside, few, long);
       is = rw (is, n) (sym (take-take shared (b0 - a0) (drop a0 s) (omega (arith, few, long))));
     }
 
 pub last_room : (s : List ℕ) (es : List Entry) (e : Entry) → Some e ≡ slice_get es (length es - 1)
-    → All (IsPlaced (length s)) es → (e.path.start ≤ e.path.end)
-    × (Some (e.path.end - e.path.start) ≡ option_map length (last_path None (records_in s es)))
+    → All (IsPlaced (length s)) es → Some e.path.len ≡ option_map length (last_path None (records_in s es))
 last_room s es e h a =
+    let a0 = range_start e.path in
+    let b0 = range_end e.path in
     let p : IsPlaced (length s) e = last_placed (length s) es e h a in
-    let is : last_path None (records_in s es) ≡ Some (slice_range s e.path.start e.path.end) = last_is s None es e h in
-    let long : e.path.end - e.path.start ≡ length (slice_range s e.path.start e.path.end) = omega (
-      arith,
-      p.forward,
-      p.inside,
-      length-take (e.path.end - e.path.start) (drop e.path.start s),
-      length-drop e.path.start s,
-    ) in
-    (p.forward, rw is (ap (λ (n : ℕ). Some n) long))
+    let is : last_path None (records_in s es) ≡ Some (slice_range s a0 b0) = last_is s None es e h in
+    let long : e.path.len ≡ length (slice_range s a0 b0) =
+    omega (arith, p.inside, length-take (b0 - a0) (drop a0 s), length-drop a0 s) in
+    rw is (ap (λ (n : ℕ). Some n) long)

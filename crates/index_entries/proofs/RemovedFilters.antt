@@ -8,6 +8,7 @@ use Rattle.std.specs.List.{FoldsTo, AllByRecursion, filter, range_with_len, zip}
 use Rattle.std.proofs.lemmas.List.{length-map}
 use Rattle.std.proofs.lemmas.List.Elements.{All-from_recursion, recursion_from_All, All-map}
 use Rattle.index_entries.specs.declared.Entry.{Entry}
+use Rattle.index_entries.specs.PathRange.{range_end, range_start}
 use Rattle.index_entries.specs.Record.{Record, IsPlaced, record_in, records_in}
 use Rattle.index_entries.proofs.Sorting.{record_at}
 use Rattle.index_entries.specs.Removed.{Answered, AnswersBy, AnswersByPlace, Call, ChangesFlagsAlone, IsCalled}
@@ -162,7 +163,7 @@ with_flags storage d e same =
     let id = sym same.2 in
     let mode = sym same.3 in
     λ i. record {
-      path = slice_range storage (path i).start (path i).end;
+      path = slice_range storage (range_start (path i)) (range_end (path i));
       stat = stat i;
       id = id i;
       flags = e.flags.0;
@@ -177,7 +178,7 @@ module _ {F : Type 0} (g : Mut F Shown Answered) (storage : List ℕ) (f last : 
   left_placed leaves h =
       let says = same_paths g storage removes.calls (each_says g storage _ removes.calls f last leaves removes.ran) in
       let keeps = each_weaker _ (λ (c : Call). IsPlaced (length storage) c.before → IsPlaced (length storage) c.after)
-      (λ c e p. record { forward = rw e p.forward; inside = rw e p.inside }) removes.calls says in
+      (λ c e p. record { inside = rw e p.inside }) removes.calls says in
       left_has (IsPlaced (length storage)) removes.calls old new removes.left keeps h
 
   pub left_but_flags : (P : Record → Type 0) → ((r : Record) (flags : ℕ) → P r → P (record r { flags = flags }))

@@ -4,12 +4,14 @@ use Rattle.std.proofs.Common.{ap, subst, ◌∙◌, arith}
 use Rattle.std.proofs.lemmas.List.{take-append-le, drop-append-le, length-append, length-drop, append-nil, map-append}
 use Rattle.std.proofs.lemmas.List.{take_at, drop_at}
 use Rattle.std.proofs.lemmas.List.Elements.{All-head, All-tail, All-push, All-weaker}
-use Rattle.std.specs.Prelude.{slice_range}
+use Rattle.std.proofs.lemmas.Nat.{div-add-mod'}
+use Rattle.std.specs.Prelude.{slice_range, ◌^◌}
 use Rattle.index_parts.specs.declared.hash.Kind.{Kind}
 use Rattle.index_entries.specs.declared.Version.{Version}
 use Rattle.index_entries.specs.declared.Entry.{Entry}
 use Rattle.index_entries.specs.Entries.{AreEntries, last_path}
 use Rattle.index_entries.specs.Entry.{IsEntry}
+use Rattle.index_entries.specs.PathRange.{packed_range, range_end, range_start}
 use Rattle.index_entries.specs.Record.{Record, record_in, records_in, IsPlaced}
 
 -- a part of a list stays where the list grows
@@ -22,7 +24,7 @@ range_grows s t a b ab bs =
 record_grows : (s t : List ℕ) (e : Entry) → IsPlaced (length s) e → record_in (s ++ t) e ≡ record_in s e
 record_grows s t e h =
     ap (λ (p : List ℕ). record { path = p; stat = e.stat; id = e.id; flags = e.flags.0; mode = e.mode.0 })
-    (range_grows s t e.path.start e.path.end h.forward h.inside)
+    (range_grows s t (range_start e.path) (range_end e.path) (omega arith) h.inside)
 
 pub records_grow : (s t : List ℕ) (es : List Entry) → All (IsPlaced (length s)) es
     → records_in (s ++ t) es ≡ records_in s es
@@ -38,19 +40,23 @@ own_range s path a b start end =
     (ap (λ (l : List ℕ). take (length path) l) (sym (append-nil path)) ∙ take_at path [] (length path) refl)
 
 -- an entry whose path stands at the end of the storage
-pub own_record : (s path : List ℕ) (e : Entry) → e.path.start ≡ length s → e.path.end ≡ length (s ++ path)
+pub own_record : (s path : List ℕ) (e : Entry) → range_start e.path ≡ length s → range_end e.path ≡ length (s ++ path)
     → record_in (s ++ path) e ≡ record { path = path; stat = e.stat; id = e.id; flags = e.flags.0; mode = e.mode.0 }
 own_record s path e start end =
     ap (λ (p : List ℕ). record { path = p; stat = e.stat; id = e.id; flags = e.flags.0; mode = e.mode.0 })
-    (own_range s path e.path.start e.path.end start end)
+    (own_range s path (range_start e.path) (range_end e.path) start end)
 
-pub own_place : (s path : List ℕ) (e : Entry) → e.path.start ≡ length s → e.path.end ≡ length (s ++ path)
+pub own_place : (s path : List ℕ) (e : Entry) → range_start e.path ≡ length s → range_end e.path ≡ length (s ++ path)
     → IsPlaced (length (s ++ path)) e
-own_place s path e start end = record { forward = omega (arith, length-append s path); inside = omega arith }
+own_place s path e start end = record { inside = omega arith }
+
+-- a range that is packed begins where it was asked to
+pub packed_start : (start len : ℕ) → range_start (packed_range start len) ≡ start
+packed_start start len = div-add-mod' start (2 ^ 32)
 
 -- the storage s grows by the path of e, and e comes last
 pub records_push : (s path : List ℕ) (es : List Entry) (e : Entry) → All (IsPlaced (length s)) es
-    → e.path.start ≡ length s → e.path.end ≡ length (s ++ path)
+    → range_start e.path ≡ length s → range_end e.path ≡ length (s ++ path)
     → records_in (s ++ path) (es ++ e ∷ [])
     ≡ records_in s es ++ record { path = path; stat = e.stat; id = e.id; flags = e.flags.0; mode = e.mode.0 } ∷ []
 records_push s path es e h start end =
@@ -59,11 +65,11 @@ records_push s path es e h start end =
     ∙ ap (λ (r : Record). records_in s es ++ r ∷ []) (own_record s path e start end)
 
 pub placed_push : (s path : List ℕ) (es : List Entry) (e : Entry) → All (IsPlaced (length s)) es
-    → e.path.start ≡ length s → e.path.end ≡ length (s ++ path)
+    → range_start e.path ≡ length s → range_end e.path ≡ length (s ++ path)
     → All (IsPlaced (length (s ++ path))) (es ++ e ∷ [])
 placed_push s path es e h start end =
     let wider : (x : Entry) → IsPlaced (length s) x → IsPlaced (length (s ++ path)) x =
-    λ x p. record { forward = p.forward; inside = omega (arith, p.inside, length-append s path) } in
+    λ x p. record { inside = omega (arith, p.inside, length-append s path) } in
     All-push (IsPlaced (length (s ++ path))) es e
     (All-weaker (IsPlaced (length s)) (IsPlaced (length (s ++ path))) wider es h) (own_place s path e start end)
 

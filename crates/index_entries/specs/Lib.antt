@@ -6,6 +6,7 @@ pub mod Header
 pub mod Held
 pub mod Limits
 pub mod Order
+pub mod PathRange
 pub mod Record
 pub mod Removed
 pub mod Shared

@@ -8,6 +8,8 @@ use Rattle.index_parts.specs.declared.hash.ObjectId.{ObjectId}
 use Rattle.index_metadata.specs.declared.entry.stat.Stat.{Stat}
 use Rattle.index_entries.specs.declared.Entry.{Entry}
 use Rattle.index_entries.specs.declared.Pathless.{Pathless}
+use Rattle.index_entries.specs.declared.path_range.PathRange.{PathRange}
+use Rattle.index_entries.specs.PathRange.{range_end, range_start}
 
 -- an entry with its whole path; its stage is in the flags
 pub record Record : Type 0 where
@@ -21,7 +23,7 @@ pub record Record : Type 0 where
 abbrev pub record_in : List ℕ → Entry → Record
 record_in storage e =
     record {
-      path = slice_range storage e.path.start e.path.end;
+      path = slice_range storage (range_start e.path) (range_end e.path);
       stat = e.stat;
       id = e.id;
       flags = e.flags.0;
@@ -33,17 +35,15 @@ records_in storage entries = map (record_in storage) entries
 
 -- the entry's path lies inside a storage of so many bytes
 pub record IsPlaced (len : ℕ) (e : Entry) : Type 0 where
-  pub forward : e.path.start ≤ e.path.end
-  pub inside : e.path.end ≤ len
+  pub inside : range_end e.path ≤ len
 
 -- the record of this path and an entry's other parts
 abbrev pub with_path : List ℕ → Pathless → Record
 with_path path e = record { path = path; stat = e.stat; id = e.id; flags = e.flags.0; mode = e.mode.0 }
 
--- the entry of these parts, whose path is the bytes of a storage from one place up to another
-abbrev pub made_entry : Pathless → ℕ → ℕ → Entry
-made_entry e start end =
-    record { stat = e.stat; id = e.id; flags = e.flags; mode = e.mode; path = record { start = start; end = end } }
+-- the entry of these parts, whose path is these bytes of a storage
+abbrev pub made_entry : Pathless → PathRange → Entry
+made_entry e path = record { stat = e.stat; id = e.id; flags = e.flags; mode = e.mode; path = path }
 
 -- each entry's id is of this kind
 abbrev pub IdsAreOf : Kind → List Entry → Type 0

@@ -7,11 +7,13 @@ ghost use Rattle.std.specs.Prelude.{◌≡◌, ◌↔◌, ℕ, List, length, All
 
 use index_metadata::entry::{Flags, Mode, Stage, StageRaw, Stat};
 use index_parts::hash::ObjectId;
+use path_range::PathRange;
 use std::cmp::Ordering;
 use std::ops::Range;
 
 pub mod list;
 pub mod order;
+pub mod path_range;
 pub mod paths;
 pub mod remove;
 pub mod sizes;
@@ -60,13 +62,14 @@ pub struct Entry {
     pub flags: Flags,
     /// The kind of file.
     pub mode: Mode,
-    path: Range<usize>,
+    path: PathRange,
 }
 
 impl Entry {
     ghost use Rattle.std.specs.Cmp.{IsTotalOrder};
     ghost use Rattle.std.specs.declared.cmp.Ordering.TheVariants.{Equal};
     ghost use Rattle.index_entries.specs.Order.{IsSameKey, path_cmp, record_cmp};
+    ghost use Rattle.index_entries.specs.PathRange.{range_end, range_start};
     ghost use Rattle.index_entries.specs.Record.{IsPlaced, record_in};
     ghost use Rattle.index_metadata.specs.Flags.{stage_number, stage_of};
 
@@ -74,7 +77,7 @@ impl Entry {
     fn is_placed(&self, len: usize) -> bool
         ensures { IsTrue result ↔ IsPlaced len self.now }
     {
-        self.path.start <= self.path.end && self.path.end <= len
+        self.path.end() <= len
     }
 
     /// The entry's path, from the top of the work tree, in the state that it is from.
@@ -90,16 +93,16 @@ impl Entry {
         requires { IsPlaced (length backing.now) self.now }
         ensures { result.now ≡ (record_in backing.now self.now).path }
     {
-        &backing[self.path.start..self.path.end]
+        &backing[self.path.start()..self.path.end()]
     }
 
     /// Where the path lies in the storage of the state that the entry is from, in bytes from its start: `path_in` gives
     /// these bytes. So a caller who copies the storage whole has all paths.
     pub fn path_range(&self) -> Range<usize>
-        ensures start { result.start ≡ self.now.path.start }
-        ensures end { result.end ≡ self.now.path.end }
+        ensures start { result.start ≡ range_start self.now.path }
+        ensures end { result.end ≡ range_end self.now.path }
     {
-        self.path.start..self.path.end
+        self.path.start()..self.path.end()
     }
 
     /// How this entry compares to another of the same state: by path, and at the same path by the number of the
@@ -159,8 +162,8 @@ pub struct Pathless {
 }
 
 /// An entry of these parts, whose path is these bytes of the storage that it is made for.
-pub fn make_entry(entry: Pathless, path: Range<usize>) -> Entry
-    ensures { result ≡ made_entry entry path.start path.end }
+pub(crate) fn make_entry(entry: Pathless, path: PathRange) -> Entry
+    ensures { result ≡ made_entry entry path }
 {
     Entry {
         stat: entry.stat,

@@ -8,6 +8,7 @@ ghost use Rattle.index_entries.specs.Entries.{last_path};
 ghost use Rattle.index_entries.specs.Held.{Appends, Held, IsFrontOfLast, pushed};
 ghost use Rattle.index_entries.specs.Record.{IsPlaced, records_in, with_path};
 
+use crate::path_range::PathRange;
 use crate::slice::EntrySlice;
 use crate::{Entry, PathStorage, Pathless, make_entry};
 use std::alloc::{AllocError, Global};
@@ -27,12 +28,13 @@ pub fn append(
     ensures err_entries { OnErr result (entries.new.items ≡ entries.old.items) }
     ensures err_storage { OnErr result (storage.new.items ≡ storage.old.items) }
 {
+    let Some(range) = PathRange::new(storage.len(), path.len()) else {
+        return Err(AllocError);
+    };
     storage.reserve(path.len())?;
     entries.reserve(1)?;
-    let start = storage.len();
     storage.extend_from_slice(path)?;
-    let end = storage.len();
-    entries.push_reserved(make_entry(entry, start..end));
+    entries.push_reserved(make_entry(entry, range));
     Ok(())
 }
 
@@ -72,13 +74,15 @@ fn append_after(
     ensures err_entries { OnErr result (entries.new.items ≡ entries.old.items) }
     ensures err_storage { OnErr result (storage.new.items ≡ storage.old.items) }
 {
-    storage.reserve(shared.end - shared.start + path.len())?;
+    let len = shared.end - shared.start + path.len();
+    let Some(range) = PathRange::new(storage.len(), len) else {
+        return Err(AllocError);
+    };
+    storage.reserve(len)?;
     entries.reserve(1)?;
-    let start = storage.len();
     copy_to_end(storage, shared)?;
     storage.extend_from_slice(path)?;
-    let end = storage.len();
-    entries.push_reserved(make_entry(entry, start..end));
+    entries.push_reserved(make_entry(entry, range));
     Ok(())
 }
 
@@ -133,7 +137,7 @@ impl EntryList {
         ensures { result ≡ option_map length (last_path None self.now.records) }
     {
         let last = self.entries.last()?;
-        Some(last.path.end - last.path.start)
+        Some(last.path.len())
     }
 
     /// The entries with their paths, lent.
@@ -159,7 +163,7 @@ impl EntryList {
             → IsFrontOfLast self.now shared result }
     {
         match self.entries.last() {
-            Some(last) => last.path.start,
+            Some(last) => last.path.start(),
             None => 0,
         }
     }

@@ -13,8 +13,8 @@ use std::cmp::Ordering;
 fn path_cut<'a>(entry: &Entry, backing: &'a [u8]) -> &'a [u8]
     ensures { result.now ≡ (record_in backing.now entry.now).path }
 {
-    let start = entry.path.start.min(backing.len());
-    let end = entry.path.end.min(backing.len());
+    let start = entry.path.start().min(backing.len());
+    let end = entry.path.end().min(backing.len());
     if start < end {
         &backing[start..end]
     } else {

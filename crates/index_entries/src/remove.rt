@@ -15,7 +15,7 @@ fn copy_of(entry: &Entry) -> Entry
         id: entry.id,
         flags: entry.flags,
         mode: entry.mode,
-        path: entry.path.start..entry.path.end,
+        path: entry.path,
     }
 }
 

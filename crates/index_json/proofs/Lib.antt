@@ -1,6 +1,3 @@
-mod Extensions
 mod Listed
 mod Plain
 mod Strings
-mod Told
-mod TreeTexts

@@ -1,10 +1,11 @@
 -- Strings as the kit's writer writes them, and texts that aren't UTF-8.
-use Rattle.std.proofs.Common.{◌≡◌, ℕ, List, [], ◌∷◌, ◌++◌, codes, append-nil, Bool, true, false, ap, ◌∙◌, refl}
+use Rattle.std.proofs.Common.{◌≡◌, ℕ, List, [], ◌∷◌, ◌++◌, append-nil, Bool, true, false, ap, ◌∙◌, refl}
 use Rattle.std.specs.Str.{IsUtf8, is_utf8}
 use Rattle.std.proofs.lemmas.Str.{IsUtf8-from_is_utf8, is_utf8-from_IsUtf8}
 use Rattle.json.specs.Print.{print, print_from, quoted}
 use Rattle.json.specs.Token.{Token, string}
-use Rattle.index_json.specs.Values.{hex_string, json_string, member, text_member}
+use Rattle.index_events.specs.Event.{Position}
+use Rattle.index_json.specs.Values.{begin_of, bytes_position, hex_string, json_string, text_value}
 
 -- the text of one string
 one_string : (s : List ℕ) → print (string s ∷ []) ≡ quoted s
@@ -17,16 +18,16 @@ string_after old before new s ts b t e =
     e ∙ ap (λ (l : List ℕ). l ++ print ts) b ∙ ap (λ (l : List Token). old ++ print l) t
     ∙ ap (λ (l : List ℕ). old ++ l) (one_string s)
 
-pub text_is : (before name bytes value : List ℕ) → value ≡ bytes → IsUtf8 bytes
-    → member before name (json_string value) ≡ text_member before name bytes
-unfolding text_member
-text_is before name bytes value e u = let t : is_utf8 bytes ≡ true = is_utf8-from_IsUtf8 bytes u in rw (e, t) refl
+pub text_is : (position : Position) (bytes value : List ℕ) → value ≡ bytes → IsUtf8 bytes
+    → begin_of position ++ json_string value ≡ text_value position bytes
+unfolding text_value
+text_is position bytes value e u = let t : is_utf8 bytes ≡ true = is_utf8-from_IsUtf8 bytes u in rw (e, t) refl
 
 not_utf8 : (bytes : List ℕ) (b : Bool) → is_utf8 bytes ≡ b → ¬ (IsUtf8 bytes) → is_utf8 bytes ≡ false
 not_utf8 bytes true e u = absurd (u (IsUtf8-from_is_utf8 bytes e))
 not_utf8 bytes false e u = e
 
-pub bytes_are : (before name bytes : List ℕ) → ¬ (IsUtf8 bytes)
-    → member before (name ++ codes "_bytes") (hex_string bytes) ≡ text_member before name bytes
-unfolding text_member
-bytes_are before name bytes u = let t : is_utf8 bytes ≡ false = not_utf8 bytes (is_utf8 bytes) refl u in rw t refl
+pub bytes_are : (position : Position) (bytes : List ℕ) → ¬ (IsUtf8 bytes)
+    → begin_of (bytes_position position) ++ hex_string bytes ≡ text_value position bytes
+unfolding text_value
+bytes_are position bytes u = let t : is_utf8 bytes ≡ false = not_utf8 bytes (is_utf8 bytes) refl u in rw t refl

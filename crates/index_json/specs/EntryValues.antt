@@ -4,7 +4,8 @@ use Rattle.index_metadata.specs.Flags.{stage_number}
 use Rattle.index_entries.specs.Record.{Record}
 use Rattle.index_metadata.specs.declared.entry.stat.Stat.{Stat}
 use Rattle.index_metadata.specs.declared.entry.stat.Time.{Time}
-use Rattle.index_json.specs.Values.{id_member, member, number_member, text_member}
+use Rattle.index_events.specs.Event.{first}
+use Rattle.index_json.specs.Values.{id_member, member, number_member, text_value}
 
 abbrev pub time_value : Time → List ℕ
 time_value t = number_member (codes "{") (codes "secs") t.secs
@@ -28,7 +29,7 @@ stat_value s = time_members s ++ file_members s ++ codes "}"
 -- what an entry has beside its stat; the flags are one number of 32 bits, of which the stage is told beside it too
 unfoldable pub entry_members : Record → List ℕ
 entry_members r =
-    text_member (codes "{") (codes "path") r.path ++ id_member (codes ",") (codes "id") r.id
+    codes "{" ++ text_value (first (codes "path")) r.path ++ id_member (codes ",") (codes "id") r.id
     ++ number_member (codes ",") (codes "mode") r.mode
     ++ number_member (codes ",") (codes "stage") (stage_number r.flags)
     ++ number_member (codes ",") (codes "flags") r.flags

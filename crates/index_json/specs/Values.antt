@@ -8,6 +8,7 @@ use Rattle.hex.specs.Hex.{encode_lower}
 use Rattle.json.specs.Print.{quoted}
 use Rattle.index_parts.specs.Id.{id_bytes}
 use Rattle.index_parts.specs.declared.hash.ObjectId.{ObjectId}
+use Rattle.index_events.specs.Event.{Position, alone, element, first, next}
 
 -- a string of these bytes, which are UTF-8
 abbrev pub json_string : List ℕ → List ℕ
@@ -24,10 +25,6 @@ abbrev pub id_or_null : Option ObjectId → List ℕ
 id_or_null None = codes "null"
 id_or_null (Some id) = hex_string (id_bytes id)
 
-abbrev pub number_or_null : Option ℕ → List ℕ
-number_or_null None = codes "null"
-number_or_null (Some n) = decimal n
-
 -- ---- members
 
 -- what stands before it, a brace or a comma; its name as a string; a colon; its value
@@ -40,17 +37,31 @@ number_member before name n = member before name (decimal n)
 abbrev pub id_member : List ℕ → List ℕ → ObjectId → List ℕ
 id_member before name id = member before name (hex_string (id_bytes id))
 
--- a text as a string, or where the bytes aren't UTF-8 the digits of each, under a name that says so
-unfoldable pub text_member : List ℕ → List ℕ → List ℕ → List ℕ
-text_member before name bytes =
-    if is_utf8 bytes then member before name (json_string bytes)
-    else member before (name ++ codes "_bytes") (hex_string bytes)
-
--- ---- arrays
-
 -- a comma before each value but the first
 abbrev pub separator : ℕ → List ℕ
 separator place = if place == 0 then [] else codes ","
+
+-- what stands before a value: its name as a string with a colon, and a comma before all but the first
+unfoldable pub begin_of : Position → List ℕ
+begin_of alone = []
+begin_of (first name) = codes "\"" ++ name ++ codes "\":"
+begin_of (next name) = codes ",\"" ++ name ++ codes "\":"
+begin_of (element place) = separator place
+
+-- the position of the digits of bytes, under a name that says so
+abbrev pub bytes_position : Position → Position
+bytes_position alone = alone
+bytes_position (first name) = first (name ++ codes "_bytes")
+bytes_position (next name) = next (name ++ codes "_bytes")
+bytes_position (element place) = element place
+
+-- a text as a string, or where the bytes aren't UTF-8 the digits of each
+unfoldable pub text_value : Position → List ℕ → List ℕ
+text_value position bytes =
+    if is_utf8 bytes then begin_of position ++ json_string bytes
+    else begin_of (bytes_position position) ++ hex_string bytes
+
+-- ---- arrays
 
 -- the values of items, with commas between them
 abbrev pub listed : {X : Type 0} → (X → List ℕ) → List X → List ℕ

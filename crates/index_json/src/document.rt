@@ -1,129 +1,124 @@
-//! All of an index file as one JSON object.
+//! The JSON text of events.
+#![tactic(auto, unfolding(index_events::specs::Event::field_of))]
 
 ghost use Rattle.std.specs.Prelude.{◌≡◌, ◌≢◌, ◌++◌, IfErr, OnErr, OnOk, codes, false, true};
 ghost use Rattle.std.specs.IoError.{error_kind};
 ghost use Rattle.std.specs.Io.KnownBytes.{Appends};
-ghost use Rattle.index_entries.specs.EntryImage.{version_code};
-ghost use Rattle.index_state.specs.State.{PathsInStorage, contents};
 ghost use Rattle.index_parts.specs.Taking.{AppendsPrefix};
-ghost use Rattle.index_text.specs.Blocks.{Passes};
-ghost use Rattle.index_json.specs.Json.{behind_text, end_members, extension_members, head_members, json_text};
-ghost use Rattle.index_json.specs.Values.{id_or_null, member};
+ghost use Rattle.index_state.specs.State.{PathsInStorage, contents};
+ghost use Rattle.index_json.specs.Json.{event_text, json_text};
 
-use crate::bitmaps::{append_link, append_monitor};
-use crate::entries::write_entries;
-use crate::marks::append_marks;
-use crate::trees::write_tree;
-use crate::undo::write_undo;
-use crate::untracked::write_untracked;
-use crate::values::{append_bool_member, append_id_or_null, append_name, append_number_member};
-use index_entries::Version;
+use crate::entries::{append_entry, append_stat};
+use crate::ranges::{append_block, append_ranges, append_side};
+use crate::values::{append_begin, append_bool, append_id_or_null, append_text};
+use index_bitmaps::ranges::Range;
+use index_entries::Entry;
+use index_events::document::write_document;
+use index_events::event::{Field, Member};
+use index_events::printer::{Printer, Text};
 use index_marks::Marks;
+use index_metadata::entry::Stat;
 use index_parts::hash::ObjectId;
 use index_parts::hash::io::Out;
+use index_small_extensions::index_entry_offset_table::Offset;
+use index_small_extensions::resolve_undo::Stage;
 use index_state::State;
-use index_text::append::Appended;
-use index_text::block::{put_block, put_text};
+use index_text::append::{Appended, append_decimal};
 use std::alloc::Global;
 use std::io::{self, ErrorKind};
 
-/// The number of a version.
-fn number_of_version(version: Version) -> u64
-    ensures { result ≡ version_code version }
-{
-    match version {
-        Version::V2 => 2,
-        Version::V3 => 3,
-        Version::V4 => 4,
+/// Puts events into JSON.
+struct Json;
+
+impl Printer for Json {
+    ghost spell = { event_text };
+
+    ghost BACKWARDS = { true };
+
+    const BACKWARDS: bool = true;
+
+    fn number(text: &mut Text, field: Field<'_>, n: u64) -> Appended {
+        append_begin(&mut text.bytes, field.member)?;
+        append_decimal(&mut text.bytes, n)
     }
-}
 
-/// Appends the member of the id at the end of the file.
-#[tactic(auto, unfolding(crate::specs::Values::member))]
-fn append_checksum(text: &mut Vec<u8>, checksum: Option<ObjectId>) -> Appended
-    ensures { OnOk result (text.new.items ≡ text.old.items
-        ++ member (codes ",") (codes "checksum") (id_or_null checksum)) }
-{
-    append_name(text, b",", b"checksum")?;
-    append_id_or_null(text, checksum)
-}
+    fn string(text: &mut Text, field: Field<'_>, bytes: &[u8]) -> Appended {
+        append_text(&mut text.bytes, text.alloc, field.member, bytes)
+    }
 
-/// Appends what stands before the entries.
-#[tactic(auto, unfolding(crate::specs::Json::head_members))]
-fn append_head(text: &mut Vec<u8>, state: &State, checksum: Option<ObjectId>) -> Appended
-    ensures { OnOk result
-        (text.new.items ≡ text.old.items ++ head_members (contents state.now) checksum) }
-{
-    append_number_member(text, b"{", b"version", number_of_version(state.version()))?;
-    append_checksum(text, checksum)?;
-    append_bool_member(text, b",", b"is_sparse", state.is_sparse())
-}
+    fn id(text: &mut Text, field: Field<'_>, id: Option<ObjectId>) -> Appended {
+        append_begin(&mut text.bytes, field.member)?;
+        append_id_or_null(&mut text.bytes, id)
+    }
 
-/// Writes the extensions that hold values; what fills a block goes out.
-#[tactic(auto, unfolding(crate::specs::Json::extension_members))]
-fn write_extensions<W: Out>(
-    text: &mut Vec<u8>,
-    alloc: Global,
-    state: &State,
-    out: &mut W,
-) -> io::Result<()>
-    requires { W.failed out.old ≡ false }
-    ensures ok { OnOk result (Passes (W.taken out.old) (W.taken out.new) text.new.items
-        (text.old.items ++ extension_members (contents state.now).extensions)) }
-    ensures err { OnErr result (AppendsPrefix (W.taken out.old) (W.taken out.new)
-        (text.old.items ++ extension_members (contents state.now).extensions)) }
-    ensures going { OnOk result (W.failed out.new ≡ false) }
-    ensures cause { IfErr result
-        (λ e. error_kind e ≢ ErrorKind.OutOfMemory → W.failed out.new ≡ true) }
-{
-    write_tree(text, alloc, state, out)?;
-    append_link(text, alloc, state)?;
-    put_block(text, out)?;
-    write_undo(text, alloc, state, out)?;
-    write_untracked(text, alloc, state, out)?;
-    Ok(append_monitor(text, alloc, state)?)
-}
+    fn answer(text: &mut Text, field: Field<'_>, holds: bool) -> Appended {
+        append_begin(&mut text.bytes, field.member)?;
+        append_bool(&mut text.bytes, holds)
+    }
 
-/// Appends what offset table and end marker say, and the end of the object.
-#[tactic(auto, unfolding(crate::specs::Json::end_members))]
-fn append_end(text: &mut Vec<u8>, state: &State, marks: &Marks) -> Appended
-    ensures { OnOk result
-        (text.new.items ≡ text.old.items ++ end_members (contents state.now).extensions marks.now) }
-{
-    let (table, marker) = (state.had_offset_table(), state.had_end_of_index_marker());
-    append_marks(text, table, marker, marks)?;
-    text.extend_from_slice(b"}\n")
-}
+    fn ranges(text: &mut Text, field: Field<'_>, ranges: &[Range]) -> Appended {
+        append_begin(&mut text.bytes, field.member)?;
+        append_ranges(&mut text.bytes, ranges)
+    }
 
-/// Writes what stands behind the entries, from the end of their array on.
-fn write_behind<W: Out>(
-    text: &mut Vec<u8>,
-    alloc: Global,
-    state: &State,
-    marks: &Marks,
-    out: &mut W,
-) -> io::Result<()>
-    requires { W.failed out.old ≡ false }
-    ensures ok { OnOk result (Passes (W.taken out.old) (W.taken out.new) text.new.items
-        (text.old.items ++ behind_text (contents state.now).extensions marks.now)) }
-    ensures err { OnErr result (AppendsPrefix (W.taken out.old) (W.taken out.new)
-        (text.old.items ++ behind_text (contents state.now).extensions marks.now)) }
-    ensures going { OnOk result (W.failed out.new ≡ false) }
-    ensures cause { IfErr result
-        (λ e. error_kind e ≢ ErrorKind.OutOfMemory → W.failed out.new ≡ true) }
-{
-    text.extend_from_slice(b"]")?;
-    write_extensions(text, alloc, state, out)?;
-    Ok(append_end(text, state, marks)?)
-}
+    fn side(text: &mut Text, field: Field<'_>, side: Option<Stage>) -> Appended {
+        append_begin(&mut text.bytes, field.member)?;
+        append_side(&mut text.bytes, side)
+    }
 
-/// Appends what stands before the entries, and the begin of their array.
-fn append_begin(text: &mut Vec<u8>, state: &State, checksum: Option<ObjectId>) -> Appended
-    ensures { OnOk result (text.new.items ≡ text.old.items
-        ++ (head_members (contents state.now) checksum ++ codes ",\"entries\":[")) }
-{
-    append_head(text, state, checksum)?;
-    text.extend_from_slice(b",\"entries\":[")
+    fn block(text: &mut Text, field: Field<'_>, block: Offset) -> Appended {
+        append_begin(&mut text.bytes, field.member)?;
+        append_block(&mut text.bytes, block)
+    }
+
+    fn empty(text: &mut Text, field: Field<'_>, _word: &[u8]) -> Appended {
+        append_begin(&mut text.bytes, field.member)?;
+        text.bytes.extend_from_slice(b"null")
+    }
+
+    fn stat(text: &mut Text, _indent: &[u8], member: Member<'_>, stat: Stat) -> Appended {
+        append_begin(&mut text.bytes, member)?;
+        append_stat(&mut text.bytes, stat)
+    }
+
+    fn entry(text: &mut Text, state: &State, place: usize, entry: &Entry) -> Appended {
+        append_entry(&mut text.bytes, text.alloc, state, place, entry)
+    }
+
+    fn heading(_text: &mut Text, _indent: &[u8], _words: &[u8]) -> Appended {
+        Ok(())
+    }
+
+    fn count(_text: &mut Text, _indent: &[u8], _words: &[u8], _n: u64) -> Appended {
+        Ok(())
+    }
+
+    fn begin_object(text: &mut Text, member: Member<'_>) -> Appended {
+        append_begin(&mut text.bytes, member)?;
+        text.bytes.extend_from_slice(b"{")
+    }
+
+    fn end_object(text: &mut Text) -> Appended {
+        text.bytes.extend_from_slice(b"}")
+    }
+
+    fn begin_array(text: &mut Text, member: Member<'_>) -> Appended {
+        append_begin(&mut text.bytes, member)?;
+        text.bytes.extend_from_slice(b"[")
+    }
+
+    fn end_array(text: &mut Text) -> Appended {
+        text.bytes.extend_from_slice(b"]")
+    }
+
+    fn presence(text: &mut Text, member: Member<'_>, is_there: bool) -> Appended {
+        append_begin(&mut text.bytes, member)?;
+        append_bool(&mut text.bytes, is_there)
+    }
+
+    fn end_text(text: &mut Text) -> Appended {
+        text.bytes.extend_from_slice(b"\n")
+    }
 }
 
 /// Writes what a file holds, its index and the id at its end, as one JSON object (RFC 8259) on one line, with the names
@@ -150,9 +145,5 @@ pub fn write_json<W: Out>(
     ensures cause { IfErr result
         (λ e. error_kind e ≢ ErrorKind.OutOfMemory → W.failed out.new ≡ true) }
 {
-    let mut text = Vec::new(alloc);
-    append_begin(&mut text, state, checksum)?;
-    write_entries(&mut text, alloc, state, out)?;
-    write_behind(&mut text, alloc, state, marks, out)?;
-    put_text(text.as_slice(), out)
+    write_document::<Json, W>(alloc, state, checksum, marks, out)
 }

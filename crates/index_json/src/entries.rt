@@ -1,28 +1,23 @@
 //! The values of entries.
 
-ghost use Rattle.std.specs.Prelude.{◌≡◌, ◌≢◌, ◌+◌, ◌++◌, IfErr, OnErr, OnOk, codes, decimal, false, length, true};
-ghost use Rattle.std.specs.IoError.{error_kind};
+ghost use Rattle.std.specs.Prelude.{◌≡◌, ◌+◌, ◌++◌, OnOk, codes, decimal, length};
 ghost use Rattle.index_entries.specs.Record.{IsPlaced, record_in};
 ghost use Rattle.index_metadata.specs.Flags.{stage_number};
-ghost use Rattle.index_state.specs.State.{PathsInStorage, contents, storage_of};
-ghost use Rattle.index_parts.specs.Taking.{AppendsPrefix};
-ghost use Rattle.index_text.specs.Blocks.{Passes};
+ghost use Rattle.index_state.specs.State.{storage_of};
 ghost use Rattle.index_text.specs.Prepending.{HasRoom, Prepends};
 ghost use Rattle.index_json.specs.EntryValues.{entry_value, stat_value, time_value};
-ghost use Rattle.index_json.specs.Values.{id_member, listed, member, number_member, separator};
+ghost use Rattle.index_json.specs.Values.{id_member, member, number_member, separator};
 
-use crate::values::{append_separator, append_text_member};
+use crate::values::{append_separator, append_text};
 use bitflags::Flags as _;
 use index_entries::Entry;
+use index_events::event::Member;
 use index_metadata::entry::Stat;
 use index_metadata::entry::stat::Time;
-use index_parts::hash::io::Out;
 use index_state::State;
 use index_text::append::Appended;
-use index_text::block::put_block;
 use index_text::prepend::{prepend, prepend_decimal, prepend_hex};
 use std::alloc::Global;
-use std::io::{self, ErrorKind};
 
 /// How many bytes a stat takes at most.
 const STAT_LEN: usize = 271;
@@ -108,19 +103,9 @@ fn append_behind_path(text: &mut Vec<u8>, entry: &Entry) -> Appended
     text.extend_from_slice(&room[start..])
 }
 
-/// Appends an entry.
-#[tactic(auto, unfolding(crate::specs::EntryValues::entry_value, crate::specs::EntryValues::entry_members))]
-fn append_entry(text: &mut Vec<u8>, alloc: Global, state: &State, entry: &Entry) -> Appended
-    requires { IsPlaced (length (storage_of state.now)) entry.now }
-    ensures { OnOk result (text.new.items
-        ≡ text.old.items ++ entry_value (record_in (storage_of state.now) entry.now)) }
-{
-    append_text_member(text, alloc, b"{", b"path", entry.path(state))?;
-    append_behind_path(text, entry)
-}
-
 /// Appends an entry, and the comma before each but the first.
-fn append_placed(
+#[tactic(auto, unfolding(crate::specs::EntryValues::entry_value, crate::specs::EntryValues::entry_members))]
+pub fn append_entry(
     text: &mut Vec<u8>,
     alloc: Global,
     state: &State,
@@ -132,29 +117,7 @@ fn append_placed(
         ++ (separator place ++ entry_value (record_in (storage_of state.now) entry.now))) }
 {
     append_separator(text, place)?;
-    append_entry(text, alloc, state, entry)
-}
-
-/// Writes all entries with commas between them; what fills a block goes out.
-pub fn write_entries<W: Out>(
-    text: &mut Vec<u8>,
-    alloc: Global,
-    state: &State,
-    out: &mut W,
-) -> io::Result<()>
-    requires placed { PathsInStorage state.now }
-    requires going { W.failed out.old ≡ false }
-    ensures ok { OnOk result (Passes (W.taken out.old) (W.taken out.new) text.new.items
-        (text.old.items ++ listed entry_value (contents state.now).records)) }
-    ensures err { OnErr result (AppendsPrefix (W.taken out.old) (W.taken out.new)
-        (text.old.items ++ listed entry_value (contents state.now).records)) }
-    ensures going { OnOk result (W.failed out.new ≡ false) }
-    ensures cause { IfErr result
-        (λ e. error_kind e ≢ ErrorKind.OutOfMemory → W.failed out.new ≡ true) }
-{
-    for (place, entry) in state.entries().iter().enumerate() {
-        append_placed(text, alloc, state, place, entry)?;
-        put_block(text, out)?;
-    }
-    Ok(())
+    text.extend_from_slice(b"{")?;
+    append_text(text, alloc, Member::First(b"path"), entry.path(state))?;
+    append_behind_path(text, entry)
 }

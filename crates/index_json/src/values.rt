@@ -4,42 +4,38 @@ ghost use Rattle.std.specs.Prelude.{◌≡◌, ◌++◌, OnOk, codes, string_byt
 ghost use Rattle.index_parts.specs.Id.{id_bytes};
 ghost use Rattle.std.specs.Bool.{OnTrue};
 ghost use Rattle.json.specs.Print.{escape, quoted};
-ghost use Rattle.index_json.specs.Values.{hex_string, id_member, id_or_null, json_bool, json_string, member, number_member, number_or_null, separator, text_member};
+ghost use Rattle.index_events.specs.Event.{position_of};
+ghost use Rattle.index_json.specs.Values.{begin_of, bytes_position, hex_string, id_or_null, json_bool, json_string, separator, text_value};
 
+use index_events::event::Member;
 use index_parts::hash::ObjectId;
-use index_text::append::{Appended, append_decimal, append_hex};
+use index_text::append::{Appended, append_hex};
 use json::Writer;
 use std::alloc::Global;
 use std::{mem, str};
 
-/// Appends what stands before a value: a brace or a comma, the name as a string, and a colon.
+/// Appends what stands before a value: what is there before its name, the name as a string, and a colon.
 pub fn append_name(text: &mut Vec<u8>, before: &[u8], name: &[u8]) -> Appended
-    ensures { OnOk result (text.new.items
-        ≡ text.old.items ++ (before.now ++ codes "\"" ++ name.now ++ codes "\":")) }
+    ensures { OnOk result
+        (text.new.items ≡ text.old.items ++ (before.now ++ name.now ++ codes "\":")) }
 {
     text.extend_from_slice(before)?;
-    text.extend_from_slice(b"\"")?;
     text.extend_from_slice(name)?;
     text.extend_from_slice(b"\":")
 }
 
-/// Appends a member that is a number.
-#[tactic(auto, unfolding(crate::specs::Values::member))]
-pub fn append_number_member(text: &mut Vec<u8>, before: &[u8], name: &[u8], n: u64) -> Appended
+/// Appends what stands before a value at its position.
+#[inline(always)]
+#[tactic(auto, unfolding(crate::specs::Values::begin_of))]
+pub fn append_begin(text: &mut Vec<u8>, member: Member<'_>) -> Appended
     ensures { OnOk result
-        (text.new.items ≡ text.old.items ++ number_member before.now name.now n) }
+        (text.new.items ≡ text.old.items ++ begin_of (position_of member.entry)) }
 {
-    append_name(text, before, name)?;
-    append_decimal(text, n)
-}
-
-/// Appends a number, or `null`.
-pub fn append_number_or_null(text: &mut Vec<u8>, n: Option<u32>) -> Appended
-    ensures { OnOk result (text.new.items ≡ text.old.items ++ number_or_null n) }
-{
-    match n {
-        Some(n) => append_decimal(text, u64::from(n)),
-        None => text.extend_from_slice(b"null"),
+    match member {
+        Member::Alone => Ok(()),
+        Member::First(name) => append_name(text, b"\"", name),
+        Member::Next(name) => append_name(text, b",\"", name),
+        Member::Element(place) => append_separator(text, place),
     }
 }
 
@@ -53,16 +49,6 @@ pub fn append_bool(text: &mut Vec<u8>, holds: bool) -> Appended
     text.extend_from_slice(b"false")
 }
 
-/// Appends a member that is `true` or `false`.
-#[tactic(auto, unfolding(crate::specs::Values::member))]
-pub fn append_bool_member(text: &mut Vec<u8>, before: &[u8], name: &[u8], holds: bool) -> Appended
-    ensures { OnOk result
-        (text.new.items ≡ text.old.items ++ member before.now name.now (json_bool holds)) }
-{
-    append_name(text, before, name)?;
-    append_bool(text, holds)
-}
-
 /// Appends an id in base 16 as a string.
 pub fn append_id(text: &mut Vec<u8>, id: &ObjectId) -> Appended
     ensures { OnOk result (text.new.items ≡ text.old.items ++ hex_string (id_bytes id.now)) }
@@ -70,16 +56,6 @@ pub fn append_id(text: &mut Vec<u8>, id: &ObjectId) -> Appended
     text.extend_from_slice(b"\"")?;
     append_hex(text, id)?;
     text.extend_from_slice(b"\"")
-}
-
-/// Appends a member that is an id.
-#[tactic(auto, unfolding(crate::specs::Values::member))]
-pub fn append_id_member(text: &mut Vec<u8>, before: &[u8], name: &[u8], id: &ObjectId) -> Appended
-    ensures { OnOk result
-        (text.new.items ≡ text.old.items ++ id_member before.now name.now id.now) }
-{
-    append_name(text, before, name)?;
-    append_id(text, id)
 }
 
 /// Appends an id, or `null`.
@@ -136,55 +112,56 @@ fn append_bytes(text: &mut Vec<u8>, alloc: Global, bytes: &[u8]) -> Appended
     text.extend_from_slice(b"\"")
 }
 
-/// Appends a member that is a string.
-#[tactic(auto, unfolding(crate::specs::Values::member))]
-fn append_string_member(
-    text: &mut Vec<u8>,
-    alloc: Global,
-    before: &[u8],
-    name: &[u8],
-    value: &str,
-) -> Appended
-    ensures { OnOk result (text.new.items
-        ≡ text.old.items ++ member before.now name.now (json_string value.now)) }
+/// Appends a string at its position.
+fn append_string_at(text: &mut Vec<u8>, alloc: Global, member: Member<'_>, value: &str) -> Appended
+    ensures { OnOk result (text.new.items ≡ text.old.items
+        ++ (begin_of (position_of member.entry) ++ json_string value.now)) }
 {
-    append_name(text, before, name)?;
+    append_begin(text, member)?;
     append_string(text, alloc, value)
 }
 
-/// Appends a member that is bytes in base 16, under a name that says so.
-#[tactic(auto, unfolding(crate::specs::Values::member))]
-fn append_bytes_member(
-    text: &mut Vec<u8>,
-    alloc: Global,
-    before: &[u8],
-    name: &[u8],
-    bytes: &[u8],
-) -> Appended
-    ensures { OnOk result (text.new.items ≡ text.old.items
-        ++ member before.now (name.now ++ codes "_bytes") (hex_string bytes.now)) }
+/// Appends the name of bytes that are told by their digits.
+fn append_bytes_name(text: &mut Vec<u8>, before: &[u8], name: &[u8]) -> Appended
+    ensures { OnOk result (text.new.items
+        ≡ text.old.items ++ (before.now ++ (name.now ++ codes "_bytes") ++ codes "\":")) }
 {
     text.extend_from_slice(before)?;
-    text.extend_from_slice(b"\"")?;
     text.extend_from_slice(name)?;
-    text.extend_from_slice(b"_bytes\":")?;
+    text.extend_from_slice(b"_bytes")?;
+    text.extend_from_slice(b"\":")
+}
+
+/// Appends the digits of bytes at their position.
+fn append_bytes_at(text: &mut Vec<u8>, alloc: Global, member: Member<'_>, bytes: &[u8]) -> Appended
+    ensures { OnOk result (text.new.items ≡ text.old.items
+        ++ (begin_of (bytes_position (position_of member.entry)) ++ hex_string bytes.now)) }
+{
+    append_bytes_begin(text, member)?;
     append_bytes(text, alloc, bytes)
 }
 
-/// Appends a member that is a text, or its bytes where they aren't UTF-8.
-pub fn append_text_member(
-    text: &mut Vec<u8>,
-    alloc: Global,
-    before: &[u8],
-    name: &[u8],
-    bytes: &[u8],
-) -> Appended
-    ensures { OnOk result
-        (text.new.items ≡ text.old.items ++ text_member before.now name.now bytes.now) }
+/// Appends what stands before the digits of bytes: the name says that they are.
+#[tactic(auto, unfolding(crate::specs::Values::begin_of))]
+fn append_bytes_begin(text: &mut Vec<u8>, member: Member<'_>) -> Appended
+    ensures { OnOk result (text.new.items
+        ≡ text.old.items ++ begin_of (bytes_position (position_of member.entry))) }
+{
+    match member {
+        Member::First(name) => append_bytes_name(text, b"\"", name),
+        Member::Next(name) => append_bytes_name(text, b",\"", name),
+        _ => append_begin(text, member),
+    }
+}
+
+/// Appends a text as a string, or where it isn't UTF-8 the digits of its bytes.
+pub fn append_text(text: &mut Vec<u8>, alloc: Global, member: Member<'_>, bytes: &[u8]) -> Appended
+    ensures { OnOk result (text.new.items
+        ≡ text.old.items ++ text_value (position_of member.entry) bytes.now) }
 {
     match str::from_utf8(bytes) {
-        Ok(value) => append_string_member(text, alloc, before, name, value),
-        Err(_) => append_bytes_member(text, alloc, before, name, bytes),
+        Ok(value) => append_string_at(text, alloc, member, value),
+        Err(_) => append_bytes_at(text, alloc, member, bytes),
     }
 }
 

@@ -16,8 +16,8 @@ use Rattle.index_objects.specs.declared.object.tree.EntryKind.{EntryKind}
 use Rattle.index_objects.specs.declared.object.tree.EntryKind.TheVariants as kinds
 use Rattle.index_entries.specs.Record.{Record}
 use Rattle.index_objects.specs.NameCheck.{refusal_as}
-use Rattle.index_trees.specs.Leaves.{LeavesAnswer, Yields, whole_tree, some_entries, opened, ended, leaf as one_leaf}
-use Rattle.index_trees.specs.Leaves.{below, leaf_of, with_leaves}
+use Rattle.index_tree_reader.specs.Leaves.{LeavesAnswer, Yields, whole_tree, some_entries, opened, ended, leaf as one_leaf}
+use Rattle.index_tree_reader.specs.Leaves.{below, leaf_of, with_leaves}
 use Rattle.index_tree_writer.specs.Directory.{Item, Items, leaf, directory, no_more, next, IsItem, AreItems, content}
 use Rattle.index_tree_writer.specs.Directory.{directory_bytes, item_bytes, items_id, item_leaves, leaves}
 use Rattle.index_tree_writer.specs.Directory.{directory_object, item_objects, objects_below, objects as all_objects}

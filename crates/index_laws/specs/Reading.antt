@@ -8,7 +8,7 @@ use Rattle.index_parts.specs.declared.hash.ObjectId.{ObjectId}
 use Rattle.index_objects.specs.declared.object.Kind.TheVariants as objects
 use Rattle.index_objects.specs.declared.object.tree.EntryKind.TheVariants as kinds
 use Rattle.index_entries.specs.Record.{Record}
-use Rattle.index_trees.specs.Leaves.{AreLeaves, zero_stat}
+use Rattle.index_tree_reader.specs.Leaves.{AreLeaves, zero_stat}
 use Rattle.index_tree_writer.specs.Directory as D
 use Rattle.index_tree_writer.specs.Objects.{Taken, with_objects}
 use Rattle.index_tree_writer.specs.Refusals.{AreFit, Check}

@@ -15,7 +15,7 @@ ghost use Rattle.index_split.specs.Link.{LinkFault, IsLink, IsLinkFault};
 ghost use Rattle.index_objects.specs.Object.{Found};
 ghost use Rattle.index_parts.specs.declared.hash.ObjectId.{ObjectId};
 ghost use Rattle.index_entries.specs.Record.{Record};
-ghost use Rattle.index_trees.specs.Leaves.{LeavesFault, AreLeaves};
+ghost use Rattle.index_tree_reader.specs.Leaves.{LeavesFault, AreLeaves};
 ghost use Rattle.index_tree_writer.specs.Kept.{HasNamesInOrder};
 ghost use Rattle.index_format.specs.declared.decode.Options.{Options};
 ghost use Rattle.index_format.specs.declared.write.Options.{Options as WriteOptions};

@@ -18,9 +18,10 @@ use Rattle.index_entries.specs.declared.Entry.{Entry}
 use Rattle.index_entries.specs.Record.{Record, record_in, records_in}
 use Rattle.index_lookups.specs.Closest.{closest, is_below, is_itself, stands_in}
 use Rattle.index_lookups.specs.Range.{is_at}
-use Rattle.index_lookups.specs.SearchSteps.{IsEqualAt, IsGapAt, IsPartedAt, prefix_cmp}
-use Rattle.index_lookups.proofs.Halving.{position_is, position_none}
-use Rattle.index_lookups.proofs.Parting.{less_from}
+use Rattle.index_search.specs.Halving.{IsEqualAt, IsGapAt, IsPartedAt}
+use Rattle.index_search.specs.Prefix.{prefix_cmp}
+use Rattle.index_search.proofs.Halving.{position_is, position_none}
+use Rattle.index_search.proofs.Parting.{less_from}
 use Rattle.index_lookups.proofs.RunsFound.{begins_is}
 
 pub any_none : {X : Type 0} (p : X → Bool) (xs : List X) → All (λ x. p x ≡ false) xs → list_any p xs ≡ false

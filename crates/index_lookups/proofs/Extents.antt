@@ -17,8 +17,8 @@ use Rattle.index_lookups.specs.NameSteps.{NamedValue, named_at, named_value, out
 use Rattle.index_lookups.specs.NameSteps.{NamedValuesRise}
 use Rattle.index_lookups.specs.WalkSteps.{AreExtents, SpanValue, is_parent, stands_where}
 use Rattle.index_lookups.specs.declared.names.Named.{Named}
-use Rattle.index_lookups.proofs.Places.{some_of}
-use Rattle.index_lookups.proofs.RunsFound.{pairs_map}
+use Rattle.index_search.proofs.Places.{some_of}
+use Rattle.index_search.proofs.OrderedAnswers.{pairs_map}
 use Rattle.index_lookups.proofs.SortedNames.{sorted, sorted_contains, sorted_has, sorted_length, sorted_rises}
 use Rattle.index_lookups.proofs.TableMade.{and_both, begins_at, begins_to, contains_map, contains_map_in}
 use Rattle.index_lookups.proofs.TableMade.{directories_alike, folded_length, or_cases, or_left, or_right, same_from}

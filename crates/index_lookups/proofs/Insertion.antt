@@ -7,9 +7,9 @@ use Rattle.std.specs.declared.cmp.Ordering.TheVariants.{Less, Equal, Greater}
 use Rattle.index_lookups.specs.Lookup.{IsPathGap, insertion_of, insertion_of_path}
 use Rattle.index_entries.specs.Order.{path_cmp, key_cmp, IsStrictlyOrdered, IsOrderedByPath}
 use Rattle.index_entries.specs.Record.{Record}
-use Rattle.index_lookups.specs.SearchSteps.{IsSplitBy, IsGapAt}
-use Rattle.index_lookups.proofs.Halving.{count_splits}
-use Rattle.index_lookups.proofs.Parting.{less_from}
+use Rattle.index_search.specs.Halving.{IsSplitBy, IsGapAt}
+use Rattle.index_search.proofs.Halving.{count_splits}
+use Rattle.index_search.proofs.Parting.{less_from}
 use Rattle.index_lookups.proofs.Lookup.{split_by_key, split_by_path}
 use Rattle.index_entries.proofs.Orders.{same_path}
 

@@ -18,8 +18,8 @@ use Rattle.index_entries.specs.declared.Entry.{Entry}
 use Rattle.index_lookups.specs.Lookup.{HasKey, has_key, place_of, IsKeyAt, IsPathAt, IsPathGap, insertion_of}
 use Rattle.index_entries.specs.Order.{path_cmp, record_stage, key_cmp, IsStrictlyOrdered, IsOrderedByPath}
 use Rattle.index_entries.specs.Record.{Record, record_in, records_in}
-use Rattle.index_lookups.specs.SearchSteps.{IsSplitBy, IsEqualAt, IsGapAt}
-use Rattle.index_lookups.proofs.Halving.{split_by, count_by_is, position_is, position_none}
+use Rattle.index_search.specs.Halving.{IsSplitBy, IsEqualAt, IsGapAt}
+use Rattle.index_search.proofs.Halving.{split_by, count_by_is, position_is, position_none}
 use Rattle.index_entries.proofs.Orders.{paths_total, own_key, equal_key, same_path}
 
 -- ---- order

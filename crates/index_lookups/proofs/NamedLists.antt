@@ -17,8 +17,8 @@ use Rattle.index_entries.specs.Record.{Record}
 use Rattle.index_lookups.specs.declared.names.Named.{Named}
 use Rattle.index_lookups.specs.Folded.{folded}
 use Rattle.index_lookups.specs.NameSteps.{NamedValue, named_value, named_at, named_cmp, named_from, path_names}
-use Rattle.index_lookups.proofs.Places.{some_of}
-use Rattle.index_lookups.proofs.RunsFound.{pairs_map}
+use Rattle.index_search.proofs.Places.{some_of}
+use Rattle.index_search.proofs.OrderedAnswers.{pairs_map}
 
 -- ---- one record more
 

@@ -14,7 +14,7 @@ use Rattle.std.proofs.Math.ListN.{get_or-map}
 use Rattle.index_lookups.specs.WalkSteps.{IsClosing, IsStep, SpanValue, extended, opened, span_value, widened}
 use Rattle.index_lookups.specs.NameSteps.{NamedValue}
 use Rattle.index_lookups.specs.declared.walk.Span.{Span}
-use Rattle.index_lookups.proofs.Places.{some_of}
+use Rattle.index_search.proofs.Places.{some_of}
 
 pub all_from : {X : Type 0} (P : X → Type 0) (xs : List X) (k : ℕ) → k < length xs → ((d : X) → P (get_or xs k d))
     → All P (drop (suc k) xs) → All P (drop k xs)

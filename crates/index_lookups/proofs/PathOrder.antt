@@ -11,7 +11,7 @@ use Rattle.std.proofs.lemmas.List.Quantifiers.{all_pairs_push}
 use Rattle.index_entries.specs.Order.{path_cmp, IsOrderedByPath}
 use Rattle.index_entries.specs.Record.{Record}
 use Rattle.index_entries.proofs.Orders.{paths_total, same_path}
-use Rattle.index_lookups.proofs.Places.{some_of}
+use Rattle.index_search.proofs.Places.{some_of}
 
 chain : (o : Ordering) (x y z : List ℕ) → path_cmp x y ≡ o → o ≢ Greater → path_cmp y z ≢ Greater
     → path_cmp x z ≢ Greater

@@ -9,29 +9,20 @@ use Rattle.std.specs.declared.cmp.Ordering.TheVariants.{Less, Equal, Greater}
 use Rattle.std.specs.declared.ops.Range.{Range}
 use Rattle.std.specs.Cmp.Lexicographic.{texts_ties, nat_list_eq_equiv}
 use Rattle.std.proofs.lemmas.Bool.{cases_lt}
-use Rattle.std.proofs.lemmas.List.{length-map, get_or-map as at_map, append-nil}
+use Rattle.std.proofs.lemmas.List.{length-map, append-nil}
 use Rattle.index_lookups.specs.Lookup.{insertion_of_path}
 use Rattle.index_entries.specs.Order.{path_cmp, IsOrderedByPath}
 use Rattle.index_entries.specs.Record.{Record}
-use Rattle.index_lookups.specs.SearchSteps.{IsSplitBy, IsRising, IsPartedAt, prefix_cmp}
-use Rattle.index_lookups.proofs.Halving.{split_by, count_by_is}
+use Rattle.index_search.specs.Halving.{IsSplitBy, IsRising, IsPartedAt}
+use Rattle.index_search.specs.Prefix.{prefix_cmp}
+use Rattle.index_search.proofs.Halving.{split_by, count_by_is}
+use Rattle.index_search.proofs.OrderedAnswers.{rising_of}
 use Rattle.index_lookups.proofs.Lookup.{split_by_path}
 use Rattle.index_entries.proofs.Orders.{paths_total}
 use Rattle.index_lookups.specs.Range.{IsRun, IsRange, IsPrefixRange, is_at, begins_with}
-use Rattle.index_lookups.proofs.Prefixes.{prefixes_rise, below_by_prefix}
+use Rattle.index_search.proofs.Prefixes.{prefixes_rise, below_by_prefix}
 
 -- ---- what holds of a row holds of the list behind it
-
-pub pairs_map : {X Y : Type 0} (R : Y → Y → Type 0) (f : X → Y) (xs : List X) → AllPairs (λ x y. R (f x) (f y)) xs
-    → AllPairs R (map f xs)
-pairs_map R f [] h i j d before within = absurd (omega arith)
-pairs_map {Y} R f (x ∷ xs) h i j d before within =
-    let n : length (map f (x ∷ xs)) ≡ length (x ∷ xs) = length-map (x ∷ xs) f in
-    let a : get_or (map f (x ∷ xs)) i d ≡ f (get_or (x ∷ xs) i x) = at_map f (x ∷ xs) i x d (omega arith) in
-    let b : get_or (map f (x ∷ xs)) j d ≡ f (get_or (x ∷ xs) j x) = at_map f (x ∷ xs) j x d (omega arith) in
-    let P : Y → Type 0 = λ u. R u (get_or (map f (x ∷ xs)) j d) in
-    let Q : Y → Type 0 = λ v. R (f (get_or (x ∷ xs) i x)) v in
-    subst P (sym a) (subst Q (sym b) (h i j x before (omega arith)))
 
 pub within_map : {X Y : Type 0} (p : Y → Bool) (f : X → Y) (test : X → Bool) (b : Bool) (xs : List X) (from to : ℕ)
     → ((x : X) → p (f x) ≡ test x) → AllWithin (λ y. p y ≡ b) (map f xs) from to
@@ -40,12 +31,6 @@ within_map p f test b xs from to same h k d low high =
     sym (same (get_or xs k d)) ∙ ap p (sym (get_or-map f xs k d)) ∙ h k (f d) low high
 
 -- ---- a list that is split by an order gives a rising row
-
-pub rising_of : {X : Type 0} (cmp : X → Ordering) (xs : List X) → IsSplitBy cmp xs → IsRising (map cmp xs)
-rising_of cmp xs split = record {
-  below = pairs_map (λ o q. q ≡ Less → o ≡ Less) cmp xs split.below;
-  above = pairs_map (λ o q. o ≡ Greater → q ≡ Greater) cmp xs split.above;
-}
 
 pub rising_paths : (path : List ℕ) (rs : List Record) → IsOrderedByPath rs
     → IsRising (map (λ r. path_cmp r.path path) rs)

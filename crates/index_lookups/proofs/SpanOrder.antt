@@ -12,13 +12,15 @@ use Rattle.index_metadata.specs.Flags.{stage_code}
 use Rattle.index_metadata.specs.declared.entry.flags.Stage.{Stage}
 use Rattle.index_entries.specs.Order.{path_cmp, record_stage}
 use Rattle.index_entries.specs.Record.{Record}
-use Rattle.index_lookups.specs.SearchSteps.{asked_cmp, IsBracket, prefix_cmp}
-use Rattle.index_lookups.proofs.Halving.{count_by_is}
+use Rattle.index_lookups.specs.SearchSteps.{asked_cmp}
+use Rattle.index_search.specs.Halving.{IsBracket}
+use Rattle.index_search.specs.Prefix.{prefix_cmp}
+use Rattle.index_search.proofs.Halving.{count_by_is}
 use Rattle.index_lookups.specs.Closest.{is_below}
 use Rattle.index_lookups.specs.SpanSteps.{IsSpan}
 use Rattle.index_lookups.specs.WalkSteps.{SpanValue}
 use Rattle.index_lookups.specs.Range.{IsRun}
-use Rattle.index_lookups.proofs.Parting.{greater_from, less_from}
+use Rattle.index_search.proofs.Parting.{greater_from, less_from}
 use Rattle.index_lookups.proofs.RunsFound.{run_between, run_map, begins_is}
 
 -- ---- paths stand as their fronts do, where these differ

@@ -13,15 +13,16 @@ use Rattle.index_entries.specs.Order.{IsOrderedByPath}
 use Rattle.index_entries.specs.Record.{Record}
 use Rattle.index_lookups.specs.Closest.{is_below}
 use Rattle.index_lookups.specs.NameSteps.{outer_cmp}
-use Rattle.index_lookups.specs.SearchSteps.{prefix_cmp}
+use Rattle.index_search.specs.Prefix.{prefix_cmp}
 use Rattle.index_lookups.specs.SpanSteps.{AreDirs, AreSpans, IsSpan}
 use Rattle.index_lookups.specs.Tables.{IsBounded, IsDirs, last_slash, search_bound}
 use Rattle.index_lookups.specs.WalkSteps.{AreExtents, SpanValue, span_value}
 use Rattle.index_lookups.specs.declared.walk.Span.{Span}
 use Rattle.index_lookups.proofs.Outer.{outer_total}
-use Rattle.index_lookups.proofs.Parting.{before_middle, behind_middle, equal_from}
-use Rattle.index_lookups.proofs.Places.{some_of}
-use Rattle.index_lookups.proofs.RunsFound.{begins_is, pairs_map, rising_prefixes}
+use Rattle.index_search.proofs.Parting.{before_middle, behind_middle, equal_from}
+use Rattle.index_search.proofs.Places.{some_of}
+use Rattle.index_lookups.proofs.RunsFound.{begins_is, rising_prefixes}
+use Rattle.index_search.proofs.OrderedAnswers.{pairs_map}
 use Rattle.index_lookups.proofs.SortedNames.{sorted, sorted_contains, sorted_has, sorted_length, sorted_rises}
 use Rattle.index_lookups.proofs.TableMade.{contains_map, contains_map_in}
 use Rattle.index_lookups.proofs.TableSearch.{any_from, any_place}

@@ -13,9 +13,9 @@ use Rattle.index_entries.specs.Shared.{shared_len}
 use Rattle.index_entries.proofs.SharedFronts.{shared_within_second}
 use Rattle.index_lookups.specs.NameSteps.{NamedValue}
 use Rattle.index_lookups.specs.WalkSteps.{IsStep, SpanValue, extended, is_parent, opened, widened}
-use Rattle.index_lookups.proofs.Places.{some_of}
+use Rattle.index_search.proofs.Places.{some_of}
 use Rattle.index_lookups.proofs.Pairs.{pairs_join}
-use Rattle.index_lookups.proofs.RunsFound.{pairs_map}
+use Rattle.index_search.proofs.OrderedAnswers.{pairs_map}
 use Rattle.index_lookups.proofs.TableMade.{contains_map, contains_map_in}
 use Rattle.index_lookups.proofs.OpenedFronts.{front_slash, front_within, fresh, opened_is, opened_has, opened_longer}
 use Rattle.index_lookups.proofs.Walks.{HasEnds, Covers, Walked, Reached, reached_next}

@@ -11,17 +11,17 @@ use Rattle.std.specs.declared.cmp.Ordering.TheVariants.{Less, Equal, Greater}
 use Rattle.std.proofs.lemmas.Bool.{cases_lt, false_from_ne_true}
 use Rattle.std.proofs.lemmas.Bool.Decides.{nat_tests}
 use Rattle.std.proofs.lemmas.List.{length-map, get_or_default, get_or-map as at_map}
-use Rattle.index_lookups.specs.Digits.{digits}
-use Rattle.index_lookups.proofs.Digits.{digits-half, digits_small}
+use Rattle.index_search.specs.Digits.{digits}
+use Rattle.index_search.proofs.Digits.{digits-half, digits_small}
 use Rattle.index_entries.specs.Record.{Record}
-use Rattle.index_lookups.proofs.Halving.{position_is, position_none, split_by}
+use Rattle.index_search.proofs.Halving.{position_is, position_none, split_by}
 use Rattle.index_lookups.proofs.Outer.{order_total, same_name}
 use Rattle.index_lookups.specs.Folded.{folded}
-use Rattle.index_lookups.specs.SearchSteps.{IsRising, IsPartedAt, IsGapAt}
+use Rattle.index_search.specs.Halving.{IsRising, IsPartedAt, IsGapAt}
 use Rattle.index_lookups.specs.NameSteps.{NamedValue, named_value, name_order, named_cmp, IsTableOf}
 use Rattle.index_lookups.specs.declared.names.Named.{Named}
-use Rattle.index_lookups.proofs.RunsFound.{rising_of}
-use Rattle.index_lookups.proofs.Parting.{equal_from as tied_from, rises, gap_parted}
+use Rattle.index_search.proofs.OrderedAnswers.{rising_of}
+use Rattle.index_search.proofs.Parting.{equal_from as tied_from, rises, gap_parted}
 use Rattle.index_lookups.proofs.Lookup.{err_is}
 
 -- ---- a list whose keys never fall gives a rising row
@@ -224,8 +224,3 @@ module _ (outer ignore_case : Bool) (test : List ℕ → Record → Bool) (rs : 
   find_gap r fits gap low e =
       gap_none low (err_is r low (λ i. i ≤ length names) e fits) (err_is r low (IsGapAt (λ o. o) (map
       (λ k. name_order outer (folded ignore_case k.name) (folded ignore_case name)) (map named_value names))) e gap)
-
-pub count_small : (m n count : ℕ) → m ≡ n → 0 < n → count ≤ digits m → count ≤ n / 2 + 1
-count_small m n count e some h =
-    let same : digits m ≡ digits n = ap digits e in
-    omega (arith, same, h, digits-half n some, digits_small (n / 2))

@@ -11,10 +11,10 @@ use Rattle.std.proofs.lemmas.Bool.{cases_lt, false_from_ne_true}
 use Rattle.std.proofs.lemmas.Bool.Decides.{nat_tests}
 use Rattle.std.proofs.lemmas.List.{length-map, get_or-map as at_map}
 use Rattle.std.proofs.lemmas.List.Folds.{list_any_at}
-use Rattle.index_lookups.specs.Digits.{digits}
+use Rattle.index_search.specs.Digits.{digits}
 use Rattle.index_entries.specs.Record.{Record}
-use Rattle.index_lookups.specs.SearchSteps.{IsEqualAt, IsGapAt, IsBracket, IsRising}
-use Rattle.index_lookups.proofs.Digits.{digits-half, digits_small}
+use Rattle.index_search.specs.Halving.{IsEqualAt, IsGapAt, IsBracket, IsRising}
+use Rattle.index_search.proofs.Digits.{digits-half, digits_small}
 use Rattle.index_lookups.specs.NameSteps.{outer_cmp}
 use Rattle.index_lookups.proofs.Outer.{outer_total, same_name}
 use Rattle.index_lookups.specs.Closest.{is_below}
@@ -23,7 +23,7 @@ use Rattle.index_lookups.specs.WalkSteps.{SpanValue, span_value}
 use Rattle.index_lookups.specs.Tables.{last_slash, search_bound, slash_upto}
 use Rattle.index_lookups.specs.Range.{IsRun}
 use Rattle.index_lookups.specs.declared.walk.Span.{Span}
-use Rattle.index_lookups.proofs.Parting.{bracket_whole}
+use Rattle.index_search.proofs.Parting.{bracket_whole}
 use Rattle.index_lookups.proofs.SpanOrder.{count_run, own_prefix, run_of_span, window_of}
 use Rattle.index_lookups.proofs.TableFound.{rising_by}
 use Rattle.index_lookups.proofs.TableMade.{contains_map, or_cases}

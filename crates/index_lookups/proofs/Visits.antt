@@ -11,7 +11,7 @@ use Rattle.index_entries.specs.Order.{IsOrderedByPath}
 use Rattle.index_entries.specs.Record.{Record}
 use Rattle.index_lookups.specs.NameSteps.{NamedValue, named_at, named_cmp, named_from, path_names}
 use Rattle.index_lookups.specs.WalkSteps.{AreVisits}
-use Rattle.index_lookups.proofs.Places.{some_of}
+use Rattle.index_search.proofs.Places.{some_of}
 use Rattle.index_lookups.proofs.TableMade.{contains_one, keys_are, named_complete, path_keys_length}
 
 then_not : (o p : Ordering) → ordering_then o p ≢ Greater → o ≢ Greater

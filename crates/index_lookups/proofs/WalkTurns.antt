@@ -20,7 +20,7 @@ use Rattle.index_lookups.specs.Folded.{folded}
 use Rattle.index_lookups.specs.NameSteps.{NamedValue}
 use Rattle.index_lookups.specs.WalkSteps.{AreExtents, AreVisits, IsStep, SpanValue, is_parent, stands_where}
 use Rattle.index_lookups.proofs.Extents.{front_folded, stands_from, stands_to}
-use Rattle.index_lookups.proofs.Places.{some_of}
+use Rattle.index_search.proofs.Places.{some_of}
 use Rattle.index_lookups.proofs.TableMade.{contains_none, contains_one, folded_length, folded_take}
 use Rattle.index_lookups.proofs.Stepping.{walked_step}
 use Rattle.index_lookups.proofs.Walks.{HasEnds, Walked, ends_closed, covers_closed, rises_closed, walked_fewer}

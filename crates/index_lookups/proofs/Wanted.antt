@@ -20,13 +20,14 @@ use Rattle.index_entries.specs.Record.{Record}
 use Rattle.index_entries.specs.Slice.{IsRecordOf}
 use Rattle.index_entries.proofs.Orders.{paths_total, same_path}
 use Rattle.index_lookups.specs.Range.{HasStageOf, is_at, place_of_path}
-use Rattle.index_lookups.specs.SearchSteps.{IsEqualAt, IsGapAt, IsPartedAt, asked_cmp}
+use Rattle.index_search.specs.Halving.{IsEqualAt, IsGapAt, IsPartedAt}
+use Rattle.index_lookups.specs.SearchSteps.{asked_cmp}
 use Rattle.index_lookups.specs.RangeSteps.{IsEnoughUpto, is_wanted, is_wanted_at}
 use Rattle.index_lookups.specs.declared.range.Wanted.{Wanted}
 use Rattle.index_lookups.specs.declared.range.Wanted.TheVariants.{OurSide}
-use Rattle.index_lookups.proofs.Halving.{position_is, position_none}
+use Rattle.index_search.proofs.Halving.{position_is, position_none}
 use Rattle.index_lookups.proofs.Lookup.{split_by_path}
-use Rattle.index_lookups.proofs.Parting.{less_from}
+use Rattle.index_search.proofs.Parting.{less_from}
 use Rattle.index_lookups.proofs.RunsFound.{at_is}
 use Rattle.index_lookups.proofs.TableMade.{and_both}
 

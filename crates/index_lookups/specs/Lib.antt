@@ -1,5 +1,4 @@
 pub mod Closest
-pub mod Digits
 pub mod FilterMap
 pub mod Folded
 pub mod Lookup

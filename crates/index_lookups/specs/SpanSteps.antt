@@ -8,7 +8,9 @@ use Rattle.std.specs.declared.ops.Range.{Range}
 use Rattle.index_metadata.specs.declared.entry.flags.Stage.{Stage}
 use Rattle.index_entries.specs.Order.{IsOrderedByPath}
 use Rattle.index_entries.specs.Record.{Record}
-use Rattle.index_lookups.specs.SearchSteps.{IsBracket, IsPartedAt, asked_cmp, prefix_cmp}
+use Rattle.index_search.specs.Halving.{IsBracket, IsPartedAt}
+use Rattle.index_lookups.specs.SearchSteps.{asked_cmp}
+use Rattle.index_search.specs.Prefix.{prefix_cmp}
 use Rattle.index_lookups.specs.NameSteps.{outer_cmp}
 use Rattle.index_lookups.specs.WalkSteps.{SpanValue, span_value}
 use Rattle.index_lookups.specs.declared.walk.Span.{Span}

@@ -5,7 +5,7 @@ use Rattle.std.specs.Prelude.{None, slice_index, count_by, if◌then◌else◌}
 use Rattle.std.specs.List.{AllPairs, list_any}
 use denote.Ref.{Bor}
 use Rattle.std.specs.declared.cmp.Ordering.TheVariants.{Less}
-use Rattle.index_lookups.specs.Digits.{digits}
+use Rattle.index_search.specs.Digits.{digits}
 use Rattle.index_entries.specs.Order.{path_cmp}
 use Rattle.index_entries.specs.Record.{Record}
 use Rattle.index_lookups.specs.Closest.{is_below}

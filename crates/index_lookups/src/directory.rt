@@ -7,8 +7,9 @@ ghost use Rattle.index_entries.specs.Order.{IsOrderedByPath};
 ghost use Rattle.index_lookups.specs.Closest.{closest, is_below, stands_in};
 
 use crate::range::{Wanted, first_wanted};
-use crate::search::{Prefix, search, search_within};
+use crate::search::{Prefix, search};
 use index_entries::slice::EntrySlice;
+use index_search::ordered::search_within;
 
 /// The place of the first entry below the directory.
 fn first_below(entries: &EntrySlice<'_>, directory: &[u8]) -> Option<usize>

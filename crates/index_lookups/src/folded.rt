@@ -1,7 +1,7 @@
 //! Lookups with the case of ASCII letters ignored where asked, over entries in any order.
 
 ghost use Rattle.std.specs.Prelude.{◌≡◌, ◌<◌, ◌≤◌, ◌+◌, ℕ, List, All, length, IfOk, is_some, false, true};
-ghost use Rattle.index_lookups.specs.Digits.{digits};
+ghost use Rattle.index_search.specs.Digits.{digits};
 ghost use Rattle.index_entries.specs.Record.{Record, IsPlaced, records_in};
 ghost use Rattle.index_lookups.specs.Folded.{IsNamed, folded_closest, folded_place};
 ghost use Rattle.index_lookups.specs.NameSteps.{AreNames};

@@ -3,7 +3,7 @@
 ghost use Rattle.std.specs.Prelude.{◌≡◌, ◌≢◌, ◌+◌, ◌<◌, ◌≤◌, ℕ, Bool, List, AllPairs, length, map, position, IfOk};
 ghost use Rattle.std.specs.Prelude.{false, IsPermutation};
 ghost use Rattle.std.specs.declared.cmp.Ordering.TheVariants.{Greater};
-ghost use Rattle.index_lookups.specs.Digits.{digits};
+ghost use Rattle.index_search.specs.Digits.{digits};
 ghost use Rattle.index_entries.specs.Record.{Record};
 ghost use Rattle.index_lookups.specs.Folded.{folded};
 ghost use Rattle.index_lookups.specs.NameSteps.{IsPathTable, IsTableOf, common_cmp, name_answers, name_order};
@@ -11,8 +11,8 @@ ghost use Rattle.index_lookups.specs.NameSteps.{named_cmp, named_from, named_val
 ghost use Rattle.index_lookups.specs.WalkSteps.{AreVisits};
 
 use crate::fold::compare_fronts;
-use crate::search::{Ordered, search_within};
 use index_entries::slice::EntrySlice;
+use index_search::ordered::{Ordered, search_within};
 use std::alloc::{AllocError, Global};
 use std::cmp::Ordering;
 

@@ -4,18 +4,20 @@ ghost use Rattle.std.specs.Prelude.{◌≡◌, ◌+◌, ◌<◌, ◌≤◌, Opti
 ghost use Rattle.std.specs.List.{HoldsAt};
 ghost use Rattle.std.specs.Ordering.{is_eq};
 ghost use Rattle.index_metadata.specs.Flags.{stage_code, stage_number};
-ghost use Rattle.index_lookups.specs.Digits.{digits};
+ghost use Rattle.index_search.specs.Digits.{digits};
 ghost use Rattle.index_lookups.specs.Lookup.{IsKeyAt, insertion_of_path, place_of};
 ghost use Rattle.index_entries.specs.Order.{IsOrderedByPath, IsStrictlyOrdered};
 ghost use Rattle.index_lookups.specs.Range.{HasStageOf, IsPart, IsPrefixRange, IsRange, LiesWithin, is_at};
 ghost use Rattle.index_lookups.specs.Range.{place_of_path};
-ghost use Rattle.index_lookups.specs.SearchSteps.{IsPartedAt, IsRising, asked_cmp};
+ghost use Rattle.index_search.specs.Halving.{IsPartedAt, IsRising};
+ghost use Rattle.index_lookups.specs.SearchSteps.{asked_cmp};
 ghost use Rattle.index_lookups.specs.RangeSteps.{IsEnoughUpto, is_wanted, is_wanted_at};
 
-use crate::search::{Asked, Ordered, Prefix, end_from, part, search, search_path_and_stage};
+use crate::search::{Asked, Prefix, search, search_path_and_stage};
 use index_entries::Entry;
 use index_entries::slice::EntrySlice;
 use index_metadata::entry::Stage;
+use index_search::ordered::{Ordered, end_from, part};
 use std::ops::Range;
 
 /// The places that are what is looked for, where there are any.

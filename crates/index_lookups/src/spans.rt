@@ -2,22 +2,24 @@
 
 ghost use Rattle.std.specs.Prelude.{◌≡◌, ◌+◌, ◌-◌, ◌<◌, ◌≤◌, List, length, map, IfOk, IfErr, false};
 ghost use Rattle.std.specs.List.{HoldsAt, list_any};
-ghost use Rattle.index_lookups.specs.Digits.{digits};
+ghost use Rattle.index_search.specs.Digits.{digits};
 ghost use Rattle.index_entries.specs.Order.{IsOrderedByPath};
 ghost use Rattle.index_entries.specs.Record.{Record};
 ghost use Rattle.index_lookups.specs.Closest.{is_below};
 ghost use Rattle.index_lookups.specs.NameSteps.{outer_cmp};
 ghost use Rattle.index_lookups.specs.Range.{IsRange};
-ghost use Rattle.index_lookups.specs.SearchSteps.{IsEqualAt, IsGapAt, IsSplitBy, asked_cmp};
+ghost use Rattle.index_search.specs.Halving.{IsEqualAt, IsGapAt, IsSplitBy};
+ghost use Rattle.index_lookups.specs.SearchSteps.{asked_cmp};
 ghost use Rattle.index_lookups.specs.SpanSteps.{AreDirs, AreSpans, IsWindow, names_of};
 ghost use Rattle.index_lookups.specs.Tables.{last_slash, search_bound};
 ghost use Rattle.index_lookups.specs.WalkSteps.{span_value};
 
 use crate::names::compare_names;
-use crate::search::{Asked, Ordered, search_within};
+use crate::search::Asked;
 use crate::walk::{Span, directories_of};
 use index_entries::slice::EntrySlice;
 use index_metadata::entry::Stage;
+use index_search::ordered::{Ordered, search_within};
 use std::alloc::{AllocError, Global};
 use std::cmp::Ordering;
 use std::ops::Range;

@@ -306,10 +306,7 @@ pub marked_placed : (len : ℕ) (places : List ℕ) (old new : List Entry) → A
 marked_placed len places old new m all k d l =
     let inside : k < length old = omega (arith, l, m.len) in
     let h = all k d inside in
-    let start : (get_or new k d).path.start ≡ (get_or old k d).path.start =
-    ap (λ r. r.start) (m.each k d inside).range in
-    let end : (get_or new k d).path.end ≡ (get_or old k d).path.end = ap (λ r. r.end) (m.each k d inside).range in
-    record { forward = omega (arith, start, end, h.forward); inside = omega (arith, end, h.inside) }
+    record { inside = rw (m.each k d inside).range h.inside }
 
 -- one more entry behind the front ones
 pub one_more : (own : List Record) (storage : List ℕ) (es : List Entry) (i : ℕ) (z : Entry) (now : List Record)

@@ -1,13 +1,12 @@
 -- The lines of entries (the library's own; the parts of an entry are those of gitformat-index, "Index entry").
 use Rattle.std.specs.Prelude.{ℕ, ◌==◌, List, [], ◌++◌, bit_and, codes, decimal, length, if◌then◌else◌}
-use Rattle.std.specs.List.{enumerate_from, flat_map}
 use Rattle.index_metadata.specs.Flags.{stage_number}
 use Rattle.index_objects.specs.Mode.{commit_mode, directory_mode, executable_mode, file_mode, link_mode}
 use Rattle.index_parts.specs.declared.hash.ObjectId.{ObjectId}
 use Rattle.index_entries.specs.Record.{Record}
 use Rattle.index_metadata.specs.declared.entry.stat.Stat.{Stat}
 use Rattle.index_metadata.specs.declared.entry.stat.Time.{Time}
-use Rattle.index_show.specs.Fields.{field, id_field, nanoseconds, number_field, text_field}
+use Rattle.index_show.specs.Fields.{field, id_line, nanoseconds, number_line, text_line}
 use Rattle.index_text.specs.Digits.{octal}
 
 -- what a mode says
@@ -50,29 +49,22 @@ time_field indent name time = field indent name (time_text time)
 
 unfoldable pub stat_lines : List ℕ → Stat → List ℕ
 stat_lines indent s =
-    number_field indent (codes "size") s.size ++ time_field indent (codes "mtime") s.mtime
+    number_line indent (codes "size") s.size ++ time_field indent (codes "mtime") s.mtime
     ++ time_field indent (codes "ctime") s.ctime
-    ++ number_field indent (codes "dev") s.dev ++ number_field indent (codes "ino") s.ino
-    ++ number_field indent (codes "uid") s.uid ++ number_field indent (codes "gid") s.gid
+    ++ number_line indent (codes "dev") s.dev ++ number_line indent (codes "ino") s.ino
+    ++ number_line indent (codes "uid") s.uid ++ number_line indent (codes "gid") s.gid
 
 -- the id and the mode of the object that an entry names, its stage and its flags
 unfoldable pub object_lines : ObjectId → ℕ → ℕ → List ℕ
 object_lines id mode flags =
-    id_field (codes "    ") (codes "id") id ++ field (codes "    ") (codes "mode") (shown_mode mode)
-    ++ number_field (codes "    ") (codes "stage") (stage_number flags) ++ flags_line (codes "    ") flags
+    id_line (codes "    ") (codes "id") id ++ field (codes "    ") (codes "mode") (shown_mode mode)
+    ++ number_line (codes "    ") (codes "stage") (stage_number flags) ++ flags_line (codes "    ") flags
 
 -- the lines of an entry but for its number and its stat
 unfoldable pub record_lines : Record → List ℕ
-record_lines r = text_field (codes "    ") (codes "path") r.path ++ object_lines r.id r.mode r.flags
+record_lines r = text_line (codes "    ") (codes "path") r.path ++ object_lines r.id r.mode r.flags
 
 -- the lines of an entry, and its place before them, counted from 0
 abbrev pub entry_lines : ℕ → Record → List ℕ
-entry_lines place r = number_field (codes "  ") (codes "entry") place ++ record_lines r
+entry_lines place r = number_line (codes "  ") (codes "entry") place ++ record_lines r
     ++ stat_lines (codes "    ") r.stat
-
-abbrev pub placed_lines : ℕ × Record → List ℕ
-placed_lines p = entry_lines p.0 p.1
-
--- the number of entries, and the lines of each, in their order
-abbrev pub entries_lines : List Record → List ℕ
-entries_lines rs = number_field [] (codes "entries") (length rs) ++ flat_map placed_lines (enumerate_from 0 rs)

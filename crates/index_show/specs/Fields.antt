@@ -1,39 +1,62 @@
--- Lines of a name and a value, as people read them (the library's own).
-use Rattle.std.specs.Prelude.{ℕ, Bool, List, ◌++◌, codes, decimal, drop, length}
-use Rattle.std.specs.Prelude.{Option, Some, None, if◌then◌else◌}
+-- Lines of a name and a value, as people read them, and values in them (the library's own).
+use Rattle.std.specs.Prelude.{ℕ, ◌-◌, ◌==◌, Bool, List, ◌++◌, codes, decimal, drop, length, Option, Some, None}
+use Rattle.std.specs.Prelude.{if◌then◌else◌}
+use Rattle.std.specs.List.{flat_map}
 use Rattle.hex.specs.Hex.{encode_lower}
+use Rattle.index_bitmaps.specs.declared.ranges.Range.{Range}
 use Rattle.index_parts.specs.Id.{id_bytes}
 use Rattle.index_parts.specs.declared.hash.ObjectId.{ObjectId}
+use Rattle.index_small_extensions.specs.declared.index_entry_offset_table.Offset.{Offset}
+use Rattle.index_small_extensions.specs.declared.resolve_undo.Stage.{Stage}
+use Rattle.index_text.specs.Digits.{octal}
 use Rattle.index_text.specs.Escaped.{escaped}
 
 -- what stands before the name, the name, a colon and a space, the value, and a newline
 unfoldable pub field : List ℕ → List ℕ → List ℕ → List ℕ
 field indent name value = indent ++ name ++ codes ": " ++ value ++ codes "\n"
 
-abbrev pub number_field : List ℕ → List ℕ → ℕ → List ℕ
-number_field indent name n = field indent name (decimal n)
+abbrev pub number_line : List ℕ → List ℕ → ℕ → List ℕ
+number_line indent name n = field indent name (decimal n)
 
 -- bytes as text that fits in the line
-abbrev pub text_field : List ℕ → List ℕ → List ℕ → List ℕ
-text_field indent name bytes = field indent name (escaped bytes)
+abbrev pub text_line : List ℕ → List ℕ → List ℕ → List ℕ
+text_line indent name bytes = field indent name (escaped bytes)
 
 -- an id in base 16
-abbrev pub id_field : List ℕ → List ℕ → ObjectId → List ℕ
-id_field indent name id = field indent name (encode_lower (id_bytes id))
+abbrev pub id_line : List ℕ → List ℕ → ObjectId → List ℕ
+id_line indent name id = field indent name (encode_lower (id_bytes id))
 
 unfoldable pub yes_or_no : Bool → List ℕ
 yes_or_no holds = if holds then codes "yes" else codes "no"
-
-abbrev pub answer_field : List ℕ → List ℕ → Bool → List ℕ
-answer_field indent name holds = field indent name (yes_or_no holds)
 
 -- the id in base 16, or `none`
 abbrev pub id_or_none : Option ObjectId → List ℕ
 id_or_none None = codes "none"
 id_or_none (Some id) = encode_lower (id_bytes id)
 
--- ---- numbers
+-- the mode and the id of a side, or `none`
+abbrev pub side_text : Option Stage → List ℕ
+side_text None = codes "none"
+side_text (Some side) = octal side.mode ++ codes " " ++ encode_lower (id_bytes side.id)
+
+-- where a block of entries begins, and how many it has
+unfoldable pub block_text : ℕ → ℕ → List ℕ
+block_text offset count = codes "offset " ++ decimal offset ++ codes ", entries " ++ decimal count
 
 -- nanoseconds in nine digits, or more where a file has more
 abbrev pub nanoseconds : ℕ → List ℕ
 nanoseconds n = drop (length (decimal n)) (codes "000000000") ++ decimal n
+
+-- ---- ranges
+
+-- a space, the first place of a range, and where there are more a hyphen and the last one
+unfoldable pub range_text : Range → List ℕ
+range_text r =
+    codes " " ++ (if r.end - r.first == 1 then decimal r.first else decimal r.first ++ codes "-" ++ decimal (r.end - 1))
+
+-- all ranges, or `none` where there are none
+abbrev pub ranges_text : List Range → List ℕ
+ranges_text ranges = if length ranges == 0 then codes " none" else flat_map range_text ranges
+
+unfoldable pub ranges_line : List ℕ → List ℕ → List Range → List ℕ
+ranges_line indent name ranges = indent ++ name ++ codes ":" ++ ranges_text ranges ++ codes "\n"

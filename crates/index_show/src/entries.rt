@@ -1,29 +1,21 @@
 //! The lines of entries.
 
-ghost use Rattle.std.specs.Prelude.{◌≡◌, ◌≢◌, ◌++◌, ◌+◌, ◌<◌, ◌≤◌, IfErr, OnErr, OnOk, codes, false, length, true};
-ghost use Rattle.std.specs.IoError.{error_kind};
-ghost use Rattle.std.specs.List.{enumerate_from, flat_map};
-ghost use Rattle.index_parts.specs.Taking.{AppendsPrefix};
+ghost use Rattle.std.specs.Prelude.{◌≡◌, ◌++◌, ◌+◌, ◌<◌, ◌≤◌, OnOk, codes, length};
 ghost use Rattle.index_entries.specs.Record.{IsPlaced, record_in};
-ghost use Rattle.index_state.specs.State.{PathsInStorage, contents, entries_of, records, storage_of};
-ghost use Rattle.index_text.specs.Blocks.{Passes};
-ghost use Rattle.index_show.specs.Entries.{entries_lines, entry_lines, flag_word, flag_words, flags_line, flags_text, object_lines, shown_mode, mode_word, record_lines, stat_lines, time_field};
-ghost use Rattle.index_show.specs.Fields.{field, number_field, text_field};
+ghost use Rattle.index_state.specs.State.{storage_of};
+ghost use Rattle.index_show.specs.Entries.{entry_lines, flag_word, flag_words, flags_line, flags_text, object_lines, shown_mode, mode_word, record_lines, stat_lines, time_field};
+ghost use Rattle.index_show.specs.Fields.{field, number_line, text_line};
 ghost use Rattle.index_text.specs.Prepending.{HasRoom, Prepends};
 
-use crate::fields::append_number;
 use crate::prepend::{prepend_id, prepend_name, prepend_nanoseconds, prepend_number};
 use bitflags::Flags as _;
 use index_entries::Entry;
 use index_metadata::entry::stat::Time;
 use index_metadata::entry::{Flags, Mode, Stat};
-use index_parts::hash::io::Out;
 use index_state::State;
 use index_text::append::Appended;
-use index_text::block::put_block;
 use index_text::escape::append_escaped;
 use index_text::prepend::{prepend, prepend_decimal, prepend_octal};
-use std::io::{self, ErrorKind};
 
 /// How many bytes the lines of a stat take at most, with six spaces of indent.
 const STAT_LEN: usize = 275;
@@ -184,8 +176,8 @@ fn append_object(lines: &mut Vec<u8>, entry: &Entry) -> Appended
 #[tactic(auto, unfolding(crate::specs::Fields::field))]
 fn append_place(lines: &mut Vec<u8>, place: usize, path: &[u8]) -> Appended
     ensures { OnOk result (lines.new.items
-        ≡ lines.old.items ++ (number_field (codes "  ") (codes "entry") place
-        ++ text_field (codes "    ") (codes "path") path.now)) }
+        ≡ lines.old.items ++ (number_line (codes "  ") (codes "entry") place
+        ++ text_line (codes "    ") (codes "path") path.now)) }
 {
     let mut room = [0; PLACE_LEN];
     let start = prepend_name(&mut room, PLACE_LEN, b"    ", b"path");
@@ -197,7 +189,7 @@ fn append_place(lines: &mut Vec<u8>, place: usize, path: &[u8]) -> Appended
 
 /// Appends the lines of an entry.
 #[tactic(auto, unfolding(crate::specs::Entries::record_lines))]
-fn append_entry(lines: &mut Vec<u8>, state: &State, place: usize, entry: &Entry) -> Appended
+pub fn append_entry(lines: &mut Vec<u8>, state: &State, place: usize, entry: &Entry) -> Appended
     requires { IsPlaced (length (storage_of state.now)) entry.now }
     ensures { OnOk result (lines.new.items
         ≡ lines.old.items ++ entry_lines place (record_in (storage_of state.now) entry.now)) }
@@ -205,24 +197,4 @@ fn append_entry(lines: &mut Vec<u8>, state: &State, place: usize, entry: &Entry)
     append_place(lines, place, entry.path(state))?;
     append_object(lines, entry)?;
     append_stat(lines, b"    ", entry.stat)
-}
-
-/// Appends the number of entries, and the lines of each; what fills a block goes out.
-pub fn write_entries<W: Out>(lines: &mut Vec<u8>, state: &State, out: &mut W) -> io::Result<()>
-    requires placed { PathsInStorage state.now }
-    requires going { W.failed out.old ≡ false }
-    ensures ok { OnOk result (Passes (W.taken out.old) (W.taken out.new) lines.new.items
-        (lines.old.items ++ entries_lines (contents state.now).records)) }
-    ensures err { OnErr result (AppendsPrefix (W.taken out.old) (W.taken out.new)
-        (lines.old.items ++ entries_lines (contents state.now).records)) }
-    ensures going { OnOk result (W.failed out.new ≡ false) }
-    ensures cause { IfErr result
-        (λ e. error_kind e ≢ ErrorKind.OutOfMemory → W.failed out.new ≡ true) }
-{
-    append_number(lines, b"", b"entries", state.entries().len() as u64)?;
-    for (place, entry) in state.entries().iter().enumerate() {
-        append_entry(lines, state, place, entry)?;
-        put_block(lines, out)?;
-    }
-    Ok(())
 }

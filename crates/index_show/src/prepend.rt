@@ -2,7 +2,7 @@
 //! they are appended as one piece.
 
 ghost use Rattle.std.specs.Prelude.{◌+◌, ◌++◌, codes, length};
-ghost use Rattle.index_show.specs.Fields.{id_field, nanoseconds, number_field};
+ghost use Rattle.index_show.specs.Fields.{id_line, nanoseconds, number_line};
 ghost use Rattle.index_text.specs.Prepending.{HasRoom, Prepends};
 
 use index_parts::hash::ObjectId;
@@ -26,7 +26,7 @@ pub fn prepend_name(room: &mut [u8], end: usize, indent: &[u8], name: &[u8]) -> 
 pub fn prepend_number(room: &mut [u8], end: usize, indent: &[u8], name: &[u8], n: u64) -> usize
     requires { HasRoom room.old end (length indent.now + length name.now + 23) }
     ensures { Prepends room.old room.new end (length indent.now + length name.now + 23) result
-        (number_field indent.now name.now n) }
+        (number_line indent.now name.now n) }
 {
     let end = prepend(room, end, b"\n");
     let end = prepend_decimal(room, end, n);
@@ -38,7 +38,7 @@ pub fn prepend_number(room: &mut [u8], end: usize, indent: &[u8], name: &[u8], n
 pub fn prepend_id(room: &mut [u8], end: usize, id: &ObjectId) -> usize
     requires { HasRoom room.old end 73 }
     ensures { Prepends room.old room.new end 73 result
-        (id_field (codes "    ") (codes "id") id.now) }
+        (id_line (codes "    ") (codes "id") id.now) }
 {
     let end = prepend(room, end, b"\n");
     let end = prepend_hex(room, end, id);

@@ -1,83 +1,126 @@
-//! All of an index file, line by line.
+//! Lines of events.
+#![tactic(auto, unfolding(index_events::specs::Event::field_of))]
 
-ghost use Rattle.std.specs.Prelude.{◌≡◌, ◌≢◌, ◌++◌, IfErr, OnOk, OnErr, codes, decimal, false, true};
+ghost use Rattle.std.specs.Prelude.{◌≡◌, ◌≢◌, ◌++◌, IfErr, OnErr, OnOk, codes, false, true};
 ghost use Rattle.std.specs.IoError.{error_kind};
 ghost use Rattle.std.specs.Io.KnownBytes.{Appends};
 ghost use Rattle.index_parts.specs.Taking.{AppendsPrefix};
-ghost use Rattle.index_entries.specs.EntryImage.{version_code};
 ghost use Rattle.index_state.specs.State.{PathsInStorage, contents};
-ghost use Rattle.index_text.specs.Blocks.{Passes};
-ghost use Rattle.index_show.specs.Show.{behind_lines, head_lines, show_lines};
+ghost use Rattle.index_show.specs.Show.{heading_line, line_text, show_lines};
 
-use crate::bitmaps::{append_link, append_monitor};
-use crate::entries::write_entries;
-use crate::fields::{append_answer, append_id_or_none, append_number};
-use crate::mark_lines::append_marks;
-use crate::trees::write_tree;
-use crate::undo::write_undo;
-use crate::untracked::write_untracked;
-use index_entries::Version;
+use crate::entries::{append_entry, append_stat};
+use crate::fields::{
+    append_block, append_field, append_id, append_number, append_side, append_text, yes_or_no,
+};
+use crate::ranges::append_ranges;
+use index_bitmaps::ranges::Range;
+use index_entries::Entry;
+use index_events::document::write_document;
+use index_events::event::{Field, Member};
+use index_events::printer::{Printer, Text};
 use index_marks::Marks;
+use index_metadata::entry::Stat;
 use index_parts::hash::ObjectId;
 use index_parts::hash::io::Out;
+use index_small_extensions::index_entry_offset_table::Offset;
+use index_small_extensions::resolve_undo::Stage;
 use index_state::State;
 use index_text::append::Appended;
-use index_text::block::{put_block, put_text};
 use std::alloc::Global;
 use std::io::{self, ErrorKind};
 
-/// The number of a version.
-fn number_of_version(version: Version) -> u64
-    ensures { result ≡ version_code version }
-{
-    match version {
-        Version::V2 => 2,
-        Version::V3 => 3,
-        Version::V4 => 4,
-    }
-}
-
-/// Appends what stands before the entries.
-#[tactic(auto, unfolding(crate::specs::Show::head_lines))]
-fn append_head(lines: &mut Vec<u8>, state: &State, checksum: Option<ObjectId>) -> Appended
+/// Appends the line above what stands further in.
+#[tactic(auto, unfolding(crate::specs::Show::heading_line))]
+fn append_heading(lines: &mut Vec<u8>, indent: &[u8], words: &[u8]) -> Appended
     ensures { OnOk result
-        (lines.new.items ≡ lines.old.items ++ head_lines (contents state.now) checksum) }
+        (lines.new.items ≡ lines.old.items ++ heading_line indent.now words.now) }
 {
-    append_number(lines, b"", b"version", number_of_version(state.version()))?;
-    append_id_or_none(lines, b"", b"checksum", checksum)?;
-    append_answer(lines, b"", b"sparse", state.is_sparse())
+    lines.extend_from_slice(indent)?;
+    lines.extend_from_slice(words)?;
+    lines.extend_from_slice(b":\n")
 }
 
-/// Writes what stands behind the entries; what fills a block goes out.
-fn write_behind<W: Out>(
-    lines: &mut Vec<u8>,
-    alloc: Global,
-    state: &State,
-    marks: &Marks,
-    out: &mut W,
-) -> io::Result<()>
-    requires { W.failed out.old ≡ false }
-    ensures ok { OnOk result (Passes (W.taken out.old) (W.taken out.new) lines.new.items
-        (lines.old.items ++ behind_lines (contents state.now).extensions marks.now)) }
-    ensures err { OnErr result (AppendsPrefix (W.taken out.old) (W.taken out.new)
-        (lines.old.items ++ behind_lines (contents state.now).extensions marks.now)) }
-    ensures going { OnOk result (W.failed out.new ≡ false) }
-    ensures cause { IfErr result
-        (λ e. error_kind e ≢ ErrorKind.OutOfMemory → W.failed out.new ≡ true) }
-{
-    write_tree(lines, state, out)?;
-    append_link(lines, alloc, state)?;
-    put_block(lines, out)?;
-    write_undo(lines, state, out)?;
-    write_untracked(lines, state, out)?;
-    append_monitor(lines, alloc, state)?;
-    append_marks(
-        lines,
-        state.had_offset_table(),
-        state.had_end_of_index_marker(),
-        marks,
-    )?;
-    Ok(())
+/// Puts events into lines for people.
+struct Lines;
+
+impl Printer for Lines {
+    ghost spell = { line_text };
+
+    ghost BACKWARDS = { false };
+
+    const BACKWARDS: bool = false;
+
+    fn number(text: &mut Text, field: Field<'_>, n: u64) -> Appended {
+        append_number(&mut text.bytes, field.indent, field.words, n)
+    }
+
+    fn string(text: &mut Text, field: Field<'_>, bytes: &[u8]) -> Appended {
+        append_text(&mut text.bytes, field.indent, field.words, bytes)
+    }
+
+    fn id(text: &mut Text, field: Field<'_>, id: Option<ObjectId>) -> Appended {
+        append_id(&mut text.bytes, field.indent, field.words, id)
+    }
+
+    fn answer(text: &mut Text, field: Field<'_>, holds: bool) -> Appended {
+        append_field(&mut text.bytes, field.indent, field.words, yes_or_no(holds))
+    }
+
+    fn ranges(text: &mut Text, field: Field<'_>, ranges: &[Range]) -> Appended {
+        append_ranges(&mut text.bytes, field.indent, field.words, ranges)
+    }
+
+    fn side(text: &mut Text, field: Field<'_>, side: Option<Stage>) -> Appended {
+        append_side(&mut text.bytes, field.indent, field.words, side)
+    }
+
+    fn block(text: &mut Text, field: Field<'_>, block: Offset) -> Appended {
+        append_block(&mut text.bytes, field.indent, field.words, block)
+    }
+
+    fn empty(text: &mut Text, field: Field<'_>, word: &[u8]) -> Appended {
+        append_field(&mut text.bytes, field.indent, field.words, word)
+    }
+
+    fn stat(text: &mut Text, indent: &[u8], _member: Member<'_>, stat: Stat) -> Appended {
+        append_stat(&mut text.bytes, indent, stat)
+    }
+
+    fn entry(text: &mut Text, state: &State, place: usize, entry: &Entry) -> Appended {
+        append_entry(&mut text.bytes, state, place, entry)
+    }
+
+    fn heading(text: &mut Text, indent: &[u8], words: &[u8]) -> Appended {
+        append_heading(&mut text.bytes, indent, words)
+    }
+
+    fn count(text: &mut Text, indent: &[u8], words: &[u8], n: u64) -> Appended {
+        append_number(&mut text.bytes, indent, words, n)
+    }
+
+    fn begin_object(_text: &mut Text, _member: Member<'_>) -> Appended {
+        Ok(())
+    }
+
+    fn end_object(_text: &mut Text) -> Appended {
+        Ok(())
+    }
+
+    fn begin_array(_text: &mut Text, _member: Member<'_>) -> Appended {
+        Ok(())
+    }
+
+    fn end_array(_text: &mut Text) -> Appended {
+        Ok(())
+    }
+
+    fn presence(_text: &mut Text, _member: Member<'_>, _is_there: bool) -> Appended {
+        Ok(())
+    }
+
+    fn end_text(_text: &mut Text) -> Appended {
+        Ok(())
+    }
 }
 
 /// Writes what a file holds, line by line, for people: its index, the id at its end, and what its offset table and its
@@ -103,9 +146,5 @@ pub fn write_show<W: Out>(
     ensures cause { IfErr result
         (λ e. error_kind e ≢ ErrorKind.OutOfMemory → W.failed out.new ≡ true) }
 {
-    let mut lines = Vec::new(alloc);
-    append_head(&mut lines, state, checksum)?;
-    write_entries(&mut lines, state, out)?;
-    write_behind(&mut lines, alloc, state, marks, out)?;
-    put_text(lines.as_slice(), out)
+    write_document::<Lines, W>(alloc, state, checksum, marks, out)
 }

@@ -100,7 +100,7 @@ pub smudged_placed : (time : FileTime) (len : ℕ) (es : List Entry) → All (Is
     → All (IsPlaced len) (map (smudged_entry time) es)
 smudged_placed time len es h =
     all_mapped (IsPlaced len) (IsPlaced len) (smudged_entry time)
-    (λ e p. record { forward = p.forward; inside = p.inside }) es h
+    (λ e p. record { inside = p.inside }) es h
 
 pub smudged_ids : (time : FileTime) (kind : Kind) (es : List Entry) → IdsAreOf kind es
     → IdsAreOf kind (map (smudged_entry time) es)

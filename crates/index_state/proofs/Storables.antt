@@ -13,7 +13,7 @@ use Rattle.index_entries.specs.declared.Entry.{Entry}
 use Rattle.index_entries.specs.Record.{Record, IsSized, record_in, records_in}
 use Rattle.index_entries.specs.Storable.{IsStorableIn}
 use Rattle.index_cached_tree.specs.StoredTree.{IsStorableTree}
-use Rattle.index_trees.proofs.Fits.{FitsFile}
+use Rattle.index_tree_reader.proofs.Fits.{FitsFile}
 use Rattle.index_state.specs.Edits.{empty_contents, with_record, with_records}
 use Rattle.index_format.specs.Contents.{Contents}
 use Rattle.index_format.specs.Storable.{IsStorable}

@@ -4,7 +4,7 @@ ghost use Rattle.std.specs.Prelude.{◌≡◌, [], Ok, Err, IfOk, IfErr, flat_ma
 ghost use Rattle.index_parts.specs.Id.{id_kind};
 ghost use Rattle.index_entries.specs.Order.{IsStrictlyOrdered};
 ghost use Rattle.index_entries.specs.TreeOrder.{AreGitOrdered};
-ghost use Rattle.index_trees.specs.Leaves.{AreLeaves, SaysLeaves};
+ghost use Rattle.index_tree_reader.specs.Leaves.{AreLeaves, SaysLeaves};
 ghost use Rattle.index_state.specs.Edits.{empty_contents, with_records};
 ghost use Rattle.index_format.specs.Storable.{IsStorable};
 ghost use Rattle.index_state.specs.State.{PathsInStorage, contents, records, storage_of};
@@ -17,7 +17,7 @@ use index_metadata::entry::FileTime;
 use index_objects::check::ComponentCheck;
 use index_objects::object::Find;
 use index_parts::hash::{Kind, ObjectId};
-use index_trees::from_tree::{Error, leaves_of};
+use index_tree_reader::from_tree::{Error, leaves_of};
 use std::alloc::Global;
 
 impl State {

@@ -8,11 +8,12 @@ use Rattle.std.proofs.lemmas.List.{get_or_default, take-append-drop, take-map}
 use Rattle.std.proofs.Math.Seq.{drop-append-add}
 use Rattle.std.proofs.lemmas.List.Elements.{All-nil}
 use Rattle.std.proofs.lemmas.List.Sums.{sum_by_push, sum_by-take-le}
-use Rattle.gix_index.proofs.Storing.{placed_push, records_push}
+use Rattle.gix_index.proofs.Storing.{packed_start, placed_push, records_push}
 use Rattle.gix_index.specs.EntryType.{Entry}
 use Rattle.gix_index.specs.Outlined.Passed.{in_64_bits, paths_len}
+use Rattle.gix_index.specs.PathRange.{packed_range, range_end, range_start}
 use Rattle.gix_index.specs.Record.{IsPlaced, IsSized, Record, record_in, records_in}
-use Rattle.index_table.specs.Table.{HoldsRecords, row_of}
+use Rattle.index_table.specs.Table.{HoldsRecords, parts_of, row_from, row_of}
 use Rattle.index_table.specs.declared.row.Row.{Row}
 use Rattle.index_table.proofs.Tables.{holds_from}
 
@@ -39,15 +40,15 @@ records_one storage es place e lt at =
 
 -- a sum that passes 64 bits is of paths that pass them
 pub too_many : (storage : List ℕ) (es : List Entry) (place sum : ℕ) (d : Entry) (from to : ℕ) → place < length es
-    → from ≡ (get_or es place d).path.start → to ≡ (get_or es place d).path.end
+    → from ≡ range_start (get_or es place d).path → to ≡ range_end (get_or es place d).path
     → sum ≡ paths_len (records_in storage (take place es))
     → (sum + length (slice_range storage from to) < 2 ^ 64 → ⊥)
     → None ≡ in_64_bits (paths_len (records_in storage es))
 too_many storage es place sum d from to lt from_is to_is sum_is large =
     let e : Entry = get_or es place d in
     let at : (x : Entry) → get_or es place x ≡ e = λ x. get_or_default es place x d lt in
-    let path_is : slice_range storage from to ≡ slice_range storage e.path.start e.path.end =
-    ap (λ (n : ℕ). slice_range storage n to) from_is ∙ ap (slice_range storage e.path.start) to_is in
+    let path_is : slice_range storage from to ≡ slice_range storage (range_start e.path) (range_end e.path) =
+    ap (λ (n : ℕ). slice_range storage n to) from_is ∙ ap (slice_range storage (range_start e.path)) to_is in
     let le : 2 ^ 64 ≤ sum + length (slice_range storage from to) =
     by large (cases_lt (sum + length (slice_range storage from to)) (2 ^ 64)) in
     none_from (paths_len (records_in storage es))
@@ -69,11 +70,7 @@ too_many storage es place sum d from to lt from_is to_is sum_is large =
 
 -- an entry whose path lies elsewhere
 abbrev pub moved : Entry → ℕ → ℕ → Entry
-moved e start end = record e { path = record { start = start; end = end } }
-
--- its row
-abbrev pub row_at : Entry → ℕ → ℕ → Row
-row_at e start len = record (row_of e) { path_start = start; path_len = len }
+moved e start len = record e { path = packed_range start len }
 
 module _ (entries0 : List Entry) (storage0 : List ℕ) (rows0 : List Row) (paths0 : List ℕ) where
   -- the first entries, with their paths one behind the other, fill the rows before a place and the bytes up to a start;
@@ -106,15 +103,15 @@ module _ (entries0 : List Entry) (storage0 : List ℕ) (rows0 : List Row) (paths
 
   -- there are bytes for the next path
   pub next_fits : (place start : ℕ) (rows : List Row) (paths : List ℕ) (p : Copied place start rows paths)
-      (d : Entry) (from to : ℕ) → place < length entries0 → from ≡ (get_or entries0 place d).path.start
-      → to ≡ (get_or entries0 place d).path.end
+      (d : Entry) (from to : ℕ) → place < length entries0 → from ≡ range_start (get_or entries0 place d).path
+      → to ≡ range_end (get_or entries0 place d).path
       → paths_len (records_in storage0 entries0) ≤ length paths0
       → start + length (slice_range storage0 from to) ≤ length paths0
   next_fits place start rows paths p d from to lt from_is to_is fits =
       let e : Entry = get_or entries0 place d in
       let at : (x : Entry) → get_or entries0 place x ≡ e = λ x. get_or_default entries0 place x d lt in
-      let path_is : slice_range storage0 from to ≡ slice_range storage0 e.path.start e.path.end =
-      ap (λ (n : ℕ). slice_range storage0 n to) from_is ∙ ap (slice_range storage0 e.path.start) to_is in
+      let path_is : slice_range storage0 from to ≡ slice_range storage0 (range_start e.path) (range_end e.path) =
+      ap (λ (n : ℕ). slice_range storage0 n to) from_is ∙ ap (slice_range storage0 (range_start e.path)) to_is in
       let so_far = records_upto storage0 entries0 (place + 1) in
       omega (
         arith,
@@ -128,30 +125,30 @@ module _ (entries0 : List Entry) (storage0 : List ℕ) (rows0 : List Row) (paths
 
   pub more : (place start : ℕ) (rows : List Row) (paths : List ℕ) (p : Copied place start rows paths) (d : Entry)
       (from to : ℕ) (put : List ℕ) (row : Row) → place < length entries0 → place < length rows
-      → from ≡ (get_or entries0 place d).path.start → to ≡ (get_or entries0 place d).path.end
-      → row ≡ row_of (get_or entries0 place d)
+      → from ≡ range_start (get_or entries0 place d).path → to ≡ range_end (get_or entries0 place d).path
+      → row ≡ row_from (parts_of (get_or entries0 place d)) start (length (slice_range storage0 from to))
       → put ≡ take start paths ++ (slice_range paths start (start + 0) ++ slice_range storage0 from to)
       ++ drop (start + (0 + length (slice_range storage0 from to))) paths
       → Copied (place + 1) (start + length (slice_range storage0 from to))
-      (set rows place (record row { path_start = start; path_len = length (slice_range storage0 from to) })) put
-  more place start rows paths p d from to put row0 lt fit from_is to_is row_is put_is =
+      (set rows place row) put
+  more place start rows paths p d from to put new lt fit from_is to_is row_is put_is =
       let e : Entry = get_or entries0 place d in
       let path : List ℕ = slice_range storage0 from to in
-      let path_is : path ≡ slice_range storage0 e.path.start e.path.end =
-      ap (λ (n : ℕ). slice_range storage0 n to) from_is ∙ ap (slice_range storage0 e.path.start) to_is in
+      let path_is : path ≡ slice_range storage0 (range_start e.path) (range_end e.path) =
+      ap (λ (n : ℕ). slice_range storage0 n to) from_is ∙ ap (slice_range storage0 (range_start e.path)) to_is in
       let end : ℕ = start + length path in
       let at : (x : Entry) → get_or entries0 place x ≡ e = λ x. get_or_default entries0 place x d lt in
       let zero : start + 0 - start ≡ 0 = omega arith in
       let none : slice_range paths start (start + 0) ≡ [] = ap (λ (n : ℕ). take n (drop start paths)) zero in
       let ends_there : start + (0 + length path) ≡ end = omega arith in
-      let new : Row = record row0 { path_start = start; path_len = length path } in
-      let e' : Entry = moved e start end in
-      let starts : start ≡ length p.storage = sym p.long in
-      let ends : end ≡ length (p.storage ++ path) =
-      omega (arith, p.long, length-append p.storage path) in
-      let long : length path ≡ end - start = omega arith in
+      let e' : Entry = moved e start (length path) in
+      let begins : range_start e'.path ≡ start = packed_start start (length path) in
+      let starts : range_start e'.path ≡ length p.storage = begins ∙ sym p.long in
+      let whole : end ≡ length (p.storage ++ path) = omega (arith, p.long, length-append p.storage path) in
+      let ends : range_end e'.path ≡ length (p.storage ++ path) =
+      ap (λ (n : ℕ). n + length path) begins ∙ whole in
       let row : new ≡ row_of e' =
-      ap (λ (r : Row). record r { path_start = start; path_len = length path }) row_is ∙ ap (row_at e start) long in
+      row_is ∙ ap (λ (n : ℕ). row_from (parts_of e) n (length path)) (sym begins) in
       let record_is : record (record_in storage0 e) { path = path } ≡ record_in storage0 e =
       ap (λ (l : List ℕ). record (record_in storage0 e) { path = l }) path_is in
       let front : take start paths ≡ p.storage =
@@ -165,7 +162,7 @@ module _ (entries0 : List Entry) (storage0 : List ℕ) (rows0 : List Row) (paths
             ∙ ap (λ (r : Record). records_in p.storage p.entries ++ r ∷ []) record_is
             ∙ ap (λ (l : List Record). l ++ record_in storage0 e ∷ []) p.same ∙ sym (records_one storage0 entries0 place e lt at);
         many = omega (arith, p.many, length-append p.entries (e' ∷ []));
-        long = sym ends;
+        long = sym whole;
         len = omega (
           arith,
           p.len,

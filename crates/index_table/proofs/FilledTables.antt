@@ -9,7 +9,7 @@ use Rattle.std.proofs.lemmas.List.Sums.{sum_by-cons, sum_by_push}
 use Rattle.std.proofs.Math.Seq.{drop-append-add}
 use Rattle.index_entries.proofs.OnceEntries.{one_entry, one_row}
 use Rattle.gix_index.proofs.EntrySkips.{last_more, lent_len}
-use Rattle.gix_index.proofs.Storing.{entries_push, placed_push, records_push}
+use Rattle.gix_index.proofs.Storing.{entries_push, packed_start, placed_push, records_push}
 use Rattle.gix_index.specs.Entries.{AreEntries, last_path}
 use Rattle.gix_index.specs.Entry.{IsEntry}
 use Rattle.gix_index.specs.EntryType.{Entry}
@@ -17,9 +17,10 @@ use Rattle.gix_index.specs.Kind.{Kind}
 use Rattle.gix_index.specs.Lent.{lent_record}
 use Rattle.gix_index.specs.LentEntry.{Lent}
 use Rattle.gix_index.specs.Outlined.Passed.{paths_len}
+use Rattle.gix_index.specs.PathRange.{packed_range, range_end, range_start}
 use Rattle.gix_index.specs.Record.{IsPlaced, IsSized, Record, made_entry, records_in}
 use Rattle.gix_index.specs.Version.{Version}
-use Rattle.index_table.specs.Table.{HoldsRecords, row_of}
+use Rattle.index_table.specs.Table.{HoldsRecords, row_from, row_of}
 use Rattle.index_table.specs.declared.row.Row.{Row}
 use Rattle.index_table.proofs.Tables.{holds_from}
 
@@ -208,7 +209,7 @@ module _ (version : Version) (kind : Kind) (count : ℕ) (bytes : List ℕ) (row
       → put ≡ take start paths
       ++ (slice_range paths (start - unwrap_or room 0) (start - unwrap_or room 0 + lent.shared) ++ lent.path.now)
       ++ drop (start + (lent.shared + length lent.path.now)) paths
-      → Progress after (place + 1) end (Some (end - start)) (set rows place (row_of (made_entry lent.entry start end)))
+      → Progress after (place + 1) end (Some (end - start)) (set rows place (row_from lent.entry start (end - start)))
       put
   more rest place start room rows paths p lent after put end lt fit shared found end_is put_is =
       let s = p.storage in
@@ -216,15 +217,21 @@ module _ (version : Version) (kind : Kind) (count : ℕ) (bytes : List ℕ) (row
       let rs = records_in s es in
       let previous = last_path None rs in
       let r : Record = lent_record previous lent in
-      let e : Entry = made_entry lent.entry start end in
+      let e : Entry = made_entry lent.entry (packed_range start (end - start)) in
       let next = next_left rest place start room rows paths p lent after lt found in
       let long : length s ≡ start = p.long in
       let len : length r.path ≡ lent.shared + length lent.path.now =
       lent_len previous room lent.shared lent.path.now p.room_is shared in
-      let starts : start ≡ length s = sym long in
+      let begins : range_start e.path ≡ start = packed_start start (end - start) in
+      let starts : range_start e.path ≡ length s = begins ∙ sym long in
       let end_long : end ≡ length (s ++ r.path) = omega (arith, end_is, long, len, length-append s r.path) in
+      let whole : start + (end - start) ≡ end = omega (arith, end_is) in
+      let ends : range_end e.path ≡ length (s ++ r.path) =
+      ap (λ (n : ℕ). n + (end - start)) begins ∙ whole ∙ end_long in
+      let row : row_from lent.entry start (end - start) ≡ row_of e =
+      ap (λ (n : ℕ). row_from lent.entry n (end - start)) (sym begins) in
       let grown : records_in (s ++ r.path) (es ++ e ∷ []) ≡ rs ++ r ∷ [] =
-      records_push s r.path es e p.placed starts end_long in
+      records_push s r.path es e p.placed starts ends in
       let last : last_path None (records_in (s ++ r.path) (es ++ e ∷ [])) ≡ Some r.path =
       ap (last_path None) grown ∙ last_more None rs r in
       let counted : place + length p.left ≡ count = p.counted in
@@ -264,12 +271,13 @@ module _ (version : Version) (kind : Kind) (count : ℕ) (bytes : List ℕ) (row
           ap paths_len next.1,
           sum_by-cons (λ (x : Record). length x.path) r next.0,
         );
-        placed = placed_push s r.path es e p.placed starts end_long;
+        placed = placed_push s r.path es e p.placed starts ends;
         sized = rw grown (All-push IsSized rs r p.sized (All-head IsSized r next.0 sized));
         sized_left = All-tail IsSized r next.0 sized;
-        rows_front = take_more_set rows place (row_of e) fit ∙ ap (λ (l : List Row). l ++ row_of e ∷ []) p.rows_front
-            ∙ sym (map-append row_of es (e ∷ []));
-        rows_behind = drop-set-lt (place + 1) rows place (row_of e) (omega arith) ∙ sym (drop-drop 1 place rows)
+        rows_front = take_more_set rows place (row_from lent.entry start (end - start)) fit
+            ∙ ap (λ (l : List Row). l ++ row_from lent.entry start (end - start) ∷ []) p.rows_front
+            ∙ ap (λ (x : Row). map row_of es ++ x ∷ []) row ∙ sym (map-append row_of es (e ∷ []));
+        rows_behind = drop-set-lt (place + 1) rows place (row_from lent.entry start (end - start)) (omega arith) ∙ sym (drop-drop 1 place rows)
             ∙ ap (drop 1) p.rows_behind ∙ drop-drop 1 place rows0;
         paths_are = put_is ∙ put_in;
       }

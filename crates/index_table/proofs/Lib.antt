@@ -4,6 +4,7 @@ pub mod Joins
 mod OutlinedTables
 pub mod Refusals
 mod Replacements
+mod Results
 mod Rows
 mod Tables
 mod Trees

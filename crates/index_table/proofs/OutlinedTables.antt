@@ -9,8 +9,8 @@ use Rattle.gix_index.specs.Outlined.Passed.{paths_len}
 use Rattle.gix_index.specs.State.{contents}
 use Rattle.gix_index.specs.Version.{Version}
 use Rattle.gix_index.specs.Outlined.Outline.{Outline}
-use Rattle.index_table.specs.Reading.{TellsOfValue, value_told}
-use Rattle.index_table.specs.declared.read.Summary.{Summary}
+use Rattle.index_table.specs.Reading.{sizes_of}
+use Rattle.index_table.specs.declared.read.Sizes.{Sizes}
 
 -- the entries whose bytes an outline has
 pub outlined_entries : (v : Contents) (o : Outline) (version : Version) (kind : Kind) (h : Outlines v o)
@@ -19,11 +19,11 @@ pub outlined_entries : (v : Contents) (o : Outline) (version : Version) (kind : 
 outlined_entries v o version kind h e f =
     rw (e ∙ ap (λ (w : Contents). w.version) h.bare, f ∙ ap (λ (w : Contents). w.kind) h.bare) h.entries
 
--- a summary of a value without its records, with their count and the bytes of their paths, tells of the value
-pub outline_tells : (v w : Contents) (s : Summary) (n m : ℕ) → w ≡ with_records v [] → n ≡ length v.records
+-- the sizes of a value without its records, with their count and the bytes of their paths, are the value's
+pub outline_tells : (v w : Contents) (s : Sizes) (n m : ℕ) → w ≡ with_records v [] → n ≡ length v.records
     → m ≡ paths_len v.records
-    → s ≡ record (value_told w m) { entries = n } → TellsOfValue v s
+    → s ≡ record (sizes_of w) { entries = n; path_bytes = m } → s ≡ sizes_of v
 outline_tells v w s n m bare counted len h =
-    h ∙ ap (λ (x : Contents). record (value_told x m) { entries = n }) bare
-    ∙ ap (λ (k : ℕ). record (value_told v m) { entries = k }) counted
-    ∙ ap (value_told v) len
+    h ∙ ap (λ (x : Contents). record (sizes_of x) { entries = n; path_bytes = m }) bare
+    ∙ ap (λ (k : ℕ). record (sizes_of v) { entries = k; path_bytes = m }) counted
+    ∙ ap (λ (k : ℕ). record (sizes_of v) { path_bytes = k }) len

@@ -1,6 +1,6 @@
 -- What an error of reading says of bytes, by the fault that it stands for.
 use Rattle.std.proofs.Common.{◌≡◌, ℕ, pos, List, Bool, true, false, Option, Some, None, Ok, Err, refl, subst, inl, inr}
-use Rattle.std.proofs.Common.{arith, sym, ap, ◌∙◌}
+use Rattle.std.proofs.Common.{sym}
 use Rattle.std.specs.Option.{option_map}
 use Rattle.std.specs.Prelude.{◌⊎◌, MatchBool, MatchOption}
 use Rattle.gix_index.specs.Answer.{Answer, Fault, Extension, IsAnswer, Verify}
@@ -8,16 +8,11 @@ use Rattle.gix_index.proofs.Checks.{from_file}
 use Rattle.gix_index.proofs.Joined.{read_kind}
 use Rattle.gix_index.proofs.OnceAnswers.{answer_one}
 use Rattle.gix_index.specs.Checked.{IsFileAnswer, SaysFile}
-use Rattle.gix_index.specs.FileFaults.ReadErrors.{link_error_of}
 use Rattle.gix_index.specs.Contents.{Contents}
 use Rattle.gix_index.specs.DecodeError.TheVariants as errors
 use Rattle.gix_index.specs.DecodeErrors.{IsEarly, extension_fault}
 use Rattle.gix_index.specs.DecodeOptions.{Options}
 use Rattle.gix_index.specs.FileTime.{FileTime}
-use Rattle.gix_index.specs.Dissolve.{SaysDissolve}
-use Rattle.gix_index.specs.Link.{BitmapDecode, Corrupt, LinkValue}
-use Rattle.gix_index.specs.LinkError.{Error as LinkError}
-use Rattle.gix_index.specs.LinkError.TheVariants as links
 use Rattle.gix_index.specs.ObjectId.{ObjectId}
 use Rattle.gix_index.specs.Intact.{IsIntact, digest_id, needs_check, trailer_id}
 use Rattle.gix_index.specs.Outcome.{ExtensionFault}
@@ -25,15 +20,9 @@ use Rattle.gix_index.specs.Kind.{Kind}
 use Rattle.gix_index.specs.Stat.{nanoseconds_of, seconds_of}
 use Rattle.gix_index.specs.FileFaults.ReadError.{Error as ReadError}
 use Rattle.gix_index.specs.FileFaults.ReadError.TheVariants as reads
-use Rattle.index_table.specs.Faults.{HasNumber, IsNumbered, SaysRefusal, decode_fault, fault_number, fault_place}
-use Rattle.index_table.specs.Faults.{read_status}
-use Rattle.index_table.specs.Joining.{IsLinkRefused, IsSharedRefused, SharedReadsAs}
-use Rattle.index_table.specs.Overwriting.{IsRefusedBefore}
-use Rattle.index_table.specs.Reading.{BytesEndAs, BytesReadAs, IsRefusedIndex, LacksMemory, TellsOfMemory}
-use Rattle.index_table.specs.Reading.{TellsRefusal, blank, fault_told, table_options}
-use Rattle.index_table.specs.declared.fault.TheConstants.{LINK}
-use Rattle.index_table.specs.declared.read.Summary.{Summary}
-use Rattle.index_table.specs.declared.write.Written.{Written}
+use Rattle.index_table.specs.Faults.{SaysRefusal}
+use Rattle.index_table.specs.Reading.{BytesEndAs, FailsOwn, FailsSo, IsWantOfMemory, LacksMemory, table_options}
+use Rattle.index_table.specs.declared.fault.Failure.{Failure}
 
 -- an extension's fault, if its error stands for one
 extension_says : (o : Option ExtensionFault) (P Q : Answer → Type 0) → ((a : Answer) → P a → Q a)
@@ -56,108 +45,6 @@ says_refusal (reads.Decode errors.Memory) P Q f h = h
 says_refusal (reads.LinkExtension e) P Q f h = h
 says_refusal reads.Memory P Q f h = tt
 
--- bytes are refused by a fault with this number and this place
-pub record IsRefusedBy (P : Answer → Type 0) (number place : ℕ) : Type 0 where
-  pub fault : Fault
-  pub read : P (Err fault)
-  pub has : HasNumber fault number place
-
-refused_by : (P : Answer → Type 0) (number place : ℕ) (o : Option Fault) → MatchOption o ⊥ (λ fault. P (Err fault))
-    → MatchOption o (Unit {0}) (λ fault. HasNumber fault number place) → IsRefusedBy P number place
-refused_by P number place None says numbered = absurd says
-refused_by P number place (Some fault) says numbered = record { fault = fault; read = says; has = numbered }
-
-pub by_error : (P : Answer → Type 0) (e : ReadError) (number place : ℕ) → SaysRefusal e P → IsNumbered e number place
-    → read_status e ≡ 1
-    → IsRefusedBy P number place
-by_error P (reads.Io e) number place says numbered is = absurd says
-by_error P (reads.Decode e) number place says numbered is = refused_by P number place (decode_fault e) says numbered
-by_error P (reads.LinkExtension e) number place says numbered is = absurd says
-by_error P reads.Memory number place says numbered is = absurd (omega arith)
-
--- the summary tells of the fault that has this number and this place
-tells_by : (fault : Fault) (of_shared : ℕ) (s : Summary) → HasNumber fault s.fault s.fault_place
-    → s ≡ fault_told s.fault s.fault_place of_shared s.text_bytes → TellsRefusal fault of_shared s
-tells_by fault of_shared s has told =
-    told ∙ ap (λ (n : ℕ). fault_told n s.fault_place of_shared s.text_bytes) has.number_is
-    ∙ ap (λ (n : ℕ). fault_told (fault_number fault) n of_shared s.text_bytes) has.place_is
-
-pub refused_from : (skip : Bool) (kind : Kind) (bytes : List ℕ) (e : ReadError) (s : Summary)
-    → SaysRefusal e (BytesReadAs skip kind bytes) → IsNumbered e s.fault s.fault_place
-    → s ≡ fault_told s.fault s.fault_place 0 s.text_bytes → read_status e ≡ 1
-    → IsRefusedIndex skip kind bytes s
-refused_from skip kind bytes e s says numbered told is =
-    let r = by_error (BytesReadAs skip kind bytes) e s.fault s.fault_place says numbered is in
-    record { fault = r.fault; read = r.read; tells = tells_by r.fault 0 s r.has told }
-
-pub shared_refused : (skip : Bool) (kind : Kind) (link : LinkValue) (bytes : List ℕ) (e : ReadError) (s : Summary)
-    → SaysRefusal e (BytesEndAs (Some link.shared) skip kind bytes) → IsNumbered e s.fault s.fault_place
-    → s ≡ fault_told s.fault s.fault_place 1 s.text_bytes → read_status e ≡ 1
-    → IsSharedRefused skip kind link bytes s
-shared_refused skip kind link bytes e s says numbered told is =
-    let r = by_error (BytesEndAs (Some link.shared) skip kind bytes) e s.fault s.fault_place says numbered is in
-    record { fault = r.fault; read = r.read; tells = tells_by r.fault 1 s r.has told }
-
-pub before_refused : (kind : Kind) (bytes : List ℕ) (e : ReadError) (told : Written)
-    → SaysRefusal e (BytesReadAs false kind bytes)
-    → IsNumbered e told.fault told.fault_place → told.tree ≡ 0 → read_status e ≡ 1 → IsRefusedBefore kind bytes told
-before_refused kind bytes e told says numbered tree is =
-    let r = by_error (BytesReadAs false kind bytes) e told.fault told.fault_place says numbered is in
-    record { fault = r.fault; read = r.read; number = r.has.number_is; place = r.has.place_is; tree = tree }
-
--- the summary tells of a fault of the link
-tells_link : (s : Summary) (number place : ℕ) → number ≡ LINK → place ≡ 0
-    → s ≡ fault_told number place 0 s.text_bytes → s ≡ fault_told LINK 0 0 s.text_bytes
-tells_link s number place a b told =
-    told ∙ ap (λ (n : ℕ). fault_told n place 0 s.text_bytes) a ∙ ap (λ (n : ℕ). fault_told LINK n 0 s.text_bytes) b
-
--- a link's fault
-pub link_refused : (skip : Bool) (kind : Kind) (link : LinkValue) (bytes : List ℕ) (index split : Contents)
-    (checksum : Option ObjectId)
-    (e : LinkError) (s : Summary) → SharedReadsAs skip kind link bytes index checksum → SaysDissolve e link index split
-    → IsNumbered (link_error_of e) s.fault s.fault_place → s ≡ fault_told s.fault s.fault_place 0 s.text_bytes
-    → read_status (link_error_of e) ≡ 1
-    → IsLinkRefused skip kind link bytes split s
-link_refused skip kind link bytes index split checksum (links.Corrupt text) s read says numbered told is = record {
-  index = index;
-  checksum = checksum;
-  read = read;
-  fault = Corrupt text.now;
-  is_fault = says;
-  tells = tells_link s s.fault s.fault_place numbered.0 numbered.1 told;
-}
-link_refused skip kind link bytes index split checksum (links.BitmapDecode error name) s read says numbered told is =
-    record {
-      index = index;
-      checksum = checksum;
-      read = read;
-      fault = BitmapDecode error name.now;
-      is_fault = says;
-      tells = tells_link s s.fault s.fault_place numbered.0 numbered.1 told;
-    }
-link_refused skip kind link bytes index split checksum links.Memory s read says numbered told is = absurd (omega arith)
-
--- only want of memory is told by 2
-pub memory_from : (e : ReadError) → read_status e ≡ 2 → e ≡ reads.Memory
-memory_from (reads.Io e) is = absurd (omega arith)
-memory_from (reads.Decode e) is = absurd (omega arith)
-memory_from (reads.LinkExtension e) is = absurd (omega arith)
-memory_from reads.Memory is = refl
-
--- the summary tells of want of memory
-pub tells_memory : (e : ReadError) (of_shared : ℕ) (s : Summary) → IsNumbered e s.fault s.fault_place
-    → s ≡ fault_told s.fault s.fault_place of_shared s.text_bytes → read_status e ≡ 2 → TellsOfMemory of_shared s
-tells_memory (reads.Io e) of_shared s numbered told is = absurd (omega arith)
-tells_memory (reads.Decode e) of_shared s numbered told is = absurd (omega arith)
-tells_memory (reads.LinkExtension e) of_shared s numbered told is = absurd (omega arith)
-tells_memory reads.Memory of_shared s numbered told is =
-    told ∙ ap (λ (n : ℕ). fault_told n s.fault_place of_shared s.text_bytes) numbered.0
-    ∙ ap (λ (n : ℕ). fault_told 0 n of_shared s.text_bytes) numbered.1
-
--- so does one that tells nothing
-pub blank_tells : (s : Summary) → s ≡ blank → TellsOfMemory 0 s
-blank_tells s e = e ∙ ap (λ (x : Summary). fault_told 0 0 0 x.text_bytes) (sym e)
-
 -- a reading at the begin of 1970
 pub read_by : (expected : Option ObjectId) (skip : Bool) (kind : Kind) (bytes : List ℕ) (time : FileTime)
     (options : Options) (a : Answer)
@@ -179,7 +66,7 @@ pub options_are : (expected : Option ObjectId) (options : Options) → options.t
     → options ≡ table_options expected
 options_are expected options a b c d = rw (a, b, c, d) refl
 
-pub refusal_by : (expected : Option ObjectId) (skip : Bool) (kind : Kind) (bytes : List ℕ) (time : FileTime)
+refusal_by : (expected : Option ObjectId) (skip : Bool) (kind : Kind) (bytes : List ℕ) (time : FileTime)
     (options : Options)
     (error : ReadError) → seconds_of time ≡ pos 0 → nanoseconds_of time ≡ 0 → options ≡ table_options expected
     → SaysFile (Err error) (IsFileAnswer skip kind time options bytes)
@@ -213,14 +100,13 @@ intact_from expected skip kind bytes v checksum h =
 
 -- ---- want of memory
 
-pub lacks_by : (expected : Option ObjectId) (skip : Bool) (kind : Kind) (bytes : List ℕ) (time : FileTime)
+lacks_by : (expected : Option ObjectId) (skip : Bool) (kind : Kind) (bytes : List ℕ) (time : FileTime)
     (options : Options) (error : ReadError)
     → seconds_of time ≡ pos 0 → nanoseconds_of time ≡ 0 → options ≡ table_options expected
     → SaysFile (Err error) (IsFileAnswer skip kind time options bytes)
     → (error ≡ reads.Memory → IsIntact skip kind bytes)
-    → read_status error ≡ 2 → LacksMemory expected skip kind bytes
-lacks_by expected skip kind bytes time options error seconds nanoseconds e says intact is =
-    let memory = memory_from error is in
+    → error ≡ reads.Memory → LacksMemory expected skip kind bytes
+lacks_by expected skip kind bytes time options error seconds nanoseconds e says intact memory =
     let late : (fault : Fault) → IsEarly fault → IsFileAnswer skip kind time options bytes (Err fault) → ⊥ =
     subst (λ (x : ReadError). SaysFile (Err x) (IsFileAnswer skip kind time options bytes)) memory says in
     record {
@@ -231,6 +117,17 @@ lacks_by expected skip kind bytes time options error seconds nanoseconds e says 
       late = λ fault early h. late fault early
           (subst (λ (o : Options). IsFileAnswer skip kind time o bytes (Err fault)) (sym e) h);
     }
+
+-- what an error says of bytes
+pub fails_by : (expected : Option ObjectId) (skip : Bool) (kind : Kind) (bytes : List ℕ) (time : FileTime)
+    (options : Options) (error : ReadError)
+    → seconds_of time ≡ pos 0 → nanoseconds_of time ≡ 0 → options ≡ table_options expected
+    → SaysFile (Err error) (IsFileAnswer skip kind time options bytes)
+    → (error ≡ reads.Memory → IsIntact skip kind bytes) → FailsSo expected skip kind bytes error
+fails_by expected skip kind bytes time options error seconds nanoseconds e says intact = record {
+  fault = refusal_by expected skip kind bytes time options error seconds nanoseconds e says;
+  memory = lacks_by expected skip kind bytes time options error seconds nanoseconds e says intact;
+}
 
 -- bytes that are read as a value have no fault
 not_both : (skip : Bool) (kind : Kind) (time : FileTime) (options : Options) (bytes : List ℕ) (v : Contents)
@@ -257,3 +154,11 @@ lacks_from expected skip kind bytes v checksum h =
       late = λ fault early k.
           not_both skip kind h.time (table_options expected) bytes v checksum fault intact h.is k;
     }
+
+-- want of memory behind a reading
+pub own_of_memory : (skip : Bool) (kind : Kind) (bytes : List ℕ) (failure : Failure) → IsWantOfMemory failure
+    → LacksMemory None skip kind bytes → FailsOwn skip kind bytes failure
+own_of_memory skip kind bytes failure h lacks = record {
+  whose = h.whose;
+  says = record { fault = subst (λ e. SaysRefusal e (BytesEndAs None skip kind bytes)) (sym h.error) tt; memory = λ e. lacks };
+}

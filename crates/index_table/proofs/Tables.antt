@@ -1,5 +1,5 @@
 -- The rows of entries spell the entries' records.
-use Rattle.std.proofs.Common.{◌≡◌, ℕ, ◌≤◌, eqb, true, List, [], ◌∷◌, ◌++◌, All, length, map, take, drop, replicate}
+use Rattle.std.proofs.Common.{◌≡◌, ℕ, ◌-◌, ◌≤◌, eqb, true, List, [], ◌∷◌, ◌++◌, All, length, map, take, drop, replicate}
 use Rattle.std.proofs.Common.{refl, sym, ap, ◌∙◌, arith}
 use Rattle.std.proofs.lemmas.List.{take_at, drop_at, length-map}
 use Rattle.std.proofs.lemmas.List.Elements.{All-cons, All-head, All-tail, All-map, All-same}
@@ -7,8 +7,9 @@ use Rattle.gix_index.specs.Id.{id_bytes, id_kind, id_len}
 use Rattle.gix_index.specs.EntryType.{Entry}
 use Rattle.gix_index.specs.ObjectId.{ObjectId}
 use Rattle.gix_index.specs.ObjectId.TheVariants.{Sha1, Sha256}
+use Rattle.gix_index.specs.PathRange.{range_end, range_start}
 use Rattle.gix_index.specs.Record.{IsPlaced, IsSized, record_in, records_in}
-use Rattle.index_table.specs.Table.{HoldsRecords, IsForward, IsWholeRow, kind_number, padded_id, records_of, row_id}
+use Rattle.index_table.specs.Table.{HoldsRecords, IsWholeRow, kind_number, padded_id, records_of, row_id}
 use Rattle.index_table.specs.Table.{row_of, spelled}
 use Rattle.index_table.specs.declared.row.Row.{Row}
 
@@ -35,7 +36,11 @@ zeros_behind row (Sha256 bytes) len e = cc
 
 pub spelled_row : (storage : List ℕ) (e : Entry) → IsFull e → spelled storage (row_of e) ≡ record_in storage e
 spelled_row storage e full =
-    ap (λ (id : ObjectId). record (record_in storage e) { id = id }) (same_id (row_of e) e.id full.len)
+    let from : List ℕ = drop (range_start e.path) storage in
+    let len : e.path.len ≡ range_end e.path - range_start e.path = omega arith in
+    ap (λ (id : ObjectId). record (record_in storage e) { path = take e.path.len from; id = id })
+    (same_id (row_of e) e.id full.len)
+    ∙ ap (λ (n : ℕ). record (record_in storage e) { path = take n from }) len
 
 pub spelled_rows : (storage : List ℕ) (es : List Entry) → All IsFull es
     → records_of storage (map row_of es) ≡ records_in storage es
@@ -45,21 +50,16 @@ spelled_rows storage (e ∷ es) full =
 
 whole_row : (len : ℕ) (e : Entry) → IsFull e → IsPlaced len e → IsWholeRow len (row_of e)
 whole_row len e full placed =
-    let forward : e.path.start ≤ e.path.end = placed.forward in
-    let inside : e.path.end ≤ len = placed.inside in
     record {
       stage = refl;
       kind = same_kind (row_of e) e.id;
       zeros = zeros_behind (row_of e) e.id full.len;
-      inside = omega arith;
+      inside = placed.inside;
     }
 
 whole_rows : (len : ℕ) (es : List Entry) → All IsFull es → All (IsPlaced len) es → All (IsWholeRow len) (map row_of es)
 whole_rows len es full placed =
     All-map (IsWholeRow len) row_of es (λ k d lt. whole_row len _ (full k d lt) (placed k d lt))
-
-pub forward_all : (len : ℕ) (es : List Entry) → All (IsPlaced len) es → All IsForward es
-forward_all len es placed = λ k d lt. (placed k d lt).forward
 
 -- entries whose records have whole ids
 full_from : (storage : List ℕ) (e : Entry) → IsSized (record_in storage e) → IsFull e

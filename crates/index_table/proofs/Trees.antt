@@ -1,5 +1,5 @@
 -- Whether a cached tree tells what the entries give, by the answer to comparing both.
-use Rattle.std.proofs.Common.{◌≡◌, ◌≢◌, ℕ, ◌<◌, ◌^◌, List, [], ◌∷◌, ◌++◌, All, length, false, Option, Some, None, inl}
+use Rattle.std.proofs.Common.{◌≡◌, ◌≢◌, ◌<◌, ◌^◌, List, [], ◌∷◌, ◌++◌, All, length, false, Option, Some, None, inl}
 use Rattle.std.proofs.Common.{inr, refl, sym, subst}
 use Rattle.std.specs.Prelude.{IfSome, MatchOption}
 use Rattle.std.proofs.lemmas.List.Elements.{All-head, All-tail}
@@ -16,15 +16,17 @@ use Rattle.gix_index.specs.WriteTreesError.{Error as TreesError}
 use Rattle.gix_index.specs.WriteTreesError.TheVariants as trees
 use Rattle.index_table.specs.Faults.{wants_memory}
 use Rattle.index_table.specs.Overwriting.{IsWrongTree, KeepsThis, KeepsTree}
+use Rattle.index_table.specs.declared.over.CachedTree.{CachedTree}
+use Rattle.index_table.specs.declared.over.CachedTree.TheVariants.{Kept, LeftOut}
 
 -- by what the cached tree is
-pub keeps_by : (o : Option Node) (v w : Contents) (number : ℕ) → v.extensions.tree ≡ o → KeepsThis o v number w
-    → KeepsTree v number w
-keeps_by o v w number e h = subst (λ (x : Option Node). KeepsThis x v number w) (sym e) h
+pub keeps_by : (o : Option Node) (v w : Contents) (tree : CachedTree) → v.extensions.tree ≡ o → KeepsThis o v tree w
+    → KeepsTree v tree w
+keeps_by o v w tree e h = subst (λ (x : Option Node). KeepsThis x v tree w) (sym e) h
 
 pub keeps_right : (o : Option Node) (v : Contents) → o ≢ None → IfSome o (AreRight v.kind v.records)
     → IfSome o (λ _. AreFit any_name v.kind (merged_in v.records))
-    → IfSome o (λ _. length (merged_in v.records) < 2 ^ 31) → KeepsThis o v 1 v
+    → IfSome o (λ _. length (merged_in v.records) < 2 ^ 31) → KeepsThis o v Kept v
 keeps_right None v some right fit few = absurd (some refl)
 keeps_right (Some t) v some right fit few = inl (refl, refl, record { few = few; fit = fit; right = right })
 
@@ -64,6 +66,6 @@ is_wrong errors.Memory v t e says = absurd cc
 
 pub keeps_wrong : (o : Option Node) (v w : Contents) (e : Error) → wants_memory e ≡ false
     → MatchOption o ⊥ (λ t. SaysTreeIds v.kind v.records t e)
-    → w ≡ record v { extensions = record v.extensions { tree = None } } → KeepsThis o v 2 w
+    → w ≡ record v { extensions = record v.extensions { tree = None } } → KeepsThis o v LeftOut w
 keeps_wrong None v w e memory says is = absurd says
 keeps_wrong (Some t) v w e memory says is = inr (refl, is, is_wrong e v t memory says)

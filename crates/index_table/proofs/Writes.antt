@@ -1,5 +1,5 @@
 -- What holds of the value that a table in order spells.
-use Rattle.std.proofs.Common.{◌≡◌, ◌≢◌, ℕ, List, [], ◌∷◌, All, Bool, true, false, cond, Some, not, refl, sym, subst}
+use Rattle.std.proofs.Common.{◌≡◌, ◌≢◌, ℕ, List, [], ◌∷◌, All, Bool, true, false, cond, not, refl, sym, subst}
 use Rattle.std.proofs.lemmas.List.Elements.{All-cons, All-filter, All-head, All-nil, All-tail}
 use Rattle.gix_index.specs.Contents.{Contents}
 use Rattle.gix_index.specs.EntryImage.{is_removed, written}
@@ -8,13 +8,10 @@ use Rattle.gix_index.specs.Record.{Record}
 use Rattle.gix_index.specs.Storable.{CanEncode}
 use Rattle.gix_index.specs.VersionChoice.{VersionChoice}
 use Rattle.gix_index.specs.VersionChoice.TheVariants as choices
-use Rattle.gix_index.specs.WriteOptions.{Options}
-use Rattle.index_table.specs.Overwriting.{IsAskedOver, full_options}
-use Rattle.index_table.specs.Table.{kind_numbered, records_of, spelled}
-use Rattle.index_table.specs.Writing.{IsAsked, IsFit, IsFitTable, IsSpelledBy, Spells, choice_numbered}
-use Rattle.index_table.specs.Writing.{plain_options}
+use Rattle.index_table.specs.Fitting.{IsFit, IsFitTable}
+use Rattle.index_table.specs.Table.{records_of, spelled}
+use Rattle.index_table.specs.Writing.{IsSpelledBy, Spells}
 use Rattle.index_table.specs.declared.row.Row.{Row}
-use Rattle.index_table.specs.declared.write.Form.{Form}
 
 abbrev LacksNul : Record → Type 0
 LacksNul r = All (λ b. b ≢ 0) r.path
@@ -53,14 +50,3 @@ pub spells : (kind : Kind) (paths : List ℕ) (rows : List Row) (v : Contents) (
     → IsFitTable kind false paths rows
     → IsSpelledBy kind paths rows v → P v → Spells kind paths rows P
 spells kind paths rows v P fit s h = record { value = v; table = fit; spelled = s; holds = h }
-
--- what a form asks for, by its numbers
-pub asked : (f : Form) (P : Kind → Options → Type 0) (kind : Kind) (choice : VersionChoice) (options : Options)
-    → Some kind ≡ kind_numbered f.kind
-    → Some choice ≡ choice_numbered f.version → options ≡ plain_options f choice → P kind options → IsAsked f P
-asked f P kind choice options a b e h = rw (sym a, sym b) (subst (P kind) e h)
-
-pub asked_over : (f : Form) (P : Kind → Options → Type 0) (kind : Kind) (choice : VersionChoice) (options : Options)
-    → Some kind ≡ kind_numbered f.kind
-    → Some choice ≡ choice_numbered f.version → options ≡ full_options f choice → P kind options → IsAskedOver f P
-asked_over f P kind choice options a b e h = rw (sym a, sym b) (subst (P kind) e h)

@@ -1,19 +1,19 @@
 -- What a call that reads a split index with its shared index says of the bytes of both (gitformat-index, "Split
 -- index").
-use Rattle.std.specs.Prelude.{◌≡◌, ℕ, ◌⊎◌, Bool, false, List, Option, Some, None, Ok, Err}
-use Rattle.gix_index.specs.Answer.{Fault}
+use Rattle.std.specs.Prelude.{◌≡◌, ℕ, ◌⊎◌, Bool, false, List, Option, Some, Ok}
 use Rattle.gix_index.specs.Contents.{Contents}
-use Rattle.gix_index.specs.Dissolve.{IsDissolved, IsDissolveFault}
+use Rattle.gix_index.specs.Dissolve.{IsDissolved, SaysDissolve}
 use Rattle.gix_index.specs.Edits.{without_link}
+use Rattle.gix_index.specs.FileFaults.ReadErrors.{link_error_of}
 use Rattle.gix_index.specs.Id.{id_bytes, is_null}
 use Rattle.gix_index.specs.Kind.{Kind}
-use Rattle.gix_index.specs.Link.{LinkFault, LinkValue}
+use Rattle.gix_index.specs.Link.{LinkValue}
+use Rattle.gix_index.specs.LinkError.{Error as LinkError}
 use Rattle.gix_index.specs.Linked.{IsUnfollowed}
 use Rattle.gix_index.specs.ObjectId.{ObjectId}
-use Rattle.index_table.specs.Reading.{BytesEndAs, IsReadSo, IsRefusedIndex, LacksMemory, TellsOfMemory}
-use Rattle.index_table.specs.Reading.{TellsRefusal, fault_told}
-use Rattle.index_table.specs.declared.fault.TheConstants.{LINK}
-use Rattle.index_table.specs.declared.read.Summary.{Summary}
+use Rattle.index_table.specs.Reading.{BytesEndAs, FailsOwn, FailsSo, IsReadSo}
+use Rattle.index_table.specs.declared.fault.Failure.{Failure}
+use Rattle.index_table.specs.declared.fault.Whose.TheVariants.{Own, Shared}
 
 -- ---- the value of both
 
@@ -48,44 +48,36 @@ IsFollowed skip kind shared P split =
 abbrev pub AreReadSo : Bool → Kind → List ℕ → List ℕ → (Contents → Type 0) → Type 0
 AreReadSo skip kind bytes shared P = IsReadSo skip kind bytes (IsFollowed skip kind shared P)
 
--- ---- faults
+-- ---- why there is none
 
--- the shared index's bytes have this first fault
-pub record IsSharedRefused (skip : Bool) (kind : Kind) (link : LinkValue) (shared : List ℕ) (s : Summary) : Type 0 where
-  pub fault : Fault
-  pub read : BytesEndAs (Some link.shared) skip kind shared (Err fault)
-  pub tells : TellsRefusal fault 1 s
+-- the bytes of the shared index aren't read
+pub record FailsShared (skip : Bool) (kind : Kind) (link : LinkValue) (shared : List ℕ) (failure : Failure)
+    : Type 0 where
+  pub whose : failure.whose ≡ Shared
+  pub says : FailsSo (Some link.shared) skip kind shared failure.error
 
--- the shared index is read, and the link between it and a value, which has the link no more, has this first fault
-pub record IsLinkRefused (skip : Bool) (kind : Kind) (link : LinkValue) (shared : List ℕ) (split : Contents)
-    (s : Summary) : Type 0 where
+-- the shared index is read, and dissolving the link between it and a value, which has the link no more, gives an error
+pub record FailsLink (skip : Bool) (kind : Kind) (link : LinkValue) (shared : List ℕ) (split : Contents)
+    (failure : Failure) : Type 0 where
   pub index : Contents
   pub checksum : Option ObjectId
   pub read : SharedReadsAs skip kind link shared index checksum
-  pub fault : LinkFault
-  pub is_fault : IsDissolveFault link index split fault
-  pub tells : s ≡ fault_told LINK 0 0 s.text_bytes
+  pub error : LinkError
+  pub says : SaysDissolve error link index split
+  pub whose : failure.whose ≡ Own
+  pub is : failure.error ≡ link_error_of error
 
--- the value links to a shared index, which is refused, or can't be joined to it
-abbrev pub IsJoinRefused : Bool → Kind → List ℕ → Summary → Contents → Type 0
-IsJoinRefused skip kind shared s split =
-    (link : LinkValue) × LinksTo split link
-    × (IsSharedRefused skip kind link shared s ⊎ IsLinkRefused skip kind link shared (without_link split) s)
+-- the bytes of the shared index or the link to it are why a value, which has the link no more, isn't joined to it
+abbrev pub FailsJoined : Bool → Kind → LinkValue → List ℕ → Contents → Failure → Type 0
+FailsJoined skip kind link shared split failure =
+    FailsShared skip kind link shared failure ⊎ FailsLink skip kind link shared split failure
 
--- the first fault of the bytes, of those of the shared index, or of the link between the two
-abbrev pub AreRefusedBoth : Bool → Kind → List ℕ → List ℕ → Summary → Type 0
-AreRefusedBoth skip kind bytes shared s =
-    IsRefusedIndex skip kind bytes s ⊎ IsReadSo skip kind bytes (IsJoinRefused skip kind shared s)
+-- the value links to a shared index, and can't be joined to it
+abbrev pub FailsFollowed : Bool → Kind → List ℕ → Failure → Contents → Type 0
+FailsFollowed skip kind shared failure split =
+    (link : LinkValue) × LinksTo split link × FailsJoined skip kind link shared (without_link split) failure
 
--- ---- want of memory
-
--- the value links to a shared index, and want of memory says this of that one's bytes
-abbrev pub LacksForShared : Bool → Kind → List ℕ → Contents → Type 0
-LacksForShared skip kind shared split =
-    (link : LinkValue) × LinksTo split link × LacksMemory (Some link.shared) skip kind shared
-
--- What want of memory says of both: of the bytes what it says of them alone. Where it is told of the shared index, they
--- are read as a value that links to one, and it says the same of that one's bytes.
-pub record LackMemory (skip : Bool) (kind : Kind) (bytes shared : List ℕ) (s : Summary) : Type 0 where
-  pub own : LacksMemory None skip kind bytes
-  pub whose : TellsOfMemory 0 s ⊎ (TellsOfMemory 1 s × IsReadSo skip kind bytes (LacksForShared skip kind shared))
+-- the bytes aren't read, or those of the shared index, or both can't be joined
+abbrev pub FailBoth : Bool → Kind → List ℕ → List ℕ → Failure → Type 0
+FailBoth skip kind bytes shared failure =
+    FailsOwn skip kind bytes failure ⊎ IsReadSo skip kind bytes (FailsFollowed skip kind shared failure)

@@ -1,4 +1,5 @@
 pub mod Faults
+pub mod Fitting
 pub mod Joining
 pub mod Overwriting
 pub mod Reading

@@ -1,7 +1,7 @@
 -- A table in a caller's memory: rows, and the bytes in which their paths lie (the library's own; the parts of an entry
 -- are those of gitformat-index, "Index entry").
-use Rattle.std.specs.Prelude.{◌≡◌, ℕ, ◌+◌, ◌-◌, ◌≤◌, nat_eq, true, List, ◌++◌, All, length, map, take, drop, replicate}
-use Rattle.std.specs.Prelude.{Option, Some, None, if◌then◌else◌}
+use Rattle.std.specs.Prelude.{◌≡◌, ℕ, ◌+◌, ◌≤◌, nat_eq, true, List, ◌++◌, All, length, map, take, drop, replicate}
+use Rattle.std.specs.Prelude.{if◌then◌else◌}
 use Rattle.gix_index.specs.Id.{id_kind}
 use Rattle.gix_index.specs.Flags.{stage_number}
 use Rattle.gix_index.specs.Kind.{Kind}
@@ -9,24 +9,24 @@ use Rattle.gix_index.specs.Kind.TheVariants as kinds
 use Rattle.gix_index.specs.ObjectId.{ObjectId}
 use Rattle.gix_index.specs.ObjectId.TheVariants as ids
 use Rattle.gix_index.specs.EntryType.{Entry}
+use Rattle.gix_index.specs.PathRange.{range_start}
 use Rattle.gix_index.specs.Record.{Record}
+use Rattle.gix_index.specs.Pathless.{Pathless}
 use Rattle.gix_index.specs.StatType.{Stat}
 use Rattle.index_table.specs.declared.row.Row.{Row}
+use Rattle.index_table.specs.declared.row.TheConstants.{SHA1, SHA256}
 
--- ---- numbers that stand for kinds
+-- ---- what a row has for a kind
 
 abbrev pub kind_number : Kind → ℕ
-kind_number kinds.Sha1 = 1
-kind_number kinds.Sha256 = 2
-
-abbrev pub kind_numbered : ℕ → Option Kind
-kind_numbered n = if nat_eq n 1 then Some kinds.Sha1 else (if nat_eq n 2 then Some kinds.Sha256 else None)
+kind_number kinds.Sha1 = SHA1
+kind_number kinds.Sha256 = SHA256
 
 -- ---- what a table spells
 
--- The id of a row: 32 bytes where its kind is 2, and else the first 20.
+-- The id of a row: 32 bytes where its kind is SHA256, and else the first 20.
 abbrev pub row_id : Row → ObjectId
-row_id row = if nat_eq row.kind 2 then ids.Sha256 row.id else ids.Sha1 (take 20 row.id)
+row_id row = if nat_eq row.kind SHA256 then ids.Sha256 row.id else ids.Sha1 (take 20 row.id)
 
 abbrev pub row_stat : Row → Stat
 row_stat row = record {
@@ -58,7 +58,7 @@ records_of paths rows = map (spelled paths) rows
 pub record IsWholeRow (len : ℕ) (row : Row) : Type 0 where
   pub stage : row.stage ≡ stage_number row.flags
   pub kind : row.kind ≡ kind_number (id_kind (row_id row))
-  pub zeros : nat_eq row.kind 1 ≡ true → drop 20 row.id ≡ replicate 12 0
+  pub zeros : nat_eq row.kind SHA1 ≡ true → drop 20 row.id ≡ replicate 12 0
   pub inside : row.path_start + row.path_len ≤ len
 
 -- A caller's table, before and after, has these records in its first rows, with their paths in the first bytes for
@@ -73,22 +73,14 @@ pub record HoldsRecords (rs : List Record) (len : ℕ) (rows filled : List Row) 
 
 -- ---- an entry's row
 
--- its path ends no earlier than it starts
-abbrev pub IsForward : Entry → Type 0
-IsForward e = e.path.start ≤ e.path.end
-
--- how many bytes its path has
-abbrev pub entry_len : Entry → ℕ
-entry_len e = e.path.end - e.path.start
-
 -- the id's bytes, with zeros behind those of SHA-1
 abbrev pub padded_id : ObjectId → List ℕ
 padded_id (ids.Sha1 bytes) = bytes ++ replicate 12 0
 padded_id (ids.Sha256 bytes) = bytes
 
--- the row of an entry, where the storage of paths is the bytes for paths
-abbrev pub row_of : Entry → Row
-row_of e = record {
+-- the row of an entry of these parts, whose path is so many bytes from a place on
+abbrev pub row_from : Pathless → ℕ → ℕ → Row
+row_from e start len = record {
   ctime_secs = e.stat.ctime.secs;
   ctime_nsecs = e.stat.ctime.nsecs;
   mtime_secs = e.stat.mtime.secs;
@@ -103,6 +95,14 @@ row_of e = record {
   stage = stage_number e.flags.0;
   kind = kind_number (id_kind e.id);
   id = padded_id e.id;
-  path_start = e.path.start;
-  path_len = entry_len e;
+  path_start = start;
+  path_len = len;
 }
+
+-- all of an entry but its path
+abbrev pub parts_of : Entry → Pathless
+parts_of e = record { stat = e.stat; id = e.id; flags = e.flags; mode = e.mode }
+
+-- the row of an entry, where the storage of paths is the bytes for paths
+abbrev pub row_of : Entry → Row
+row_of e = row_from (parts_of e) (range_start e.path) e.path.len

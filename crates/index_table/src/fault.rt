@@ -1,133 +1,36 @@
-//! Faults as numbers and texts.
+//! Why bytes aren't read.
 
-ghost use Rattle.std.specs.Prelude.{◌≡◌, ◌≤◌, IfSome, length};
-ghost use Rattle.index_table.specs.Faults.{HasNumber, IsNumbered, decode_fault, extension_number, header_number, wants_memory};
-ghost use Rattle.index_table.specs.Reading.{HasText};
+ghost use Rattle.std.specs.Prelude.{◌≡◌};
+ghost use Rattle.index_table.specs.Faults.{wants_memory};
 
-use gix_index::decode::{self, header};
 use gix_index::verify::tree_ids;
-use gix_index::{extension, file, write_trees};
-use std::alloc::Global;
-use std::fmt;
+use gix_index::{file, write_trees};
 
-/// The bytes begin with no header of an index, or it declares more entries than they can hold.
-pub const HEADER: u32 = 1;
-/// The version isn't 2, 3 or 4.
-pub const VERSION: u32 = 2;
-/// A limit on memory is passed. Calls set none.
-pub const LIMIT: u32 = 3;
-/// The entry at the place can't be read.
-pub const ENTRY: u32 = 4;
-/// A mandatory extension isn't understood.
-pub const EXTENSION: u32 = 5;
-/// The link to a shared index is at fault, or the two don't fit.
-pub const LINK: u32 = 6;
-/// The bytes behind all entries and extensions aren't as many as the trailer has.
-pub const TRAILER: u32 = 7;
-/// The digest isn't the trailer.
-pub const DIGEST: u32 = 8;
-/// A file can't be opened or read.
-pub const DISK: u32 = 9;
-/// The entry at the place isn't above the one before it, by path, then stage. Only a check tells so.
-pub const ORDER: u32 = 10;
-/// The cached tree doesn't hold together, or a node of it counts more entries than there are. Only a check tells so.
-pub const CACHED_TREE: u32 = 11;
-/// The row at the place can't be written, for another reason than its mode. Only a call that writes tells so.
-pub const ROW: u32 = 12;
-/// There are more rows than the 4294967295 entries that a file can count. Only a call that writes tells so.
-pub const COUNT: u32 = 13;
-/// The file would have more than the 4294967295 bytes that its offsets can reach. Only a call that writes tells so.
-pub const LENGTH: u32 = 14;
-/// The mode of the row at the place is none of git's. Only a call that writes tells so.
-pub const MODE: u32 = 15;
-
-/// The number of a fault, and the place that it names, or 0.
+/// Which bytes an error is of.
 #[derive(Clone, Copy)]
-pub struct Fault {
-    pub number: u32,
-    pub place: usize,
+pub enum Whose {
+    /// The index's own, or the link between it and its shared index.
+    Own,
+    /// Those of the shared index.
+    Shared,
 }
 
-/// The number of a header's fault.
-fn number_of_header(e: &header::Error) -> u32
-    ensures { result ≡ header_number e.now }
-{
-    match e {
-        header::Error::Corrupt(_) => HEADER,
-        header::Error::UnsupportedVersion(_) => VERSION,
-    }
-}
-
-/// The number of an extension's fault.
-fn number_of_extension(e: &extension::decode::Error) -> u32
-    ensures { result ≡ extension_number e.now }
-{
-    match e {
-        extension::decode::Error::MandatoryUnimplemented { .. } => EXTENSION,
-        extension::decode::Error::Link(_) => LINK,
-    }
-}
-
-/// The number of a fault that bytes have, and its place.
-fn fault_of_bytes(e: &decode::Error) -> Fault
-    ensures { IfSome (decode_fault e.now) (λ fault. HasNumber fault result.number result.place) }
-{
-    let number = match e {
-        decode::Error::Header(e) => number_of_header(e),
-        decode::Error::Entry { index } => {
-            return Fault {
-                number: ENTRY,
-                place: *index as usize,
-            };
-        }
-        decode::Error::Extension(e) => number_of_extension(e),
-        decode::Error::UnexpectedTrailerLength { .. } => TRAILER,
-        decode::Error::Verify { .. } => DIGEST,
-        decode::Error::OutOfMemory => LIMIT,
-        decode::Error::Hasher | decode::Error::Memory => 0,
-    };
-    Fault { number, place: 0 }
-}
-
-/// The number of a fault that reading a file has, and its place.
-pub fn fault_of(e: &file::init::Error) -> Fault
-    ensures { IsNumbered e.now result.number result.place }
-{
-    let number = match e {
-        file::init::Error::Decode(e) => return fault_of_bytes(e),
-        file::init::Error::Io(_) => DISK,
-        file::init::Error::LinkExtension(_) => LINK,
-        file::init::Error::Memory => 0,
-    };
-    Fault { number, place: 0 }
+/// Why bytes aren't read.
+#[derive(Drop)]
+pub struct Failure {
+    /// What is wrong, or that memory is wanting.
+    pub error: file::init::Error,
+    /// Of which bytes.
+    pub whose: Whose,
 }
 
 /// Whether an error of comparing a cached tree with entries is want of memory.
-pub fn is_want_of_memory(e: &tree_ids::Error) -> bool
+pub(crate) fn is_want_of_memory(e: &tree_ids::Error) -> bool
     ensures { result ≡ wants_memory e.now }
 {
     match e {
         tree_ids::Error::Memory => true,
         tree_ids::Error::Entries(e) => matches!(e, write_trees::Error::Memory),
         _ => false,
-    }
-}
-
-/// Writes the front of a text, as far as there is room, and says how many bytes that is.
-pub fn put_text(text: &[u8], room: &mut [u8]) -> usize
-    ensures { HasText result room.old room.new }
-{
-    let len = text.len().min(room.len());
-    room[..len].copy_from_slice(&text[..len]);
-    len
-}
-
-/// Writes what a fault says. Where memory doesn't suffice for that, it is nothing.
-pub fn put_fault<E: fmt::Display>(alloc: Global, e: &E, room: &mut [u8]) -> usize
-    ensures { HasText result room.old room.new }
-{
-    match format!(in alloc; "{e}") {
-        Ok(text) => put_text(text.as_bytes(), room),
-        Err(_) => 0,
     }
 }

@@ -1,23 +1,21 @@
 //! Filling a caller's table: from bytes entry by entry, with none kept meanwhile, or from entries in memory.
 
-ghost use Rattle.std.specs.Prelude.{◌≡◌, ◌≢◌, ◌≤◌, ◌+◌, ◌++◌, ◌⊎◌, ℕ, All, List, None, length, take, drop, slice_range};
+ghost use Rattle.std.specs.Prelude.{◌≡◌, ◌≤◌, ◌+◌, ◌++◌, ℕ, All, IfErr, IfOk, List, None, length, take, drop, slice_range};
 ghost use Rattle.gix_index.specs.Contents.{Contents};
 ghost use Rattle.gix_index.specs.Entries.{AreEntries};
 ghost use Rattle.gix_index.specs.Outlined.{Outlines};
 ghost use Rattle.gix_index.specs.Outlined.Passed.{in_64_bits, paths_len};
 ghost use Rattle.gix_index.specs.Record.{IsPlaced, IsSized, Record, records_in};
 ghost use Rattle.gix_index.specs.Storable.{IsStorable};
-ghost use Rattle.index_table.specs.Reading.{Fills, IsTooSmall, TellsOfValue};
+ghost use Rattle.index_table.specs.Reading.{Fills, HasSizes, IfFailed, IfNoRoom, IsTooSmall, sizes_of};
 ghost use Rattle.index_table.specs.Table.{HoldsRecords};
 
-use crate::read::{Outcome, Summary, summary_of};
-use crate::row::{Row, row_of};
-use crate::status::{DONE, NO_ROOM};
-use gix_index::decode::entry::entry_of;
+use crate::read::{Sizes, Unread, lacks_room, sizes_of};
+use crate::row::{Row, row_from};
+use gix_index::decode::entry::{Pathless, entry_of};
 use gix_index::file::Outline;
 use gix_index::hash::Kind;
 use gix_index::{Entry, Version};
-use index_entries::make_entry;
 
 /// Puts a path at a place among these bytes: as many as are shared of those that stand from an earlier place on, and
 /// then the tail.
@@ -65,7 +63,7 @@ fn fill_entries(
             lent.shared,
             lent.path,
         );
-        rows[place] = row_of(&make_entry(lent.entry, start..end));
+        rows[place] = row_from(lent.entry, start, end - start);
         room = Some(end - start);
         start = end;
         rest = after;
@@ -100,45 +98,44 @@ pub(crate) fn fill(entries: &[Entry], storage: &[u8], rows: &mut [Row], paths: &
         let entry = &entries[place];
         let path = &storage[entry.path_range()];
         put_path(paths, start, start, 0, path);
-        rows[place] = Row {
-            path_start: start,
-            path_len: path.len(),
-            ..row_of(entry)
+        let parts = Pathless {
+            stat: entry.stat,
+            id: entry.id,
+            flags: entry.flags,
+            mode: entry.mode,
         };
+        rows[place] = row_from(parts, start, path.len());
         start += path.len();
     }
 }
 
-/// What is told of an outline.
-fn summary_of_outline(outline: &Outline<'_>) -> Summary
-    ensures { (v : Contents) → Outlines v outline.now → TellsOfValue v result }
+/// What a table of an outline takes.
+fn sizes_of_outline(outline: &Outline<'_>) -> Sizes
+    ensures { (v : Contents) → Outlines v outline.now → result ≡ sizes_of v }
 {
-    summary_of(&outline.bare, outline.count as usize, outline.path_bytes)
+    sizes_of(&outline.bare, outline.count as usize, outline.path_bytes)
 }
 
 /// Fills the entries of an outline into a table, if there is room.
-pub(crate) fn table_of_outline(outline: &Outline<'_>, rows: &mut [Row], paths: &mut [u8]) -> Outcome
+pub(crate) fn table_of_outline(
+    outline: &Outline<'_>,
+    rows: &mut [Row],
+    paths: &mut [u8],
+) -> Result<Sizes, Unread>
     requires { (v : Contents) × Outlines v outline.now × IsStorable v }
-    ensures status { (result.status ≡ DONE) ⊎ (result.status ≡ NO_ROOM) }
-    ensures text { result.summary.text_bytes ≡ 0 }
-    ensures done { result.status ≡ DONE → (v : Contents) → Outlines v outline.now
-        → Fills v result.summary rows.old rows.new paths.old paths.new }
-    ensures no_room { result.status ≡ NO_ROOM → (v : Contents) → Outlines v outline.now
-        → IsTooSmall v result.summary rows.old paths.old }
-    ensures rows { result.status ≢ DONE → rows.new ≡ rows.old }
-    ensures paths { result.status ≢ DONE → paths.new ≡ paths.old }
+    ensures done { IfOk result (λ sizes. (v : Contents) → Outlines v outline.now
+        → HasSizes sizes (λ w. Fills w rows.old rows.new paths.old paths.new) v) }
+    ensures no_room { IfNoRoom result (λ sizes. (v : Contents) → Outlines v outline.now
+        → HasSizes sizes (λ w. IsTooSmall w rows.old paths.old) v) }
+    ensures never_failed { IfFailed result (λ _. ⊥) }
+    ensures rows { IfErr result (λ _. rows.new ≡ rows.old) }
+    ensures paths { IfErr result (λ _. paths.new ≡ paths.old) }
 {
-    let summary = summary_of_outline(outline);
-    if rows.len() < summary.entries || paths.len() < summary.path_bytes {
-        return Outcome {
-            status: NO_ROOM,
-            summary,
-        };
+    let sizes = sizes_of_outline(outline);
+    if lacks_room(&sizes, rows, paths) {
+        return Err(Unread::NoRoom(sizes));
     }
     let (version, kind) = (outline.bare.version(), outline.bare.object_hash());
     fill_entries(version, kind, outline.count, outline.entries, rows, paths);
-    Outcome {
-        status: DONE,
-        summary,
-    }
+    Ok(sizes)
 }

@@ -1,7 +1,8 @@
 //! Tables of a caller's memory: the entries of an index as rows, and the bytes in which their paths lie.
 //!
 //! An index is read into a table, with the shared index that it links to or without, and a table is written as one,
-//! with what is kept of the index that it takes the place of or without. Nothing is kept between calls.
+//! with what is kept of the index that it takes the place of or without. Nothing is kept between calls. What calls
+//! take and answer are values; `index_c` has the numbers by which a caller in C sees them.
 #![tactic(auto)]
 
 pub mod fault;
@@ -11,5 +12,4 @@ pub mod read;
 pub mod row;
 mod spell;
 pub mod split;
-pub mod status;
 pub mod write;

@@ -1,188 +1,101 @@
 //! Reading an index into a caller's table.
 
-ghost use Rattle.std.specs.Prelude.{◌≡◌, ◌≢◌, ◌≤◌, ◌⊎◌, All, IfErr, IfOk, None, Ok, Option};
-ghost use Rattle.gix_index.specs.EntryImage.{version_code};
+ghost use Rattle.std.specs.Prelude.{◌≡◌, ◌≤◌, ◌<◌, ◌⊎◌, All, IfErr, IfOk, Ok, Option, false, length, true};
 ghost use Rattle.gix_index.specs.ObjectId.{ObjectId as Id};
 ghost use Rattle.gix_index.specs.Record.{IsSized};
 ghost use Rattle.gix_index.specs.State.{PathsInStorage, contents};
 ghost use Rattle.gix_index.specs.Storable.{IsStorable};
-ghost use Rattle.index_table.specs.Faults.{IsNumbered, SaysRefusal, read_status};
-ghost use Rattle.index_table.specs.Reading.{BytesEndAs, Fills, HasText, IsFilled, IsRefusedIndex, IsTooSmall, IsUnread, LacksMemory, LacksRoom, blank, fault_told, link_number, shared_id_bytes, value_told};
-ghost use Rattle.index_table.specs.Table.{kind_numbered};
+ghost use Rattle.index_table.specs.Reading.{BytesEndAs, FailsOwn, FailsSo, Fills, HasSizes, IfFailed, IfNoRoom, IsReadSo, IsTooSmall, IsWantOfMemory, link_id, sizes_of};
 
-use crate::fault::{fault_of, put_fault};
+use crate::fault::{Failure, Whose};
 use crate::filling::{fill, path_bytes_of, table_of_outline};
-use crate::row::{Row, padded};
-use crate::status::{DONE, MEMORY, NO_ROOM, REFUSED, SHA1, SHA256};
+use crate::row::Row;
 use gix_index::entry::FileTime;
 use gix_index::hash::{Kind, ObjectId};
 use gix_index::{File, State, Version, decode, file};
 use std::alloc::Global;
 use std::path::PathBuf;
 
-/// What a call that reads says beside its status.
-#[repr(C)]
+/// What a table of an index takes, and what is told beside that.
 #[derive(Clone, Copy)]
-pub struct Summary {
+pub struct Sizes {
     /// How many entries the index has: so many rows it takes.
     pub entries: usize,
     /// How many bytes for paths it takes.
     pub path_bytes: usize,
-    /// How many bytes of the fault's text were written.
-    pub text_bytes: usize,
-    /// The place that the fault names, or 0.
-    pub fault_place: usize,
-    /// The fault's number, or 0.
-    pub fault: u32,
-    /// The version: 2, 3 or 4.
-    pub version: u32,
-    /// 1 where the bytes link to a shared index that wasn't followed; else 0.
-    pub has_link: u32,
-    /// 1 where the fault, or the want of memory, is of the shared index's bytes; else 0.
-    pub of_shared: u32,
-    /// The id at the end of the shared index that the bytes link to, where it wasn't followed, with zeros behind one of
-    /// SHA-1; zeros where there is none.
-    pub shared_id: [u8; 32],
+    /// The version of the index.
+    pub version: Version,
+    /// The id at the end of the shared index that it links to, where that wasn't followed.
+    pub link: Option<ObjectId>,
 }
 
-/// A status, and what is said beside it.
-#[derive(Clone, Copy)]
-pub struct Outcome {
-    pub status: u32,
-    pub summary: Summary,
+/// Why a table isn't filled.
+#[derive(Drop)]
+pub enum Unread {
+    /// The bytes are read, and rows or bytes for paths don't suffice.
+    NoRoom(Sizes),
+    /// The bytes aren't read.
+    Failed(Failure),
 }
 
-/// The kind of a number.
-pub fn kind_of(number: u32) -> Option<Kind>
-    ensures { result ≡ kind_numbered number }
-{
-    match number {
-        SHA1 => Some(Kind::Sha1),
-        SHA256 => Some(Kind::Sha256),
-        _ => None,
-    }
-}
-
-/// Nothing was read, and there is no fault to tell.
-pub fn nothing(status: u32) -> Outcome
-    ensures status { result.status ≡ status }
-    ensures blank { result.summary ≡ blank }
-{
-    Outcome {
-        status,
-        summary: Summary {
-            entries: 0,
-            path_bytes: 0,
-            text_bytes: 0,
-            fault_place: 0,
-            fault: 0,
-            version: 0,
-            has_link: 0,
-            of_shared: 0,
-            shared_id: [0; 32],
-        },
-    }
-}
-
-/// The number of a version.
-pub fn number_of_version(version: Version) -> u32
-    ensures { result ≡ version_code version }
-{
-    match version {
-        Version::V2 => 2,
-        Version::V3 => 3,
-        Version::V4 => 4,
-    }
-}
-
-/// 1 where the state has a link, else 0.
-fn number_of_link(state: &State) -> u32
-    ensures { result ≡ link_number (contents state.now).extensions.link }
+/// The id of the shared index that a state links to.
+fn link_of(state: &State) -> Option<ObjectId>
+    ensures { result ≡ link_id (contents state.now).extensions.link }
 {
     match state.link() {
-        Some(_) => 1,
-        None => 0,
-    }
-}
-
-/// The id of the shared index that a state links to, with zeros behind one of SHA-1; zeros where there is no link.
-fn shared_id_of(state: &State) -> [u8; 32]
-    ensures { result ≡ shared_id_bytes (contents state.now).extensions.link }
-{
-    match state.link() {
-        Some(link) => padded(&link.shared_index_checksum),
-        None => [0; 32],
+        Some(link) => Some(link.shared_index_checksum),
+        None => None,
     }
 }
 
 /// What is told of a state, with a number of entries and of bytes for paths.
-pub fn summary_of(state: &State, entries: usize, path_bytes: usize) -> Summary
-    ensures { result ≡ record (value_told (contents state.now) path_bytes) { entries = entries } }
+pub fn sizes_of(state: &State, entries: usize, path_bytes: usize) -> Sizes
+    ensures { result ≡ record (sizes_of (contents state.now)) { entries = entries; path_bytes = path_bytes } }
 {
-    Summary {
+    Sizes {
         entries,
         path_bytes,
-        text_bytes: 0,
-        fault_place: 0,
-        fault: 0,
-        version: number_of_version(state.version()),
-        has_link: number_of_link(state),
-        of_shared: 0,
-        shared_id: shared_id_of(state),
+        version: state.version(),
+        link: link_of(state),
     }
+}
+
+/// Whether there are fewer rows or bytes for paths than a table takes.
+pub(crate) fn lacks_room(sizes: &Sizes, rows: &[Row], paths: &[u8]) -> bool
+    ensures small { result ≡ true → (length rows.now < sizes.now.entries)
+        ⊎ (length paths.now < sizes.now.path_bytes) }
+    ensures rows { result ≡ false → sizes.now.entries ≤ length rows.now }
+    ensures paths { result ≡ false → sizes.now.path_bytes ≤ length paths.now }
+{
+    rows.len() < sizes.entries || paths.len() < sizes.path_bytes
 }
 
 /// Fills a state's entries into a table, if there is room. Want of memory stands for paths that have 2^64 bytes or more
 /// together.
-pub(crate) fn table_of(state: &State, rows: &mut [Row], paths: &mut [u8]) -> Outcome
+pub(crate) fn table_of(state: &State, rows: &mut [Row], paths: &mut [u8]) -> Result<Sizes, Unread>
     requires placed { PathsInStorage state.now }
     requires sized { All IsSized (contents state.now).records }
-    ensures status { (result.status ≡ DONE) ⊎ (result.status ≡ MEMORY) ⊎ (result.status ≡ NO_ROOM) }
-    ensures done { result.status ≡ DONE
-        → Fills (contents state.now) result.summary rows.old rows.new paths.old paths.new }
-    ensures no_room { result.status ≡ NO_ROOM
-        → IsTooSmall (contents state.now) result.summary rows.old paths.old }
-    ensures memory { result.status ≡ MEMORY → result.summary ≡ blank }
-    ensures text { result.summary.text_bytes ≡ 0 }
-    ensures rows { result.status ≢ DONE → rows.new ≡ rows.old }
-    ensures paths { result.status ≢ DONE → paths.new ≡ paths.old }
+    ensures done { IfOk result (λ sizes.
+        HasSizes sizes (λ v. Fills v rows.old rows.new paths.old paths.new) (contents state.now)) }
+    ensures no_room { IfNoRoom result (λ sizes.
+        HasSizes sizes (λ v. IsTooSmall v rows.old paths.old) (contents state.now)) }
+    ensures memory { IfFailed result IsWantOfMemory }
+    ensures rows { IfErr result (λ _. rows.new ≡ rows.old) }
+    ensures paths { IfErr result (λ _. paths.new ≡ paths.old) }
 {
     let (entries, storage) = (state.entries(), state.path_backing());
     let Some(path_bytes) = path_bytes_of(entries, storage) else {
-        return nothing(MEMORY);
+        return Err(Unread::Failed(Failure {
+            error: file::init::Error::Memory,
+            whose: Whose::Own,
+        }));
     };
-    let summary = summary_of(state, entries.len(), path_bytes);
-    if rows.len() < summary.entries || paths.len() < summary.path_bytes {
-        return Outcome {
-            status: NO_ROOM,
-            summary,
-        };
+    let sizes = sizes_of(state, entries.len(), path_bytes);
+    if lacks_room(&sizes, rows, paths) {
+        return Err(Unread::NoRoom(sizes));
     }
     fill(entries, storage, rows, paths);
-    Outcome {
-        status: DONE,
-        summary,
-    }
-}
-
-/// Tells of an error, of the index's own bytes or of those of its shared index.
-pub fn refused(alloc: Global, e: file::init::Error, of_shared: u32, text: &mut [u8]) -> Outcome
-    ensures status { result.status ≡ read_status e }
-    ensures fault { IsNumbered e result.summary.fault result.summary.fault_place }
-    ensures told { result.summary ≡ fault_told result.summary.fault result.summary.fault_place
-        of_shared result.summary.text_bytes }
-    ensures text { HasText result.summary.text_bytes text.old text.new }
-{
-    let fault = fault_of(&e);
-    let is_memory = matches!(&e, file::init::Error::Memory);
-    let text_bytes = put_fault(alloc, &e, text);
-    drop(e);
-    let mut outcome = nothing(if is_memory { MEMORY } else { REFUSED });
-    outcome.summary.text_bytes = text_bytes;
-    outcome.summary.fault = fault.number;
-    outcome.summary.fault_place = fault.place;
-    outcome.summary.of_shared = of_shared;
-    outcome
+    Ok(sizes)
 }
 
 /// The index of these bytes, whose trailer has to be this id, where there is one, unless it is null.
@@ -197,10 +110,7 @@ pub fn index_of(
         × BytesEndAs expected skip_hash kind bytes.now (Ok (contents state, checksum))) }
     ensures placed { IfOk result PathsInStorage }
     ensures storable { IfOk result (λ state. IsStorable (contents state)) }
-    ensures fault { IfErr result
-        (λ e. SaysRefusal e (BytesEndAs expected skip_hash kind bytes.now)) }
-    ensures memory { IfErr result
-        (λ e. read_status e ≡ MEMORY → LacksMemory expected skip_hash kind bytes.now) }
+    ensures error { IfErr result (FailsSo expected skip_hash kind bytes.now) }
 {
     let path = PathBuf::new(alloc);
     let time = FileTime::EPOCH;
@@ -222,22 +132,21 @@ pub fn read_table(
     skip_hash: bool,
     rows: &mut [Row],
     paths: &mut [u8],
-    text: &mut [u8],
-) -> Outcome
-    ensures status { result.status ≤ NO_ROOM }
-    ensures done { result.status ≡ DONE → IsFilled skip_hash kind bytes.now result.summary
-        rows.old rows.new paths.old paths.new }
-    ensures refused { result.status ≡ REFUSED → IsRefusedIndex skip_hash kind bytes.now result.summary }
-    ensures memory { result.status ≡ MEMORY → IsUnread skip_hash kind bytes.now result.summary }
-    ensures no_room { result.status ≡ NO_ROOM
-        → LacksRoom skip_hash kind bytes.now result.summary rows.old paths.old }
-    ensures rows { result.status ≢ DONE → rows.new ≡ rows.old }
-    ensures paths { result.status ≢ DONE → paths.new ≡ paths.old }
-    ensures text { HasText result.summary.text_bytes text.old text.new }
+) -> Result<Sizes, Unread>
+    ensures done { IfOk result (λ sizes. IsReadSo skip_hash kind bytes.now
+        (HasSizes sizes (λ v. Fills v rows.old rows.new paths.old paths.new))) }
+    ensures no_room { IfNoRoom result (λ sizes. IsReadSo skip_hash kind bytes.now
+        (HasSizes sizes (λ v. IsTooSmall v rows.old paths.old))) }
+    ensures failed { IfFailed result (FailsOwn skip_hash kind bytes.now) }
+    ensures rows { IfErr result (λ _. rows.new ≡ rows.old) }
+    ensures paths { IfErr result (λ _. paths.new ≡ paths.old) }
 {
     let (time, options) = (FileTime::EPOCH, decode::Options::default());
     match File::outline(alloc, bytes, kind, skip_hash, time, options) {
         Ok(outline) => table_of_outline(&outline, rows, paths),
-        Err(e) => refused(alloc, e, 0, text),
+        Err(error) => Err(Unread::Failed(Failure {
+            error,
+            whose: Whose::Own,
+        })),
     }
 }

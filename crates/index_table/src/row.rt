@@ -2,11 +2,16 @@
 
 ghost use Rattle.std.specs.Prelude.{◌≡◌};
 ghost use Rattle.gix_index.specs.Flags.{stage_number};
-ghost use Rattle.index_table.specs.Table.{IsForward, kind_number, padded_id, row_of, row_path};
+ghost use Rattle.index_table.specs.Table.{kind_number, padded_id, row_from, row_path};
 
-use crate::status::{SHA1, SHA256};
+use gix_index::BitFlags as _;
+use gix_index::decode::entry::Pathless;
 use gix_index::hash::{Kind, ObjectId};
-use gix_index::{BitFlags as _, Entry};
+
+/// What a row has for ids of SHA-1, of 20 bytes.
+pub const SHA1: u32 = 1;
+/// What a row has for ids of SHA-256, of 32 bytes.
+pub const SHA256: u32 = 2;
 
 /// An entry (gitformat-index, "Index entry").
 #[repr(C)]
@@ -36,7 +41,7 @@ pub struct Row {
     pub flags: u32,
     /// The stage: 0, or 1 to 3 in a conflict; bits 12 and 13 of the flags again.
     pub stage: u32,
-    /// The kind of its id: 1 for SHA-1, 2 for SHA-256.
+    /// The kind of its id: `SHA1` or `SHA256`.
     pub kind: u32,
     /// The id's bytes, with zeros behind 20 of SHA-1.
     pub id: [u8; 32],
@@ -83,7 +88,7 @@ fn padded_twenty(bytes: &[u8; 20]) -> [u8; 32]
 }
 
 /// The id's bytes, with zeros behind those of SHA-1.
-pub(crate) fn padded(id: &ObjectId) -> [u8; 32]
+pub fn padded(id: &ObjectId) -> [u8; 32]
     ensures { result ≡ padded_id id.now }
 {
     match id {
@@ -92,13 +97,11 @@ pub(crate) fn padded(id: &ObjectId) -> [u8; 32]
     }
 }
 
-/// An entry's row, where the storage that its path lies in stands among the bytes for paths.
-pub(crate) fn row_of(entry: &Entry) -> Row
-    requires { IsForward entry.now }
-    ensures { result ≡ row_of entry.now }
+/// The row of an entry of these parts, whose path is so many bytes from a place on.
+pub(crate) fn row_from(entry: Pathless, path_start: usize, path_len: usize) -> Row
+    ensures { result ≡ row_from entry path_start path_len }
 {
     let stat = entry.stat;
-    let path = entry.path_range();
     Row {
         ctime_secs: stat.ctime.secs,
         ctime_nsecs: stat.ctime.nsecs,
@@ -111,10 +114,10 @@ pub(crate) fn row_of(entry: &Entry) -> Row
         size: stat.size,
         mode: entry.mode.bits(),
         flags: entry.flags.bits(),
-        stage: entry.stage_raw(),
+        stage: entry.flags.stage_raw(),
         kind: number_of_kind(entry.id.kind()),
         id: padded(&entry.id),
-        path_start: path.start,
-        path_len: path.end - path.start,
+        path_start,
+        path_len,
     }
 }

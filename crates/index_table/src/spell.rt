@@ -7,12 +7,12 @@ ghost use Rattle.gix_index.specs.Edits.{with_records};
 ghost use Rattle.gix_index.specs.EntryImage.{is_removed, written};
 ghost use Rattle.gix_index.specs.Order.{record_cmp};
 ghost use Rattle.gix_index.specs.State.{PathsInStorage, contents, records};
+ghost use Rattle.index_table.specs.Fitting.{CanStand, IsFirstFallen, IsFirstUnfit, IsFit, has_git_mode, unfit_fault};
 ghost use Rattle.index_table.specs.Table.{records_of, row_id, row_path, row_stat, spelled};
-ghost use Rattle.index_table.specs.Writing.{CanStand, IsFirstFallen, IsFirstUnfit, IsFit, IsSpelledBy, has_git_mode, unfit_number};
+ghost use Rattle.index_table.specs.Writing.{IsSpelledBy};
 
-use crate::fault::{MODE, ROW};
-use crate::row::{Row, number_of_kind, path_of, stage_of};
-use crate::status::SHA256;
+use crate::row::{Row, SHA256, number_of_kind, path_of, stage_of};
+use crate::write::Fault;
 use gix_index::entry::stat::Time;
 use gix_index::entry::{FileTime, Flags, Mode, Stat};
 use gix_index::hash::{Kind, ObjectId};
@@ -47,11 +47,15 @@ fn has_git_mode(row: &Row) -> bool
         .is_some()
 }
 
-/// The number of the fault of a row that isn't fit.
-pub(crate) fn number_of_unfit(row: &Row) -> u32
-    ensures { result ≡ unfit_number row.now }
+/// The fault of a row at this place that isn't fit.
+pub(crate) fn unfit_fault(row: &Row, place: usize) -> Fault
+    ensures { result ≡ unfit_fault place row.now }
 {
-    if has_git_mode(row) { ROW } else { MODE }
+    if has_git_mode(row) {
+        Fault::Row(place)
+    } else {
+        Fault::Mode(place)
+    }
 }
 
 /// Whether the row can stand in a file with ids of this kind, with the mark of a sparse index or without.

@@ -14,7 +14,7 @@ use Rattle.index_objects.specs.declared.object.tree.EntryKind.TheVariants as kin
 use Rattle.index_entries.specs.Order.{path_cmp}
 use Rattle.index_tree_writer.specs.Directory.{HoldsFirst, IsName, IsTreeOf, Item, Items, directory, item_objects, key}
 use Rattle.index_tree_writer.specs.Directory.{leaf, no_more, objects_below}
-use Rattle.index_lookups.specs.SearchSteps.{prefix_cmp}
+use Rattle.index_search.specs.Prefix.{prefix_cmp}
 use Rattle.index_tree_writer.specs.Objects.{Taken, with_objects}
 use Rattle.index_tree_writer.specs.Refusals.{BeginsWith, Check, IsInside, IsTreePath, beneath, of_directory, of_file}
 use Rattle.index_tree_writer.specs.Staged.{Staged, cut}

@@ -20,6 +20,7 @@ use Rattle.index_metadata.specs.declared.entry.flags.Flags.{Flags}
 use Rattle.index_metadata.specs.declared.entry.mode.Mode.{Mode}
 use Rattle.index_metadata.specs.declared.entry.stat.Stat.{Stat}
 use Rattle.index_entries.specs.declared.Entry.{Entry}
+use Rattle.index_entries.specs.declared.path_range.PathRange.{PathRange}
 use Rattle.index_lookups.specs.Range.{IsPrefixRange, begins_with}
 use Rattle.index_lookups.proofs.Lookup.{ordered_by_path}
 use Rattle.index_tree_writer.specs.MergedSteps.{merged_entries, unmerged_entries}
@@ -162,15 +163,13 @@ unmerged_ordered rs h = ordered_by_path (unmerged_in rs) (record {
 -- ---- one more entry
 
 pub same_entry : (a b : Entry) → a.stat ≡ b.stat → a.id ≡ b.id → a.flags ≡ b.flags → a.mode ≡ b.mode
-    → a.path.start ≡ b.path.start → a.path.end ≡ b.path.end → a ≡ b
-same_entry a b s i f m p q =
+    → a.path ≡ b.path → a ≡ b
+same_entry a b s i f m p =
     ap (λ (x : Stat). record { stat = x; id = a.id; flags = a.flags; mode = a.mode; path = a.path }) s
     ∙ ap (λ (x : ObjectId). record { stat = b.stat; id = x; flags = a.flags; mode = a.mode; path = a.path }) i
     ∙ ap (λ (x : Flags). record { stat = b.stat; id = b.id; flags = x; mode = a.mode; path = a.path }) f
     ∙ ap (λ (x : Mode). record { stat = b.stat; id = b.id; flags = b.flags; mode = x; path = a.path }) m
-    ∙ ap (λ (x : Range ℕ). record { stat = b.stat; id = b.id; flags = b.flags; mode = b.mode; path = x })
-    (ap (λ (x : ℕ). record { start = x; end = a.path.end }) p
-    ∙ ap (λ (x : ℕ). record { start = b.path.start; end = x }) q)
+    ∙ ap (λ (x : PathRange). record { stat = b.stat; id = b.id; flags = b.flags; mode = b.mode; path = x }) p
 
 module _ (es : List Entry) (i : ℕ) (d : Entry) (lt : i < length es) (copy : Entry) (is : copy ≡ get_or es i d) where
   behind_none : (p : Entry → Bool) → p (get_or es i d) ≡ false → filter p (take (i + 1) es) ≡ filter p (take i es)

@@ -10,17 +10,19 @@ use Rattle.std.specs.declared.cmp.Ordering.{Ordering}
 use Rattle.std.specs.declared.cmp.Ordering.TheVariants.{Less, Equal, Greater}
 use Rattle.std.proofs.Math.ListN.{get_or-map}
 use Rattle.std.proofs.lemmas.Cmp.{nat_list_cmp_total, tied_itself}
-use Rattle.std.proofs.lemmas.List.{drop-drop, get_or-take, get_or_default, length-map, length-take, length-drop, take-append-drop}
+use Rattle.std.proofs.lemmas.List.{drop-drop, get_or-take, get_or_default, length-map, length-take, length-drop}
+use Rattle.std.proofs.lemmas.List.{take-append-drop}
 use Rattle.std.proofs.lemmas.List.Prefix.{front_rest}
 use Rattle.std.proofs.lemmas.Map.Lookups.{exact_bytes}
 use Rattle.index_entries.specs.Order.{IsStrictlyOrdered, path_cmp}
 use Rattle.index_entries.specs.Record.{Record}
 use Rattle.index_entries.proofs.Orders.{paths_total}
-use Rattle.index_lookups.specs.SearchSteps.{IsPartedAt, IsRising, is_before, prefix_cmp}
-use Rattle.index_lookups.proofs.Halving.{split_by}
+use Rattle.index_search.specs.Halving.{IsPartedAt, IsRising, is_before}
+use Rattle.index_search.specs.Prefix.{prefix_cmp}
+use Rattle.index_search.proofs.Halving.{split_by}
 use Rattle.index_lookups.proofs.Lookup.{ordered_by_path}
-use Rattle.index_lookups.proofs.Prefixes.{prefixes_rise}
-use Rattle.index_lookups.proofs.RunsFound.{rising_of}
+use Rattle.index_search.proofs.Prefixes.{prefixes_rise}
+use Rattle.index_search.proofs.OrderedAnswers.{rising_of}
 use Rattle.index_tree_writer.specs.EndSteps.{GoesOn, NeverFall, tail_answers}
 use Rattle.index_tree_writer.specs.Refusals.{BeginsWith}
 use Rattle.index_tree_writer.specs.Staged.{staged_entry, staged_in, staged_of}

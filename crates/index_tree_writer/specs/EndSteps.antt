@@ -4,7 +4,7 @@ use Rattle.std.specs.declared.cmp.Ordering.{Ordering}
 use Rattle.std.specs.declared.cmp.Ordering.TheVariants.{Greater}
 use Rattle.index_entries.specs.Order.{path_cmp}
 use Rattle.index_entries.specs.Record.{Record}
-use Rattle.index_lookups.specs.SearchSteps.{prefix_cmp}
+use Rattle.index_search.specs.Prefix.{prefix_cmp}
 use Rattle.index_tree_writer.specs.Refusals.{BeginsWith}
 
 -- behind so many bytes of the record's path stand these

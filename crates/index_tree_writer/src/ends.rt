@@ -2,22 +2,20 @@
 
 ghost use Rattle.std.specs.Prelude.{◌≡◌, ◌<◌, ◌≤◌, drop, length, slice_range};
 ghost use Rattle.std.specs.List.{AllWithin, HoldsAt};
-ghost use Rattle.index_lookups.specs.SearchSteps.{prefix_cmp};
+ghost use Rattle.index_search.specs.Prefix.{prefix_cmp};
 ghost use Rattle.index_tree_writer.specs.EndSteps.{GoesOn, NeverFall, tail_answers};
 
 use crate::names::tail_of;
-use index_entries::Entry;
 use index_entries::slice::EntrySlice;
-use index_lookups::search::{Ordered, end_from};
+use index_search::ordered::{Ordered, end_from};
+use index_search::prefix::compare_prefix;
 use std::cmp::Ordering;
 
 /// Where the first bytes of a path behind a prefix stand to these.
 fn compare_tail(path: &[u8], prefix_len: usize, shown: &[u8]) -> Ordering
     ensures { result ≡ prefix_cmp shown.now (drop prefix_len path.now) }
 {
-    let tail = tail_of(path, prefix_len);
-    let (first, _) = tail.split_at(shown.len().min(tail.len()));
-    Entry::cmp_filepaths(first, shown)
+    compare_prefix(tail_of(path, prefix_len), shown)
 }
 
 /// The entries from an index to another, by what their paths go on with behind a prefix of so many bytes.

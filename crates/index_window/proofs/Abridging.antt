@@ -7,9 +7,12 @@ use Rattle.std.specs.List.{list_any}
 use Rattle.std.proofs.lemmas.List.{length-append, length-drop, take-append-drop, take-append-le}
 use Rattle.std.proofs.lemmas.List.Elements.{All-cons, All-head, All-tail, filter-append}
 use Rattle.std.proofs.Math.Seq.{take-append-add, drop-append-add, drop-append_seam, take-append_seam}
+use Rattle.index_parts.specs.Digest.{hasher_kind, Holds}
 use Rattle.index_parts.specs.Id.{id_len}
 use Rattle.index_parts.specs.Numbers.{be}
+use Rattle.index_parts.specs.declared.hash.Hasher.{Hasher}
 use Rattle.index_parts.specs.declared.hash.Kind.{Kind}
+use Rattle.index_parts.specs.declared.hash.Kind.TheVariants.{Sha1}
 use Rattle.index_parts.specs.declared.hash.ObjectId.{ObjectId}
 use Rattle.index_metadata.specs.declared.entry.stat.FileTime.{FileTime}
 use Rattle.index_entries.specs.Record.{Record}
@@ -17,6 +20,8 @@ use Rattle.index_entries.specs.declared.Version.{Version}
 use Rattle.index_cached_tree.specs.Tree.{IsTree}
 use Rattle.index_extensions.specs.ExtensionValue.{is_named, or_else, content_named, last_content, IsValue}
 use Rattle.index_extensions.specs.Walk.{Item, IsItem, AreItems, IsWalk}
+use Rattle.index_extensions.specs.EndMarker.{heads}
+use Rattle.index_extensions.proofs.EndMarks.{heads_push}
 use Rattle.index_extensions.proofs.Walks.{more_items, items_push, walk_of, walk_one}
 use Rattle.index_format.specs.Answer.{IsEnding, short, walked, IsClosed, faulty, left, whole}
 use Rattle.index_format.specs.Contents.{Contents}
@@ -253,36 +258,50 @@ held_by : (b : Bool) (held passed : List ℕ) (xs : List Item) (i : Item) → Ar
 held_by true held passed xs i are is = items_push (held ++ passed) xs i passed [] (items_grow held xs [] passed are) is
 held_by false held passed xs i are is = rw (append-nil held, append-nil xs) are
 
+-- the head of an extension at the front of bytes
+pub head_of : (signature size rest : List ℕ) → length signature ≡ 4 → length size ≡ 4
+    → take 8 (signature ++ (size ++ rest)) ≡ signature ++ size
+head_of signature size rest sl zl =
+    let len : length (signature ++ size) ≡ 8 = omega (arith, length-append signature size, sl, zl) in
+    ap (take 8) (sym (append_assoc signature size rest))
+    ∙ ap (λ (n : ℕ). take n ((signature ++ size) ++ rest)) (sym len) ∙ take-append_seam (signature ++ size) rest
+
 module _ (plan : Plan) where
-  pub abridged_none : (m : Moment) (held : List ℕ) → m.decoded ≤ length m.window → held ≡ []
-      → IsAbridgedOn plan m m 0 held
-  abridged_none m held inside e = record {
+  pub abridged_none : (m : Moment) (held : List ℕ) (hasher : Hasher) → m.decoded ≤ length m.window → held ≡ []
+      → hasher_kind hasher ≡ Sha1 → Holds hasher [] → IsAbridgedOn plan m m 0 held hasher
+  abridged_none m held hasher inside e is_sha1 hashed = record {
     passed = [];
     items = [];
     is_passed = pass_none plan m inside;
     are = refl;
     held_are = e;
     whole = λ is. e;
+    is_sha1 = is_sha1;
+    hashed = hashed;
   }
 
-  pub abridged_on : (a b c : Moment) (n m : ℕ) (held : List ℕ) → IsAbridgedOn plan a b n held → IsPassedOn plan b c m []
-      → IsAbridgedOn plan a c (n + m) held
-  abridged_on a b c n m held h p = record {
+  pub abridged_on : (a b c : Moment) (n m : ℕ) (held : List ℕ) (hasher : Hasher)
+      → IsAbridgedOn plan a b n held hasher → IsPassedOn plan b c m [] → IsAbridgedOn plan a c (n + m) held hasher
+  abridged_on a b c n m held hasher h p = record {
     passed = h.passed;
     items = h.items;
     is_passed = pass_on plan a b c n m h.passed h.is_passed p;
     are = h.are;
     held_are = h.held_are;
     whole = h.whole;
+    is_sha1 = h.is_sha1;
+    hashed = h.hashed;
   }
 
-  pub abridged_more : (a b c : Moment) (n m : ℕ) (held grown signature size rest passed : List ℕ)
-      → IsAbridgedOn plan a b n held → IsPassedOn plan b c m passed
+  pub abridged_more : (a b c : Moment) (n m : ℕ) (held grown signature size rest passed : List ℕ) (old new : Hasher)
+      → IsAbridgedOn plan a b n held old → IsPassedOn plan b c m passed
       → drop b.decoded b.window ≡ signature ++ (size ++ rest) → length signature ≡ 4 → length size ≡ 4
       → length passed ≡ 8 + be size
       → grown ≡ held ++ (if not (is_unknown signature) then passed else []) → plan.keeps_ending ≡ false
-      → IsAbridgedOn plan a c (n + m) grown
-  abridged_more a b c n m held grown signature size rest passed h p e sl zl pl g abridges =
+      → hasher_kind new ≡ hasher_kind old
+      → ((message : List ℕ) → Holds old message → Holds new (message ++ (signature ++ size)))
+      → IsAbridgedOn plan a c (n + m) grown new
+  abridged_more a b c n m held grown signature size rest passed old new h p e sl zl pl g abridges kind more =
       let i : Item = record { signature = signature; size = size; content = drop 8 passed } in
       let is : IsItem passed i [] = item_passed signature size rest p.moved.more passed (drop c.decoded c.window)
       (ap (λ (l : List ℕ). l ++ p.moved.more) (sym e) ∙ p.behind) sl zl pl in
@@ -294,4 +313,6 @@ module _ (plan : Plan) where
         held_are = rw (g, filter-append (λ (x : Item). not (is_unknown x.signature)) h.items (i ∷ []))
             (held_by (not (is_unknown signature)) held passed (abridged h.items) i h.held_are is);
         whole = λ all. absurd cc;
+        is_sha1 = kind ∙ h.is_sha1;
+        hashed = subst (Holds new) (sym (heads_push h.items i)) (more (heads h.items) h.hashed);
       }

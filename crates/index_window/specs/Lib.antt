@@ -1,5 +1,6 @@
 pub mod Abridged
 pub mod Behind
 pub mod Intact
+pub mod Marked
 pub mod Passed
 pub mod Windowed

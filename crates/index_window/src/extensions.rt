@@ -3,8 +3,10 @@
 ghost use Rattle.std.specs.Prelude.{◌≡◌, ◌≤◌, ◌<◌, ◌+◌, ◌-◌, ◌++◌, ℕ, List, [], length, vec_len, IfOk, IfSome, OnOk};
 ghost use Rattle.std.specs.Prelude.{drop, not, true, if◌then◌else◌};
 ghost use Rattle.std.specs.Io.KnownBytes.{Consumes, IsAtEnd};
+ghost use Rattle.index_parts.specs.Digest.{hasher_kind, Holds};
 ghost use Rattle.index_parts.specs.Id.{id_len};
 ghost use Rattle.index_parts.specs.Numbers.{be};
+ghost use Rattle.index_parts.specs.declared.hash.Kind.TheVariants.{Sha1};
 ghost use Rattle.index_window.specs.Abridged.{IsAbridgedOn, is_known, is_unknown};
 ghost use Rattle.index_window.specs.Windowed.{IsPassedOn};
 
@@ -13,13 +15,13 @@ use index_cached_tree as tree;
 use index_extensions::{MIN_SIZE, Signature, end_of_index_entry, sparse};
 use index_folder::folder::Source;
 use index_folder::pieces::{fill, remove_front};
-use index_parts::hash::Hasher;
+use index_parts::hash::{Hasher, Kind};
 use index_parts::util::from_be_u32;
 use index_reading::extension::is_understood;
 use index_small_extensions::{fs_monitor, index_entry_offset_table, resolve_undo};
 use index_split::link;
 use index_untracked as untracked_cache;
-use std::alloc::AllocError;
+use std::alloc::{AllocError, Global};
 use std::io;
 
 /// Where reading stands.
@@ -29,6 +31,29 @@ pub(super) struct Place {
     pub(super) start: usize,
     /// How many bytes of the file are left to come.
     pub(super) left: u64,
+}
+
+/// What is held of extensions that were passed.
+#[derive(Drop)]
+pub(super) struct Held {
+    /// The bytes of those that are known.
+    pub(super) bytes: Vec<u8>,
+    /// It took in the heads of all of them, as an end marker's digest is taken.
+    pub(super) heads: Hasher,
+}
+
+impl Held {
+    /// Of none.
+    pub(super) fn none(alloc: Global) -> Held
+        ensures bytes { result.bytes.items ≡ [] }
+        ensures heads { Holds result.heads [] }
+        ensures kind { hasher_kind result.heads ≡ Sha1 }
+    {
+        Held {
+            bytes: Vec::new(alloc),
+            heads: Hasher::new(Kind::Sha1),
+        }
+    }
 }
 
 /// An extension at the front of bytes.
@@ -87,13 +112,18 @@ fn extension_at(bytes: &[u8]) -> Option<Extension>
     })
 }
 
-/// How many bytes stand before the trailer, of those at hand and those to come; None where there are fewer than it has.
-fn before_trailer(plan: Plan, at_hand: usize, left: u64) -> Option<u64>
-    ensures { IfSome result (λ n. n + id_len plan.kind ≡ at_hand + left) }
+/// How many bytes stand before the trailer, of those at hand and those to come, and before the end marker, if there is
+/// one; None where there are fewer than these have.
+fn before_ending(plan: Plan, at_hand: usize, left: u64) -> Option<u64>
+    ensures { IfSome result (λ n. n + id_len plan.kind ≤ at_hand + left) }
 {
+    let ending = match plan.offset {
+        Some(_) => KEPT_LEN,
+        None => plan.kind.len_in_bytes(),
+    };
     (at_hand as u64)
         .checked_add(left)?
-        .checked_sub(plan.kind.len_in_bytes() as u64)
+        .checked_sub(ending as u64)
 }
 
 /// Appends bytes that are held.
@@ -207,18 +237,20 @@ fn pass_extension<S: Source>(
     }
 }
 
-/// Passes all whole extensions before the trailer, and holds those that are known; or passes none, where all are to be
-/// kept, or an end marker is to be compared with their heads. None where the file isn't as long as it said.
+/// Passes all whole extensions before the trailer, or before the end marker, if there is one, and holds those that are
+/// known; or passes none, where all are to be kept. None where the file isn't as long as it said.
 pub(super) fn pass_extensions<S: Source>(
     file: &mut S,
     plan: Plan,
     hasher: &mut Hasher,
     window: &mut Vec<u8>,
-    held: &mut Vec<u8>,
+    held: &mut Held,
     mut place: Place,
 ) -> io::Result<Option<Place>>
     requires inside { place.start ≤ vec_len window.old }
-    requires none_yet { held.old.items ≡ [] }
+    requires none_yet { held.old.bytes.items ≡ [] }
+    requires no_head { Holds held.old.heads [] }
+    requires heads { hasher_kind held.old.heads ≡ Sha1 }
     ensures abridged { IfOk result (λ o. IfSome o (λ x. (count : ℕ)
         × (count + x.left ≡ place.left)
         × IsAbridgedOn plan
@@ -236,7 +268,7 @@ pub(super) fn pass_extensions<S: Source>(
           decoded = x.start;
           records = [];
         })
-        count held.new.items)) }
+        count held.new.bytes.items held.new.heads)) }
     ensures trailer { IfOk result (λ o. IfSome o
         (λ x. id_len plan.kind ≤ vec_len window.new - x.start + x.left)) }
     ensures stored { S.stored file.new ≡ S.stored file.old }
@@ -244,10 +276,10 @@ pub(super) fn pass_extensions<S: Source>(
 {
     'extensions: loop {
         let at_hand = window.len() - place.start;
-        let Some(before) = before_trailer(plan, at_hand, place.left) else {
+        let Some(before) = before_ending(plan, at_hand, place.left) else {
             return Ok(None);
         };
-        if before < MIN_SIZE as u64 || plan.keeps_ending || plan.offset.is_some() {
+        if before < MIN_SIZE as u64 || plan.keeps_ending {
             return Ok(Some(place));
         }
         let Some(next) = read_on(file, plan, hasher, window, place)? else {
@@ -259,7 +291,11 @@ pub(super) fn pass_extensions<S: Source>(
         if before < extension.len as u64 {
             return Ok(Some(next));
         }
-        let Some(behind) = pass_extension(file, plan, hasher, window, held, extension, next)? else {
+        held.heads
+            .update(&window[next.start..next.start + MIN_SIZE]);
+        let bytes = &mut held.bytes;
+        let Some(behind) = pass_extension(file, plan, hasher, window, bytes, extension, next)?
+        else {
             return Ok(None);
         };
         place = behind;

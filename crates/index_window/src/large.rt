@@ -11,7 +11,7 @@ ghost use Rattle.index_window.specs.Intact.{IsIntact};
 
 use crate::ReadOptions;
 use crate::plan::KEPT_LEN;
-use crate::windows::{WindowedIndex, lacks_marker, offset_in, windowed};
+use crate::windows::{WindowedIndex, place_in, windowed};
 use index_folder::folder::Source;
 use index_folder::pieces::fill;
 use index_folder::whole::{MAX_LEN, too_long};
@@ -82,7 +82,7 @@ pub fn in_windows<S: Source>(
     }
     let end = end_of(alloc, file, len)?;
     // (whether a marker that stands there fits is seen once the entries are read)
-    let offset = (!lacks_marker(&end)).then(|| offset_in(&end));
+    let offset = place_in(&end);
     let is_hashed = !reading.skip_hash && !ends_in_null(reading.object_hash, &end);
     if let Ok(Some(read)) = windowed(alloc, file, len, is_hashed, offset, reading, keeps_ending) {
         return Ok(Some(read));

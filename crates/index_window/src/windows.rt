@@ -1,9 +1,9 @@
 //! A large index that is read in windows.
 
-ghost use Rattle.std.specs.Prelude.{◌≡◌, ◌≤◌, ◌+◌, ◌++◌, ℕ, List, Option, All, [], drop, length, vec_len, IfOk, IfSome};
-ghost use Rattle.std.specs.Prelude.{OnOk, Ok, None, false, true};
+ghost use Rattle.std.specs.Prelude.{◌≡◌, ◌≤◌, ◌+◌, ◌-◌, ◌++◌, ℕ, List, Option, All, [], drop, length, vec_len};
+ghost use Rattle.std.specs.Prelude.{IfNone, IfOk, IfSome, OnOk, Ok, None, false, true};
 ghost use Rattle.index_entries.specs.Record.{AreBytes, IdsAreOf, has_directory};
-ghost use Rattle.index_extensions.specs.EndMarker.{IsMarker};
+ghost use Rattle.index_extensions.specs.EndMarker.{EndsInMarker, IsMarker};
 ghost use Rattle.index_format.specs.Answer.{IsAnswer, IsEnding};
 ghost use Rattle.index_format.specs.Contents.{ExtensionIdsAreOf, PartsInStorage, parts_contents, parts_entries};
 ghost use Rattle.index_format.specs.Storable.{IsStorable};
@@ -12,10 +12,11 @@ ghost use Rattle.index_parts.specs.Id.{id_kind};
 ghost use Rattle.index_parts.specs.declared.hash.Kind.{Kind};
 ghost use Rattle.index_window.specs.Behind.{FollowEntries};
 ghost use Rattle.index_window.specs.Intact.{IsIntact};
+ghost use Rattle.index_window.specs.Marked.{EndsAsMarker, HasPassed, HoldsHeads};
 ghost use Rattle.index_window.specs.Windowed.{IsReadOn};
 
 use crate::ReadOptions;
-use crate::extensions::{Place, joined, pass_extensions, read_rest};
+use crate::extensions::{Held, Place, joined, pass_extensions, read_rest};
 use crate::plan::{KEPT_LEN, Plan, WINDOW_LEN, hash_piece};
 use index_entries::Version;
 use index_entries::list::EntryList;
@@ -85,8 +86,23 @@ fn take_entries(
     Ok(end - done)
 }
 
+/// Whether the end marker of the plan, if there is one, names the place behind which so many bytes stand, at hand and
+/// to come.
+fn is_named(plan: Plan, at_hand: usize, left: u64) -> bool
+    ensures { result ≡ true → IfSome plan.offset (λ place. place + at_hand + left ≡ plan.len) }
+{
+    let Some(offset) = plan.offset else {
+        return true;
+    };
+    let Some(behind) = plan.len.checked_sub(offset) else {
+        return false;
+    };
+    (at_hand as u64).checked_add(left) == Some(behind as u64)
+}
+
 /// Reads all entries behind the header. Gives the place from which on the window isn't decoded, and how many bytes of
-/// the file are left to read; None where an entry lacks, or where the file is longer than it said.
+/// the file are left to read; None where an entry lacks, where the file is longer than it said, or where the end marker
+/// of the plan names another place.
 fn read_entries<S: Source>(
     file: &mut S,
     plan: Plan,
@@ -120,6 +136,8 @@ fn read_entries<S: Source>(
           records = first.new.list.records;
         })
         count)) }
+    ensures named { IfOk result (λ o. IfSome o (λ x. IfSome plan.offset
+        (λ place. place + (vec_len window.new - x.0) + x.1 ≡ plan.len))) }
     ensures stored { S.stored file.new ≡ S.stored file.old }
     ensures works { S.works file.new ≡ S.works file.old }
 {
@@ -127,6 +145,9 @@ fn read_entries<S: Source>(
     'windows: loop {
         start = take_entries(plan, hasher, window, start, first)?;
         if first.list.len() == plan.count as usize {
+            if !is_named(plan, window.len() - start, left) {
+                return Ok(None);
+            }
             return Ok(Some((start, left)));
         }
         let wanted = window.len().saturating_mul(2).max(WINDOW_LEN);
@@ -138,36 +159,89 @@ fn read_entries<S: Source>(
     }
 }
 
+/// What an end marker says, before it is compared with anything.
+#[derive(Drop)]
+struct Marker<'a> {
+    /// The place that it names.
+    place: usize,
+    /// Its digest.
+    hash: &'a [u8],
+}
+
+/// What the end marker says in which these bytes and the trailer of a SHA-1 file end.
+fn marker_in(tail: &[u8]) -> Option<Marker<'_>>
+    ensures some { IfSome result (λ m. EndsAsMarker tail.now m.place m.hash.now) }
+    ensures none { IfNone result (52 ≤ length tail.now → (kind : Kind) (before : List ℕ)
+        → IsMarker kind (before ++ tail.now) None) }
+{
+    if tail.len() < KEPT_LEN {
+        return None;
+    }
+    let (_, end) = tail.split_at(tail.len() - KEPT_LEN);
+    let (start, rest) = end.split_at(8);
+    if !start.starts_with(b"EOIE\x00\x00\x00\x18") {
+        return None;
+    }
+    let (offset, rest) = rest.split_at(4);
+    let (hash, _) = rest.split_at(20);
+    Some(Marker {
+        place: from_be_u32(offset) as usize,
+        hash,
+    })
+}
+
+/// The place that an end marker names, if these are the last bytes of a file that has one.
+pub fn place_in(tail: &[u8]) -> Option<usize> {
+    Some(marker_in(tail)?.place)
+}
+
 /// Whether no end marker stands where one would. It may say no where none stands.
-pub fn lacks_marker(tail: &[u8]) -> bool
+fn lacks_marker(tail: &[u8]) -> bool
     ensures { result ≡ true → (kind : Kind) (before : List ℕ)
         → IsMarker kind (before ++ tail.now) None }
 {
-    if tail.len() < KEPT_LEN {
-        return false;
+    match marker_in(tail) {
+        Some(_) => false,
+        None => tail.len() >= KEPT_LEN,
     }
-    let (_, end) = tail.split_at(tail.len() - KEPT_LEN);
-    let (start, _) = end.split_at(8);
-    !start.starts_with(b"EOIE\x00\x00\x00\x18")
 }
 
-/// The offset that an end marker names, if these are the last bytes of a file that has one.
-pub fn offset_in(tail: &[u8]) -> usize {
-    if tail.len() < KEPT_LEN {
-        return 0;
+/// Whether these last bytes are an end marker that names the place, and a trailer. The hasher took in the heads of the
+/// extensions before them, which begin at that place and are to be one or more.
+fn is_closed(plan: Plan, place: usize, heads: Hasher, end: &[u8]) -> bool
+    ensures { result ≡ true → (before passed : List ℕ) → length before ≡ place
+        → HoldsHeads passed heads
+        → length (before ++ (passed ++ end.now)) ≡ plan.len
+        → EndsInMarker plan.kind (before ++ (passed ++ end.now)) place }
+{
+    if plan.kind != Kind::Sha1 || end.len() != KEPT_LEN {
+        return false;
     }
-    from_be_u32(&tail[tail.len() - KEPT_LEN + 8..][..4]) as usize
+    if place < HEADER_LEN || plan.len.saturating_sub(KEPT_LEN) <= place {
+        return false;
+    }
+    let Some(marker) = marker_in(end) else {
+        return false;
+    };
+    if marker.place != place {
+        return false;
+    }
+    heads.finalize().as_bytes() == marker.hash
 }
 
 /// Whether the end marker names the offset of the plan, or where that has none, there is no marker. It may say no where
-/// it is so.
-fn is_marked(plan: Plan, tail: &[u8]) -> bool
-    ensures { result ≡ true → (before : List ℕ) → length before + length tail.now ≡ plan.len
-        → IsMarker plan.kind (before ++ tail.now) plan.offset }
+/// it is so. The hasher took in the heads of the extensions that were passed before a place of the tail.
+fn is_marked(plan: Plan, heads: Hasher, tail: &[u8], start: usize) -> bool
+    requires inside { start ≤ length tail.now }
+    ensures { result ≡ true → (bytes : List ℕ) → HasPassed plan bytes tail.now start heads
+        → IsMarker plan.kind bytes plan.offset }
 {
     let Some(offset) = plan.offset else {
         return lacks_marker(tail);
     };
+    if !plan.keeps_ending {
+        return is_closed(plan, offset, heads, &tail[start..]);
+    }
     let skipped = plan.len.saturating_sub(tail.len());
     match end_of_index_entry::decode_behind(skipped, tail, plan.kind) {
         Some(found) => found == offset,
@@ -197,18 +271,25 @@ fn is_intact(plan: Plan, mut hasher: Hasher, tail: &[u8], skip_hash: bool) -> bo
     plan.is_hashed && hasher.finalize() == expected
 }
 
-/// Whether the end marker is that of the plan, and the digest the trailer's. The hasher took in all bytes before the
-/// tail, if they were to be hashed.
-fn is_sound(plan: Plan, hasher: Hasher, tail: &[u8], skip_hash: bool) -> bool
+/// Whether the end marker is that of the plan, and the digest the trailer's. One hasher took in all bytes before the
+/// tail, if they were to be hashed, and one the heads of the extensions that were passed before a place of it.
+fn is_sound(
+    plan: Plan,
+    hasher: Hasher,
+    heads: Hasher,
+    tail: &[u8],
+    start: usize,
+    skip_hash: bool,
+) -> bool
+    requires inside { start ≤ length tail.now }
     ensures intact { result ≡ true → hasher_kind hasher ≡ plan.kind → (message : List ℕ)
         → (plan.is_hashed ≡ true → Holds hasher message)
         → IsIntact skip_hash plan.kind (message ++ tail.now) }
-    ensures marker { result ≡ true → (before : List ℕ)
-        → length before + length tail.now ≡ plan.len
-        → IsMarker plan.kind (before ++ tail.now) plan.offset }
+    ensures marker { result ≡ true → (bytes : List ℕ) → HasPassed plan bytes tail.now start heads
+        → IsMarker plan.kind bytes plan.offset }
     ensures are_bytes { AreBytes tail.now }
 {
-    is_marked(plan, tail) && is_intact(plan, hasher, tail, skip_hash)
+    is_marked(plan, heads, tail, start) && is_intact(plan, hasher, tail, skip_hash)
 }
 
 /// The index of entries that were read, and of what is held of the bytes behind them. None unless all is sound.
@@ -312,17 +393,18 @@ pub fn windowed<S: Source>(
     else {
         return Ok(None);
     };
-    let mut held = Vec::new(alloc);
+    let mut held = Held::none(alloc);
     let place = Place { start, left };
     let Some(place) = pass_extensions(file, plan, &mut hasher, &mut window, &mut held, place)?
     else {
         return Ok(None);
     };
-    if !read_rest(file, &mut window, &held, place.left)?
-        || !is_sound(plan, hasher, &window, reading.skip_hash)
+    let Held { bytes, heads } = held;
+    if !read_rest(file, &mut window, &bytes, place.left)?
+        || !is_sound(plan, hasher, heads, &window, place.start, reading.skip_hash)
     {
         return Ok(None);
     }
-    let ending = joined(held, window, place.start)?;
+    let ending = joined(bytes, window, place.start)?;
     Ok(ending_of(alloc, plan, first, ending, reading))
 }

@@ -18,6 +18,7 @@ ghost use Rattle.gix_index.specs.Linked.{IsOnDisk, IsOnDiskSince, IsReadAs, expe
 
 use super::File;
 use super::init::{Error, decoded};
+use super::split::take_followed_link;
 use index_folder::fault::PathError;
 use index_folder::folder::{Folder, Source};
 use index_format::decode;
@@ -44,8 +45,9 @@ pub(super) fn read_fault(path: PathBuf, error: io::Error) -> Error
     Error::Io(PathError { path, error })
 }
 
-/// The shared index's path: in the folder of the split one, by its id.
-fn shared_path(alloc: Global, path: Path<'_>, id: &ObjectId) -> Result<PathBuf, AllocError>
+/// The path of the shared index with this id (gitformat-index, "Split index"): in the folder of the split one, whose
+/// path is given, it is named `sharedindex.` with the id in lower-case base 16. An error is want of memory.
+pub fn shared_path(alloc: Global, path: Path<'_>, id: &ObjectId) -> Result<PathBuf, AllocError>
     ensures { IfOk result
         (λ shared. path_buf_bytes shared ≡ shared_path (path_bytes path.entry) id.now) }
 {
@@ -149,45 +151,13 @@ fn follow<D: Folder>(
         → SaysOfFiles (path_of file) (D.works folder.now) (disk_beside own (D.known folder.now) (path_of file))
         reading.skip_hash reading.object_hash reading.timestamp reading.options e) }
 {
-    let Some(link) = file.state.take_link() else {
+    let Some(link) = take_followed_link(&mut file.state) else {
         return Ok(file);
     };
     let id = link.shared_index_checksum;
-    if id.is_null() {
-        return Ok(file);
-    }
     let shared = shared_at(folder, alloc, file.path.as_path(), id, reading)?;
     link.dissolve_into(alloc, &mut file.state, shared)?;
     Ok(file)
-}
-
-/// The index in an opened file, whose path is the one that is given, with its link followed.
-fn read_opened<D: Folder>(
-    folder: &D,
-    alloc: Global,
-    file: D::File,
-    path: PathBuf,
-    reading: ReadOptions,
-) -> Result<File, Error>
-    requires start { D.File.remaining file ≡ whole_of (D.File.stored file) }
-    requires works { D.works folder.now ≡ true → D.File.works file ≡ true }
-    ensures read { IfOk result (λ index. IsOnDisk
-        (disk_beside (known_of (D.File.stored file)) (D.known folder.now) (path_buf_bytes path))
-        reading.skip_hash reading.object_hash reading.timestamp reading.options
-        (contents (state_of index)) (checksum_of index)) }
-    ensures path { IfOk result (λ index. path_of index ≡ path_buf_bytes path) }
-    ensures placed { IfOk result (λ index. PathsInStorage (state_of index)) }
-    ensures ids { IfOk result
-        (λ index. IdsAreOf reading.object_hash (entries_of (state_of index))) }
-    ensures storable { IfOk result (λ index. IsStorable (contents (state_of index))) }
-    ensures unlinked { IfOk result
-        (λ index. (contents (state_of index)).extensions.link ≡ None) }
-    ensures fault { IfErr result (SaysOfFiles (path_buf_bytes path) (D.works folder.now)
-        (disk_beside (known_of (D.File.stored file)) (D.known folder.now) (path_buf_bytes path))
-        reading.skip_hash reading.object_hash reading.timestamp reading.options) }
-{
-    let index = read_file(alloc, file, path, reading)?;
-    follow(folder, alloc, index, reading)
 }
 
 /// When an opened file was changed last, where that is wanted; else the time that is given.
@@ -248,7 +218,8 @@ pub(super) fn read_from<D: Folder>(
         timestamp,
         ..reading
     };
-    read_opened(folder, alloc, file, path, reading)
+    let index = read_file(alloc, file, path, reading)?;
+    follow(folder, alloc, index, reading)
 }
 
 impl File {

@@ -1,3 +1,3 @@
 //! Why an index can't be made of a tree.
 
-pub use index_trees::from_tree::{Error, Traversal};
+pub use index_tree_reader::from_tree::{Error, Traversal};

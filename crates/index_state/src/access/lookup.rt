@@ -8,12 +8,13 @@ ghost use Rattle.std.specs.Prelude.{option_and_then, slice_get, true, IfErr, IfO
 ghost use Rattle.std.specs.declared.ops.Range.{Range};
 ghost use Rattle.index_metadata.specs.Flags.{stage_code};
 ghost use Rattle.index_lookups.specs.Closest.{closest, stands_in};
-ghost use Rattle.index_lookups.specs.Digits.{digits};
+ghost use Rattle.index_search.specs.Digits.{digits};
 ghost use Rattle.index_lookups.specs.FilterMap.{closure_of, entries_left, storage_left};
 ghost use Rattle.index_lookups.specs.Folded.{IsNamed, folded_closest, folded_place};
 ghost use Rattle.index_lookups.specs.Lookup.{IsKeyAt, IsPathAt, IsPathGap, insertion_of, insertion_of_path, place_of};
 ghost use Rattle.index_entries.specs.Order.{IsOrderedByPath, IsStrictlyOrdered};
-ghost use Rattle.index_lookups.specs.Range.{HasStageOf, IsPart, IsPrefixRange, IsRange, LiesWithin, is_at, part_at, place_of_path};
+ghost use Rattle.index_lookups.specs.Range.{HasStageOf, IsPart, IsPrefixRange, IsRange, LiesWithin, is_at, part_at};
+ghost use Rattle.index_lookups.specs.Range.{place_of_path};
 ghost use Rattle.index_entries.specs.Record.{record_in};
 ghost use Rattle.index_state.specs.State.{PathsInStorage, entries_of, records, storage_of};
 

@@ -1,35 +1,39 @@
-use Rattle.std.proofs.Common.{arith, ◌≡◌, length, sym, ◌∙◌}
+use Rattle.std.proofs.Common.{arith, ◌≡◌, ◌<◌, ◌++◌, ◌∷◌, [], ℕ, Option, length, map, true, sym, subst, ◌∙◌}
+use Rattle.std.specs.List.{HoldsAt}
+use Rattle.std.specs.Prelude.{IfSome}
+use Rattle.std.specs.declared.cmp.Ordering.{Ordering}
 use Rattle.std.proofs.lemmas.List.{length-map}
+use Rattle.gix_index.specs.Closest.{is_below}
+use Rattle.gix_index.specs.Record.{Record}
+use Rattle.index_lookups.proofs.Closest.{below_first, below_found}
+use Rattle.index_lookups.proofs.RunsFound.{split_prefixes}
+use Rattle.index_search.specs.Prefix.{prefix_cmp}
+use Rattle.index_search.proofs.OrderedAnswers.{equal_at, gap_at, rising_of}
+use Rattle.index_search.proofs.Parting.{bracket_whole}
 use Rattle.index_table.specs.Table.{records_of, spelled}
-use Rattle.index_c.proofs.Directories.{below_here, first_is, none_behind, none_here}
-use Rattle.index_c.proofs.Finds.{equal_from}
 use Rattle.index_c.proofs.closest.first_below.Goals as goal
-use Rattle.index_c.proofs.closest.first_below.Goals.{else-low-rows-via-then-low-rows+else-is_eq}
-use Rattle.index_c.proofs.closest.first_below.Goals.{else-low-rows-via-else-low-rows}
 
-pub returns-then-is_eq-clause-found : goal.returns-then-is_eq-clause-found
-returns-then-is_eq-clause-found c =
+pub returns-clause-found : goal.returns-clause-found
+returns-clause-found c =
+    let directory = c.args.directory.now in
     let rs = records_of c.args.paths.now c.args.rows.now in
+    let cmp : Record → Ordering = λ r. prefix_cmp (directory ++ 47 ∷ []) r.path in
     let many : length rs ≡ length c.args.rows.now = length-map c.args.rows.now (spelled c.args.paths.now) in
-    let found = below_here c.args.directory.now rs c.part-low.result (omega (arith, many))
-    (λ d. c.compare_prefix.ensures d ∙ equal_from c.compare_prefix.result c.if-is_eq.ensures) in
-    (c.if-low-rows.true, found.1)
-
-pub returns-then-is_eq-clause-answer : goal.returns-then-is_eq-clause-answer
-returns-then-is_eq-clause-answer c = λ o.
-    let rs = records_of c.args.paths.now c.args.rows.now in
-    let many : length rs ≡ length c.args.rows.now = length-map c.args.rows.now (spelled c.args.paths.now) in
-    first_is c.args.directory.now rs c.part-low.result o (c.part-low.ensures.parted o) (omega (arith, many))
-    (λ d. c.compare_prefix.ensures d ∙ equal_from c.compare_prefix.result c.if-is_eq.ensures)
+    let P : Option ℕ → ℕ → Type 0 =
+    λ r n. IfSome r (λ i. (i < n) × HoldsAt (λ r. is_below directory r ≡ true) rs i) in
+    subst (P c.ok.result) many (subst (λ (r : Option ℕ). P r (length rs)) (sym c.ok.ensures.value)
+    (below_found directory rs c.search_within.result.0
+    (equal_at cmp rs c.search_within.result.0 c.search_within.ensures.found)))
 
 pub returns-clause-answer : goal.returns-clause-answer
 returns-clause-answer c = λ o.
+    let directory = c.args.directory.now in
     let rs = records_of c.args.paths.now c.args.rows.now in
+    let cmp : Record → Ordering = λ r. prefix_cmp (directory ++ 47 ∷ []) r.path in
     let many : length rs ≡ length c.args.rows.now = length-map c.args.rows.now (spelled c.args.paths.now) in
-    elim c.else-low-rows.branch [
-      | else-low-rows-via-then-low-rows+else-is_eq w ↦ none_here c.args.directory.now rs c.part-low.result o
-          (c.part-low.ensures.parted o) w.compare_prefix.result (omega (arith, many, w.if-low-rows.true))
-          w.compare_prefix.ensures (sym w.is_eq.ensures ∙ w.if-is_eq.false)
-      | else-low-rows-via-else-low-rows w ↦ none_behind c.args.directory.now rs c.part-low.result o
-          (c.part-low.ensures.parted o) (omega (arith, many, w.if-low-rows.false))
-    ]
+    let split = split_prefixes (directory ++ 47 ∷ []) rs o in
+    let bracket = bracket_whole (map cmp rs) (length c.args.rows.now) (sym many ∙ sym (length-map rs cmp)) in
+    c.ok.ensures.value ∙ below_first directory rs c.search_within.result.0
+    (equal_at cmp rs c.search_within.result.0 c.search_within.ensures.found)
+    (c.search_within.ensures.first (rising_of cmp rs split) bracket)
+    (gap_at cmp rs 0 (length c.args.rows.now) c.search_within.result.0 bracket c.search_within.ensures.absent split)

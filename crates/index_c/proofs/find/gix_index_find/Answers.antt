@@ -1,41 +1,41 @@
-use Rattle.std.proofs.Common.{arith, ◌≡◌, ◌≢◌, ◌<◌, length, sym, ◌∙◌}
-use Rattle.std.specs.List.{HoldsAt}
-use Rattle.std.specs.declared.cmp.Ordering.TheVariants.{Equal}
+use Rattle.std.proofs.Common.{arith, ◌≡◌, length, sym, ◌∙◌}
 use Rattle.std.proofs.lemmas.List.{length-map}
-use Rattle.gix_index.specs.Order.{key_cmp}
+use Rattle.gix_index.specs.Lookup.{IsKeyAt, insertion_of, place_of}
+use Rattle.index_lookups.proofs.Lookup.{ok_is}
 use Rattle.index_table.specs.Table.{records_of, spelled}
-use Rattle.index_c.proofs.Finds.{equal_from, found_place, key_at, missed_place, not_equal_from}
+use Rattle.index_c.proofs.Finds.{found_place, key_there, missed_place, search_answer}
 use Rattle.index_c.proofs.find.gix_index_find.Goals as goal
-use Rattle.index_c.proofs.find.gix_index_find.Goals.{else-place-rows-via-then-place-rows+else-is_eq}
-use Rattle.index_c.proofs.find.gix_index_find.Goals.{else-place-rows-via-else-place-rows}
 
-pub returns-then-is_eq-clause-found : goal.returns-then-is_eq-clause-found
-returns-then-is_eq-clause-found c = λ within.
-    key_at c.args.path.now c.args.stage _ c.first_from-place.result
-    (omega (arith, length-map c.args.rows.now (spelled c.args.paths.now)))
-    (λ d. c.compare.ensures d ∙ equal_from c.compare.result c.if-is_eq.ensures)
+pub returns-in-Ok-clause-in_range : goal.returns-in-Ok-clause-in_range
+returns-in-Ok-clause-in_range c =
+    let rs = records_of c.args.paths.now c.args.rows.now in
+    let here = ok_is c.search_within.result.0 c.in-Ok.place (IsKeyAt c.args.path.now c.args.stage rs) c.in-Ok.is
+    (key_there c.args.path.now c.args.stage rs c.search_within.result.0 c.search_within.ensures.found) in
+    omega (arith, here.in_range, length-map c.args.rows.now (spelled c.args.paths.now))
 
-pub returns-then-is_eq-clause-answer : goal.returns-then-is_eq-clause-answer
-returns-then-is_eq-clause-answer c = λ ordered.
-    found_place c.args.path.now c.args.stage (records_of c.args.paths.now c.args.rows.now) (length c.args.rows.now)
-    c.first_from-place.result
-    (sym (length-map c.args.rows.now (spelled c.args.paths.now)))
-    (omega (arith, length-map c.args.rows.now (spelled c.args.paths.now)))
-    (c.first_from-place.ensures.parted ordered).below
-    (λ d. c.compare.ensures d ∙ equal_from c.compare.result c.if-is_eq.ensures)
+pub returns-in-Ok-clause-found : goal.returns-in-Ok-clause-found
+returns-in-Ok-clause-found c = λ within.
+    let rs = records_of c.args.paths.now c.args.rows.now in
+    ok_is c.search_within.result.0 c.in-Ok.place (IsKeyAt c.args.path.now c.args.stage rs) c.in-Ok.is
+    (key_there c.args.path.now c.args.stage rs c.search_within.result.0 c.search_within.ensures.found)
 
-pub returns-clause-answer : goal.returns-clause-answer
-returns-clause-answer c = λ ordered.
-    let many : length (records_of c.args.paths.now c.args.rows.now) ≡ length c.args.rows.now =
-    length-map c.args.rows.now (spelled c.args.paths.now) in
-    let other : c.first_from-place.result < length (records_of c.args.paths.now c.args.rows.now)
-    → HoldsAt (λ r. key_cmp c.args.path.now c.args.stage r ≢ Equal) (records_of c.args.paths.now c.args.rows.now)
-    c.first_from-place.result =
-    elim c.else-place-rows.branch [
-      | else-place-rows-via-then-place-rows+else-is_eq w ↦ λ within d e. not_equal_from w.compare.result
-          w.if-is_eq.ensures (sym (w.compare.ensures d) ∙ e)
-      | else-place-rows-via-else-place-rows w ↦ λ within. absurd (omega (arith, w.if-place-rows.false, within, many))
-    ] in
-    missed_place c.args.path.now c.args.stage (records_of c.args.paths.now c.args.rows.now) (length c.args.rows.now)
-    c.first_from-place.result
-    (sym many) ordered (c.first_from-place.ensures.parted ordered) other
+pub returns-in-Ok-clause-answer : goal.returns-in-Ok-clause-answer
+returns-in-Ok-clause-answer c = λ ordered.
+    let path = c.args.path.now in
+    let rs = records_of c.args.paths.now c.args.rows.now in
+    let many : length rs ≡ length c.args.rows.now = length-map c.args.rows.now (spelled c.args.paths.now) in
+    let here = ok_is c.search_within.result.0 c.in-Ok.place (IsKeyAt path c.args.stage rs) c.in-Ok.is
+    (key_there path c.args.stage rs c.search_within.result.0 c.search_within.ensures.found) in
+    found_place (length c.args.rows.now) c.in-Ok.place (insertion_of path c.args.stage rs)
+    (place_of path c.args.stage rs) (omega (arith, here.in_range, many))
+    (sym c.in-Ok.is ∙ search_answer path c.args.stage rs c.search_within.result.0 c.search_within.ensures.found
+    (length c.args.rows.now) (sym many) c.search_within.ensures.in_range c.search_within.ensures.absent ordered)
+
+pub returns-in-Err-clause-answer : goal.returns-in-Err-clause-answer
+returns-in-Err-clause-answer c = λ ordered.
+    let path = c.args.path.now in
+    let rs = records_of c.args.paths.now c.args.rows.now in
+    let many : length rs ≡ length c.args.rows.now = length-map c.args.rows.now (spelled c.args.paths.now) in
+    missed_place (length c.args.rows.now) _ (insertion_of path c.args.stage rs) (place_of path c.args.stage rs)
+    (sym c.in-Err.is ∙ search_answer path c.args.stage rs c.search_within.result.0 c.search_within.ensures.found
+    (length c.args.rows.now) (sym many) c.search_within.ensures.in_range c.search_within.ensures.absent ordered)

@@ -1,5 +1,8 @@
-use Rattle.std.proofs.Common.{arith}
+use Rattle.std.proofs.Common.{arith, ◌++◌, []}
 use Rattle.std.proofs.lemmas.Bool.Decides.{nat_tests}
+use Rattle.index_lookups.specs.SearchSteps.{prefix_answers}
+use Rattle.index_lookups.proofs.RunsFound.{rising_prefixes}
+use Rattle.index_search.proofs.Parting.{parted_around}
 use Rattle.index_table.specs.Table.{records_of}
 use Rattle.index_c.proofs.Prefixes.{no_range, range_between}
 use Rattle.index_c.proofs.prefix.prefixed.Goals as goal
@@ -7,13 +10,22 @@ use Rattle.index_c.proofs.prefix.prefixed.Goals as goal
 pub returns-then-low-high-clause-exactly : goal.returns-then-low-high-clause-exactly
 returns-then-low-high-clause-exactly c = λ o.
     let e = c.is_empty.ensures in let f = c.if-is_empty.false in
-    range_between c.args.prefix.now (records_of c.args.paths.now c.args.rows.now)
-    (λ z. grind (arith, nat_tests, e, f, z)) c.part-low.result c.part-high.result
-    (c.part-low.ensures.parted o) (c.part-high.ensures.parted o) c.if-low-high.true
+    let rs = records_of c.args.paths.now c.args.rows.now in
+    let front = c.args.prefix.now ++ [] in
+    let rising = rising_prefixes front rs o in
+    let p = c.part-low.ensures.parts rising in
+    range_between c.args.prefix.now rs (λ z. grind (arith, nat_tests, e, f, z)) c.part-low.result.0
+    c.part_within-high.result.0 p (c.part_within-high.ensures.parts rising
+    (parted_around (prefix_answers front rs) c.part-low.result.0 c.len.result p c.len.ensures)) c.if-low-high.true
 
 pub returns-else-low-high-clause-exactly : goal.returns-else-low-high-clause-exactly
 returns-else-low-high-clause-exactly c = λ o.
     let e = c.is_empty.ensures in let f = c.if-is_empty.false in
-    no_range c.args.prefix.now (records_of c.args.paths.now c.args.rows.now) (λ z. grind (arith, nat_tests, e, f, z))
-    c.part-low.result c.part-high.result
-    (c.part-low.ensures.parted o) (c.part-high.ensures.parted o) (omega (arith, c.if-low-high.false))
+    let rs = records_of c.args.paths.now c.args.rows.now in
+    let front = c.args.prefix.now ++ [] in
+    let rising = rising_prefixes front rs o in
+    let p = c.part-low.ensures.parts rising in
+    no_range c.args.prefix.now rs (λ z. grind (arith, nat_tests, e, f, z)) c.part-low.result.0
+    c.part_within-high.result.0 p (c.part_within-high.ensures.parts rising
+    (parted_around (prefix_answers front rs) c.part-low.result.0 c.len.result p c.len.ensures))
+    (omega (arith, c.if-low-high.false))

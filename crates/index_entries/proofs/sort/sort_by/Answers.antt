@@ -14,13 +14,13 @@ use Rattle.index_entries.proofs.Thirdly.{still, answered, thirdly, ordered_first
 use Rattle.index_entries.proofs.sort.sort_by.Goals as goal
 
 same_entry : (x y : Entry) → (y.stat ≡ x.stat) × ((y.id ≡ x.id)
-    × ((y.flags ≡ x.flags) × ((y.mode ≡ x.mode) × ((y.path.start ≡ x.path.start) × (y.path.end ≡ x.path.end))))) → y ≡ x
+    × ((y.flags ≡ x.flags) × ((y.mode ≡ x.mode) × (y.path ≡ x.path)))) → y ≡ x
 same_entry x y e = λ i. record {
   stat = e.0 i;
   id = e.1.0 i;
   flags = e.1.1.0 i;
   mode = e.1.1.1.0 i;
-  path = record { start = e.1.1.1.1.0 i; end = e.1.1.1.1.1 i };
+  path = e.1.1.1.1 i;
 }
 
 pub sort_by-requires : goal.sort_by-requires

@@ -5,11 +5,11 @@ use Rattle.std.specs.declared.cmp.Ordering.{Ordering}
 use Rattle.index_entries.specs.Record.{Record}
 use Rattle.std.proofs.lemmas.List.{length-map}
 use Rattle.index_lookups.specs.Closest.{is_below}
-use Rattle.index_lookups.specs.SearchSteps.{prefix_cmp}
+use Rattle.index_search.specs.Prefix.{prefix_cmp}
 use Rattle.index_lookups.proofs.Closest.{below_first, below_found}
-use Rattle.index_lookups.proofs.Parting.{bracket_whole}
-use Rattle.index_lookups.proofs.OrderedAnswers.{equal_at, gap_at}
-use Rattle.index_lookups.proofs.RunsFound.{rising_of, split_prefixes}
+use Rattle.index_search.proofs.Parting.{bracket_whole}
+use Rattle.index_search.proofs.OrderedAnswers.{equal_at, gap_at, rising_of}
+use Rattle.index_lookups.proofs.RunsFound.{split_prefixes}
 use Rattle.index_lookups.proofs.directory.first_below.Goals as goal
 
 pub returns-clause-found : goal.returns-clause-found

@@ -3,7 +3,7 @@ use Rattle.std.specs.declared.cmp.Ordering.{Ordering}
 use Rattle.std.specs.declared.cmp.Ordering.TheVariants.{Equal}
 use Rattle.index_lookups.specs.Folded.{folded}
 use Rattle.index_lookups.specs.NameSteps.{NamedValue, name_order, named_value}
-use Rattle.index_lookups.proofs.Parting.{bracket_whole}
+use Rattle.index_search.proofs.Parting.{bracket_whole}
 use Rattle.index_lookups.proofs.TableFound.{rising_table, find_some, find_gap, keys_length}
 use Rattle.index_lookups.proofs.Lookup.{ok_is}
 use Rattle.index_lookups.proofs.names.find.Goals as goal

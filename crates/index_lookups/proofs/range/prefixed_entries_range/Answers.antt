@@ -1,7 +1,7 @@
 use Rattle.std.proofs.Common.{◌++◌, [], arith}
 use Rattle.std.proofs.lemmas.Bool.Decides.{nat_tests}
 use Rattle.index_entries.specs.Record.{Record}
-use Rattle.index_lookups.specs.SearchSteps.{prefix_cmp}
+use Rattle.index_search.specs.Prefix.{prefix_cmp}
 use Rattle.index_lookups.specs.Range.{begins_with}
 use Rattle.index_lookups.proofs.RunsFound.{rising_prefixes, range_map, begins_is, prefix_range}
 use Rattle.index_lookups.proofs.range.prefixed_entries_range.Goals as goal

@@ -1,5 +1,5 @@
 use Rattle.std.proofs.Common.{arith}
-use Rattle.index_lookups.proofs.Parting.{parted_before}
+use Rattle.index_search.proofs.Parting.{parted_before}
 use Rattle.index_lookups.proofs.RunsFound.{run_between, none_between}
 use Rattle.index_lookups.proofs.range.run_of.Goals as goal
 

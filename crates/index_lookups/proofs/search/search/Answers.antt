@@ -1,9 +1,8 @@
 use Rattle.std.proofs.Common.{map, sym, ◌∙◌}
 use Rattle.std.proofs.lemmas.List.{length-map}
 use Rattle.index_lookups.specs.SearchSteps.{asked_cmp}
-use Rattle.index_lookups.proofs.Parting.{bracket_whole}
-use Rattle.index_lookups.proofs.OrderedAnswers.{equal_at, gap_at}
-use Rattle.index_lookups.proofs.RunsFound.{rising_of}
+use Rattle.index_search.proofs.Parting.{bracket_whole}
+use Rattle.index_search.proofs.OrderedAnswers.{equal_at, gap_at, rising_of}
 use Rattle.index_lookups.proofs.search.search.Goals as goal
 
 pub returns-clause-found : goal.returns-clause-found

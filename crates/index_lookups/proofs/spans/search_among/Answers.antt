@@ -3,7 +3,7 @@ use Rattle.std.proofs.lemmas.List.{length-map}
 use Rattle.index_lookups.specs.SearchSteps.{asked_cmp}
 use Rattle.index_lookups.specs.SpanSteps.{names_of}
 use Rattle.index_lookups.specs.WalkSteps.{SpanValue, span_value}
-use Rattle.index_lookups.proofs.OrderedAnswers.{equal_at, gap_at}
+use Rattle.index_search.proofs.OrderedAnswers.{equal_at, gap_at}
 use Rattle.index_lookups.proofs.TableSearch.{quarter_small}
 use Rattle.index_lookups.proofs.spans.search_among.Goals as goal
 

@@ -1,7 +1,7 @@
 use Rattle.std.proofs.Common.{arith, get_or, ◌+◌, ◌<◌, ◌≡◌, ◌∙◌, ap, length}
 use Rattle.index_entries.specs.Record.{Record}
 use Rattle.index_lookups.specs.NameSteps.{named_at, named_from, path_names}
-use Rattle.index_lookups.proofs.Places.{some_of}
+use Rattle.index_search.proofs.Places.{some_of}
 use Rattle.index_lookups.proofs.TableMade.{path_keys_length}
 use Rattle.index_lookups.proofs.Visits.{visit_of}
 use Rattle.index_lookups.proofs.walk.visit_at.Goals as goal

@@ -15,4 +15,4 @@ returns-clause-placed c = λ len all.
     let here : IsPlaced len c.index_mut-entry.result.now = subst (IsPlaced len) (sym c.index_mut-entry.ensures.value)
     (all c.args.place c.index_mut-entry.result.now c.requires) in
     All-written (IsPlaced len) c.args.shared.now.items c.args.place _ c.requires all
-    (record { forward = here.forward; inside = here.inside })
+    (record { inside = here.inside })

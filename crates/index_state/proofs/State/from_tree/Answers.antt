@@ -7,7 +7,7 @@ use Rattle.index_state.specs.State.{records}
 use Rattle.index_format.specs.Storable.{IsStorable}
 use Rattle.index_state.specs.declared.State.{State}
 use Rattle.index_state.proofs.Storables.{fitting_storable}
-use Rattle.index_trees.proofs.Fits.{leaves_fit}
+use Rattle.index_tree_reader.proofs.Fits.{leaves_fit}
 use Rattle.index_state.proofs.State.from_tree.Goals as goal
 
 pub returns-clause-others : goal.returns-clause-others

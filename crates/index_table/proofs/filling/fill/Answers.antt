@@ -16,8 +16,8 @@ loop-place-preserved c =
     omega (arith, c.loop-place-test.true, c.requires.rows_fit, c.loop-place.auto.rows) in
     more c.args.entries.now c.args.storage.now c.args.rows.now c.args.paths.now c.loop-place.place c.loop-place.start
     c.loop-place.rows c.loop-place.paths c.loop-place.invariant _ c.path_range.result.start c.path_range.result.end
-    c.put_path.new.paths c.row_of.result c.loop-place-test.true fit c.path_range.ensures.start c.path_range.ensures.end
-    c.row_of.ensures c.put_path.ensures
+    c.put_path.new.paths c.row_from.result c.loop-place-test.true fit c.path_range.ensures.start c.path_range.ensures.end
+    c.row_from.ensures c.put_path.ensures
 
 pub returns : goal.returns
 returns c =

@@ -1,7 +1,7 @@
-use Rattle.std.proofs.Common.{◌≡◌, ◌∙◌, ◌+◌, ◌-◌, ◌≤◌, ◌<◌, None, Some, length, sym, ap, arith, set, refl, subst}
+use Rattle.std.proofs.Common.{◌≡◌, ◌+◌, ◌-◌, ◌≤◌, ◌<◌, None, Some, length, sym, arith, set, refl, subst}
 use Rattle.gix_index.specs.Entries.{last_path}
-use Rattle.gix_index.specs.Record.{made_entry, records_in}
-use Rattle.index_table.specs.Table.{row_of}
+use Rattle.gix_index.specs.Record.{records_in}
+use Rattle.index_table.specs.Table.{row_from}
 use Rattle.index_table.specs.declared.row.Row.{Row}
 use Rattle.index_table.proofs.FilledTables.{Progress, begun, filled, more, next_fits, some_left}
 use Rattle.index_table.proofs.filling.fill_entries.Goals as goal
@@ -48,8 +48,7 @@ loop-place-preserved c =
     let fit : c.args.count ≤ length c.args.rows.now = c.requires.rows_fit in
     let long : length c.loop-place.rows ≡ length c.args.rows.now = c.loop-place.auto.rows in
     let end = start + (lent.shared + length lent.path.now) in
-    let row : row_of (made_entry lent.entry start end) ≡ c.row_of.result =
-    ap row_of (sym c.make_entry.ensures) ∙ sym c.row_of.ensures in
+    let row : row_from lent.entry start (end - start) ≡ c.row_from.result = sym c.row_from.ensures in
     let put = more c.args.version c.args.kind c.args.count c.args.bytes.now c.args.rows.now c.args.paths.now
     c.loop-place.rest.now c.loop-place.place start c.loop-place.room c.loop-place.rows c.loop-place.paths p lent
     c.in-Some.after.now c.put_path.new.paths end lt (omega arith) c.in-Some.ensures.shared

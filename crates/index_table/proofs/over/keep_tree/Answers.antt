@@ -2,13 +2,14 @@ use Rattle.std.proofs.Common.{None, ap, refl, sym, ◌∙◌}
 use Rattle.std.specs.Option.{option_map}
 use Rattle.gix_index.specs.State.{contents}
 use Rattle.gix_index.specs.Tree.{node_of}
+use Rattle.index_table.specs.declared.over.CachedTree.TheVariants.{Absent}
 use Rattle.index_table.proofs.Trees.{keeps_by, keeps_right, keeps_wrong}
 use Rattle.index_table.proofs.over.keep_tree.Goals as goal
 
 pub returns-in_default-clause-keeps : goal.returns-in_default-clause-keeps
 returns-in_default-clause-keeps c =
     let v = contents c.args.state.now in
-    keeps_by None v v 0 (sym c.tree.ensures ∙ ap (option_map (λ t. node_of t.now)) c.in_default.is) (refl, refl)
+    keeps_by None v v Absent (sym c.tree.ensures ∙ ap (option_map (λ t. node_of t.now)) c.in_default.is) (refl, refl)
 
 pub returns-in-Ok-clause-keeps : goal.returns-in-Ok-clause-keeps
 returns-in-Ok-clause-keeps c =

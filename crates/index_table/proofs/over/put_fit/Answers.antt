@@ -1,47 +1,68 @@
 use Rattle.std.proofs.Common.{ap, subst, sym, ◌∙◌}
+use Rattle.std.proofs.lemmas.Result.{IfOk-weaker}
 use Rattle.gix_index.specs.Contents.{Contents}
 use Rattle.gix_index.specs.Order.{IsStrictlyOrdered}
 use Rattle.gix_index.specs.State.{contents}
+use Rattle.gix_index.specs.WriteOptions.{Options}
+use Rattle.index_table.specs.Overwriting.{TakesPlaceOf, full_options}
 use Rattle.index_table.specs.Writing.{HasImage, PassesLimit, PassesRoom}
+use Rattle.index_table.specs.declared.write.Fault.{Fault}
+use Rattle.index_table.specs.declared.write.Image.{Image}
 use Rattle.index_table.proofs.Replacements.{kept_records, replaces}
+use Rattle.index_table.proofs.Results.{passed_weaker, refused_weaker}
 use Rattle.index_table.proofs.Writes.{can_encode}
 use Rattle.index_table.proofs.over.put_fit.Goals as goal
 
 pub keep_tree-requires-clause-ordered : goal.keep_tree-requires-clause-ordered
 keep_tree-requires-clause-ordered c =
-    subst IsStrictlyOrdered (sym (ap (λ (v : Contents). v.records) c.in_default.ensures.value)) c.requires.table.ordered
+    subst IsStrictlyOrdered (sym (ap (λ (v : Contents). v.records) c.in_default.ensures.value))
+    c.requires.table.ordered
 
-pub put_state-requires-clause-paths : goal.put_state-requires-clause-paths
-put_state-requires-clause-paths c =
+pub put_state-written-requires-clause-paths : goal.put_state-written-requires-clause-paths
+put_state-written-requires-clause-paths c =
     let kept = kept_records (contents c.replace_all.new.state) (contents c.keep_tree.new.state) c.in-Some.tree
     c.in-Some.ensures.keeps in
-    can_encode c.args.options.version c.args.kind _ c.args.paths.now c.args.rows.now (contents c.keep_tree.new.state)
+    can_encode c.options_of.result.version c.args.format.now.kind _ c.args.paths.now c.args.rows.now (contents
+    c.keep_tree.new.state)
     c.requires.table.fit
     (kept ∙ ap (λ (v : Contents). v.records) c.in_default.ensures.value)
 
 pub returns-clause-done : goal.returns-clause-done
-returns-clause-done c = λ is.
-    replaces c.args.kind c.args.paths.now c.args.rows.now (contents c.args.state) (contents c.replace_all.new.state)
-    (contents c.keep_tree.new.state)
-    c.in-Some.tree c.put_state.result.told.tree
-    (λ (v : Contents). HasImage v c.args.options c.put_state.result.told c.args.room.now c.put_state.new.room)
-    c.requires.table c.in_default.ensures.value c.in-Some.ensures.keeps c.put_state.ensures.tree
-    (c.put_state.ensures.done is)
+returns-clause-done c =
+    let value : Contents = contents c.keep_tree.new.state in
+    let Holds : Options → Image → Contents → Type 0 = λ options x. HasImage options x c.args.room.now
+    c.put_state-written.new.room in
+    IfOk-weaker c.put_state-written.result (λ (x : Image). Holds c.options_of.result x value)
+    (λ (x : Image). TakesPlaceOf c.args.format.now.kind c.args.paths.now c.args.rows.now c.in-Some.tree
+    (Holds (full_options c.args.format.now) x) (contents c.args.state))
+    (λ x h. replaces c.args.format.now.kind c.args.paths.now c.args.rows.now (contents c.args.state)
+    (contents c.replace_all.new.state) value c.in-Some.tree (Holds (full_options c.args.format.now) x)
+    c.requires.table c.in_default.ensures.value c.in-Some.ensures.keeps
+    (subst (λ (o : Options). Holds o x value) c.options_of.ensures h))
+    c.put_state-written.ensures.done
 
 pub returns-clause-refused : goal.returns-clause-refused
-returns-clause-refused c = λ is.
-    replaces c.args.kind c.args.paths.now c.args.rows.now (contents c.args.state) (contents c.replace_all.new.state)
-    (contents c.keep_tree.new.state)
-    c.in-Some.tree c.put_state.result.told.tree
-    (λ (v : Contents). PassesLimit v c.args.options c.put_state.result.told)
-    c.requires.table c.in_default.ensures.value c.in-Some.ensures.keeps c.put_state.ensures.tree
-    (c.put_state.ensures.refused is)
+returns-clause-refused c =
+    let value : Contents = contents c.keep_tree.new.state in
+    let Holds : Options → Fault → Contents → Type 0 = λ options x. PassesLimit options x in
+    refused_weaker c.put_state-written.result (λ (x : Fault). Holds c.options_of.result x value)
+    (λ (x : Fault). TakesPlaceOf c.args.format.now.kind c.args.paths.now c.args.rows.now c.in-Some.tree
+    (Holds (full_options c.args.format.now) x) (contents c.args.state))
+    (λ x h. replaces c.args.format.now.kind c.args.paths.now c.args.rows.now (contents c.args.state)
+    (contents c.replace_all.new.state) value c.in-Some.tree (Holds (full_options c.args.format.now) x)
+    c.requires.table c.in_default.ensures.value c.in-Some.ensures.keeps
+    (subst (λ (o : Options). Holds o x value) c.options_of.ensures h))
+    c.put_state-written.ensures.refused
 
 pub returns-clause-no_room : goal.returns-clause-no_room
-returns-clause-no_room c = λ is.
-    replaces c.args.kind c.args.paths.now c.args.rows.now (contents c.args.state) (contents c.replace_all.new.state)
-    (contents c.keep_tree.new.state)
-    c.in-Some.tree c.put_state.result.told.tree
-    (λ (v : Contents). PassesRoom v c.args.options c.put_state.result.told c.args.room.now)
-    c.requires.table c.in_default.ensures.value c.in-Some.ensures.keeps c.put_state.ensures.tree
-    (c.put_state.ensures.no_room is)
+returns-clause-no_room c =
+    let value : Contents = contents c.keep_tree.new.state in
+    let Holds : Options → Image → Contents → Type 0 = λ options x. PassesRoom options x c.args.room.now in
+    passed_weaker c.put_state-written.result (λ (x : Image). Holds c.options_of.result x value)
+    (λ (x : Image). TakesPlaceOf c.args.format.now.kind c.args.paths.now c.args.rows.now c.in-Some.tree
+    (Holds (full_options c.args.format.now) x) (contents c.args.state))
+    (λ x h. replaces c.args.format.now.kind c.args.paths.now c.args.rows.now (contents c.args.state)
+    (contents c.replace_all.new.state) value c.in-Some.tree (Holds (full_options c.args.format.now) x)
+    c.requires.table c.in_default.ensures.value c.in-Some.ensures.keeps
+    (subst (λ (o : Options). Holds o x value) c.options_of.ensures h))
+    c.put_state-written.ensures.no_room

@@ -3,7 +3,7 @@ use Rattle.gix_index.specs.File.{checksum_of}
 use Rattle.gix_index.specs.State.{contents}
 use Rattle.gix_index.specs.StateType.{State}
 use Rattle.index_table.specs.Reading.{BytesEndAs}
-use Rattle.index_table.proofs.Refusals.{lacks_by, options_are, read_by, refusal_by}
+use Rattle.index_table.proofs.Refusals.{fails_by, options_are, read_by}
 use Rattle.index_table.proofs.read.index_of.Goals as goal
 
 pub returns-in-Ok-clause-read : goal.returns-in-Ok-clause-read
@@ -18,14 +18,8 @@ returns-in-Ok-clause-read c =
           (options_are c.args.expected _ d.0 d.1.0 refl d.1.1.1) c.in-Ok.ensures.answer),
     )
 
-pub returns-in-Err-clause-fault : goal.returns-in-Err-clause-fault
-returns-in-Err-clause-fault c =
+pub returns-in-Err-clause-error : goal.returns-in-Err-clause-error
+returns-in-Err-clause-error c =
     let d = c.default.ensures in
-    refusal_by c.args.expected c.args.skip_hash c.args.kind c.args.bytes.now _ _ _ refl refl
-    (options_are c.args.expected _ d.0 d.1.0 refl d.1.1.1) c.in-Err.ensures.answer
-
-pub returns-in-Err-clause-memory : goal.returns-in-Err-clause-memory
-returns-in-Err-clause-memory c =
-    let d = c.default.ensures in
-    lacks_by c.args.expected c.args.skip_hash c.args.kind c.args.bytes.now _ _ _ refl refl
+    fails_by c.args.expected c.args.skip_hash c.args.kind c.args.bytes.now _ _ _ refl refl
     (options_are c.args.expected _ d.0 d.1.0 refl d.1.1.1) c.in-Err.ensures.answer c.in-Err.ensures.intact

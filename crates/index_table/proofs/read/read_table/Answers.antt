@@ -1,6 +1,12 @@
-use Rattle.std.proofs.Common.{None, refl, sym, ◌∙◌}
-use Rattle.index_table.proofs.Refusals.{lacks_by, options_are, read_by, refusal_by, refused_from}
-use Rattle.index_table.proofs.Refusals.{tells_memory}
+use Rattle.std.proofs.Common.{None, refl}
+use Rattle.std.proofs.lemmas.Result.{IfOk-weaker}
+use Rattle.gix_index.specs.Contents.{Contents}
+use Rattle.gix_index.specs.Outlined.{Outlines}
+use Rattle.index_table.specs.Reading.{FailsOwn, Fills, HasSizes, IsReadSo, IsTooSmall}
+use Rattle.index_table.specs.declared.fault.Failure.{Failure}
+use Rattle.index_table.specs.declared.read.Sizes.{Sizes}
+use Rattle.index_table.proofs.Refusals.{fails_by, options_are, read_by}
+use Rattle.index_table.proofs.Results.{failed_weaker, no_room_weaker}
 use Rattle.index_table.proofs.read.read_table.Goals as goal
 
 pub table_of_outline-requires : goal.table_of_outline-requires
@@ -9,44 +15,53 @@ table_of_outline-requires c =
     (h.value, h.outlines, h.storable)
 
 pub returns-in-Ok-clause-done : goal.returns-in-Ok-clause-done
-returns-in-Ok-clause-done c = λ is.
+returns-in-Ok-clause-done c =
     let d = c.default-options.ensures in
-    let h = c.in-Ok.ensures.outlined in
-    record {
-      value = h.value;
+    let o = c.in-Ok.ensures.outlined in
+    let Has : Sizes → Contents → Type 0 = λ sizes. HasSizes sizes (λ (v : Contents). Fills v c.args.rows.now
+    c.table_of_outline.new.rows c.args.paths.now
+    c.table_of_outline.new.paths) in
+    IfOk-weaker c.table_of_outline.result
+    (λ (sizes : Sizes). (v : Contents) → Outlines v c.in-Ok.outline → Has sizes v)
+    (λ (sizes : Sizes). IsReadSo c.args.skip_hash c.args.kind c.args.bytes.now (Has sizes))
+    (λ sizes h. record {
+      value = o.value;
       checksum = c.in-Ok.outline.checksum;
       read = read_by None c.args.skip_hash c.args.kind c.args.bytes.now _ _ _ refl refl
-          (options_are None _ d.0 d.1.0 d.1.1.0 d.1.1.1) h.read;
-      holds = c.table_of_outline.ensures.done is h.value h.outlines;
-    }
+          (options_are None _ d.0 d.1.0 d.1.1.0 d.1.1.1) o.read;
+      holds = h o.value o.outlines;
+    })
+    c.table_of_outline.ensures.done
 
 pub returns-in-Ok-clause-no_room : goal.returns-in-Ok-clause-no_room
-returns-in-Ok-clause-no_room c = λ is.
+returns-in-Ok-clause-no_room c =
     let d = c.default-options.ensures in
-    let h = c.in-Ok.ensures.outlined in
-    record {
-      value = h.value;
+    let o = c.in-Ok.ensures.outlined in
+    let Has : Sizes → Contents → Type 0 = λ sizes. HasSizes sizes (λ (v : Contents). IsTooSmall v c.args.rows.now
+    c.args.paths.now) in
+    no_room_weaker c.table_of_outline.result
+    (λ (sizes : Sizes). (v : Contents) → Outlines v c.in-Ok.outline → Has sizes v)
+    (λ (sizes : Sizes). IsReadSo c.args.skip_hash c.args.kind c.args.bytes.now (Has sizes))
+    (λ sizes h. record {
+      value = o.value;
       checksum = c.in-Ok.outline.checksum;
       read = read_by None c.args.skip_hash c.args.kind c.args.bytes.now _ _ _ refl refl
-          (options_are None _ d.0 d.1.0 d.1.1.0 d.1.1.1) h.read;
-      holds = c.table_of_outline.ensures.no_room is h.value h.outlines;
-    }
+          (options_are None _ d.0 d.1.0 d.1.1.0 d.1.1.1) o.read;
+      holds = h o.value o.outlines;
+    })
+    c.table_of_outline.ensures.no_room
 
-pub returns-in-Err-clause-refused : goal.returns-in-Err-clause-refused
-returns-in-Err-clause-refused c = λ is.
-    let d = c.default-options.ensures in
-    refused_from c.args.skip_hash c.args.kind c.args.bytes.now c.in-Err.e c.refused.result.summary
-    (refusal_by None c.args.skip_hash c.args.kind c.args.bytes.now _ _ _ refl refl
-    (options_are None _ d.0 d.1.0 d.1.1.0 d.1.1.1) c.in-Err.ensures.fault)
-    c.refused.ensures.fault c.refused.ensures.told (sym c.refused.ensures.status ∙ is)
+pub returns-in-Ok-clause-failed : goal.returns-in-Ok-clause-failed
+returns-in-Ok-clause-failed c =
+    failed_weaker c.table_of_outline.result (λ (failure : Failure). ⊥)
+    (FailsOwn c.args.skip_hash c.args.kind c.args.bytes.now) (λ failure h. absurd h)
+    c.table_of_outline.ensures.never_failed
 
-pub returns-in-Err-clause-memory : goal.returns-in-Err-clause-memory
-returns-in-Err-clause-memory c = λ is.
+pub returns-in-Err-clause-failed : goal.returns-in-Err-clause-failed
+returns-in-Err-clause-failed c =
     let d = c.default-options.ensures in
     record {
-      lacks = lacks_by None c.args.skip_hash c.args.kind c.args.bytes.now _ _ _ refl refl
-          (options_are None _ d.0 d.1.0 d.1.1.0 d.1.1.1) c.in-Err.ensures.fault c.in-Err.ensures.intact
-          (sym c.refused.ensures.status ∙ is);
-      tells = tells_memory c.in-Err.e 0 c.refused.result.summary c.refused.ensures.fault c.refused.ensures.told
-          (sym c.refused.ensures.status ∙ is);
+      whose = refl;
+      says = fails_by None c.args.skip_hash c.args.kind c.args.bytes.now _ _ _ refl refl
+          (options_are None _ d.0 d.1.0 d.1.1.0 d.1.1.1) c.in-Err.ensures.fault c.in-Err.ensures.intact;
     }

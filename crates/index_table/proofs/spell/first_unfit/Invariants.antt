@@ -1,5 +1,5 @@
 use Rattle.std.specs.List.{AllWithin}
-use Rattle.index_table.specs.Writing.{IsFit}
+use Rattle.index_table.specs.Fitting.{IsFit}
 use Rattle.index_table.proofs.spell.first_unfit.Given as goal
 
 abbrev pub invariant-loop-place : goal.invariant-loop-place

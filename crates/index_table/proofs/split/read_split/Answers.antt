@@ -1,26 +1,36 @@
 use Rattle.std.proofs.Common.{◌≡◌}
+use Rattle.std.proofs.lemmas.Result.{IfOk-weaker}
 use Rattle.gix_index.specs.Contents.{Contents}
 use Rattle.gix_index.specs.State.{contents}
-use Rattle.index_table.specs.Reading.{Fills, IsTooSmall}
+use Rattle.index_table.specs.Joining.{AreReadSo, FailBoth}
+use Rattle.index_table.specs.Reading.{Fills, HasSizes, IsTooSmall, IsWantOfMemory}
+use Rattle.index_table.specs.declared.read.Sizes.{Sizes}
 use Rattle.index_table.proofs.Joins.{lack_read, read_so}
-use Rattle.index_table.proofs.Refusals.{blank_tells}
+use Rattle.index_table.proofs.Results.{failed_weaker, no_room_weaker}
 use Rattle.index_table.proofs.split.read_split.Goals as goal
 
 pub returns-in-Ok-clause-done : goal.returns-in-Ok-clause-done
-returns-in-Ok-clause-done c = λ is.
-    read_so c.args.skip_hash c.args.kind c.args.bytes.now c.args.shared.now
-    (λ (v : Contents). Fills v c.table_of.result.summary c.args.rows.now c.table_of.new.rows c.args.paths.now
-    c.table_of.new.paths)
-    (contents c.in-Ok.state) c.in-Ok.ensures.read (c.table_of.ensures.done is)
+returns-in-Ok-clause-done c =
+    let Has : Sizes → Contents → Type 0 =
+    λ sizes. HasSizes sizes (λ (v : Contents). Fills v c.args.rows.now c.table_of.new.rows c.args.paths.now
+    c.table_of.new.paths) in
+    IfOk-weaker c.table_of.result (λ (sizes : Sizes). Has sizes (contents c.in-Ok.state))
+    (λ (sizes : Sizes). AreReadSo c.args.skip_hash c.args.kind c.args.bytes.now c.args.shared.now (Has sizes))
+    (λ sizes h. read_so c.args.skip_hash c.args.kind c.args.bytes.now c.args.shared.now (Has sizes)
+    (contents c.in-Ok.state) c.in-Ok.ensures.read h) c.table_of.ensures.done
 
 pub returns-in-Ok-clause-no_room : goal.returns-in-Ok-clause-no_room
-returns-in-Ok-clause-no_room c = λ is.
-    read_so c.args.skip_hash c.args.kind c.args.bytes.now c.args.shared.now
-    (λ (v : Contents). IsTooSmall v c.table_of.result.summary c.args.rows.now c.args.paths.now)
-    (contents c.in-Ok.state) c.in-Ok.ensures.read (c.table_of.ensures.no_room is)
+returns-in-Ok-clause-no_room c =
+    let Has : Sizes → Contents → Type 0 =
+    λ sizes. HasSizes sizes (λ (v : Contents). IsTooSmall v c.args.rows.now c.args.paths.now) in
+    no_room_weaker c.table_of.result (λ (sizes : Sizes). Has sizes (contents c.in-Ok.state))
+    (λ (sizes : Sizes). AreReadSo c.args.skip_hash c.args.kind c.args.bytes.now c.args.shared.now (Has sizes))
+    (λ sizes h. read_so c.args.skip_hash c.args.kind c.args.bytes.now c.args.shared.now (Has sizes)
+    (contents c.in-Ok.state) c.in-Ok.ensures.read h) c.table_of.ensures.no_room
 
-pub returns-in-Ok-clause-memory : goal.returns-in-Ok-clause-memory
-returns-in-Ok-clause-memory c = λ is.
-    lack_read c.args.skip_hash c.args.kind c.args.bytes.now c.args.shared.now
-    (λ (v : Contents). v ≡ contents c.in-Ok.state) c.table_of.result.summary c.in-Ok.ensures.read
-    (blank_tells c.table_of.result.summary (c.table_of.ensures.memory is))
+pub returns-in-Ok-clause-failed : goal.returns-in-Ok-clause-failed
+returns-in-Ok-clause-failed c =
+    failed_weaker c.table_of.result IsWantOfMemory
+    (FailBoth c.args.skip_hash c.args.kind c.args.bytes.now c.args.shared.now)
+    (λ failure h. lack_read c.args.skip_hash c.args.kind c.args.bytes.now c.args.shared.now
+    (λ (v : Contents). v ≡ contents c.in-Ok.state) failure c.in-Ok.ensures.read h) c.table_of.ensures.memory

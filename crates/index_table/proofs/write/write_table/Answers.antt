@@ -1,21 +1,56 @@
-use Rattle.gix_index.specs.Kind.{Kind}
+use Rattle.std.proofs.Common.{inr, refl, subst}
+use Rattle.std.proofs.lemmas.Result.{IfOk-weaker}
+use Rattle.gix_index.specs.Contents.{Contents}
+use Rattle.gix_index.specs.State.{contents}
 use Rattle.gix_index.specs.WriteOptions.{Options}
-use Rattle.index_table.specs.Writing.{HasImage, PassesRoom, Spells}
-use Rattle.index_table.proofs.Writes.{asked}
+use Rattle.index_table.specs.Writing.{HasImage, IsUnwritten, PassesLimit, PassesRoom, Spells, plain_options}
+use Rattle.index_table.specs.declared.write.Fault.{Fault}
+use Rattle.index_table.specs.declared.write.Image.{Image}
+use Rattle.index_table.proofs.Results.{passed_weaker, refused_weaker, unwritten_of}
+use Rattle.index_table.proofs.Writes.{can_encode, spells}
 use Rattle.index_table.proofs.write.write_table.Goals as goal
 
-pub returns-clause-done : goal.returns-clause-done
-returns-clause-done c = λ is.
-    asked c.args.form.now
-    (λ (kind : Kind) (options : Options). Spells kind c.args.paths.now c.args.rows.now
-    (λ v. HasImage v options c.put_table.result.told c.args.room.now c.put_table.new.room))
-    c.in-Some.kind c.in-Some-choice_of.version c.options_of.result c.in-Some.ensures c.in-Some-choice_of.ensures
-    c.options_of.ensures (c.put_table.ensures.done is)
+pub put_state-requires-clause-paths : goal.put_state-requires-clause-paths
+put_state-requires-clause-paths c =
+    let fit = c.in_default.ensures.fit refl in
+    can_encode c.options_of.result.version c.args.format.now.kind _ c.args.paths.now c.args.rows.now
+    (contents c.in-Ok.state) fit.fit c.in-Ok.ensures.spelled.records_are
 
-pub returns-clause-no_room : goal.returns-clause-no_room
-returns-clause-no_room c = λ is.
-    asked c.args.form.now
-    (λ (kind : Kind) (options : Options). Spells kind c.args.paths.now c.args.rows.now
-    (λ v. PassesRoom v options c.put_table.result.told c.args.room.now))
-    c.in-Some.kind c.in-Some-choice_of.version c.options_of.result c.in-Some.ensures c.in-Some-choice_of.ensures
-    c.options_of.ensures (c.put_table.ensures.no_room is)
+pub returns-in-Ok-clause-done : goal.returns-in-Ok-clause-done
+returns-in-Ok-clause-done c =
+    let value : Contents = contents c.in-Ok.state in
+    let Holds : Options → Image → Contents → Type 0 = λ options x. HasImage options x c.args.room.now
+    c.put_state.new.room in
+    IfOk-weaker c.put_state.result (λ (x : Image). Holds c.options_of.result x value)
+    (λ (x : Image). Spells c.args.format.now.kind c.args.paths.now c.args.rows.now
+    (Holds (plain_options c.args.format.now) x))
+    (λ x h. spells c.args.format.now.kind c.args.paths.now c.args.rows.now value
+    (Holds (plain_options c.args.format.now) x) (c.in_default.ensures.fit refl) c.in-Ok.ensures.spelled
+    (subst (λ (o : Options). Holds o x value) c.options_of.ensures h))
+    c.put_state.ensures.done
+
+pub returns-in-Ok-clause-refused : goal.returns-in-Ok-clause-refused
+returns-in-Ok-clause-refused c =
+    let value : Contents = contents c.in-Ok.state in
+    let Holds : Options → Fault → Contents → Type 0 = λ options x. PassesLimit options x in
+    refused_weaker c.put_state.result (λ (x : Fault). Holds c.options_of.result x value)
+    (λ (x : Fault). IsUnwritten c.args.format.now c.args.paths.now c.args.rows.now x)
+    (λ x h. inr (spells c.args.format.now.kind c.args.paths.now c.args.rows.now value
+    (Holds (plain_options c.args.format.now) x) (c.in_default.ensures.fit refl) c.in-Ok.ensures.spelled
+    (subst (λ (o : Options). Holds o x value) c.options_of.ensures h)))
+    c.put_state.ensures.refused
+
+pub returns-in-Ok-clause-no_room : goal.returns-in-Ok-clause-no_room
+returns-in-Ok-clause-no_room c =
+    let value : Contents = contents c.in-Ok.state in
+    let Holds : Options → Image → Contents → Type 0 = λ options x. PassesRoom options x c.args.room.now in
+    passed_weaker c.put_state.result (λ (x : Image). Holds c.options_of.result x value)
+    (λ (x : Image). Spells c.args.format.now.kind c.args.paths.now c.args.rows.now
+    (Holds (plain_options c.args.format.now) x))
+    (λ x h. spells c.args.format.now.kind c.args.paths.now c.args.rows.now value
+    (Holds (plain_options c.args.format.now) x) (c.in_default.ensures.fit refl) c.in-Ok.ensures.spelled
+    (subst (λ (o : Options). Holds o x value) c.options_of.ensures h))
+    c.put_state.ensures.no_room
+
+pub returns-in-Ok-clause-memory : goal.returns-in-Ok-clause-memory
+returns-in-Ok-clause-memory c = unwritten_of c.put_state.result _ (c.in_default.ensures.fit refl)

@@ -7,7 +7,7 @@ pub loop-entry-preserved : goal.loop-entry-preserved
 loop-entry-preserved c = elim c.if-is_unmerged.branch [
   | then-is_unmerged+in_ok-push w ↦
       let p = more_unmerged c.args.entries.now c.loop-entry.entry-index _ c.loop-entry-test.true c.in_ok-copy.copy
-      (let e = c.in_ok-copy.ensures.cases in same_entry _ _ e.0 e.1.0 e.1.1.0 e.1.1.1.0 e.1.1.1.1.0 e.1.1.1.1.1)
+      (let e = c.in_ok-copy.ensures.cases in same_entry _ _ e.0 e.1.0 e.1.1.0 e.1.1.1.0 e.1.1.1.1)
       c.loop-entry.merged.items c.loop-entry.unmerged.items c.loop-entry.invariant.merged
       c.loop-entry.invariant.unmerged (sym c.is_unmerged.ensures ∙ w.if-is_unmerged.true) in
       record {
@@ -16,7 +16,7 @@ loop-entry-preserved c = elim c.if-is_unmerged.branch [
       }
   | else-is_unmerged+in_ok-push-2 w ↦
       let p = more_merged c.args.entries.now c.loop-entry.entry-index _ c.loop-entry-test.true c.in_ok-copy.copy
-      (let e = c.in_ok-copy.ensures.cases in same_entry _ _ e.0 e.1.0 e.1.1.0 e.1.1.1.0 e.1.1.1.1.0 e.1.1.1.1.1)
+      (let e = c.in_ok-copy.ensures.cases in same_entry _ _ e.0 e.1.0 e.1.1.0 e.1.1.1.0 e.1.1.1.1)
       c.loop-entry.merged.items c.loop-entry.unmerged.items c.loop-entry.invariant.merged
       c.loop-entry.invariant.unmerged (sym c.is_unmerged.ensures ∙ w.if-is_unmerged.false) in
       record {

@@ -1,8 +1,9 @@
-use Rattle.std.proofs.Common.{◌≡◌, ◌+◌, ◌-◌, ◌++◌, [], length, take, drop, refl, sym, ap, ◌∙◌, arith}
+use Rattle.std.proofs.Common.{◌≡◌, ◌+◌, ◌-◌, ◌++◌, ℕ, List, [], length, take, drop, refl, sym, ap, subst, ◌∙◌, arith}
 use Rattle.std.proofs.Common.{length-drop, take_all}
 use Rattle.std.specs.Prelude.{if◌then◌else◌}
 use Rattle.index_window.specs.Windowed.{Moment}
-use Rattle.index_window.proofs.Abridging.{abridged_none, abridged_on, abridged_more}
+use Rattle.index_parts.specs.Digest.{Holds}
+use Rattle.index_window.proofs.Abridging.{abridged_none, abridged_on, abridged_more, head_of}
 use Rattle.index_window.proofs.Steps.{pass_len}
 use Rattle.index_window.proofs.extensions.pass_extensions.Goals as goal
 
@@ -12,8 +13,9 @@ extensions-init g c = record {
   abridged = (
     0,
     omega arith,
-    abridged_none c.args.plan _ c.args.held.now.items (omega (arith, c.requires.inside, c.args.window.now.ok.0))
-        c.requires.none_yet,
+    abridged_none c.args.plan _ c.args.held.now.bytes.items c.args.held.now.heads
+        (omega (arith, c.requires.inside, c.args.window.now.ok.0)) c.requires.none_yet c.requires.heads
+        c.requires.no_head,
   );
   stored = refl;
   works = refl;
@@ -53,18 +55,26 @@ extensions-preserved g c =
       decoded = c.in-Some-3.behind.start;
       records = [];
     } in
-    let held = c.extensions.held.items in
+    let held = c.extensions.held.bytes.items in
+    let heads = c.extensions.held.heads in
     let on = rw c.in-Some-2.is at c.in_ok-next.ensures.passed in
-    let is = abridged_on plan a old mid so-far.0 on.0 held so-far.2 on.2 in
+    let is = abridged_on plan a old mid so-far.0 on.0 held heads so-far.2 on.2 in
     let e = c.in-Some-extension_at.ensures in
     let p = rw c.in-Some-3.is at c.in_ok-behind.ensures.passed in
     let lent = c.deref.result.now in
     let undone : take (length lent - start) (drop start lent) ≡ drop start w =
     take_all (length lent - start) (drop start lent) (omega (arith, length-drop start lent))
     ∙ ap (drop start) c.deref.ensures.value in
+    let stands : drop start w ≡ e.0 ++ (e.1 ++ e.2) = sym undone ∙ e.3 in
+    let head : c.deref-in-extensions.result.now ≡ w = c.deref-in-extensions.ensures.value in
+    let slice : take (start + 8 - start) (drop start c.deref-in-extensions.result.now) ≡ e.0 ++ e.1 =
+    let same : start + 8 - start ≡ 8 = omega arith in
+    ap (λ (n : ℕ). take n (drop start c.deref-in-extensions.result.now)) same
+    ∙ ap (λ (l : List ℕ). take 8 (drop start l)) head ∙ ap (take 8) stands ∙ head_of e.0 e.1 e.2 e.4 e.5 in
     let more = abridged_more plan a mid new (so-far.0 + on.0) p.0 held c.pass_extension.new.held.items e.0 e.1 e.2
-    p.2 is p.5 (sym undone ∙ e.3) e.4 e.5 (p.3 ∙ e.6) (p.4 ∙ ap (λ b. held ++ (if b then p.2 else [])) e.7)
-    c.if-plan.false in
+    p.2 heads c.update.new.self is p.5 stands e.4 e.5 (p.3 ∙ e.6)
+    (p.4 ∙ ap (λ b. held ++ (if b then p.2 else [])) e.7) c.if-plan.false c.update.ensures.kind
+    (λ m k. subst (λ (l : List ℕ). Holds c.update.new.self (m ++ l)) slice (c.update.ensures.more m k)) in
     record {
       inside = omega (arith, more.is_passed.moved.inside, c.pass_extension.new.window.ok.0);
       abridged = (so-far.0 + on.0 + p.0, omega (arith, so-far.1, on.1, p.1), more);
@@ -78,7 +88,7 @@ returns-then-before-extension-clause-abridged g c =
     let on = rw c.in-Some-2.is at c.in_ok-next.ensures.passed in (
       so-far.0 + on.0,
       omega (arith, so-far.1, on.1),
-      abridged_on c.args.plan _ _ _ so-far.0 on.0 c.extensions.held.items so-far.2 on.2,
+      abridged_on c.args.plan _ _ _ so-far.0 on.0 c.extensions.held.bytes.items c.extensions.held.heads so-far.2 on.2,
     )
 
 pub extensions-smaller : goal.extensions-smaller

@@ -21,7 +21,7 @@ invariant-extensions g l = record {
         decoded = l.place.start;
         records = [];
       })
-      count l.held.items;
+      count l.held.bytes.items l.held.heads;
   stored : g.S.Source.stored l.file ≡ g.S.Source.stored l.fn.file;
   works : g.S.Source.works l.file ≡ g.S.Source.works l.fn.file;
 }

@@ -1,4 +1,4 @@
-use Rattle.std.proofs.Common.{rules, ◌≡◌, ◌-◌, List, ℕ, length, drop, ap, arith, length-drop}
+use Rattle.std.proofs.Common.{rules, ◌≡◌, List, ℕ, length, drop, ap, arith, length-drop}
 use Rattle.std.proofs.KnownBytes.{starts_with_rest}
 use Rattle.std.proofs.lemmas.Bool.{eqb-true}
 use Rattle.index_window.proofs.extensions.read_rest.Goals as goal

@@ -2,6 +2,6 @@ use Rattle.std.proofs.Common.{rules, ◌≡◌, None}
 use Rattle.index_window.proofs.windows.is_marked.Goals as goal
 
 pub returns-in_default : goal.returns-in_default
-returns-in_default c = λ e before len.
+returns-in_default c = λ e bytes h.
     let none : c.args.plan.offset ≡ None = search rules in
-    rw none (c.lacks_marker.ensures e c.args.plan.kind before)
+    rw (h.ends, none) (c.lacks_marker.ensures e c.args.plan.kind h.gone)

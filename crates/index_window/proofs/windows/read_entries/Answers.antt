@@ -52,3 +52,8 @@ windows-preserved g c =
         on_trans c.args.plan _ _ _ (so-far.0 + 0) (length more) took came,
       );
     }
+
+pub overflow_sub-len : goal.overflow_sub-len
+overflow_sub-len g c =
+    let took = c.in_ok-start.ensures.read (g.S.Source.remaining c.windows.file) in
+    omega (arith, took.moved.inside, c.take_entries.new.window.ok.0, c.len-then-len-plan.ensures)

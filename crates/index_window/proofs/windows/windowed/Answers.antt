@@ -1,8 +1,9 @@
-use Rattle.std.proofs.Common.{rules, ◌≡◌, ◌≤◌, ◌<◌, ◌+◌, ◌++◌, ℕ, List, [], length, drop, true, refl, sym, ap, subst, ◌∙◌}
-use Rattle.std.proofs.Common.{append_assoc, arith, length-drop, length-append}
-use Rattle.std.specs.Prelude.{Ok}
+use Rattle.std.proofs.Common.{rules, ◌≡◌, ◌≤◌, ◌<◌, ◌+◌, ◌++◌, ℕ, List, [], length, take, drop, true, refl, sym, ap}
+use Rattle.std.proofs.Common.{subst, ◌∙◌, append_assoc, arith, length-drop, length-append, length-take}
+use Rattle.std.specs.Prelude.{IfSome, Ok}
 use Rattle.std.specs.Io.KnownBytes.{Consumes}
 use Rattle.std.proofs.KnownBytes.{Consumes-trans}
+use Rattle.std.proofs.lemmas.List.{take-append-drop}
 use Rattle.std.proofs.lemmas.List.Elements.{All-append}
 use Rattle.index_parts.specs.Id.{id_len}
 use Rattle.index_entries.specs.Record.{AreBytes}
@@ -14,6 +15,7 @@ use Rattle.index_format.proofs.ReadValues.{says_storable}
 use Rattle.index_window.specs.Abridged.{IsAbridgedOn}
 use Rattle.index_window.specs.Behind.{FollowEntries}
 use Rattle.index_window.specs.Intact.{IsIntact}
+use Rattle.index_window.specs.Marked.{HasPassed}
 use Rattle.index_window.specs.Windowed.{Moment, IsMovedOn, IsReadOn}
 use Rattle.index_window.specs.declared.plan.Plan.{Plan}
 use Rattle.index_window.proofs.Abridging.{ending_whole}
@@ -77,7 +79,9 @@ returns-clause-read g c =
       records = [];
     } in
     let end = g.S.Source.remaining c.read_rest.new.file in
-    let h : IsAbridgedOn plan entries passed s.0 c.pass_extensions.new.held.items = s.2 in
+    let held = c.pass_extensions.new.held.bytes.items in
+    let heads = c.pass_extensions.new.held.heads in
+    let h : IsAbridgedOn plan entries passed s.0 held heads = s.2 in
     let p : IsMovedOn plan entries passed s.0 = h.is_passed.moved in
     let step : IsReadOn plan a b r.0 = r.2 in
     let rest : List ℕ = t.0 in
@@ -129,7 +133,7 @@ returns-clause-read g c =
       p.inside,
       c.pass_extensions.new.window.ok.0,
     ) in
-    let held-is : c.in_ok-ending.ending.items ≡ c.pass_extensions.new.held.items ++ drop at tail =
+    let held-is : c.in_ok-ending.ending.items ≡ held ++ drop at tail =
     c.in_ok-ending.ensures in
     let is-sound : c.is_sound.result ≡ true = search rules in
     let are-bytes : AreBytes (step.moved.taken ++ all) =
@@ -140,8 +144,49 @@ returns-clause-read g c =
     subst (IsIntact reading.skip_hash kind) bytes (c.is_sound.ensures.intact is-sound
     (p.kind_stays ∙ step.moved.kind_stays ∙ c.new-hasher.ensures.kind) hashed
     (λ is. p.hashed is step.moved.taken (step.moved.hashed is [] c.new-hasher.ensures.empty))) in
+    let before : List ℕ = step.moved.taken ++ take start all in
+    let first-len : length before ≡ length step.moved.taken + start = omega (
+      arith,
+      length-append step.moved.taken (take start all),
+      length-take start all,
+      length-append w1 more,
+      step.moved.inside,
+    ) in
+    let at-marker = rw c.in-Some-2.is at c.in_ok-start.ensures.named in
+    let named : IfSome c.args.offset (λ place. length before ≡ place) =
+    some_then c.args.offset _ (λ place. length before ≡ place)
+    (λ place e. omega (
+      arith,
+      e,
+      first-len,
+      size,
+      r.1,
+      s.1,
+      t.2,
+      count,
+      got,
+      within,
+      step.moved.len,
+      step.moved.inside,
+      ap length step.moved.bytes,
+      length-append first step.moved.more,
+      length-append step.moved.taken w1,
+      c.read_entries.new.window.ok.0,
+    )) at-marker in
+    let has-passed : HasPassed plan (step.moved.taken ++ all) lent at heads = record {
+      gone = hashed;
+      before = before;
+      passed = h.passed;
+      ends = sym bytes;
+      parts = ap (λ (l : List ℕ). step.moved.taken ++ l) (sym (take-append-drop start all)
+          ∙ ap (λ (l : List ℕ). take start all ++ l) (behind ∙ ap (λ (l : List ℕ). h.passed ++ drop at l) (sym value)))
+          ∙ sym (append_assoc step.moved.taken (take start all) (h.passed ++ drop at lent));
+      len = omega (arith, total, ap length bytes, length-append hashed lent);
+      heads = record { items = h.items; are = h.are; is_sha1 = h.is_sha1; hashed = h.hashed };
+      named = named;
+    } in
     let marker : IsMarker kind (step.moved.taken ++ all) c.args.offset =
-    subst (λ (l : List ℕ). IsMarker kind l c.args.offset) bytes (c.is_sound.ensures.marker is-sound hashed total) in
+    c.is_sound.ensures.marker is-sound (step.moved.taken ++ all) has-passed in
     let answer = answer_of_windows plan a b r.0 all more reading.timestamp reading.options c.args.offset c.args.len in
     some_two c.ending_of.result _ _ _ c.ending_of.ensures.ending c.ending_of.ensures.behind (λ x ending behind-is. (
       step.moved.taken ++ all,
@@ -151,7 +196,7 @@ returns-clause-read g c =
       intact,
       answer (x.parts, x.checksum) header counted c.in-Some.ensures.fits c.in-Some.ensures.small refl none whole step
           refl size marker (rw behind (ending_whole kind reading.timestamp reading.options declared.version records
-          h.items h.passed c.pass_extensions.new.held.items (drop at tail) (parts_contents x.parts, x.checksum) h.are
+          h.items h.passed held (drop at tail) (parts_contents x.parts, x.checksum) h.are
           h.held_are room (subst (λ (l : List ℕ). IsEnding kind reading.timestamp reading.options declared.version
           records l (Ok (parts_contents x.parts, x.checksum))) held-is ending))),
       λ keeps. subst (FollowEntries kind (step.moved.taken ++ all))

@@ -1,5 +1,4 @@
 use Rattle.std.proofs.Common.{sym, ap, ◌∙◌, subst}
-use Rattle.std.specs.Option.{option_map}
 use Rattle.std.proofs.lemmas.Result.{err_from_is_err_and}
 use Rattle.index_split.specs.Link.{link_of}
 use Rattle.index_state.specs.Dissolve.{IsDissolved, SaysDissolve}
@@ -8,36 +7,25 @@ use Rattle.index_state.specs.State.{contents}
 use Rattle.index_format.specs.Storable.{IsStorable}
 use Rattle.gix_index.specs.Disk.{disk_beside}
 use Rattle.gix_index.specs.File.{path_of, state_of, checksum_of}
-use Rattle.gix_index.specs.Linked.{IsUnfollowed, own, joined}
+use Rattle.gix_index.specs.Linked.{own, joined}
 use Rattle.gix_index.proofs.FileFaults.{of_link, of_shared}
 use Rattle.gix_index.proofs.Joined.{read_kind, unlinked_storable}
 use Rattle.gix_index.proofs.file.at.follow.Goals as goal
 
 pub returns-in_default-clause-read : goal.returns-in_default-clause-read
 returns-in_default-clause-read g c = λ known read.
-    let t = c.take_link.ensures in
-    let none = sym t.given ∙ ap (option_map link_of) c.in_default.is in
+    let t = c.take_followed_link.ensures in
     own (record {
       split = contents (state_of c.args.file);
       read = read;
-      unfollowed = subst IsUnfollowed (sym none) tt;
-      is = t.removed;
-    })
-
-pub returns-then-is_null-clause-read : goal.returns-then-is_null-clause-read
-returns-then-is_null-clause-read g c = λ known read.
-    let t = c.take_link.ensures in
-    let some = sym t.given ∙ ap (option_map link_of) c.in-Some.is in
-    own (record {
-      split = contents (state_of c.args.file);
-      read = read;
-      unfollowed = subst IsUnfollowed (sym some) (sym c.is_null.ensures ∙ c.if-is_null.true);
+      unfollowed = rw c.in_default.is at t.given;
       is = t.removed;
     })
 
 pub returns-in_err-shared-clause-fault : goal.returns-in_err-shared-clause-fault
 returns-in_err-shared-clause-fault g c =
-    let t = c.take_link.ensures in
+    let t = c.take_followed_link.ensures in
+    let link = rw c.in-Some.is at t.given in
     let r = c.args.reading in
     let p = err_from_is_err_and c.from_residual.result c.from_residual.ensures.1 in
     rw (p.1, p.2) (λ known read. of_shared r.skip_hash r.object_hash r.timestamp r.options (path_of c.args.file)
@@ -45,14 +33,15 @@ returns-in_err-shared-clause-fault g c =
     (checksum_of c.args.file) (link_of c.in-Some.link) c.in_err-shared.field-0.0
     (record {
       read = read;
-      has_link = sym t.given ∙ ap (option_map link_of) c.in-Some.is;
-      followed = sym c.is_null.ensures ∙ c.if-is_null.false;
+      has_link = link.has_link;
+      followed = link.followed;
     })
     (rw c.as_path.ensures at c.in_err-shared.ensures.fault))
 
 pub returns-in_err-dissolve_into-clause-fault : goal.returns-in_err-dissolve_into-clause-fault
 returns-in_err-dissolve_into-clause-fault g c =
-    let t = c.take_link.ensures in
+    let t = c.take_followed_link.ensures in
+    let link = rw c.in-Some.is at t.given in
     let r = c.args.reading in
     let s = rw c.as_path.ensures at c.in_ok-shared.ensures.read in
     let e = c.in_err-dissolve_into.field-0.0 in
@@ -63,8 +52,8 @@ returns-in_err-dissolve_into-clause-fault g c =
     (checksum_of c.args.file) (link_of c.in-Some.link) (contents c.in_ok-shared.shared) s.0 e
     (record {
       read = read;
-      has_link = sym t.given ∙ ap (option_map link_of) c.in-Some.is;
-      followed = sym c.is_null.ensures ∙ c.if-is_null.false;
+      has_link = link.has_link;
+      followed = link.followed;
     })
     s.1
     (subst (λ (v : Contents). SaysDissolve e (link_of c.in-Some.link) (contents c.in_ok-shared.shared) v) t.removed
@@ -72,7 +61,8 @@ returns-in_err-dissolve_into-clause-fault g c =
 
 pub returns-clause-read : goal.returns-clause-read
 returns-clause-read g c = λ known read.
-    let t = c.take_link.ensures in
+    let t = c.take_followed_link.ensures in
+    let link = rw c.in-Some.is at t.given in
     let s = rw c.as_path.ensures at c.in_ok-shared.ensures.read in
     let d = c.in_ok-dissolve_into.ensures.dissolved in
     joined (record {
@@ -80,8 +70,8 @@ returns-clause-read g c = λ known read.
       link = link_of c.in-Some.link;
       is_split = record {
         read = read;
-        has_link = sym t.given ∙ ap (option_map link_of) c.in-Some.is;
-        followed = sym c.is_null.ensures ∙ c.if-is_null.false;
+        has_link = link.has_link;
+        followed = link.followed;
       };
       shared = contents c.in_ok-shared.shared;
       shared_checksum = s.0;
@@ -93,11 +83,11 @@ returns-clause-read g c = λ known read.
 pub returns-clause-ids : goal.returns-clause-ids
 returns-clause-ids g c =
     c.dissolve_into.ensures.ids c.args.reading.object_hash
-    (rw c.take_link.ensures.entries c.requires.ids) c.in_ok-shared.ensures.ids
+    (rw c.take_followed_link.ensures.entries c.requires.ids) c.in_ok-shared.ensures.ids
 
 pub returns-clause-storable : goal.returns-clause-storable
 returns-clause-storable g c =
-    let t = c.take_link.ensures in
+    let t = c.take_followed_link.ensures in
     let s = c.in_ok-shared.ensures.read in
     let mine = read_kind _ _ _ _ c.requires.read.0 (contents (state_of c.args.file)) _ c.requires.read.1 in
     let theirs = read_kind _ _ _ _ s.1.bytes (contents c.in_ok-shared.shared) s.0 s.1.read in

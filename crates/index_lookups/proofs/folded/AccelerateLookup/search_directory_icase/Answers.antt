@@ -1,5 +1,5 @@
 use Rattle.std.proofs.Common.{◌≡◌, ◌+◌, ◌<◌, ◌≤◌, ℕ, Bool, true, false, List, length, map, sym, subst}
-use Rattle.index_lookups.specs.Digits.{digits}
+use Rattle.index_search.specs.Digits.{digits}
 use Rattle.index_entries.specs.Record.{Record}
 use Rattle.index_lookups.specs.Folded.{IsNamed, folded_closest, stands_in_folded}
 use Rattle.index_lookups.specs.NameSteps.{IsDirectoryTable, IsTableOf, named_value}

@@ -1,5 +1,5 @@
 use Rattle.index_lookups.specs.SearchSteps.{asked_cmp}
-use Rattle.index_lookups.proofs.Places.{mapped_at}
+use Rattle.index_search.proofs.Places.{mapped_at}
 use Rattle.index_lookups.proofs.search.AskedOrdered.compare.Goals as goal
 
 pub returns : goal.returns

@@ -1,11 +1,11 @@
 use Rattle.std.proofs.Common.{◌++◌, ap, sym, ◌∙◌}
 use Rattle.index_entries.specs.Record.{Record}
-use Rattle.index_lookups.specs.SearchSteps.{prefix_cmp}
-use Rattle.index_lookups.proofs.Places.{mapped_at}
+use Rattle.index_search.specs.Prefix.{prefix_cmp}
+use Rattle.index_search.proofs.Places.{mapped_at}
 use Rattle.index_lookups.proofs.search.PrefixOrdered.compare.Goals as goal
 
 pub returns : goal.returns
 returns c =
     let prefix = c.args.self.now.prefix.now ++ c.args.self.now.tail.now in
-    mapped_at (λ (r : Record). prefix_cmp prefix r.path) _ c.args.place c.compare_prefix.result c.requires
-    (λ d. ap (prefix_cmp prefix) (c.path.ensures d) ∙ sym c.compare_prefix.ensures)
+    mapped_at (λ (r : Record). prefix_cmp prefix r.path) _ c.args.place c.compare_pieces.result c.requires
+    (λ d. ap (prefix_cmp prefix) (c.path.ensures d) ∙ sym c.compare_pieces.ensures)

@@ -1,8 +1,8 @@
 use Rattle.std.proofs.Common.{◌<◌, ◌+◌, drop, ap, sym, ◌∙◌}
 use Rattle.std.specs.Prelude.{slice_range}
 use Rattle.index_entries.specs.Record.{Record}
-use Rattle.index_lookups.specs.SearchSteps.{prefix_cmp}
-use Rattle.index_lookups.proofs.Places.{mapped_at}
+use Rattle.index_search.specs.Prefix.{prefix_cmp}
+use Rattle.index_search.proofs.Places.{mapped_at}
 use Rattle.index_tree_writer.proofs.RunEnds.{range_at, range_inside}
 use Rattle.index_tree_writer.proofs.ends.TailsOrdered.compare.Goals as goal
 

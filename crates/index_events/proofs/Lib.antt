@@ -1,0 +1,6 @@
+mod Chain
+mod Listed
+mod Marked
+mod Steps
+mod Told
+mod TreeEvents

@@ -1,0 +1,86 @@
+-- What is told of an index, as a list of events: what a printer for people and one for programs both print (the
+-- library's own). Each field is told once, with what each of them calls it.
+use Rattle.std.specs.Prelude.{ℕ, Bool, List, ◌++◌, Option, if◌then◌else◌}
+use Rattle.std.specs.List.{enumerate_from, flat_map}
+use Rattle.index_bitmaps.specs.declared.ranges.Range.{Range}
+use Rattle.index_entries.specs.Record.{Record}
+use Rattle.index_metadata.specs.declared.entry.stat.Stat.{Stat}
+use Rattle.index_parts.specs.declared.hash.ObjectId.{ObjectId}
+use Rattle.index_small_extensions.specs.declared.index_entry_offset_table.Offset.{Offset}
+use Rattle.index_small_extensions.specs.declared.resolve_undo.Stage.{Stage}
+use Rattle.index_events.specs.declared.event.Field.{Field}
+use Rattle.index_events.specs.declared.event.Member.{Member}
+use Rattle.index_events.specs.declared.event.Member.TheVariants as members
+use Rattle.index_events.specs.declared.printer.Text.{Text}
+
+-- Where a value stands for programs: by itself, as the first member of an object or as another one, with its name, or in
+-- an array at a place.
+pub data Position : Type 0 where
+  alone : Position
+  first : List ℕ → Position
+  next : List ℕ → Position
+  element : ℕ → Position
+
+-- and for people: how far in its line stands, and what it is called there
+pub record FieldValue : Type 0 where
+  pub indent : List ℕ
+  pub words : List ℕ
+  pub position : Position
+
+abbrev pub position_of : Member → Position
+position_of members.Alone = alone
+position_of (members.First name) = first name.now
+position_of (members.Next name) = next name.now
+position_of (members.Element place) = element place
+
+unfoldable pub field_of : Field → FieldValue
+field_of f = record { indent = f.indent.now; words = f.words.now; position = position_of f.member }
+
+unfoldable pub first_field : List ℕ → List ℕ → List ℕ → FieldValue
+first_field indent words name = record { indent = indent; words = words; position = first name }
+
+unfoldable pub next_field : List ℕ → List ℕ → List ℕ → FieldValue
+next_field indent words name = record { indent = indent; words = words; position = next name }
+
+unfoldable pub element_field : List ℕ → List ℕ → ℕ → FieldValue
+element_field indent words place = record { indent = indent; words = words; position = element place }
+
+pub data Event : Type 0 where
+  number_field : FieldValue → ℕ → Event
+  text_field : FieldValue → List ℕ → Event
+  id_field : FieldValue → Option ObjectId → Event
+  answer_field : FieldValue → Bool → Event
+  ranges_field : FieldValue → List Range → Event
+  side_field : FieldValue → Option Stage → Event
+  block_field : FieldValue → Offset → Event
+  -- a value that isn't there, and what people read in its place
+  empty_field : FieldValue → List ℕ → Event
+  stat_field : (indent : List ℕ) → Position → Stat → Event
+  -- an entry, and its place among the entries
+  entry_item : ℕ → Record → Event
+  -- lines alone have headings, and counts
+  heading : (indent words : List ℕ) → Event
+  count_line : (indent words : List ℕ) → ℕ → Event
+  -- a text for programs alone has brackets, whether a thing is there, and an end
+  begin_object : Position → Event
+  end_object : Event
+  begin_array : Position → Event
+  end_array : Event
+  presence : Position → Bool → Event
+  end_text : Event
+
+-- the bytes that wait
+abbrev pub bytes_of : Text → List ℕ
+bytes_of t = t.bytes.items
+
+-- events one after another, each as a printer spells it
+abbrev pub print : (Event → List ℕ) → List Event → List ℕ
+print spell events = flat_map spell events
+
+-- the events of items, each with its place
+abbrev pub listed : {X : Type 0} → (ℕ → X → List Event) → List X → List Event
+listed events xs = flat_map (λ p. events p.0 p.1) (enumerate_from 0 xs)
+
+-- what belongs together, in the order of the printer
+abbrev pub in_order : Bool → List Event → List Event → List Event
+in_order backwards a b = if backwards then b ++ a else a ++ b

@@ -1,0 +1,162 @@
+//! All of an index file.
+
+ghost use Rattle.std.specs.Prelude.{◌≡◌, ◌≢◌, ◌++◌, IfErr, OnErr, OnOk, codes, false, true};
+ghost use Rattle.std.specs.IoError.{error_kind};
+ghost use Rattle.std.specs.Io.KnownBytes.{Appends};
+ghost use Rattle.index_entries.specs.EntryImage.{version_code};
+ghost use Rattle.index_parts.specs.Taking.{AppendsPrefix};
+ghost use Rattle.index_state.specs.State.{PathsInStorage, contents};
+ghost use Rattle.index_text.specs.Blocks.{Passes};
+ghost use Rattle.index_events.specs.Bitmaps.{link_events};
+ghost use Rattle.index_events.specs.Document.{behind_events, document_events, entry_events, head_events, last_events};
+ghost use Rattle.index_events.specs.Event.{bytes_of, listed, print};
+
+use crate::bitmaps::{append_link, append_monitor};
+use crate::event::Member::{Alone, Next};
+use crate::event::{first, next};
+use crate::marks::append_marks;
+use crate::printer::{Printer, Text};
+use crate::trees::write_tree;
+use crate::undo::write_undo;
+use crate::untracked::write_untracked;
+use index_entries::Version;
+use index_marks::Marks;
+use index_parts::hash::ObjectId;
+use index_parts::hash::io::Out;
+use index_state::State;
+use index_text::append::Appended;
+use index_text::block::{put_block, put_text};
+use std::alloc::Global;
+use std::io::{self, ErrorKind};
+
+/// The number of a version.
+fn number_of_version(version: Version) -> u64
+    ensures { result ≡ version_code version }
+{
+    match version {
+        Version::V2 => 2,
+        Version::V3 => 3,
+        Version::V4 => 4,
+    }
+}
+
+/// Tells what stands before the entries.
+#[tactic(auto, unfolding(crate::specs::Document::head_events))]
+fn append_head<P: Printer>(text: &mut Text, state: &State, checksum: Option<ObjectId>) -> Appended
+    ensures { OnOk result (bytes_of text.new
+        ≡ bytes_of text.old ++ print P.spell (head_events (contents state.now) checksum)) }
+{
+    let version = number_of_version(state.version());
+    P::begin_object(text, Alone)?;
+    P::number(text, first(b"", b"version", b"version"), version)?;
+    P::id(text, next(b"", b"checksum", b"checksum"), checksum)?;
+    P::answer(text, next(b"", b"sparse", b"is_sparse"), state.is_sparse())?;
+    P::count(text, b"", b"entries", state.entries().len() as u64)?;
+    P::begin_array(text, Next(b"entries"))
+}
+
+/// Tells each entry; what fills a block goes out.
+fn write_entries<P: Printer, W: Out>(text: &mut Text, state: &State, out: &mut W) -> io::Result<()>
+    requires placed { PathsInStorage state.now }
+    requires going { W.failed out.old ≡ false }
+    ensures ok { OnOk result (Passes (W.taken out.old) (W.taken out.new) (bytes_of text.new)
+        (bytes_of text.old ++ print P.spell (listed entry_events (contents state.now).records))) }
+    ensures err { OnErr result (AppendsPrefix (W.taken out.old) (W.taken out.new)
+        (bytes_of text.old ++ print P.spell (listed entry_events (contents state.now).records))) }
+    ensures going { OnOk result (W.failed out.new ≡ false) }
+    ensures cause { IfErr result
+        (λ e. error_kind e ≢ ErrorKind.OutOfMemory → W.failed out.new ≡ true) }
+{
+    for (place, entry) in state.entries().iter().enumerate() {
+        P::entry(text, state, place, entry)?;
+        put_block(&mut text.bytes, out)?;
+    }
+    Ok(())
+}
+
+/// Tells the link; what fills a block goes out.
+fn write_link<P: Printer, W: Out>(text: &mut Text, state: &State, out: &mut W) -> io::Result<()>
+    requires { W.failed out.old ≡ false }
+    ensures ok { OnOk result (Passes (W.taken out.old) (W.taken out.new) (bytes_of text.new)
+        (bytes_of text.old ++ print P.spell (link_events (contents state.now).extensions.link))) }
+    ensures err { OnErr result (AppendsPrefix (W.taken out.old) (W.taken out.new)
+        (bytes_of text.old ++ print P.spell (link_events (contents state.now).extensions.link))) }
+    ensures going { OnOk result (W.failed out.new ≡ false) }
+    ensures cause { IfErr result
+        (λ e. error_kind e ≢ ErrorKind.OutOfMemory → W.failed out.new ≡ true) }
+{
+    append_link::<P>(text, state)?;
+    put_block(&mut text.bytes, out)
+}
+
+/// Tells the file system monitor, the offset table and the end marker, and the end.
+#[tactic(auto, unfolding(crate::specs::Document::last_events))]
+fn append_last<P: Printer>(text: &mut Text, state: &State, marks: &Marks) -> Appended
+    ensures { OnOk result (bytes_of text.new ≡ bytes_of text.old
+        ++ print P.spell (last_events (contents state.now).extensions marks.now)) }
+{
+    let (table, marker) = (state.had_offset_table(), state.had_end_of_index_marker());
+    append_monitor::<P>(text, state)?;
+    append_marks::<P>(text, table, marker, marks)?;
+    P::end_object(text)?;
+    P::end_text(text)
+}
+
+/// Tells what stands behind the entries; what fills a block goes out.
+fn write_behind<P: Printer, W: Out>(
+    text: &mut Text,
+    state: &State,
+    marks: &Marks,
+    out: &mut W,
+) -> io::Result<()>
+    requires { W.failed out.old ≡ false }
+    ensures ok { OnOk result (Passes (W.taken out.old) (W.taken out.new) (bytes_of text.new)
+        (bytes_of text.old ++ print P.spell
+        (behind_events P.BACKWARDS (contents state.now).extensions marks.now))) }
+    ensures err { OnErr result (AppendsPrefix (W.taken out.old) (W.taken out.new)
+        (bytes_of text.old ++ print P.spell
+        (behind_events P.BACKWARDS (contents state.now).extensions marks.now))) }
+    ensures going { OnOk result (W.failed out.new ≡ false) }
+    ensures cause { IfErr result
+        (λ e. error_kind e ≢ ErrorKind.OutOfMemory → W.failed out.new ≡ true) }
+{
+    P::end_array(text)?;
+    write_tree::<P, W>(text, state, out)?;
+    write_link::<P, W>(text, state, out)?;
+    write_undo::<P, W>(text, state, out)?;
+    write_untracked::<P, W>(text, state, out)?;
+    Ok(append_last::<P>(text, state, marks)?)
+}
+
+/// Writes what a file holds, its index and the id at its end, as the printer puts it into text. What its offset table and
+/// its end marker say is given beside it, as [`marks_of`](index_marks::marks_of) reads them in its bytes. Nothing is
+/// told of extensions that the library doesn't read.
+///
+/// Text waits in one buffer, which goes out past 64 KiB. An error is that of the output, which has then failed, or want
+/// of memory for the buffer; what was written by then is a prefix of the text.
+pub fn write_document<P: Printer, W: Out>(
+    alloc: Global,
+    state: &State,
+    checksum: Option<ObjectId>,
+    marks: &Marks,
+    out: &mut W,
+) -> io::Result<()>
+    requires placed { PathsInStorage state.now }
+    requires going { W.failed out.old ≡ false }
+    ensures ok { OnOk result (Appends (W.taken out.old) (W.taken out.new) (print P.spell
+        (document_events P.BACKWARDS (contents state.now) checksum marks.now))) }
+    ensures err { OnErr result (AppendsPrefix (W.taken out.old) (W.taken out.new) (print P.spell
+        (document_events P.BACKWARDS (contents state.now) checksum marks.now))) }
+    ensures going { OnOk result (W.failed out.new ≡ false) }
+    ensures cause { IfErr result
+        (λ e. error_kind e ≢ ErrorKind.OutOfMemory → W.failed out.new ≡ true) }
+{
+    let mut text = Text {
+        bytes: Vec::new(alloc),
+        alloc,
+    };
+    append_head::<P>(&mut text, state, checksum)?;
+    write_entries::<P, W>(&mut text, state, out)?;
+    write_behind::<P, W>(&mut text, state, marks, out)?;
+    put_text(text.bytes.as_slice(), out)
+}

@@ -1,0 +1,55 @@
+//! Lines of ranges.
+
+ghost use Rattle.std.specs.Prelude.{◌≡◌, ◌++◌, OnOk, codes};
+ghost use Rattle.std.specs.List.{flat_map};
+ghost use Rattle.index_show.specs.Fields.{range_text, ranges_line, ranges_text};
+
+use index_bitmaps::ranges::Range;
+use index_text::append::{Appended, append_decimal};
+
+/// Appends a range.
+#[tactic(auto, unfolding(crate::specs::Fields::range_text))]
+fn append_range(lines: &mut Vec<u8>, range: Range) -> Appended
+    ensures { OnOk result (lines.new.items ≡ lines.old.items ++ range_text range) }
+{
+    lines.extend_from_slice(b" ")?;
+    append_decimal(lines, range.first)?;
+    if range.end.saturating_sub(range.first) == 1 {
+        return Ok(());
+    }
+    lines.extend_from_slice(b"-")?;
+    append_decimal(lines, range.end.saturating_sub(1))
+}
+
+/// Appends ranges.
+fn append_each(lines: &mut Vec<u8>, ranges: &[Range]) -> Appended
+    ensures { OnOk result (lines.new.items ≡ lines.old.items ++ flat_map range_text ranges.now) }
+{
+    for range in ranges {
+        append_range(lines, *range)?;
+    }
+    Ok(())
+}
+
+/// Appends ranges, or `none`.
+fn append_ranges_text(lines: &mut Vec<u8>, ranges: &[Range]) -> Appended
+    ensures { OnOk result (lines.new.items ≡ lines.old.items ++ ranges_text ranges.now) }
+{
+    if ranges.is_empty() {
+        return lines.extend_from_slice(b" none");
+    }
+    append_each(lines, ranges)
+}
+
+/// Appends a line with ranges.
+#[tactic(auto, unfolding(crate::specs::Fields::ranges_line))]
+pub fn append_ranges(lines: &mut Vec<u8>, indent: &[u8], name: &[u8], ranges: &[Range]) -> Appended
+    ensures { OnOk result
+        (lines.new.items ≡ lines.old.items ++ ranges_line indent.now name.now ranges.now) }
+{
+    lines.extend_from_slice(indent)?;
+    lines.extend_from_slice(name)?;
+    lines.extend_from_slice(b":")?;
+    append_ranges_text(lines, ranges)?;
+    lines.extend_from_slice(b"\n")
+}

@@ -1,0 +1,84 @@
+-- Whether a table can stand in a file by itself (the library's own; what a row's numbers stand for is in
+-- gitformat-index, "Index entry").
+use Rattle.std.specs.Prelude.{◌≡◌, ◌≢◌, ℕ, ◌+◌, ◌≤◌, ◌<◌, ◌⊎◌, Bool, false, true, List, All, length, take}
+use Rattle.std.specs.Prelude.{Option, Some, None, if◌then◌else◌}
+use Rattle.std.specs.List.{AllWithin, HoldsAt}
+use Rattle.std.specs.Option.{is_some}
+use Rattle.gix_index.specs.EntryImage.{is_removed, written}
+use Rattle.gix_index.specs.Flags.{stage_number}
+use Rattle.gix_index.specs.Kind.{Kind}
+use Rattle.gix_index.specs.Mode.{directory_mode, named_kind}
+use Rattle.gix_index.specs.Order.{IsStrictlyOrdered}
+use Rattle.gix_index.specs.Record.{Record}
+use Rattle.index_table.specs.Table.{kind_number, records_of, row_path}
+use Rattle.index_table.specs.declared.row.Row.{Row}
+use Rattle.index_table.specs.declared.write.Fault.{Fault}
+use Rattle.index_table.specs.declared.write.Fault.TheVariants as faults
+
+-- ---- rows
+
+-- the row's mode is one of the five that git has
+abbrev pub has_git_mode : Row → Bool
+has_git_mode row = is_some (named_kind row.mode)
+
+-- The row can stand in a file of the kind, with the mark of a sparse index or without: its stage is that of its flags;
+-- its mode is one of git's, and without the mark no directory's; its path lies among the bytes for paths, and has some,
+-- and no NUL.
+pub record CanStand (kind : Kind) (sparse : Bool) (paths : List ℕ) (row : Row) : Type 0 where
+  pub kind_is : row.kind ≡ kind_number kind
+  pub stage_is : row.stage ≡ stage_number row.flags
+  pub named_mode : has_git_mode row ≡ true
+  pub single : sparse ≡ false → row.mode ≢ directory_mode
+  pub inside : row.path_start + row.path_len ≤ length paths
+  pub named : row.path_len ≢ 0
+  pub plain : All (λ b. b ≢ 0) (row_path paths row)
+
+-- the row is marked REMOVE, or can stand there
+abbrev pub IsFit : Kind → Bool → List ℕ → Row → Type 0
+IsFit kind sparse paths row = is_removed row.flags ≡ false → CanStand kind sparse paths row
+
+-- the place of the first row that isn't fit, or None where each is
+abbrev pub IsFirstUnfit : Kind → Bool → List ℕ → List Row → Option ℕ → Type 0
+IsFirstUnfit kind sparse paths rows None = All (IsFit kind sparse paths) rows
+IsFirstUnfit kind sparse paths rows (Some place) =
+    (place < length rows) × HoldsAt (λ row. IsFit kind sparse paths row → ⊥) rows place
+    × AllWithin (IsFit kind sparse paths) rows 0 place
+
+-- ---- order
+
+-- the place of the first record that is written and isn't above the one that is written before it, or None where these
+-- strictly increase
+abbrev pub IsFirstFallen : List Record → Option ℕ → Type 0
+IsFirstFallen rs None = IsStrictlyOrdered (written rs)
+IsFirstFallen rs (Some place) =
+    (place < length rs) × IsStrictlyOrdered (written (take place rs))
+    × (IsStrictlyOrdered (written (take (place + 1) rs)) → ⊥)
+
+-- ---- tables
+
+-- each row is fit, and those that are written strictly increase by path, then stage
+pub record IsFitTable (kind : Kind) (sparse : Bool) (paths : List ℕ) (rows : List Row) : Type 0 where
+  pub fit : All (IsFit kind sparse paths) rows
+  pub ordered : IsStrictlyOrdered (written (records_of paths rows))
+
+-- the fault of a row that isn't fit: its mode where that is none of git's
+abbrev pub unfit_fault : ℕ → Row → Fault
+unfit_fault place row = if has_git_mode row then faults.Row place else faults.Mode place
+
+-- the fault is of the first row that isn't fit
+pub record HasUnfitRow (kind : Kind) (sparse : Bool) (paths : List ℕ) (rows : List Row) (fault : Fault) : Type 0 where
+  pub place : ℕ
+  pub first : IsFirstUnfit kind sparse paths rows (Some place)
+  pub fault_is : HoldsAt (λ row. fault ≡ unfit_fault place row) rows place
+
+-- each row is fit, and the fault is of the first that is written and isn't above the one before it
+pub record HasFallenRow (kind : Kind) (sparse : Bool) (paths : List ℕ) (rows : List Row) (fault : Fault) : Type 0 where
+  pub place : ℕ
+  pub fit : All (IsFit kind sparse paths) rows
+  pub fall : IsFirstFallen (records_of paths rows) (Some place)
+  pub fault_is : fault ≡ faults.Order place
+
+-- the first fault that a table has by itself
+abbrev pub IsUnfitTable : Kind → Bool → List ℕ → List Row → Fault → Type 0
+IsUnfitTable kind sparse paths rows fault =
+    HasUnfitRow kind sparse paths rows fault ⊎ HasFallenRow kind sparse paths rows fault

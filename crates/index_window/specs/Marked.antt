@@ -1,0 +1,40 @@
+-- An end marker at the end of a file that is read in windows (gitformat-index, "End of Index Entry"): most of the
+-- extensions that its digest is of aren't at hand any more.
+use Rattle.std.specs.Prelude.{◌≡◌, ℕ, List, [], ◌∷◌, ◌++◌, length, drop, codes, IfSome}
+use Rattle.index_parts.specs.Digest.{hasher_kind, Holds}
+use Rattle.index_parts.specs.Numbers.{be}
+use Rattle.index_parts.specs.declared.hash.Hasher.{Hasher}
+use Rattle.index_parts.specs.declared.hash.Kind.TheVariants.{Sha1}
+use Rattle.index_extensions.specs.EndMarker.{heads}
+use Rattle.index_extensions.specs.Walk.{Item, AreItems}
+use Rattle.index_window.specs.declared.plan.Plan.{Plan}
+
+-- bytes end in a marker that names a place and has a digest, whether these are so or not, and in a trailer of SHA-1
+pub record EndsAsMarker (bytes : List ℕ) (place : ℕ) (hash : List ℕ) : Type 0 where
+  pub front : List ℕ
+  pub offset : List ℕ
+  pub trailer : List ℕ
+  pub parts : bytes ≡ front ++ (codes "EOIE" ++ ((0 ∷ 0 ∷ 0 ∷ 24 ∷ []) ++ (offset ++ (hash ++ trailer))))
+  pub offset_len : length offset ≡ 4
+  pub hash_len : length hash ≡ 20
+  pub trailer_len : length trailer ≡ 20
+  pub is_offset : be offset ≡ place
+
+-- the hasher took in the heads of extensions, which are these bytes
+pub record HoldsHeads (passed : List ℕ) (hasher : Hasher) : Type 0 where
+  pub items : List Item
+  pub are : AreItems passed items []
+  pub is_sha1 : hasher_kind hasher ≡ Sha1
+  pub hashed : Holds hasher (heads items)
+
+-- All bytes of a file end in the tail. From the place that the end marker is to name they are extensions that were
+-- passed, of which the hasher took in the heads, and from a place of the tail on they weren't passed.
+pub record HasPassed (plan : Plan) (bytes tail : List ℕ) (start : ℕ) (hasher : Hasher) : Type 0 where
+  pub gone : List ℕ
+  pub before : List ℕ
+  pub passed : List ℕ
+  pub ends : bytes ≡ gone ++ tail
+  pub parts : bytes ≡ before ++ (passed ++ drop start tail)
+  pub len : length bytes ≡ plan.len
+  pub heads : HoldsHeads passed hasher
+  pub named : IfSome plan.offset (λ place. length before ≡ place)

@@ -1,0 +1,163 @@
+//! The rows about edits: entries that are sorted, taken out and verified.
+
+ghost use Rattle.gix_index.specs.State.{PathsInStorage};
+
+use gix_index::entry::{Flags, Mode, Stage, Stat};
+use gix_index::hash::Kind;
+use gix_index::verify::entries::Error;
+use gix_index::{BitFlags as _, State};
+use std::alloc::{AllocError, Global};
+use test_row_kit::show::{Bytes, Fields, Listed, Text, entries};
+use test_row_kit::words::{id_of, number_of, text_of};
+use test_row_kit::{Fault, Lines, Words};
+
+/// `edits`: what each edit answers, and the entries behind it.
+pub fn edits(out: &mut Lines, kind: Kind, words: &mut Words<'_>) -> Result<(), Fault> {
+    let mut state = words.entries(kind)?;
+    for _ in 0..u64::MAX {
+        let Some(word) = words.optional() else {
+            break;
+        };
+        edit(out, &mut state, word)?;
+    }
+    Ok(())
+}
+
+/// What one edit answers, a name and behind `=` what it takes.
+fn edit(out: &mut Lines, state: &mut State, word: &str) -> Result<(), Fault> {
+    let (name, taken) = word.split_once('=').unwrap_or((word, ""));
+    if !state.paths_in_storage() {
+        return Err(Fault::Wrong("an edit of a list with its paths in the storage"));
+    }
+    match name {
+        "verify" => {
+            verify(out, word, state);
+            return Ok(());
+        }
+        "storage" => {
+            lend_storage(out, word, state);
+            return Ok(());
+        }
+        "sort" => done(out, word, state.sort_entries()),
+        "sort-down" => {
+            let sorted = state.sort_entries_by(|a, b| b.id.as_bytes().cmp(a.id.as_bytes()));
+            done(out, word, sorted);
+        }
+        "push" => push(out, word, state, taken)?,
+        "remove" => remove(out, word, state, taken),
+        "at" => remove_at(out, word, state, number_of(taken)?)?,
+        "executable" => make_executable(out.alloc(), state, taken)?,
+        _ => return Err(Fault::Wrong("the name of an edit")),
+    }
+    write!(out, "{word}: ");
+    if state.paths_in_storage() {
+        entries(out, state);
+    }
+    Ok(())
+}
+
+/// Tells where an edit had no memory. The entries behind it are as before then.
+fn done(out: &mut Lines, word: &str, answer: Result<(), AllocError>) {
+    if answer.is_err() {
+        writeln!(out, "{word}: fault: memory");
+    }
+}
+
+/// Pushes an entry with this path, a plain file with an id of bytes 11.
+fn push(out: &mut Lines, word: &str, state: &mut State, path: &str) -> Result<(), Fault>
+    requires { PathsInStorage state.old }
+{
+    let path = text_of(out.alloc(), path)?;
+    let id = id_of(out.alloc(), state.object_hash(), "11")?;
+    let flags = Flags::from_stage(Stage::Unconflicted);
+    let pushed = state.dangerously_push_entry(Stat::default(), id, flags, Mode::FILE, &path);
+    done(out, word, pushed);
+    Ok(())
+}
+
+/// Takes the storage of the paths out, tells its bytes, and gives it back.
+fn lend_storage(out: &mut Lines, word: &str, state: &mut State) {
+    let storage = state.take_path_backing();
+    writeln!(out, "{word}: storage: {}", Bytes(&storage));
+    state.return_path_backing(storage);
+}
+
+/// Tells which entry is the first that isn't above the one before it.
+fn verify(out: &mut Lines, word: &str, state: &State)
+    requires { PathsInStorage state.now }
+{
+    match state.verify_entries() {
+        Ok(()) => writeln!(out, "{word}: verify: ordered"),
+        Err(
+            Error::OutOfOrder {
+                current_index,
+                current_path,
+                current_stage,
+                previous_path,
+                previous_stage,
+            },
+        ) => {
+            let (current, previous) = (current_stage as u32, previous_stage as u32);
+            write!(out, "{word}: fault: {}:{current} at ", Text(&current_path));
+            writeln!(
+                out,
+                "{current_index} behind {}:{previous}",
+                Text(&previous_path)
+            );
+        }
+        Err(Error::Memory) => writeln!(out, "{word}: fault: memory"),
+    }
+}
+
+/// Takes out the entries at these places, and tells which places the closure sees. It marks each entry with `UPTODATE`.
+fn remove(out: &mut Lines, word: &str, state: &mut State, places: &str)
+    requires { PathsInStorage state.old }
+{
+    let mut seen = Vec::new(out.alloc());
+    state.remove_entries(|place, _path, entry| {
+        out.note(seen.push(place));
+        entry.flags = entry.flags.union(Flags::UPTODATE);
+        is_among(places, place)
+    });
+    writeln!(out, "{word}: seen: {}", Listed(&seen));
+}
+
+/// Whether the place is one of those that a word joins by `,`.
+fn is_among(places: &str, place: usize) -> bool {
+    for word in places.split(',') {
+        if word.parse::<usize>().is_ok_and(|it| it == place) {
+            return true;
+        }
+    }
+    false
+}
+
+/// Gives the entry of a path and a stage, where there is one, the mode of a file that can be run.
+fn make_executable(alloc: Global, state: &mut State, key: &str) -> Result<(), Fault>
+    requires { PathsInStorage state.old }
+{
+    let Some((path, stage)) = key.split_once(':') else {
+        return Err(Fault::Wrong("a path and a stage"));
+    };
+    let stage = match stage {
+        "0" => Stage::Unconflicted,
+        "1" => Stage::Base,
+        "2" => Stage::Ours,
+        "3" => Stage::Theirs,
+        _ => return Err(Fault::Wrong("a stage")),
+    };
+    if let Some(entry) = state.entry_mut_by_path_and_stage(&text_of(alloc, path)?, stage) {
+        entry.mode = Mode::FILE_EXECUTABLE;
+    }
+    Ok(())
+}
+
+/// Takes the entry at a place out, and tells what it is but for its path.
+fn remove_at(out: &mut Lines, word: &str, state: &mut State, place: usize) -> Result<(), Fault> {
+    if place >= state.entries().len() {
+        return Err(Fault::Wrong("the place of an entry"));
+    }
+    let entry = state.remove_entry_at_index(place);
+    writeln!(out, "{word}: removed: {}", Fields(&entry));
+    Ok(())
+}

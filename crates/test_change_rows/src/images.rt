@@ -1,0 +1,152 @@
+//! The rows about writing.
+
+ghost use Rattle.std.specs.Prelude.{◌≡◌, IfOk};
+ghost use Rattle.gix_index.specs.State.{PathsInStorage};
+
+use crate::trees::tree_of;
+use gix_index::entry::{FileTime, Flags};
+use gix_index::extension::tree::write::Error;
+use gix_index::extension::{Tree, end_of_index_entry, sparse};
+use gix_index::hash::Kind;
+use gix_index::hash::io::Plain;
+use gix_index::write::{Extensions, Options, VersionChoice};
+use gix_index::{BitFlags as _, File, State, decode};
+use std::alloc::Global;
+use std::path::PathBuf;
+use test_row_kit::show::{Bytes, OrNone, version_of};
+use test_row_kit::{Fault, Lines, Words, refusal};
+
+/// `image`, and `image4` in version 4: the file that is written of a state, after as many times that it was written and
+/// read.
+pub fn image(
+    out: &mut Lines,
+    version: VersionChoice,
+    kind: Kind,
+    words: &mut Words<'_>,
+) -> Result<(), Fault> {
+    let mut state = match words.state(kind)? {
+        Ok(state) => state,
+        Err(e) => {
+            refusal::decode(out, &e);
+            return Ok(());
+        }
+    };
+    let options = Options {
+        version,
+        extensions: choice_of(words.next("a choice of extensions")?)?,
+        skip_hash: has_null_trailer(words.next("a trailer")?)?,
+    };
+    let times = words.number::<u32>()?;
+    if words.has("removed") {
+        mark_removed(&mut state);
+    }
+    if words.has("tree") {
+        set_tree(&mut state, tree_of(kind, words)?)?;
+    }
+    for _ in 0..times {
+        state = rewritten(out.alloc(), kind, state, options)?;
+    }
+    let file = File::from_state(state, PathBuf::new(out.alloc()));
+    show(out, &file, options)
+}
+
+/// Marks each entry as one that a file leaves out.
+fn mark_removed(state: &mut State) {
+    for entry in state.entries_mut() {
+        entry.flags = entry.flags.union(Flags::REMOVE);
+    }
+}
+
+/// Puts a cached tree in the place of the state's own.
+fn set_tree(state: &mut State, made: Tree) -> Result<(), Fault> {
+    let Some(tree) = state.tree_mut() else {
+        return Err(Fault::Wrong("a state with a cached tree"));
+    };
+    *tree = made;
+    Ok(())
+}
+
+fn has_null_trailer(word: &str) -> Result<bool, Fault> {
+    match word {
+        "digest" => Ok(false),
+        "null" => Ok(true),
+        _ => Err(Fault::Wrong("digest or null")),
+    }
+}
+
+fn choice_of(word: &str) -> Result<Extensions, Fault> {
+    let (tree_cache, end_of_index_entry) = match word {
+        "all" => return Ok(Extensions::All),
+        "none" => return Ok(Extensions::None),
+        "neither" => (false, false),
+        "tree" => (true, false),
+        "marker" => (false, true),
+        "both" => (true, true),
+        _ => return Err(Fault::Wrong("a choice of extensions")),
+    };
+    Ok(Extensions::Given {
+        tree_cache,
+        end_of_index_entry,
+    })
+}
+
+/// What is read of the file that is written of the state.
+fn rewritten(alloc: Global, kind: Kind, state: State, options: Options) -> Result<State, Fault> {
+    let file = File::from_state(state, PathBuf::new(alloc));
+    let mut image = Plain::new(Vec::new(alloc));
+    if !file.paths_in_storage() || file.write_to(&mut image, options).is_err() {
+        return Err(Fault::Wrong("a state that can be written"));
+    }
+    let options = decode::Options::default();
+    match State::from_bytes(alloc, &image.inner, FileTime::EPOCH, kind, options) {
+        Ok((state, _)) => Ok(state),
+        Err(_) => Err(Fault::Wrong("a state that can be read again")),
+    }
+}
+
+/// Tells what is written of the file.
+fn show(out: &mut Lines, file: &File, options: Options) -> Result<(), Fault> {
+    let mut image = Plain::new(Vec::new(out.alloc()));
+    if !file.paths_in_storage() {
+        return Err(Fault::Wrong("a state with its paths in the storage"));
+    }
+    match file.write_to(&mut image, options) {
+        Ok((version, id)) => {
+            out.put("version", version_of(version));
+            out.put("checksum", id);
+        }
+        Err(e) => refusal::write(out, &e),
+    }
+    out.put("len", image.inner.len());
+    out.put("bytes", Bytes(&image.inner));
+    Ok(())
+}
+
+/// `end-marker`: the marker behind entries that end there, with no extension before it.
+pub fn end_marker(out: &mut Lines, kind: Kind, words: &mut Words<'_>) -> Result<(), Fault> {
+    let mut image = Plain::new(Vec::new(out.alloc()));
+    end_of_index_entry::write_to(&mut image, kind, words.number()?, &[])?;
+    out.put("write_to", Bytes(&image.inner));
+    Ok(())
+}
+
+/// `sparse-mark`: the mark of an index with sparse directories.
+pub fn sparse_mark(out: &mut Lines) -> Result<(), Fault> {
+    let mut image = Plain::new(Vec::new(out.alloc()));
+    sparse::write_to(&mut image)?;
+    out.put("write_to", Bytes(&image.inner));
+    Ok(())
+}
+
+/// `write-tree`: the extension of a cached tree, and how long its content is.
+pub fn tree(out: &mut Lines, kind: Kind, words: &mut Words<'_>) -> Result<(), Fault> {
+    let tree = tree_of(kind, words)?;
+    let mut image = Plain::new(Vec::new(out.alloc()));
+    out.put("content_len", OrNone(tree.content_len()));
+    match tree.write_to(&mut image) {
+        Ok(()) => out.put("write_to", Bytes(&image.inner)),
+        Err(Error::TooLarge) => out.put("fault", "too large"),
+        Err(Error::Io(_)) => out.put("fault", "writer"),
+    }
+    Ok(())
+}

@@ -1,0 +1,58 @@
+//! `index-lookup-rows`: what lookups and searches answer for each row of a table.
+//!
+//! The table comes on standard input. `tests/model/DIALECT.md` says how a row is written and which lines answer it. A
+//! row that can't be understood ends the program with its number on standard error and status 1.
+#![tactic(auto)]
+
+mod icase;
+mod ordered;
+mod place;
+mod search;
+mod unordered;
+
+ghost use Rattle.std.specs.Prelude.{◌≡◌};
+ghost use Rattle.gix_index.specs.State.{PathsInStorage};
+
+use gix_index::State;
+use std::process::ExitCode;
+use test_row_kit::{Answer, Fault, Lines, Words, refusal, rows};
+
+/// The rows of this program.
+struct Rows;
+
+impl Answer for Rows {
+    fn answer(&self, call: &str, words: &mut Words<'_>, out: &mut Lines) -> Result<(), Fault> {
+        let kind = words.kind()?;
+        let state = match words.state(kind)? {
+            Ok(state) => state,
+            Err(e) => {
+                refusal::decode(out, &e);
+                return Ok(());
+            }
+        };
+        match call {
+            "lookup" => lookup(out, &state, &words.texts()?)?,
+            "search" => search::search(out, &state, words)?,
+            "order" => search::order(out, &state),
+            _ => return Err(Fault::Wrong("the name of a call")),
+        }
+        Ok(())
+    }
+}
+
+/// What the lookups answer for the paths. A new lookup is a line of one of the three modules.
+fn lookup(out: &mut Lines, state: &State, paths: &[Vec<u8>]) -> Result<(), Fault>
+    requires { PathsInStorage state.now }
+{
+    icase::lookups(out, state, paths)?;
+    if state.is_ordered_by_path() {
+        ordered::lookups(out, state, paths)?;
+    } else {
+        unordered::lookups(out, state, paths);
+    }
+    Ok(())
+}
+
+fn main(rt: HostRuntime) -> ExitCode {
+    rows(&rt, "index-lookup-rows", &Rows)
+}

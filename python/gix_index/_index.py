@@ -1,0 +1,323 @@
+"""An index, and one that is locked."""
+from __future__ import annotations
+
+import ctypes
+import os
+from typing import Any, Iterator, List, Optional, Sequence, Tuple, Union, overload
+
+from ._faults import Status, Text, by_kind, fault_of, file_path, raise_unwritten
+from ._library import ROW, Bytes, Form, Lock, Places, Summary, Table, Time, Written, at, bytes_at, library
+from ._values import NANOSECONDS, Entry, FilePath, Flags, Kind, Mode, Path, Stat
+
+
+class Index(Sequence[Entry]):
+    """The entries of an index, in the order of its file, as a sequence.
+
+    Searches and changes take entries that strictly increase by path, byte by byte, and then by stage, as those of a
+    sound index do; `check` says whether an index's do.
+    """
+
+    kind: Kind  #: of the ids
+    version: int  #: of the file that was read: 2, 3 or 4; of a new index 2
+    mtime_ns: int  #: when the file was written last that this was read from, as `os.stat_result` has it, or 0
+    shared_id: Optional[bytes]  #: the id of the shared index that the bytes link to and that wasn't read
+
+    def __init__(self, kind: Kind = Kind.SHA1) -> None:
+        """An index with no entry."""
+        self.kind, self.version, self.mtime_ns, self.shared_id = kind, 2, 0, None
+        # (a row is as C has it, its path's place among the paths)
+        self._rows, self._paths, self._base, self._is_part = bytearray(), bytearray(), b"", False
+
+    @classmethod
+    def from_bytes(cls, data: Bytes, kind: Optional[Kind] = None, shared: Optional[Bytes] = None) -> Index:
+        """Reads an index from all bytes of its file, and of the shared index that it links to, where these are given.
+
+        Without a kind it is the one as which the bytes are read. Bytes that are no index are `Refused`.
+        """
+
+        def read(kind: Kind) -> Index:
+            index = Index(kind)
+            index._fill(bytes(data), None if shared is None else bytes(shared))
+            return index
+
+        return by_kind(kind, read)
+
+    @classmethod
+    def open(cls, path: FilePath, kind: Optional[Kind] = None) -> Index:
+        """Reads the index at a path. A link to a shared index is followed: that is the file sharedindex.ID beside it.
+
+        Without a kind it is the one as which the file is read. Bytes that are no index are `Refused`; an OSError is of
+        the file system.
+        """
+
+        def read(kind: Kind) -> Index:
+            index = Index(kind)
+            index._fill_from(path)
+            return index
+
+        return by_kind(kind, read)
+
+    @classmethod
+    def lock(cls, path: FilePath, kind: Optional[Kind] = None, missing_ok: bool = False) -> Locked:
+        """Locks the index at a path, as git locks it, and reads it.
+
+        In a `with` statement the lock file is removed at its end, and the index stays as it was, unless
+        `Locked.commit` was called. Symbolic links are followed first, five at most. FileExistsError: the lock file is
+        there, as another process writes the index, or died while it did. Where no file is at the path, this is
+        FileNotFoundError, or with missing_ok an index with no entry.
+        """
+        lock = _Held(path)
+        try:
+            return by_kind(kind, lambda kind: Locked(lock, kind, missing_ok))
+        except BaseException:
+            lock.give_up()
+            raise
+
+    # ---- Reading
+
+    def _fill(self, data: bytes, shared: Optional[bytes]) -> None:
+        words = (data, len(data)) if shared is None else (data, len(data), shared, len(shared))
+        call = library().gix_index_read if shared is None else library().gix_index_read_split
+        rows, paths, text, said = bytearray(), bytearray(), Text(), Summary()
+        # (the sizes come first, without digests, unless there is a fault: a wrong digest is told before all others)
+        for skip_hash in (True, False, False):
+            room = (at(rows), len(rows) // ROW.size, at(paths), len(paths), text.room, len(text.room))
+            status = call(*words, self.kind.number, skip_hash, *room, ctypes.byref(said))
+            if status == Status.DONE and not skip_hash:
+                break
+            if status in (Status.DONE, Status.NO_ROOM):
+                rows, paths = bytearray(said.entries * ROW.size), bytearray(said.path_bytes)
+        if status != Status.DONE:
+            raise fault_of(status, None, said, text.of(said))
+        self._rows, self._paths, self._base = rows, paths, data
+        self._take(said)
+
+    def _fill_from(self, path: FilePath) -> None:
+        table, text = Table(), Text()
+        words = (file_path(path), self.kind.number, text.room, len(text.room), ctypes.byref(table))
+        status = library().gix_index_read_file(*words)
+        try:
+            if status != Status.DONE:
+                raise fault_of(status, path, table.said, text.of(table.said))
+            self._rows = bytearray(bytes_at(table.rows, table.said.entries * ROW.size))
+            self._paths = bytearray(bytes_at(table.paths, table.said.path_bytes))
+            self._base = bytes_at(table.bytes, table.bytes_len)
+            self.mtime_ns = table.mtime.tv_sec * NANOSECONDS + table.mtime.tv_nsec
+            self._take(table.said)
+        finally:
+            library().gix_index_drop_table(ctypes.byref(table))
+
+    def _take(self, said: Summary) -> None:
+        shared_id = bytes(said.shared_id)[: self.kind.len_in_bytes]
+        self.version, self._is_part = said.version, bool(said.has_link)
+        self.shared_id = shared_id if said.has_link and any(shared_id) else None
+
+    def _table(self) -> Tuple[Any, ...]:
+        return (at(self._rows), len(self), at(self._paths), len(self._paths))
+
+    # ---- Entries
+
+    def _entry(self, fields: Tuple[Any, ...]) -> Entry:
+        *numbers, mode, flags, _, _, id, start, size = fields
+        path = bytes(self._paths[start : start + size])
+        return Entry(path, id[: self.kind.len_in_bytes], mode, flags, Stat(*numbers))
+
+    def __len__(self) -> int:
+        return len(self._rows) // ROW.size
+
+    def __iter__(self) -> Iterator[Entry]:
+        return map(self._entry, ROW.iter_unpack(bytes(self._rows)))
+
+    @overload
+    def __getitem__(self, place: int) -> Entry: ...
+
+    @overload
+    def __getitem__(self, place: slice) -> List[Entry]: ...
+
+    def __getitem__(self, place: Union[int, slice]) -> Union[Entry, List[Entry]]:
+        if isinstance(place, slice):
+            return [self[each] for each in range(*place.indices(len(self)))]
+        # (a range raises an IndexError of a place that isn't there)
+        return self._entry(ROW.unpack_from(self._rows, range(len(self))[place] * ROW.size))
+
+    def __repr__(self) -> str:
+        return f"<{type(self).__name__} of {len(self)} entries, {self.kind.value}, version {self.version}>"
+
+    @property
+    def entries(self) -> List[Entry]:
+        """All entries."""
+        return list(self)
+
+    def find(self, path: Path, stage: int = 0) -> Optional[Entry]:
+        """The entry at the path and the stage, or None."""
+        name = os.fsencode(path)
+        place = library().gix_index_find(*self._table(), name, len(name), stage)
+        return self[place] if place < len(self) else None
+
+    def prefix(self, prefix: Path) -> List[Entry]:
+        """The entries whose path begins with the bytes of the prefix."""
+        name, places = os.fsencode(prefix), Places()
+        status = library().gix_index_find_prefix(*self._table(), name, len(name), ctypes.byref(places))
+        return self[places.start : places.end] if status == Status.DONE else []
+
+    def closest(self, directory: Path) -> Optional[Entry]:
+        """The first entry that stands for the directory, a sparse one or a submodule; else the first one below it."""
+        name = os.fsencode(directory)
+        place = library().gix_index_closest(*self._table(), name, len(name))
+        return self[place] if place < len(self) else None
+
+    # ---- Changes
+
+    def _place(self, path: bytes, stage: int = 0) -> int:
+        """The place before which all entries come that are less than this path and stage."""
+        low, high = 0, len(self)
+        while low < high:
+            middle = (low + high) // 2
+            entry = self[middle]
+            low, high = (middle + 1, high) if (entry.path, entry.stage) < (path, stage) else (low, middle)
+        return low
+
+    def _cut(self, path: bytes) -> int:
+        """Takes out the entries at a path, at each stage, and says how many."""
+        start, end = self._place(path), self._place(path, 4)
+        del self._rows[start * ROW.size : end * ROW.size]
+        return end - start
+
+    def _directories(self, path: bytes) -> List[bytes]:
+        """The directories above a path, where none of them is one of a sparse index."""
+        ends = [end for end, byte in enumerate(path) if byte == ord("/")]
+        for end in ends:
+            entry = self.find(path[: end + 1])
+            if entry is not None and entry.mode == Mode.DIRECTORY:
+                raise ValueError(f"{os.fsdecode(path)} lies in a directory of a sparse index")
+        return [path[:end] for end in ends]
+
+    def unstage(self, path: Path) -> int:
+        """Takes out the entries at a path, in conflict or not, and all below it. The answer says how many they were.
+
+        A path in a directory of a sparse index is a ValueError.
+        """
+        name = os.fsencode(path)
+        self._directories(name)
+        # (0 is the byte behind the slash)
+        start, end = self._place(name + b"/"), self._place(name + b"0")
+        del self._rows[start * ROW.size : end * ROW.size]
+        return end - start + self._cut(name)
+
+    def stage(self, *entries: Entry) -> None:
+        """Puts entries in, each in place of those that are in its way.
+
+        Those are the ones at its path and its stage, and for an entry that isn't in conflict the ones at its path at
+        each stage, those below it, and those at the directories above it. A path in a directory of a sparse index, and
+        an id of another length than those of the index, are a ValueError.
+        """
+        for entry in entries:
+            (path, id, mode, flags, seen), stage = entry, entry.stage
+            if len(id) != self.kind.len_in_bytes:
+                raise ValueError(f"an id has {len(id)} bytes, and those of the index have {self.kind.len_in_bytes}")
+            for directory in self._directories(path):
+                if not stage:
+                    self._cut(directory)
+            if stage:
+                start, end = self._place(path, stage), self._place(path, stage + 1)
+            else:
+                self.unstage(path)
+                start = end = self._place(path)
+            row = ROW.pack(*seen, mode, flags, stage, self.kind.number, id, len(self._paths), len(path))
+            self._rows[start * ROW.size : end * ROW.size] = row
+            self._paths += path
+
+    # ---- Writing
+
+    def _form(self, version: Optional[int], skip_hash: bool) -> Form:
+        if self._is_part:
+            raise ValueError("the index is split, and its link to a shared index isn't followed")
+        return Form(self.kind.number, (4 if self.version == 4 else 2) if version is None else version, skip_hash)
+
+    def to_bytes(self, version: Optional[int] = None, skip_hash: bool = False) -> bytes:
+        """All bytes of the index as a file.
+
+        Where it was read from bytes, their mark of a sparse index is kept, and their cached tree if it tells what the
+        entries give. The version is 4 or 2, of which the latter is 3 where an entry's flags ask for it; without one it
+        stays 4. With skip_hash zeros stand in place of the digest. Entries out of order, or that can't stand in a file,
+        are `Refused`.
+        """
+        form, told, base = self._form(version, skip_hash), Written(), self._base
+        call = library().gix_index_write_over if base else library().gix_index_write
+        over = (base, len(base)) if base else ()
+        room, status = bytearray(), Status.NO_ROOM
+        while status == Status.NO_ROOM:
+            room = bytearray(told.bytes)
+            status = call(*self._table(), *over, ctypes.byref(form), at(room), len(room), ctypes.byref(told))
+        raise_unwritten(status, told)
+        return bytes(room[: told.bytes])
+
+
+class _Held:
+    """A lock file, and what is locked by it."""
+
+    def __init__(self, path: FilePath) -> None:
+        self.at, self.owner = Lock(), os.getpid()
+        status = library().gix_index_lock_file(file_path(path), ctypes.byref(self.at))
+        if status != Status.DONE:
+            fault = fault_of(status, os.fsdecode(self.at.lock_path or self.at.path or path), self.at, "")
+            self.give_up()
+            if isinstance(fault, FileExistsError):
+                fault.strerror = "Another process writes the index, or died in it; if none runs, remove this file"
+            raise fault
+        self.path = os.fsdecode(self.at.path)
+
+    def give_up(self) -> None:
+        """Removes the lock file, if it is held still. A process that was forked leaves it to its parent."""
+        if os.getpid() == self.owner:
+            library().gix_index_rollback(ctypes.byref(self.at))
+
+
+class Locked(Index):
+    """An index that is locked, as `Index.lock` makes it, until it is committed or closed.
+
+    It is made for a `with` statement, which closes it at its end.
+    """
+
+    def __init__(self, lock: _Held, kind: Kind, missing_ok: bool) -> None:
+        super().__init__(kind)
+        self.path = lock.path  #: the file that is locked: the path that was given, behind all symbolic links
+        # (where nothing is at the path, its mode is 0)
+        if lock.at.mode or not missing_ok:
+            self._fill_from(lock.path)
+        self._lock = lock
+
+    def __enter__(self) -> Locked:
+        return self
+
+    def __exit__(self, *_: object) -> None:
+        self.close()
+
+    def __del__(self) -> None:
+        if hasattr(self, "_lock") and self._lock.at.is_held:
+            self.close()
+
+    def close(self) -> None:
+        """Gives the lock up: where it is held still, the index stays as it was, and the lock file is removed."""
+        self._lock.give_up()
+
+    def commit(self, version: Optional[int] = None, skip_hash: bool = False, sync: bool = False) -> None:
+        """Writes this in place of the index that is locked, and ends the lock.
+
+        What is written is what `Index.to_bytes` gives. The file keeps its permissions, and the time of the index that
+        was read, so that git looks at each file that it would have looked at before. With sync it is on the disk before
+        it takes its place. After an exception the index is as it was, and the lock is ended too.
+        """
+        form, told, table = self._form(version, skip_hash), Written(), Table()
+        if not self._lock.at.is_held:
+            raise ValueError("the index isn't locked any more")
+        # (these names keep the memory that the table points to)
+        rows, paths, base = at(self._rows), at(self._paths), ctypes.c_char_p(self._base)
+        table.rows, table.paths = (ctypes.addressof(room) if room else None for room in (rows, paths))
+        table.bytes = ctypes.cast(base, ctypes.c_void_p).value if self._base else None
+        table.bytes_len = len(self._base)
+        table.mtime = Time(*divmod(self.mtime_ns, NANOSECONDS))
+        table.said.entries, table.said.path_bytes = len(self), len(self._paths)
+        words = (ctypes.byref(table), ctypes.byref(form), sync, ctypes.byref(told))
+        status = library().gix_index_commit(ctypes.byref(self._lock.at), *words)
+        raise_unwritten(status, told, self.path)

@@ -1,0 +1,130 @@
+"""Kinds, modes, flags, stats and entries, and what is raised."""
+from __future__ import annotations
+
+import enum
+import os
+import stat
+from typing import NamedTuple, Optional, Tuple, Union
+
+from ._library import NUMBERS
+
+Path = Union[str, bytes]
+FilePath = Union[str, bytes, "os.PathLike[str]", "os.PathLike[bytes]"]
+_UINT32 = 0xFFFFFFFF
+NANOSECONDS = 1_000_000_000
+
+
+class Kind(enum.Enum):
+    """Which hash function a repository names its objects by."""
+
+    SHA1 = "sha1"
+    SHA256 = "sha256"
+
+    @property
+    def len_in_bytes(self) -> int:
+        """How many bytes an id of this kind has."""
+        return 20 if self is Kind.SHA1 else 32
+
+    @property
+    def number(self) -> int:
+        """The number that the library has for it."""
+        return NUMBERS[f"GIX_INDEX_{self.name}"]
+
+
+class Mode(enum.IntEnum):
+    """The mode of an entry's file: the kind, and whether its owner may run it."""
+
+    DIRECTORY = NUMBERS["GIX_INDEX_DIRECTORY"]  #: a directory of a sparse index
+    FILE = NUMBERS["GIX_INDEX_FILE"]
+    EXECUTABLE = NUMBERS["GIX_INDEX_EXECUTABLE"]
+    LINK = NUMBERS["GIX_INDEX_LINK"]
+    COMMIT = NUMBERS["GIX_INDEX_COMMIT"]  #: a submodule
+
+    @classmethod
+    def of(cls, seen: os.stat_result) -> Optional[Mode]:
+        """The mode of an entry of what stands there, by what `os.lstat` says: of a directory that of a submodule.
+
+        None where it is a device, a fifo or a socket.
+        """
+        if stat.S_ISREG(seen.st_mode):
+            return cls.EXECUTABLE if seen.st_mode & stat.S_IXUSR else cls.FILE
+        return cls.LINK if stat.S_ISLNK(seen.st_mode) else cls.COMMIT if stat.S_ISDIR(seen.st_mode) else None
+
+
+class Flags(enum.IntFlag):
+    """Flags of an entry; those of STAGE_MASK are its stage."""
+
+    STAGE_MASK = NUMBERS["GIX_INDEX_STAGE_MASK"]
+    EXTENDED = NUMBERS["GIX_INDEX_EXTENDED"]  #: the file has a second word of flags of the entry
+    ASSUME_VALID = NUMBERS["GIX_INDEX_ASSUME_VALID"]  #: the file is taken for unchanged
+    INTENT_TO_ADD = NUMBERS["GIX_INDEX_INTENT_TO_ADD"]  #: the path is to be added later
+    SKIP_WORKTREE = NUMBERS["GIX_INDEX_SKIP_WORKTREE"]  #: the file isn't wanted in the work tree
+
+
+class Stat(NamedTuple):
+    """What the file system said of an entry's file, each number in the 32 bits that an index stores."""
+
+    ctime_secs: int = 0  #: when the file's own data changed last, in seconds since the begin of 1970
+    ctime_nsecs: int = 0
+    mtime_secs: int = 0  #: when its contents changed last
+    mtime_nsecs: int = 0
+    dev: int = 0
+    ino: int = 0
+    uid: int = 0
+    gid: int = 0
+    size: int = 0
+
+    @classmethod
+    def of(cls, seen: os.stat_result) -> Stat:
+        """What `os.lstat` says, each number modulo 2 to the 32nd."""
+        times = (*divmod(seen.st_ctime_ns, NANOSECONDS), *divmod(seen.st_mtime_ns, NANOSECONDS))
+        numbers = (*times, seen.st_dev, seen.st_ino, seen.st_uid, seen.st_gid, seen.st_size)
+        return cls(*(number & _UINT32 for number in numbers))
+
+    def matches(self, seen: Stat) -> bool:
+        """Whether a file that was seen so is taken for unchanged, by whole seconds and without its device.
+
+        That is how git's own defaults compare. A file as young as its index may be another all the same.
+        """
+        return self._compared == seen._compared
+
+    @property
+    def _compared(self) -> Tuple[int, ...]:
+        return (self.mtime_secs, self.ctime_secs, self.ino, self.uid, self.gid, self.size)
+
+
+class Entry(NamedTuple):
+    """An entry of an index."""
+
+    path: bytes
+    id: bytes  #: of the object that holds the contents: 20 or 32 bytes
+    mode: int = Mode.FILE  #: one of those of `Mode`
+    flags: int = 0  #: those of `Flags`, the stage among them, and others that live in memory alone
+    stat: Stat = Stat()
+
+    @property
+    def stage(self) -> int:
+        """0, or in a conflict 1 for the common ancestor, 2 for our side, 3 for theirs."""
+        return (self.flags & Flags.STAGE_MASK) >> 12
+
+    @classmethod
+    def of(cls, path: Path, id: bytes, seen: os.stat_result) -> Entry:
+        """The entry of a file, a link or a submodule that is there, as `os.lstat` says."""
+        mode = Mode.of(seen)
+        if mode is None:
+            raise ValueError(f"{os.fsdecode(path)} is a device, a fifo or a socket, which no index has")
+        return cls(os.fsencode(path), id, mode, 0, Stat.of(seen))
+
+
+class Error(Exception):
+    """Why an index isn't read or written, where that is no OSError and no MemoryError."""
+
+
+class Refused(Error, ValueError):
+    """Bytes are no index, or damaged, or don't pass a check; or entries can't be written."""
+
+    def __init__(self, text: str, fault: int, place: int, of_shared: bool = False) -> None:
+        super().__init__(f"its shared index: {text}" if of_shared else text)
+        self.fault = fault  #: one of the numbers GIX_INDEX_FAULT_ of `NUMBERS`
+        self.place = place  #: the entry that the fault names, counted from 0, or 0
+        self.of_shared = of_shared  #: whether the bytes of the shared index are at fault
