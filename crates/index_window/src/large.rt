@@ -44,6 +44,14 @@ fn ends_in_null(kind: Kind, end: &[u8]) -> bool {
     end.len() >= len && trailer::checksum(kind, &end[end.len() - len..]).is_none()
 }
 
+/// Whether an end marker names a place behind the end of a file of so many bytes. No window would be large enough.
+fn is_behind(offset: Option<usize>, len: u64) -> bool {
+    match offset {
+        Some(place) => place as u64 > len,
+        None => false,
+    }
+}
+
 /// Reads a plain file in windows, and gives the index in it. It is None of a small file, of what is no plain file, as a
 /// pipe, and where the index isn't sound, or changes meanwhile: then a plain file stands at its start again, and has to
 /// be read whole. Where not all bytes behind the entries are wanted, extensions that aren't known are left out of them.
@@ -83,6 +91,9 @@ pub fn in_windows<S: Source>(
     let end = end_of(alloc, file, len)?;
     // (whether a marker that stands there fits is seen once the entries are read)
     let offset = place_in(&end);
+    if is_behind(offset, len) {
+        return Ok(None);
+    }
     let is_hashed = !reading.skip_hash && !ends_in_null(reading.object_hash, &end);
     if let Ok(Some(read)) = windowed(alloc, file, len, is_hashed, offset, reading, keeps_ending) {
         return Ok(Some(read));
