@@ -32,6 +32,7 @@ extern "C" {
 #define GIX_INDEX_VERSION_MAJOR 0
 #define GIX_INDEX_VERSION_MINOR 55
 #define GIX_INDEX_VERSION_PATCH 0
+#define GIX_INDEX_VERSION_NUMBER 0x003700u /* the three, a byte each */
 
 /* ---- Statuses: what a call answers */
 
@@ -156,7 +157,33 @@ typedef struct {
                          * TREE_KEPT or TREE_LEFT_OUT */
 } gix_index_written;
 
+/* What of a stat is compared, as git has it (git-config, "core.trustctime" and "core.checkStat"). */
+typedef struct {
+    bool trust_ctime; /* the ctime too */
+    bool check_stat;  /* inode, owner and group too */
+    bool use_nsec;    /* with check_stat, nanoseconds too */
+    bool use_stdev;   /* with check_stat, the device too */
+} gix_index_comparison;
+
+/* What git compares where nothing else is configured: gix_index_comparison by_default = GIX_INDEX_COMPARISON; */
+#define GIX_INDEX_COMPARISON {true, true, false, false}
+
+/* What is seen of a file in the work tree, and what its file system can hold (git-config, "core.symlinks" and
+ * "core.fileMode"). */
+typedef struct {
+    bool is_file;
+    bool is_dir;
+    bool is_symlink;
+    bool is_executable;  /* it is a file that its owner may run: of a link the bit says nothing */
+    bool has_symlinks;   /* there are links: without them a file stands for one */
+    bool executable_bit; /* there is a bit for execution: without it a file's mode stays as it is */
+} gix_index_seen;
+
 /* ---- Calls */
+
+/* The version of the library that is linked, as GIX_INDEX_VERSION_NUMBER has that of this header. Rows and the structs
+ * here may grow with the minor version: a caller that finds another one doesn't call the rest. */
+uint32_t gix_index_version(void);
 
 /* Reads an index from all bytes of its file.
  *
@@ -224,6 +251,14 @@ uint32_t gix_index_check_split(const uint8_t *bytes, size_t bytes_len, const uin
 size_t gix_index_find(const gix_index_row *rows, size_t rows_len, const uint8_t *paths, size_t paths_len,
                       const uint8_t *path, size_t path_len, uint32_t stage);
 
+/* The place that a row with this path and this stage has, or would be put at so that the rows stay in order: how many
+ * rows stand before both. It is rows_len where all do.
+ *
+ * It takes the rows that gix_index_find takes. Among other rows it is a place up to rows_len, and no more is promised.
+ * Paths are cut as there, and no memory is taken. */
+size_t gix_index_lower_bound(const gix_index_row *rows, size_t rows_len, const uint8_t *paths, size_t paths_len,
+                             const uint8_t *path, size_t path_len, uint32_t stage);
+
 /* The places of the rows whose path begins with the bytes of the prefix. The empty prefix has all rows, also of a table
  * without any: 0 up to 0, and DONE.
  *
@@ -246,6 +281,28 @@ uint32_t gix_index_find_prefix(const gix_index_row *rows, size_t rows_len, const
  * stands below it. Paths are cut as there, and no memory is taken. */
 size_t gix_index_closest(const gix_index_row *rows, size_t rows_len, const uint8_t *paths, size_t paths_len,
                          const uint8_t *directory, size_t directory_len);
+
+/* Whether two rows have the stat of the same unchanged file: mostly one of an index, and one that gix_index_set_stat of
+ * gix_index_file.h has put what is seen of the file into. The time of the last change and the size are compared always,
+ * the rest where the comparison has it. Where they match, the file may have changed all the same if the row is racy. */
+bool gix_index_matches(const gix_index_row *row, const gix_index_row *seen, const gix_index_comparison *comparison);
+
+/* Whether the file of a row may have changed when its index was written, at this time since the begin of 1970, or
+ * later: so its stat proves nothing, and only its contents tell. The file was last changed no earlier, by nanoseconds
+ * where these count. It may have where nsecs is a second or more, as that is no time. */
+bool gix_index_is_racy(const gix_index_row *row, int64_t secs, uint32_t nsecs, const gix_index_comparison *comparison);
+
+/* The mode that a row of this mode takes to be that of what is seen at its path; the same where it fits. A file whose
+ * bit for execution changed gets the other of the two modes of files, and what is of another kind the mode of what is
+ * seen. Where the file system has no links, a file at the path of a link is taken for one, and so is a bit for
+ * execution for the row's where the file system has none. */
+uint32_t gix_index_mode_for(uint32_t mode, const gix_index_seen *seen);
+
+/* The id that git has for a file of these bytes, as `git hash-object --stdin` prints it: 32 bytes, with zeros behind
+ * the 20 of SHA-1. What filters and line ends make of a file in the work tree is the caller's.
+ *
+ * DONE: id is written. WRONG_NUMBER: kind is none, and id is as it was. No memory is taken. */
+uint32_t gix_index_blob_id(uint32_t kind, const uint8_t *bytes, size_t bytes_len, uint8_t id[32]);
 
 /* Writes a table as all bytes of an index: header, entries, no extension, and the digest behind them. What is written
  * is read again as the same rows, but for those with GIX_INDEX_REMOVE, which are passed over as if they weren't there,

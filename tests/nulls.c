@@ -75,6 +75,8 @@ static void search(void) {
     expect(gix_index_find(whole.rows, count, path, path_bytes, NULL, 0, 0) == count, "rows have no path");
     expect(gix_index_find(whole.rows, count, NULL, 0, &letter, 1, 0) == count, "paths that are cut are whole");
     expect(gix_index_find(whole.rows, 1, NULL, 0, NULL, 0, 0) == 0, "a path that is cut isn't empty");
+    expect(gix_index_lower_bound(NULL, 0, NULL, 0, NULL, 0, 0) == 0, "no rows stand before no path");
+    expect(gix_index_lower_bound(whole.rows, count, path, path_bytes, NULL, 0, 0) == 0, "rows stand before no path");
     memset(&places, 7, sizeof places);
     expect(gix_index_find_prefix(NULL, 0, NULL, 0, &letter, 1, &places) == GIX_INDEX_NONE, "no rows have a prefix");
     expect(gix_index_find_prefix(NULL, 0, NULL, 0, NULL, 0, &places) == GIX_INDEX_DONE, "no rows lack no prefix");
@@ -87,6 +89,18 @@ static void search(void) {
     expect(gix_index_closest(NULL, 0, NULL, 0, &letter, 1) == 0, "no rows have a directory");
     expect(gix_index_closest(whole.rows, count, path, path_bytes, NULL, 0) == count, "rows have no directory");
     expect(gix_index_closest(whole.rows, count, NULL, 0, &letter, 1) == count, "cut paths have a directory");
+}
+
+/* A file without bytes has an id, and a number that is no kind gives none. */
+static void hash(void) {
+    uint8_t id[32], none[32];
+    memset(id, 7, sizeof id);
+    memset(none, 7, sizeof none);
+    expect(gix_index_blob_id(0, NULL, 0, id) == GIX_INDEX_WRONG_NUMBER, "no kind has an id");
+    expect(memcmp(id, none, sizeof id) == 0, "an id is written where there is no kind");
+    expect(gix_index_blob_id(kind, NULL, 0, id) == GIX_INDEX_DONE, "no bytes have no id");
+    expect(id[0] == (kind == GIX_INDEX_SHA1 ? 0xe6 : 0x47), "no bytes have another id");
+    for (size_t i = digest_len; i < sizeof id; i++) expect(id[i] == 0, "an id is longer than its kind's");
 }
 
 /* Whether it is told how many bytes an index takes, and no more. */
@@ -152,6 +166,7 @@ int main(int argc, char **argv) {
     read_them();
     refuse();
     search();
+    hash();
     write_them(&form);
     use_files(argv[2], &form);
     gix_index_drop_table(&whole);

@@ -13,7 +13,8 @@
 #include "table.h"
 
 /* The letter of an entry whose file has this path, or 0. */
-static char letter_of(const gix_index_row *row, const char *path, time_t written) {
+static char letter_of(const gix_index_row *row, const char *path, struct timespec written) {
+    const gix_index_comparison by_default = GIX_INDEX_COMPARISON;
     struct stat at;
     gix_index_row seen = {0};
     if (row->stage) return 'U';
@@ -22,10 +23,8 @@ static char letter_of(const gix_index_row *row, const char *path, time_t written
     if (lstat(path, &at) != 0 || S_ISDIR(at.st_mode)) return 'D';
     if (row->flags & GIX_INDEX_INTENT_TO_ADD) return 'A';
     if (!gix_index_set_stat(&seen, &at) || (row->mode == GIX_INDEX_LINK) != (seen.mode == GIX_INDEX_LINK)) return 'T';
-    if (row->mode != seen.mode || row->mtime_secs != seen.mtime_secs || row->ctime_secs != seen.ctime_secs ||
-        row->ino != seen.ino || row->uid != seen.uid || row->gid != seen.gid || row->size != seen.size)
-        return 'M';
-    return row->mtime_secs >= (uint32_t)written ? 'R' : 0;
+    if (row->mode != seen.mode || !gix_index_matches(row, &seen, &by_default)) return 'M';
+    return gix_index_is_racy(row, written.tv_sec, (uint32_t)written.tv_nsec, &by_default) ? 'R' : 0;
 }
 
 int main(int argc, char **argv) {
@@ -38,7 +37,7 @@ int main(int argc, char **argv) {
         const gix_index_row *row = t.rows + i;
         memcpy(last, path, sizeof path);
         snprintf(path, sizeof path, "%.*s", (int)row->path_len, (const char *)t.paths + row->path_start);
-        char letter = letter_of(row, path, t.mtime.tv_sec);
+        char letter = letter_of(row, path, t.mtime);
         if (letter && strcmp(path, last) != 0) printf("%c\t%s\n", letter, path);
     }
     gix_index_drop_table(&t);

@@ -24,7 +24,7 @@ def letter_of(entry, index):
         b"A": entry.flags & Flags.INTENT_TO_ADD,
         b"T": Mode.of(seen) is None or (Mode.of(seen) == Mode.LINK) != (entry.mode == Mode.LINK),
         b"M": Mode.of(seen) != entry.mode or not entry.stat.matches(Stat.of(seen)),
-        b"R": entry.stat.mtime_secs >= index.mtime_ns // 10**9,
+        b"R": entry.stat.is_racy(index.mtime_ns),
     }
     return next((letter for letter, holds in cases.items() if holds), b"")
 

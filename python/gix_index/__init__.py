@@ -22,9 +22,10 @@ above this one, or else where the system's loader finds it.
 from ._check import check, check_file
 from ._index import Index, Locked
 from ._library import NUMBERS, VERSION
-from ._values import Entry, Error, Flags, Kind, Mode, Refused, Stat
+from ._values import Comparison, Entry, Error, Flags, Kind, Mode, Refused, Stat
 
 __all__ = [
-    "NUMBERS", "Entry", "Error", "Flags", "Index", "Kind", "Locked", "Mode", "Refused", "Stat", "check", "check_file"
+    "NUMBERS", "Comparison", "Entry", "Error", "Flags", "Index", "Kind", "Locked", "Mode", "Refused", "Stat", "check",
+    "check_file"
 ]
 __version__ = VERSION

@@ -170,12 +170,7 @@ class Index(Sequence[Entry]):
 
     def _place(self, path: bytes, stage: int = 0) -> int:
         """The place before which all entries come that are less than this path and stage."""
-        low, high = 0, len(self)
-        while low < high:
-            middle = (low + high) // 2
-            entry = self[middle]
-            low, high = (middle + 1, high) if (entry.path, entry.stage) < (path, stage) else (low, middle)
-        return low
+        return library().gix_index_lower_bound(*self._table(), path, len(path), stage)
 
     def _cut(self, path: bytes) -> int:
         """Takes out the entries at a path, at each stage, and says how many."""

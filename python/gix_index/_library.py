@@ -102,6 +102,21 @@ class Written(ctypes.Structure):
     ]
 
 
+class Comparison(ctypes.Structure):
+    """gix_index_comparison."""
+
+    _fields_ = [(name, ctypes.c_bool) for name in ("trust_ctime", "check_stat", "use_nsec", "use_stdev")]
+
+
+class Seen(ctypes.Structure):
+    """gix_index_seen."""
+
+    _fields_ = [
+        (name, ctypes.c_bool)
+        for name in ("is_file", "is_dir", "is_symlink", "is_executable", "has_symlinks", "executable_bit")
+    ]
+
+
 class Time(ctypes.Structure):
     """The system's timespec."""
 
@@ -140,11 +155,17 @@ _AT, _LEN, _U32, _BOOL = ctypes.c_void_p, ctypes.c_size_t, ctypes.c_uint32, ctyp
 _ROWS = (_AT, _LEN, _AT, _LEN)
 # What each call answers and takes.
 CALLS = {
+    "gix_index_version": (_U32,),
     "gix_index_read": (_U32, _AT, _LEN, _U32, _BOOL, *_ROWS, _AT, _LEN, _AT),
     "gix_index_read_split": (_U32, _AT, _LEN, _AT, _LEN, _U32, _BOOL, *_ROWS, _AT, _LEN, _AT),
     "gix_index_check": (_U32, _AT, _LEN, _U32, _BOOL, _AT, _LEN, _AT),
     "gix_index_check_split": (_U32, _AT, _LEN, _AT, _LEN, _U32, _BOOL, _AT, _LEN, _AT),
     "gix_index_find": (_LEN, *_ROWS, _AT, _LEN, _U32),
+    "gix_index_lower_bound": (_LEN, *_ROWS, _AT, _LEN, _U32),
+    "gix_index_matches": (_BOOL, _AT, _AT, _AT),
+    "gix_index_is_racy": (_BOOL, _AT, ctypes.c_int64, _U32, _AT),
+    "gix_index_mode_for": (_U32, _U32, _AT),
+    "gix_index_blob_id": (_U32, _U32, _AT, _LEN, _AT),
     "gix_index_find_prefix": (_U32, *_ROWS, _AT, _LEN, _AT),
     "gix_index_closest": (_LEN, *_ROWS, _AT, _LEN),
     "gix_index_write": (_U32, *_ROWS, _AT, _AT, _LEN, _AT),
@@ -173,6 +194,9 @@ def library() -> ctypes.CDLL:
     for call, (answer, *words) in CALLS.items():
         function = getattr(loaded, call)
         function.restype, function.argtypes = answer, words
+    major, minor, patch = map(int, VERSION.split("."))
+    if loaded.gix_index_version() != major << 16 | minor << 8 | patch:
+        raise ImportError(f"{there} is another version than {VERSION}: `c/install PREFIX` builds this", name="gix_index")
     return loaded
 
 

@@ -1,12 +1,14 @@
 """Kinds, modes, flags, stats and entries, and what is raised."""
 from __future__ import annotations
 
+import ctypes
 import enum
 import os
 import stat
-from typing import NamedTuple, Optional, Tuple, Union
+from typing import NamedTuple, Optional, Union
 
-from ._library import NUMBERS
+from ._library import NUMBERS, Row, Seen, library
+from ._library import Comparison as _Comparison
 
 Path = Union[str, bytes]
 FilePath = Union[str, bytes, "os.PathLike[str]", "os.PathLike[bytes]"]
@@ -30,6 +32,12 @@ class Kind(enum.Enum):
         """The number that the library has for it."""
         return NUMBERS[f"GIX_INDEX_{self.name}"]
 
+    def blob_id(self, data: bytes) -> bytes:
+        """The id that git has for a file of these bytes. What filters make of a file is the caller's."""
+        id = (ctypes.c_uint8 * 32)()
+        library().gix_index_blob_id(self.number, data, len(data), id)
+        return bytes(id)[: self.len_in_bytes]
+
 
 class Mode(enum.IntEnum):
     """The mode of an entry's file: the kind, and whether its owner may run it."""
@@ -50,6 +58,19 @@ class Mode(enum.IntEnum):
             return cls.EXECUTABLE if seen.st_mode & stat.S_IXUSR else cls.FILE
         return cls.LINK if stat.S_ISLNK(seen.st_mode) else cls.COMMIT if stat.S_ISDIR(seen.st_mode) else None
 
+    @staticmethod
+    def matching(mode: int, seen: os.stat_result, has_symlinks: bool = True, executable_bit: bool = True) -> int:
+        """The mode that an entry of this mode takes to be that of what is seen, by `os.lstat`; the same where it fits.
+
+        Without has_symlinks a file stands for a link, and without executable_bit a file's mode stays as it is, as
+        git's `core.symlinks` and `core.fileMode` have it.
+        """
+        kinds = (stat.S_ISREG(seen.st_mode), stat.S_ISDIR(seen.st_mode), stat.S_ISLNK(seen.st_mode))
+        # (a link has all bits)
+        is_executable = kinds[0] and bool(seen.st_mode & stat.S_IXUSR)
+        file = Seen(*kinds, is_executable, has_symlinks, executable_bit)
+        return library().gix_index_mode_for(mode, ctypes.byref(file))
+
 
 class Flags(enum.IntFlag):
     """Flags of an entry; those of STAGE_MASK are its stage."""
@@ -59,6 +80,26 @@ class Flags(enum.IntFlag):
     ASSUME_VALID = NUMBERS["GIX_INDEX_ASSUME_VALID"]  #: the file is taken for unchanged
     INTENT_TO_ADD = NUMBERS["GIX_INDEX_INTENT_TO_ADD"]  #: the path is to be added later
     SKIP_WORKTREE = NUMBERS["GIX_INDEX_SKIP_WORKTREE"]  #: the file isn't wanted in the work tree
+
+
+class Comparison(NamedTuple):
+    """What of a stat is compared beside the time of the last change and the size: by default what git compares.
+
+    It is git's `core.trustctime` and `core.checkStat`.
+    """
+
+    trust_ctime: bool = True  #: the ctime is
+    check_stat: bool = True  #: inode, owner and group are
+    use_nsec: bool = False  #: nanoseconds are, with check_stat
+    use_stdev: bool = False  #: the device is, with check_stat
+
+    @property
+    def told(self) -> _Comparison:
+        """The library's."""
+        return _Comparison(*self)
+
+
+BY_DEFAULT = Comparison()
 
 
 class Stat(NamedTuple):
@@ -81,16 +122,21 @@ class Stat(NamedTuple):
         numbers = (*times, seen.st_dev, seen.st_ino, seen.st_uid, seen.st_gid, seen.st_size)
         return cls(*(number & _UINT32 for number in numbers))
 
-    def matches(self, seen: Stat) -> bool:
-        """Whether a file that was seen so is taken for unchanged, by whole seconds and without its device.
+    def matches(self, seen: Stat, comparison: Comparison = BY_DEFAULT) -> bool:
+        """Whether a file that was seen so is taken for unchanged, as far as it is compared.
 
-        That is how git's own defaults compare. A file as young as its index may be another all the same.
+        A file as young as its index may be another all the same: `is_racy` tells.
         """
-        return self._compared == seen._compared
+        rows = (ctypes.byref(Row(*self)), ctypes.byref(Row(*seen)))
+        return library().gix_index_matches(*rows, ctypes.byref(comparison.told))
 
-    @property
-    def _compared(self) -> Tuple[int, ...]:
-        return (self.mtime_secs, self.ctime_secs, self.ino, self.uid, self.gid, self.size)
+    def is_racy(self, mtime_ns: int, comparison: Comparison = BY_DEFAULT) -> bool:
+        """Whether the file may have changed when an index of this time was written, or later.
+
+        Then its stat proves nothing. The time is `Index.mtime_ns`.
+        """
+        time = divmod(mtime_ns, NANOSECONDS)
+        return library().gix_index_is_racy(ctypes.byref(Row(*self)), *time, ctypes.byref(comparison.told))
 
 
 class Entry(NamedTuple):

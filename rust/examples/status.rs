@@ -10,14 +10,13 @@
 //!
 //! The status is 1 where the index can't be read, and 2 for too few words or too many.
 
-use gix_index_proved::{Entry, Index, Stat, Time, flags, mode};
+use gix_index_proved::{Entry, Index, Stat, StatOptions, flags, mode};
 use std::io::Write;
 use std::os::unix::ffi::OsStrExt;
 
 /// The letter of an entry of the index, if there is one to print.
 fn letter_of(entry: Entry<'_>, index: &Index) -> Option<u8> {
-    let key = |stat: Stat| (stat.mtime.secs, stat.ctime.secs, stat.ino, stat.uid, stat.gid, stat.size);
-    let last_moment = std::time::SystemTime::from(Time { nsecs: 999_999_999, ..entry.stat().mtime });
+    let options = StatOptions::default();
     let seen = std::fs::symlink_metadata(std::ffi::OsStr::from_bytes(entry.path()));
     match seen.ok().filter(|seen| !seen.is_dir()) {
         _ if entry.stage() != 0 => Some(b'U'),
@@ -26,8 +25,9 @@ fn letter_of(entry: Entry<'_>, index: &Index) -> Option<u8> {
         None => Some(b'D'),
         _ if entry.flags() & flags::INTENT_TO_ADD != 0 => Some(b'A'),
         Some(at) if at.is_symlink() != (entry.mode() == mode::SYMLINK) || mode::from_fs(&at).is_none() => Some(b'T'),
-        Some(at) if mode::from_fs(&at) != Some(entry.mode()) || key(Stat::from(&at)) != key(entry.stat()) => Some(b'M'),
-        Some(_) => (index.timestamp() <= Some(last_moment)).then_some(b'R'),
+        Some(at) if mode::change_to_match_fs(entry.mode(), &at, true, true) != entry.mode() => Some(b'M'),
+        Some(at) if !entry.stat().matches(&Stat::from(&at), options) => Some(b'M'),
+        Some(_) => index.timestamp().is_none_or(|time| entry.stat().is_racy(time, options)).then_some(b'R'),
     }
 }
 

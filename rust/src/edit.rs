@@ -47,6 +47,14 @@ impl EntryMut<'_> {
     }
 }
 
+impl From<Stat> for Row {
+    fn from(stat: Stat) -> Row {
+        let mut row = Row::default();
+        row.set_stat(stat);
+        row
+    }
+}
+
 impl Row {
     fn set_stat(&mut self, stat: Stat) {
         (self.mtime_secs, self.mtime_nsecs) = (stat.mtime.secs, stat.mtime.nsecs);

@@ -1,6 +1,6 @@
 //! An entry of an index: its stat numbers, its mode, its flags, and the entry itself, lent.
 
-use crate::raw::{self, Row};
+use crate::raw::{self, Comparison, Row, Seen};
 use std::fmt;
 use std::fs::Metadata;
 use std::hash::{Hash, Hasher};
@@ -58,6 +58,64 @@ impl Stat {
     }
 }
 
+/// What of a stat is compared, as git has it (git-config, "core.trustctime" and "core.checkStat"). By default it is what
+/// git compares where nothing else is configured.
+#[derive(Clone, Copy, Debug, PartialEq, Eq, Hash)]
+pub struct Options {
+    /// The ctime is.
+    pub trust_ctime: bool,
+    /// Inode, owner and group are.
+    pub check_stat: bool,
+    /// Nanoseconds are, with `check_stat`.
+    pub use_nsec: bool,
+    /// The device is, with `check_stat`.
+    pub use_stdev: bool,
+}
+
+impl Default for Options {
+    fn default() -> Options {
+        Options { trust_ctime: true, check_stat: true, use_nsec: false, use_stdev: false }
+    }
+}
+
+impl Options {
+    fn raw(self) -> Comparison {
+        let Options { trust_ctime, check_stat, use_nsec, use_stdev } = self;
+        Comparison { trust_ctime, check_stat, use_nsec, use_stdev }
+    }
+}
+
+impl Stat {
+    /// Whether this is the stat of the same unchanged file: the time of the last change and the size are compared
+    /// always, the rest where the options have it.
+    #[must_use]
+    pub fn matches(&self, other: &Stat, options: Options) -> bool {
+        let (row, seen) = (Row::from(*self), Row::from(*other));
+        // SAFETY: each pointer is to a value, and nothing is written.
+        unsafe { raw::gix_index_matches(&row, &seen, &options.raw()) }
+    }
+
+    /// Whether the file may have changed when an index of this time was written, or later, so that its stat proves
+    /// nothing: it was last changed no earlier.
+    #[must_use]
+    pub fn is_racy(&self, timestamp: SystemTime, options: Options) -> bool {
+        let (secs, nsecs) = since_1970(timestamp);
+        // SAFETY: each pointer is to a value, and nothing is written.
+        unsafe { raw::gix_index_is_racy(&Row::from(*self), secs, nsecs, &options.raw()) }
+    }
+}
+
+/// Seconds since the begin of 1970, below zero before it, and nanoseconds on top.
+fn since_1970(time: SystemTime) -> (i64, u32) {
+    match time.duration_since(UNIX_EPOCH) {
+        Ok(behind) => (behind.as_secs() as i64, behind.subsec_nanos()),
+        Err(before) => {
+            let (secs, nsecs) = (before.duration().as_secs() as i64, before.duration().subsec_nanos());
+            if nsecs == 0 { (-secs, 0) } else { (-secs - 1, 1_000_000_000 - nsecs) }
+        }
+    }
+}
+
 impl From<&Metadata> for Stat {
     fn from(said: &Metadata) -> Stat {
         Stat::from_fs(said)
@@ -66,6 +124,7 @@ impl From<&Metadata> for Stat {
 
 /// The mode of an entry's file: the kind, and whether its owner may run it.
 pub mod mode {
+    use super::{Seen, raw};
     use std::fs::Metadata;
     use std::os::unix::fs::MetadataExt;
 
@@ -94,6 +153,25 @@ pub mod mode {
         } else {
             None
         }
+    }
+
+    /// The mode that an entry of this mode takes to be that of what stands at its path, by what
+    /// [`symlink_metadata`](std::fs::symlink_metadata) says; the same where it fits. The file system holds links where
+    /// `has_symlinks` says so, and without them a file stands for one; without a bit for execution, as `executable_bit`
+    /// says, a file's mode stays (git-config, "core.symlinks" and "core.fileMode").
+    #[must_use]
+    pub fn change_to_match_fs(mode: u32, said: &Metadata, has_symlinks: bool, executable_bit: bool) -> u32 {
+        let seen = Seen {
+            is_file: said.is_file(),
+            is_dir: said.is_dir(),
+            is_symlink: said.is_symlink(),
+            // (a link has all bits)
+            is_executable: said.is_file() && said.mode() & 0o100 != 0,
+            has_symlinks,
+            executable_bit,
+        };
+        // SAFETY: the pointer is to a value, and nothing is written.
+        unsafe { raw::gix_index_mode_for(mode, &seen) }
     }
 }
 

@@ -42,7 +42,7 @@ pub mod write;
 pub use check::{verify, verify_file, verify_split};
 pub use edit::EntryMut;
 use entry::Hex;
-pub use entry::{Entry, Stat, Time, flags, mode};
+pub use entry::{Entry, Options as StatOptions, Stat, Time, flags, mode};
 pub use error::{Error, Fault, UnknownKind};
 pub use lock::Locked;
 use raw::{Places, Row};
@@ -75,6 +75,19 @@ impl Kind {
             Kind::Sha1 => raw::SHA1,
             Kind::Sha256 => raw::SHA256,
         }
+    }
+}
+
+impl Kind {
+    /// The id that git has for a file of these bytes, of 20 or 32 of them. What filters and line ends make of a file in
+    /// the work tree is the caller's.
+    #[must_use]
+    pub fn blob_id(self, bytes: &[u8]) -> Vec<u8> {
+        let mut id = [0; 32];
+        // SAFETY: the pointer goes with the length of its slice, and what is written is apart from it.
+        let status = unsafe { raw::gix_index_blob_id(self.number(), bytes.as_ptr(), bytes.len(), &mut id) };
+        debug_assert_eq!(status, raw::DONE);
+        id[..self.len_in_bytes()].to_vec()
     }
 }
 
@@ -189,6 +202,35 @@ impl Index {
             )
         };
         (place < self.rows.len()).then_some(place)
+    }
+
+    /// How many entries stand before the path and the stage: where an entry with both is, or has to be put.
+    pub(crate) fn lower_bound(&self, path: &[u8], stage: u32) -> usize {
+        // SAFETY: each pointer goes with the length of its slice, and nothing is written.
+        unsafe {
+            raw::gix_index_lower_bound(
+                self.rows.as_ptr(),
+                self.rows.len(),
+                self.paths.as_ptr(),
+                self.paths.len(),
+                path.as_ptr(),
+                path.len(),
+                stage,
+            )
+        }
+    }
+
+    /// The place of the first entry at the path, whatever its stage, counted from 0; or as an error the place where one
+    /// at stage 0 has to be put, so that the entries stay in order.
+    ///
+    /// It is promised over entries that strictly increase by path, then stage. Over other entries an entry at a place
+    /// that is given still has the path.
+    pub fn entry_index_by_path(&self, path: &[u8]) -> Result<usize, usize> {
+        let place = self.lower_bound(path, 0);
+        match self.entry(place) {
+            Some(entry) if entry.path() == path => Ok(place),
+            _ => Err(place),
+        }
     }
 
     /// The entry at the path and the stage, or None, as

@@ -86,6 +86,26 @@ pub struct Written {
     pub tree: u32,
 }
 
+#[repr(C)]
+#[derive(Clone, Copy)]
+pub struct Comparison {
+    pub trust_ctime: bool,
+    pub check_stat: bool,
+    pub use_nsec: bool,
+    pub use_stdev: bool,
+}
+
+#[repr(C)]
+#[derive(Clone, Copy)]
+pub struct Seen {
+    pub is_file: bool,
+    pub is_dir: bool,
+    pub is_symlink: bool,
+    pub is_executable: bool,
+    pub has_symlinks: bool,
+    pub executable_bit: bool,
+}
+
 unsafe extern "C" {
     pub fn gix_index_read(
         bytes: *const u8,
@@ -126,6 +146,24 @@ unsafe extern "C" {
         path_len: usize,
         stage: u32,
     ) -> usize;
+
+    pub fn gix_index_lower_bound(
+        rows: *const Row,
+        rows_len: usize,
+        paths: *const u8,
+        paths_len: usize,
+        path: *const u8,
+        path_len: usize,
+        stage: u32,
+    ) -> usize;
+
+    pub fn gix_index_matches(row: *const Row, seen: *const Row, comparison: *const Comparison) -> bool;
+
+    pub fn gix_index_is_racy(row: *const Row, secs: i64, nsecs: u32, comparison: *const Comparison) -> bool;
+
+    pub fn gix_index_mode_for(mode: u32, seen: *const Seen) -> u32;
+
+    pub fn gix_index_blob_id(kind: u32, bytes: *const u8, bytes_len: usize, id: *mut [u8; 32]) -> u32;
 
     pub fn gix_index_check(
         bytes: *const u8,

@@ -1,15 +1,19 @@
 -- What a search by path and stage found, as a place among rows.
 use Rattle.std.proofs.Common.{◌≡◌, ℕ, ◌<◌, ◌≤◌, List, length, map, subst, arith, Option, Some, None, Result, Ok, Err}
-use Rattle.std.proofs.Common.{IfOk, IfErr, sym, ◌∙◌}
+use Rattle.std.proofs.Common.{IfOk, IfErr, false, refl, sym, true, ◌∙◌}
+use Rattle.std.specs.Ordering.{is_lt}
+use Rattle.std.specs.declared.cmp.Ordering.{Ordering}
 use Rattle.std.specs.Option.{ok_or}
 use Rattle.std.proofs.lemmas.Bool.Decides.{nat_tests}
 use Rattle.std.proofs.lemmas.List.{length-map}
 use Rattle.gix_index.specs.Lookup.{IsKeyAt, insertion_of, place_of}
 use Rattle.gix_index.specs.Order.{IsStrictlyOrdered, key_cmp}
 use Rattle.gix_index.specs.Record.{Record}
-use Rattle.index_lookups.proofs.Lookup.{key_answer, key_at}
-use Rattle.index_search.specs.Halving.{IsBracket, IsEqualAt, IsGapAt, IsRising}
-use Rattle.index_search.proofs.OrderedAnswers.{equal_at, gap_at}
+use Rattle.index_lookups.proofs.Lookup.{key_answer, key_at, split_by_key}
+use Rattle.index_lookups.proofs.RunsFound.{within_map}
+use Rattle.index_search.specs.Halving.{IsBracket, IsEqualAt, IsGapAt, IsPartedAt, IsRising}
+use Rattle.index_search.proofs.Halving.{count_by_is}
+use Rattle.index_search.proofs.OrderedAnswers.{equal_at, gap_at, rising_of}
 use Rattle.index_search.proofs.Parting.{bracket_whole}
 use Rattle.index_c.specs.Finding.{place_among}
 
@@ -54,3 +58,17 @@ found_place count i n o within e = some_among count i within ∙ ok_is_some i n 
 
 pub missed_place : (count i n : ℕ) (o : Option ℕ) → Err i ≡ ok_or o n → place_among count count ≡ o
 missed_place count i n o e = none_among count ∙ err_is_none i n o e
+
+-- ---- how many rows stand before
+
+pub bound_is : (path : List ℕ) (stage : ℕ) (rs : List Record) (i : ℕ)
+    → (IsRising (map (key_cmp path stage) rs) → IsPartedAt false (map (key_cmp path stage) rs) i)
+    → IsStrictlyOrdered rs → i ≡ insertion_of path stage rs
+bound_is path stage rs i parts ordered =
+    let f : Record → Ordering = key_cmp path stage in
+    let n : length (map f rs) ≡ length rs = length-map rs f in
+    let h = parts (rising_of f rs (split_by_key path stage rs ordered)) in
+    sym (count_by_is (λ (r : Record). is_lt (f r)) rs i (omega (arith, h.in_range))
+    (within_map is_lt f (λ r. is_lt (f r)) true rs 0 i (λ r. refl) h.before)
+    (λ k d l u. within_map is_lt f (λ r. is_lt (f r)) false rs i (length (map f rs)) (λ r. refl) h.behind k d l
+    (omega arith)))

@@ -1,4 +1,6 @@
+pub mod BlobIds
 pub mod Checking
+pub mod Comparing
 pub mod Finding
 pub mod Joined
 pub mod Numbers

@@ -2,12 +2,12 @@
 
 ghost use Rattle.std.specs.List.{HoldsAt};
 ghost use Rattle.std.specs.Prelude.{◌≡◌, ◌≤◌, ◌<◌, length, map};
-ghost use Rattle.gix_index.specs.Lookup.{IsKeyAt, place_of};
+ghost use Rattle.gix_index.specs.Lookup.{IsKeyAt, insertion_of, place_of};
 ghost use Rattle.gix_index.specs.Order.{IsStrictlyOrdered, key_cmp};
 ghost use Rattle.index_c.specs.Finding.{place_among};
 ghost use Rattle.index_table.specs.Table.{records_of};
 
-use index_search::ordered::{Ordered, search_within};
+use index_search::ordered::{Ordered, part, search_within};
 use index_table::row::{Row, path_of, stage_of};
 use std::cmp::Ordering;
 
@@ -68,4 +68,28 @@ pub extern "C" fn gix_index_find(rows: &[Row], paths: &[u8], path: &[u8], stage:
         Ok(place) => place,
         Err(_) => rows.len(),
     }
+}
+
+/// The place that a row with the path and the stage has, or would be put at so that rows stay in order: how many rows
+/// stand before both.
+///
+/// It is promised over the rows that [`gix_index_find`] takes; over others it is a place up to their number.
+#[unsafe(no_mangle)]
+pub extern "C" fn gix_index_lower_bound(
+    rows: &[Row],
+    paths: &[u8],
+    path: &[u8],
+    stage: u32,
+) -> usize
+    ensures in_range { result ≤ length rows.now }
+    ensures answer { IsStrictlyOrdered (records_of paths.now rows.now)
+        → result ≡ insertion_of path.now stage (records_of paths.now rows.now) }
+{
+    let places = ByKey {
+        rows,
+        paths,
+        path,
+        stage,
+    };
+    part(&places, false).0
 }

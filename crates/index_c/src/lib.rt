@@ -4,8 +4,10 @@
 //! `index_table` answers in values is told here in numbers.
 #![tactic(auto)]
 
+pub mod blob;
 pub mod check;
 pub mod closest;
+pub mod compare;
 pub mod fault;
 pub mod find;
 pub mod number;
@@ -13,4 +15,5 @@ pub mod prefix;
 pub mod read;
 pub mod status;
 pub mod summary;
+pub mod version;
 pub mod write;

@@ -2,10 +2,12 @@
 
 ghost use Rattle.std.specs.Prelude.{◌≡◌};
 ghost use Rattle.gix_index.specs.Flags.{stage_number};
-ghost use Rattle.index_table.specs.Table.{kind_number, padded_id, row_from, row_path};
+ghost use Rattle.index_table.specs.Table.{kind_number, padded_id, row_from, row_path, row_stat};
 
 use gix_index::BitFlags as _;
 use gix_index::decode::entry::Pathless;
+use gix_index::entry::Stat;
+use gix_index::entry::stat::Time;
 use gix_index::hash::{Kind, ObjectId};
 
 /// What a row has for ids of SHA-1, of 20 bytes.
@@ -66,6 +68,27 @@ pub fn stage_of(flags: u32) -> u32
     ensures { result ≡ stage_number flags }
 {
     (flags & 0x3000) >> 12
+}
+
+/// The stat of a row.
+pub fn stat_of(row: &Row) -> Stat
+    ensures { result ≡ row_stat row.now }
+{
+    Stat {
+        mtime: Time {
+            secs: row.mtime_secs,
+            nsecs: row.mtime_nsecs,
+        },
+        ctime: Time {
+            secs: row.ctime_secs,
+            nsecs: row.ctime_nsecs,
+        },
+        dev: row.dev,
+        ino: row.ino,
+        uid: row.uid,
+        gid: row.gid,
+        size: row.size,
+    }
 }
 
 /// The number of a kind.

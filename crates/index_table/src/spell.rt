@@ -8,13 +8,12 @@ ghost use Rattle.gix_index.specs.EntryImage.{is_removed, written};
 ghost use Rattle.gix_index.specs.Order.{record_cmp};
 ghost use Rattle.gix_index.specs.State.{PathsInStorage, contents, records};
 ghost use Rattle.index_table.specs.Fitting.{CanStand, IsFirstFallen, IsFirstUnfit, IsFit, has_git_mode, unfit_fault};
-ghost use Rattle.index_table.specs.Table.{records_of, row_id, row_path, row_stat, spelled};
+ghost use Rattle.index_table.specs.Table.{records_of, row_id, row_path, spelled};
 ghost use Rattle.index_table.specs.Writing.{IsSpelledBy};
 
-use crate::row::{Row, SHA256, number_of_kind, path_of, stage_of};
+use crate::row::{Row, SHA256, number_of_kind, path_of, stage_of, stat_of};
 use crate::write::Fault;
-use gix_index::entry::stat::Time;
-use gix_index::entry::{FileTime, Flags, Mode, Stat};
+use gix_index::entry::{FileTime, Flags, Mode};
 use gix_index::hash::{Kind, ObjectId};
 use gix_index::{BitFlags as _, State};
 use std::alloc::{AllocError, Global};
@@ -105,27 +104,6 @@ fn id_of(row: &Row) -> ObjectId
         ObjectId::Sha256(row.id)
     } else {
         ObjectId::Sha1(first_twenty(&row.id))
-    }
-}
-
-/// The stat of a row.
-fn stat_of(row: &Row) -> Stat
-    ensures { result ≡ row_stat row.now }
-{
-    Stat {
-        mtime: Time {
-            secs: row.mtime_secs,
-            nsecs: row.mtime_nsecs,
-        },
-        ctime: Time {
-            secs: row.ctime_secs,
-            nsecs: row.ctime_nsecs,
-        },
-        dev: row.dev,
-        ino: row.ino,
-        uid: row.uid,
-        gid: row.gid,
-        size: row.size,
     }
 }
 

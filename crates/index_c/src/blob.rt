@@ -1,0 +1,45 @@
+//! The id of a file's bytes.
+
+ghost use Rattle.std.specs.Prelude.{◌≡◌, ◌↔◌, IfSome, None};
+ghost use Rattle.gix_index.specs.Kind.{Kind};
+ghost use Rattle.index_c.specs.BlobIds.{blob_id};
+ghost use Rattle.index_c.specs.Numbers.{kind_numbered};
+ghost use Rattle.index_table.specs.Table.{padded_id};
+
+use crate::number::kind_of;
+use crate::status::{DONE, WRONG_NUMBER};
+use gix_index::hash::{Hasher, Kind, ObjectId};
+use index_table::row::padded;
+use itoa::Buffer;
+
+/// The id of the blob with these bytes.
+#[tactic(auto, unfolding(crate::specs::BlobIds::blob_id))]
+fn id_of(kind: Kind, bytes: &[u8]) -> ObjectId
+    ensures { result ≡ blob_id kind bytes.now }
+{
+    let mut buffer = Buffer::new();
+    let mut hasher = Hasher::new(kind);
+    hasher.update(b"blob ");
+    hasher.update(buffer.format(bytes.len()).as_bytes());
+    hasher.update(b"\0");
+    hasher.update(bytes);
+    hasher.finalize()
+}
+
+/// Gives the id that git has for a file of these bytes, with zeros behind one of SHA-1. The bytes are those of the
+/// blob: what filters and line ends make of a file in the work tree is the caller's.
+///
+/// `DONE`: the id is written. `WRONG_NUMBER`: the kind is none, and the id is as it was.
+#[unsafe(no_mangle)]
+pub extern "C" fn gix_index_blob_id(kind: u32, bytes: &[u8], id: &mut [u8; 32]) -> u32
+    ensures known { IfSome (kind_numbered kind)
+        (λ (k : Kind). (result ≡ DONE) × (id.new ≡ padded_id (blob_id k bytes.now))) }
+    ensures wrong { (result ≡ WRONG_NUMBER) ↔ (kind_numbered kind ≡ None) }
+    ensures unwritten { result ≡ WRONG_NUMBER → id.new ≡ id.old }
+{
+    let Some(kind) = kind_of(kind) else {
+        return WRONG_NUMBER;
+    };
+    *id = padded(&id_of(kind, bytes));
+    DONE
+}

@@ -1,0 +1,14 @@
+//! Which version the library is of.
+
+ghost use Rattle.std.specs.Prelude.{◌≡◌};
+
+/// The version: its major, minor and patch number, a byte each.
+pub const VERSION: u32 = 0x00_37_00;
+
+/// Tells the version of the library that is linked, which may be another than that of the header.
+#[unsafe(no_mangle)]
+pub extern "C" fn gix_index_version() -> u32
+    ensures { result ≡ VERSION }
+{
+    VERSION
+}
