@@ -1,0 +1,145 @@
+-- What stands in the way of a record, above it, below it or at its path.
+use Rattle.std.proofs.Common.{◌≡◌, ℕ, ◌+◌, ◌<◌, ◌≤◌, ◌==◌, Bool, true, false, ◌&&◌, ◌||◌, not, List, [], ◌∷◌}
+use Rattle.std.proofs.Common.{◌++◌, length, get_or, take, All, Option, Some, None, IfSome, ◌⊎◌, inl, inr, refl, sym, ap, ◌∙◌, arith}
+use Rattle.std.specs.List.{HoldsAt, list_any, starts_with}
+use Rattle.std.specs.Option.{is_some}
+use Rattle.std.specs.Prelude.{nat_eq}
+use Rattle.std.specs.declared.ops.Range.{Range}
+use Rattle.std.proofs.lemmas.Bool.{cases_lt}
+use Rattle.std.proofs.lemmas.Bool.Decides.{nat_tests}
+use Rattle.std.proofs.lemmas.List.{get_or_default}
+use Rattle.std.proofs.lemmas.List.Folds.{list_any_none}
+use Rattle.index_entries.specs.Order.{IsStrictlyOrdered, record_stage}
+use Rattle.index_entries.specs.Record.{Record}
+use Rattle.index_lookups.specs.Closest.{is_below}
+use Rattle.index_lookups.specs.Lookup.{HasKey, IsKeyAt, has_key, place_of}
+use Rattle.index_lookups.specs.Range.{IsPrefixRange, IsRange, begins_with, is_at, part_of}
+use Rattle.index_lookups.proofs.Closest.{any_here}
+use Rattle.index_lookups.proofs.Lookup.{key_place}
+use Rattle.index_lookups.proofs.RunFilters.{prefix_is_filter, range_is_filter}
+use Rattle.index_lookups.proofs.TableMade.{and_both, and_to, begins_at, begins_to, same_from, same_to}
+use Rattle.index_edits.specs.Edits.{are_at_odds}
+use Rattle.index_edits.specs.EditSteps.{is_of_stage, is_side_at, stands_above, stands_below}
+use Rattle.index_edits.proofs.Anys.{any_agree, any_filter, any_or}
+
+-- ---- tests of a path and a stage
+
+same_number : (m n : ℕ) → (m == n) ≡ true → m ≡ n
+same_number m n h = grind (arith, nat_tests, h)
+
+number_to : (m n : ℕ) → m ≡ n → (m == n) ≡ true
+number_to m n h = grind (arith, nat_tests, h)
+
+pub key_from : (path : List ℕ) (stage : ℕ) (r : Record) → has_key path stage r ≡ true → HasKey path stage r
+key_from path stage r h =
+    let both = and_both (is_at path r) (record_stage r == stage) h in
+    record { path_is = same_from r.path path both.0; stage_is = same_number (record_stage r) stage both.1 }
+
+pub key_to : (path : List ℕ) (stage : ℕ) (r : Record) → HasKey path stage r → has_key path stage r ≡ true
+key_to path stage r h = and_to (is_at path r) (record_stage r == stage) (same_to r.path path h.path_is)
+    (number_to (record_stage r) stage h.stage_is)
+
+false_from : (b : Bool) → (b ≡ true → ⊥) → b ≡ false
+false_from true h = absurd (h refl)
+false_from false h = refl
+
+-- ---- above
+
+pub above_at : (path : List ℕ) (stage : ℕ) (rs : List Record) (at : ℕ) (o : Option ℕ) → at < length path
+    → get_or path at 0 ≡ 47 → is_some o ≡ true → IfSome o (IsKeyAt (take at path) stage rs)
+    → list_any (stands_above path stage) rs ≡ true
+above_at path stage rs at None within slash some h = cc
+above_at path stage rs at (Some i) within slash some h =
+    any_here (stands_above path stage) rs i (
+      h.in_range,
+      λ d.
+          let key = h.here d in
+          let r = get_or rs i d in
+          and_to (record_stage r == stage) (starts_with nat_eq path (r.path ++ 47 ∷ []))
+          (number_to (record_stage r) stage key.stage_is)
+          (rw key.path_is (begins_to path at 47 within slash)),
+    )
+
+pub none_has : (path : List ℕ) (stage : ℕ) (rs : List Record) (o : Option ℕ) → is_some o ≡ false → o ≡ place_of path stage rs
+    → IsStrictlyOrdered rs → All (λ r. has_key path stage r ≡ false) rs
+none_has path stage rs (Some i) none e ordered k d within = cc
+none_has path stage rs None none e ordered k d within = false_from (has_key path stage (get_or rs k d)) (λ t.
+    let here : HoldsAt (HasKey path stage) rs k = λ z.
+    key_from path stage (get_or rs k z) (rw (get_or_default rs k z d within) t) in
+    let there = key_place path stage rs k ordered (record { in_range = within; here = here }) in
+    let nowhere = sym there ∙ sym e in
+    cc)
+
+pub one_more : (path : List ℕ) (stage : ℕ) (rs : List Record) (at : ℕ)
+    → ((k : ℕ) → k < at → get_or path k 0 ≡ 47 → IsStrictlyOrdered rs
+    → All (λ r. has_key (take k path) stage r ≡ false) rs)
+    → (get_or path at 0 ≡ 47 → All (λ r. has_key (take at path) stage r ≡ false) rs)
+    → (k : ℕ) → k < at + 1 → get_or path k 0 ≡ 47 → IsStrictlyOrdered rs
+    → All (λ r. has_key (take k path) stage r ≡ false) rs
+one_more path stage rs at before here k within slash o = by (cases_lt k at)
+  where
+    by : (k < at) ⊎ (at ≤ k) → All (λ r. has_key (take k path) stage r ≡ false) rs
+    by (inl lt) = before k lt slash o
+    by (inr ge) =
+        let e : k ≡ at = omega arith in
+        rw e (here (rw e at slash))
+
+pub none_above : (path : List ℕ) (stage : ℕ) (rs : List Record)
+    → ((k : ℕ) → k < length path → get_or path k 0 ≡ 47 → All (λ r. has_key (take k path) stage r ≡ false) rs)
+    → false ≡ list_any (stands_above path stage) rs
+none_above path stage rs h = sym (list_any_none (stands_above path stage) rs (λ k d within.
+    let r = get_or rs k d in
+    false_from (stands_above path stage r) (λ t.
+    let both = and_both (record_stage r == stage) (starts_with nat_eq path (r.path ++ 47 ∷ [])) t in
+    let at = begins_at r.path path 47 both.1 in
+    let none = h (length r.path) at.0 at.1 k d within in
+    let some = key_to (take (length r.path) path) stage r
+    (record { path_is = sym at.2; stage_is = same_number (record_stage r) stage both.0 }) in
+    let both : true ≡ false = sym some ∙ none in
+    cc)))
+
+-- ---- at the path, and below it
+
+not_zero : (same : Bool) (n : ℕ) → same ≡ false → is_of_stage same 0 n ≡ not (n == 0)
+not_zero true n e = cc
+not_zero false n e = refl
+
+pub sides_at : (path : List ℕ) (rs : List Record) (range : Option (Range ℕ)) → IsRange (is_at path) rs range
+    → list_any (λ r. is_of_stage false 0 (record_stage r)) (part_of rs range) ≡ list_any (is_side_at path) rs
+sides_at path rs range h =
+    ap (list_any (λ (r : Record). is_of_stage false 0 (record_stage r))) (range_is_filter (is_at path) rs range h)
+    ∙ any_filter (λ (r : Record). is_of_stage false 0 (record_stage r)) (is_at path) rs
+
+pub those_below : (folder : List ℕ) (stage : ℕ) (rs : List Record) (range : Option (Range ℕ))
+    → IsPrefixRange folder rs range → list_any (λ r. is_of_stage true stage (record_stage r)) (part_of rs range)
+    ≡ list_any (stands_below folder stage) rs
+those_below folder stage rs range h =
+    ap (list_any (λ (r : Record). is_of_stage true stage (record_stage r))) (prefix_is_filter folder rs range h)
+    ∙ any_filter (λ (r : Record). is_of_stage true stage (record_stage r)) (begins_with folder) rs
+
+-- ---- both
+
+odds_are : (below above same : Bool) → ((below && same) || (same && above)) ≡ (same && (below || above))
+odds_are true true true = refl
+odds_are true true false = refl
+odds_are true false true = refl
+odds_are true false false = refl
+odds_are false true true = refl
+odds_are false true false = refl
+odds_are false false true = refl
+odds_are false false false = refl
+
+pub odds_any : (new : Record) (folder : List ℕ) (rs : List Record) → folder ≡ new.path ++ 47 ∷ []
+    → (list_any (stands_below folder (record_stage new)) rs || list_any (stands_above new.path (record_stage new)) rs)
+    ≡ list_any (are_at_odds new) rs
+odds_any new folder rs e =
+    sym (any_or (stands_below folder (record_stage new)) (stands_above new.path (record_stage new)) rs)
+    ∙ any_agree (λ r. stands_below folder (record_stage new) r || stands_above new.path (record_stage new) r)
+    (are_at_odds new) (λ r.
+    ap (λ f. (begins_with f r && (record_stage r == record_stage new)) || stands_above new.path (record_stage new) r) e
+    ∙ odds_are (is_below new.path r) (is_below r.path new) (record_stage r == record_stage new)) rs
+
+pub odds_told : (new : Record) (folder : List ℕ) (rs : List Record) (below above : Bool) → folder ≡ new.path ++ 47 ∷ []
+    → below ≡ list_any (stands_below folder (record_stage new)) rs
+    → above ≡ list_any (stands_above new.path (record_stage new)) rs → (below || above) ≡ list_any (are_at_odds new) rs
+odds_told new folder rs below above e b a = rw (b, a) (odds_any new folder rs e)

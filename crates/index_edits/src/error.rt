@@ -1,0 +1,78 @@
+//! Why an entry isn't staged.
+
+ghost use Rattle.std.specs.Prelude.{◌≡◌};
+ghost use Rattle.index_edits.specs.declared.error.Error.TheVariants.{Memory};
+
+use bitflags::Flags as _;
+use index_metadata::entry::Mode;
+use index_parts::hash::Kind;
+use std::alloc::{AllocError, AllocFailed};
+use thiserror::Error;
+
+/// Why an entry isn't staged. The entries and the storage of their paths are as they were.
+#[derive(Debug, Drop, Error)]
+pub enum Error {
+    /// The path has no byte.
+    #[error("the path is empty")]
+    EmptyPath,
+    /// The path has a NUL.
+    #[error("the path has a NUL at byte {at}")]
+    Nul {
+        /// The first one's place, counted from 0.
+        at: usize,
+    },
+    /// The mode is none of the five that an index has.
+    #[error("the mode {:o} is none that an index has", mode.bits())]
+    Mode {
+        /// The mode.
+        mode: Mode,
+    },
+    /// The id is of another kind than the index.
+    #[error("the id is one of {actual:?}, but the index has ids of {expected:?}")]
+    OtherKind {
+        /// The kind of the index.
+        expected: Kind,
+        /// The kind of the id.
+        actual: Kind,
+    },
+    /// The id stands for no object.
+    #[error("the id is the null id")]
+    NullId,
+    /// The path is to stand for a whole directory, but has no slash at the end.
+    #[error("the path stands for a whole directory, but has no slash at the end")]
+    NoSlash,
+    /// The path has an empty name: it begins or ends with a slash, or has two in a row.
+    #[error("the path has an empty name")]
+    EmptyName,
+    /// The caller's check refuses a name of the path.
+    #[error("the path has a name that is refused by the check's number {number}")]
+    Name {
+        /// The check's own number of what is wrong with it.
+        number: u32,
+    },
+    /// The path is too long for the storage of paths, or that is full.
+    #[error("a path of {len} bytes has no place in the storage of paths")]
+    PathTooLong {
+        /// How many bytes the path has.
+        len: usize,
+    },
+    /// There is no memory for the edit.
+    #[error("no memory is left for the edit")]
+    Memory,
+}
+
+impl From<AllocError> for Error {
+    ghost from_gives = { λ _ error. error ≡ Memory };
+
+    fn from(_e: AllocError) -> Error {
+        Error::Memory
+    }
+}
+
+impl<T: Drop> From<AllocFailed<T>> for Error {
+    ghost from_gives = { λ _ error. error ≡ Memory };
+
+    fn from(_e: AllocFailed<T>) -> Error {
+        Error::Memory
+    }
+}

@@ -1,0 +1,13 @@
+//! Edits of the entries of a git index that keep it whole: each leaves the list strictly ordered, and no file where
+//! another entry needs a folder.
+//!
+//! What is here speaks of entries as a list, and of the storage in which their paths lie as bytes.
+#![tactic(auto)]
+
+pub mod error;
+mod odds;
+mod others;
+mod put;
+mod refusals;
+pub mod stage;
+pub mod unstage;

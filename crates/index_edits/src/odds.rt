@@ -1,0 +1,94 @@
+//! What stands in the way of an entry, told without looking at all others.
+
+ghost use Rattle.std.specs.Prelude.{◌≡◌, ◌==◌, ◌&&◌, ◌++◌, ◌∷◌, [], IfSome, not};
+ghost use Rattle.std.specs.List.{list_any};
+ghost use Rattle.index_entries.specs.Order.{IsOrderedByPath, IsStrictlyOrdered, record_stage};
+ghost use Rattle.index_entries.specs.Record.{with_path};
+ghost use Rattle.index_lookups.specs.Range.{LiesWithin, part_of};
+ghost use Rattle.index_metadata.specs.Flags.{stage_code, stage_number};
+ghost use Rattle.index_edits.specs.EditSteps.{is_of_stage, is_side_at, stands_above, stands_below};
+ghost use Rattle.index_edits.specs.Edits.{are_at_odds};
+
+use index_entries::slice::EntrySlice;
+use index_entries::{Entry, Pathless};
+use index_lookups::range::{entry_index_by_path_and_stage, entry_range, prefixed_entries_range};
+use index_metadata::entry::{Stage, StageRaw};
+use std::ops::Range;
+
+/// Whether the entry is of the stage or, without `same`, of another one.
+fn is_of_stage(entry: &Entry, stage: StageRaw, same: bool) -> bool
+    ensures { result ≡ is_of_stage same stage (stage_number entry.now.flags.0) }
+{
+    if same {
+        return entry.stage_raw() == stage;
+    }
+    entry.stage_raw() != stage
+}
+
+/// Whether there is such an entry at these places.
+fn has_stage(
+    entries: &EntrySlice<'_>,
+    places: Option<Range<usize>>,
+    stage: StageRaw,
+    same: bool,
+) -> bool
+    requires { IfSome places (LiesWithin entries.now) }
+    ensures { result ≡ list_any (λ r. is_of_stage same stage (record_stage r))
+        (part_of entries.now places) }
+{
+    let Some(places) = places else {
+        return false;
+    };
+    for place in places.start..places.end {
+        if is_of_stage(entries.entry(place), stage, same) {
+            return true;
+        }
+    }
+    false
+}
+
+/// Whether sides of a conflict stand at the path.
+pub(crate) fn has_sides(entries: &EntrySlice<'_>, path: &[u8]) -> bool
+    ensures { IsOrderedByPath entries.now
+        → result ≡ list_any (is_side_at path.now) entries.now }
+{
+    has_stage(entries, entry_range(entries, path), 0, false)
+}
+
+/// Whether entries of the stage lie below the folder, whose path is given with the slash at its end.
+fn has_below(entries: &EntrySlice<'_>, folder: &[u8], stage: StageRaw) -> bool
+    ensures { IsOrderedByPath entries.now
+        → result ≡ list_any (stands_below folder.now stage) entries.now }
+{
+    let places = prefixed_entries_range(entries, folder);
+    has_stage(entries, places, stage, true)
+}
+
+/// Whether an entry of the stage is a file where the path needs a folder.
+fn has_above(entries: &EntrySlice<'_>, path: &[u8], stage: Stage) -> bool
+    ensures { IsStrictlyOrdered entries.now
+        → result ≡ list_any (stands_above path.now (stage_code stage)) entries.now }
+{
+    for (at, byte) in path.iter().enumerate() {
+        if *byte == b'/' && entry_index_by_path_and_stage(entries, &path[..at], stage).is_some() {
+            return true;
+        }
+    }
+    false
+}
+
+/// Whether an entry is a file where the new one needs a folder, or the other way round. The folder is the path with a
+/// slash at its end.
+pub(crate) fn has_odds(
+    entries: &EntrySlice<'_>,
+    entry: Pathless,
+    path: &[u8],
+    folder: &[u8],
+) -> bool
+    requires { folder.now ≡ path.now ++ 47 ∷ [] }
+    ensures { IsStrictlyOrdered entries.now
+        → result ≡ list_any (are_at_odds (with_path path.now entry)) entries.now }
+{
+    has_below(entries, folder, entry.flags.stage_raw())
+        || has_above(entries, path, entry.flags.stage())
+}

@@ -1,0 +1,62 @@
+//! Putting an entry at its place among others.
+
+ghost use Rattle.std.specs.Prelude.{◌≡◌, ◌+◌, ◌<◌, ◌≤◌, ◌∷◌, ◌++◌, [], List, All, length, OnErr, OnOk, IfOk};
+ghost use Rattle.std.specs.List.{insert};
+ghost use Rattle.index_entries.specs.Order.{IsStrictlyOrdered};
+ghost use Rattle.index_entries.specs.Record.{IsPlaced, made_entry, records_in, with_path};
+ghost use Rattle.index_entries.specs.declared.Entry.{Entry};
+ghost use Rattle.index_edits.specs.EditSteps.{IsPutInto};
+
+use index_entries::list::append;
+use index_entries::slice::EntrySlice;
+use index_entries::{Entry, PathStorage, Pathless};
+use index_lookups::search::search_path_and_stage;
+use std::alloc::AllocError;
+
+/// Gives an entry other parts. It keeps its path.
+fn overwrite(slot: &mut Entry, entry: Pathless)
+    ensures { slot.new ≡ made_entry entry slot.old.path }
+{
+    slot.stat = entry.stat;
+    slot.id = entry.id;
+    slot.flags = entry.flags;
+    slot.mode = entry.mode;
+}
+
+/// Moves the last entry to a place in front of the others.
+fn move_last(entries: &mut [Entry], place: usize)
+    requires { place < length entries.old }
+    ensures { (es : List Entry) (e : Entry) → entries.old ≡ es ++ e ∷ []
+        → entries.new ≡ insert es place e }
+{
+    let (_, back) = entries.split_at_mut(place);
+    back.rotate_right(1);
+}
+
+/// Puts the entry at its place by path, then stage: over the one that has both, whose path it takes, or between those
+/// below it and those above it. Over entries that don't strictly increase it stands anywhere.
+pub(crate) fn put(
+    entries: &mut Vec<Entry>,
+    storage: &mut PathStorage,
+    entry: Pathless,
+    path: &[u8],
+) -> Result<(), AllocError>
+    requires placed { All (IsPlaced (length storage.old.items)) entries.old.items }
+    ensures put { OnOk result (IsStrictlyOrdered (records_in storage.old.items entries.old.items)
+        → IsPutInto (with_path path.now entry) (records_in storage.old.items entries.old.items)
+        (records_in storage.new.items entries.new.items)) }
+    ensures more { length entries.new.items ≤ length entries.old.items + 1 }
+    ensures placed { All (IsPlaced (length storage.new.items)) entries.new.items }
+    ensures err_entries { OnErr result (entries.new.items ≡ entries.old.items) }
+    ensures err_storage { OnErr result (storage.new.items ≡ storage.old.items) }
+{
+    let there = EntrySlice::new(entries, storage);
+    match search_path_and_stage(&there, path, entry.flags.stage()).0 {
+        Ok(place) => overwrite(&mut entries[place], entry),
+        Err(place) => {
+            append(entries, storage, entry, path)?;
+            move_last(entries.as_mut_slice(), place);
+        }
+    }
+    Ok(())
+}

@@ -1,0 +1,121 @@
+//! What an entry that is to be staged has to fulfil.
+
+ghost use Rattle.std.specs.Prelude.{◌≡◌, ◌==◌, ◌<◌, All, IfSome, IsNone, MatchResult, false, length, position, slice_index};
+ghost use Rattle.std.specs.Prelude.{take};
+ghost use Rattle.index_edits.specs.Refusals.{fault_of, id_fault, name_fault, names_fault, names_of, path_fault};
+ghost use Rattle.index_edits.specs.Refusals.{whole_path_fault};
+
+use crate::error::Error;
+use index_entries::Pathless;
+use index_objects::check::{ComponentCheck, refusal_of};
+use index_objects::object::tree::EntryKind;
+use index_parts::hash::{Kind, ObjectId};
+
+/// The place of the first byte that is this one.
+fn first_of(bytes: &[u8], byte: u8) -> Option<usize>
+    ensures value { result ≡ position (λ b. b == byte) bytes.now }
+    ensures none { IsNone result → All (λ b. (b == byte) ≡ false) bytes.now }
+    ensures some { IfSome result (λ at. (at < length bytes.now)
+        × (slice_index bytes.now at ≡ byte)
+        × All (λ b. (b == byte) ≡ false) (take at bytes.now)) }
+{
+    bytes.iter().position(|b| *b == byte)
+}
+
+/// That the path has a byte, and no NUL.
+fn check_path(path: &[u8]) -> Result<(), Error>
+    ensures { MatchResult result (λ _. path_fault path.now ≡ None)
+        (λ e. path_fault path.now ≡ Some e) }
+{
+    if path.is_empty() {
+        return Err(Error::EmptyPath);
+    }
+    match first_of(path, 0) {
+        Some(at) => Err(Error::Nul { at }),
+        None => Ok(()),
+    }
+}
+
+/// That the id is of the kind, and not null.
+fn check_id(kind: Kind, id: &ObjectId) -> Result<(), Error>
+    ensures { MatchResult result (λ _. id_fault kind id.now ≡ None)
+        (λ e. id_fault kind id.now ≡ Some e) }
+{
+    let actual = id.kind();
+    if actual != kind {
+        return Err(Error::OtherKind {
+            expected: kind,
+            actual,
+        });
+    }
+    if id.is_null() {
+        return Err(Error::NullId);
+    }
+    Ok(())
+}
+
+/// That a name of what is of a kind isn't empty, and passes the check.
+fn check_name<C: ComponentCheck>(check: &C, kind: EntryKind, name: &[u8]) -> Result<(), Error>
+    ensures { MatchResult result
+        (λ _. name_fault (C.refusal check.now) kind name.now ≡ None)
+        (λ e. name_fault (C.refusal check.now) kind name.now ≡ Some e) }
+{
+    if name.is_empty() {
+        return Err(Error::EmptyName);
+    }
+    match refusal_of(check, name, kind) {
+        Some(number) => Err(Error::Name { number }),
+        None => Ok(()),
+    }
+}
+
+/// That each name of a path passes, the last one as that of what is of the kind.
+fn check_names<C: ComponentCheck>(check: &C, kind: EntryKind, path: &[u8]) -> Result<(), Error>
+    ensures { MatchResult result
+        (λ _. names_fault (C.refusal check.now) kind (names_of path.now) ≡ None)
+        (λ e. names_fault (C.refusal check.now) kind (names_of path.now) ≡ Some e) }
+{
+    let mut rest = path;
+    while let Some(at) = first_of(rest, b'/') {
+        let (name, _) = rest.split_at(at);
+        let (_, behind) = rest.split_at(at + 1);
+        check_name(check, EntryKind::Tree, name)?;
+        rest = behind;
+    }
+    check_name(check, kind, rest)
+}
+
+/// The same of a whole path, which has a slash at the end where it is that of a directory.
+fn check_whole<C: ComponentCheck>(check: &C, kind: EntryKind, path: &[u8]) -> Result<(), Error>
+    ensures { MatchResult result
+        (λ _. whole_path_fault (C.refusal check.now) kind path.now ≡ None)
+        (λ e. whole_path_fault (C.refusal check.now) kind path.now ≡ Some e) }
+{
+    if !matches!(kind, EntryKind::Tree) {
+        return check_names(check, kind, path);
+    }
+    match path.split_last() {
+        Some((b'/', front)) => check_names(check, kind, front),
+        _ => Err(Error::NoSlash),
+    }
+}
+
+/// That the entry may be staged at the path in an index of the kind.
+#[tactic(auto, unfolding(crate::specs::Refusals::fault_of))]
+pub(crate) fn check_entry<C: ComponentCheck>(
+    check: &C,
+    kind: Kind,
+    entry: Pathless,
+    path: &[u8],
+) -> Result<(), Error>
+    ensures { MatchResult result
+        (λ _. fault_of (C.refusal check.now) kind entry path.now ≡ None)
+        (λ e. fault_of (C.refusal check.now) kind entry path.now ≡ Some e) }
+{
+    check_path(path)?;
+    let Some(mode) = entry.mode.to_tree_entry_mode() else {
+        return Err(Error::Mode { mode: entry.mode });
+    };
+    check_id(kind, &entry.id)?;
+    check_whole(check, mode.kind(), path)
+}

@@ -1,0 +1,152 @@
+//! Staging an entry.
+
+ghost use Rattle.std.specs.List.{list_any};
+ghost use Rattle.std.specs.Prelude.{◌≡◌, ◌==◌, ◌&&◌, ◌||◌, ◌++◌, ◌∷◌, [], All, Contains, None, false, length, IfOk, MatchResult, OnErr, OnOk};
+ghost use Rattle.index_entries.specs.Order.{IsStrictlyOrdered};
+ghost use Rattle.index_entries.specs.Record.{IsPlaced, Record, records_in, with_path};
+ghost use Rattle.index_edits.specs.Edits.{IsStagedInto, IsToldOf};
+ghost use Rattle.index_metadata.specs.Flags.{stage_number};
+ghost use Rattle.index_edits.specs.EditSteps.{is_other, is_side_at};
+ghost use Rattle.index_edits.specs.Refusals.{IsReason, fault_of};
+
+use crate::error::Error;
+use crate::odds::{has_odds, has_sides};
+use crate::others::remove_others;
+use crate::put::put;
+use crate::refusals::check_entry;
+use index_entries::path_range::PathRange;
+use index_entries::slice::EntrySlice;
+use index_entries::{Entry, PathStorage, Pathless};
+use index_objects::check::ComponentCheck;
+use index_parts::hash::Kind;
+use std::alloc::{AllocError, Global};
+
+/// What went where an entry came.
+#[derive(Clone, Copy, Debug, PartialEq, Eq)]
+pub struct Displaced {
+    /// How many entries went.
+    pub count: usize,
+    /// Whether the stages of a conflict were among them.
+    pub conflict: bool,
+}
+
+/// The path with a slash at its end.
+fn folder_of(alloc: Global, path: &[u8]) -> Result<Vec<u8>, AllocError>
+    ensures { IfOk result (λ folder. folder.items ≡ path.now ++ 47 ∷ []) }
+{
+    let mut folder = Vec::with_capacity(alloc, path.len() + 1)?;
+    folder.extend_from_slice(path)?;
+    folder.push(b'/')?;
+    Ok(folder)
+}
+
+/// Whether the entry is merged, and sides of a conflict stand at its path.
+fn ends_conflict(entries: &EntrySlice<'_>, entry: Pathless, path: &[u8]) -> bool
+    ensures { IsStrictlyOrdered entries.now
+        → result ≡ ((stage_number entry.flags.0 == 0) && list_any (is_side_at path.now) entries.now) }
+{
+    entry.flags.stage_raw() == 0 && has_sides(entries, path)
+}
+
+/// What is in the way of an entry.
+#[derive(Clone, Copy)]
+struct InTheWay {
+    /// Sides of a conflict at the path of an entry that is merged.
+    sides: bool,
+    /// These, or files where folders are needed.
+    others: bool,
+}
+
+/// Tells what is in the way.
+fn in_the_way(entries: &EntrySlice<'_>, entry: Pathless, path: &[u8], folder: &[u8]) -> InTheWay
+    requires { folder.now ≡ path.now ++ 47 ∷ [] }
+    ensures sides { IsStrictlyOrdered entries.now
+        → result.sides
+        ≡ ((stage_number entry.flags.0 == 0) && list_any (is_side_at path.now) entries.now) }
+    ensures others { IsStrictlyOrdered entries.now
+        → result.others ≡ list_any (is_other (with_path path.now entry)) entries.now }
+{
+    let sides = ends_conflict(entries, entry, path);
+    let others = sides || has_odds(entries, entry, path, folder);
+    InTheWay { sides, others }
+}
+
+/// Puts the entry at its place, and takes out what goes where it comes.
+fn settle(
+    entries: &mut Vec<Entry>,
+    storage: &mut PathStorage,
+    entry: Pathless,
+    path: &[u8],
+) -> Result<Displaced, AllocError>
+    requires placed { All (IsPlaced (length storage.old.items)) entries.old.items }
+    ensures staged { OnOk result (IsStrictlyOrdered (records_in storage.old.items entries.old.items)
+        → IsStagedInto (with_path path.now entry)
+        (records_in storage.old.items entries.old.items)
+        (records_in storage.new.items entries.new.items)) }
+    ensures told { IfOk result (λ told.
+        IsStrictlyOrdered (records_in storage.old.items entries.old.items)
+        → IsToldOf (with_path path.now entry)
+        (records_in storage.old.items entries.old.items) told) }
+    ensures placed { All (IsPlaced (length storage.new.items)) entries.new.items }
+    ensures err_entries { OnErr result (entries.new.items ≡ entries.old.items) }
+    ensures err_storage { OnErr result (storage.new.items ≡ storage.old.items) }
+{
+    let folder = folder_of(*storage.allocator(), path)?;
+    let way = in_the_way(&EntrySlice::new(entries, storage), entry, path, &folder);
+    let before = entries.len();
+    put(entries, storage, entry, path)?;
+    if way.others {
+        remove_others(entries, storage, entry, path);
+    }
+    let count = before + 1 - entries.len();
+    let conflict = if entry.flags.stage_raw() == 0 {
+        way.sides
+    } else {
+        count > 0
+    };
+    Ok(Displaced { count, conflict })
+}
+
+/// Stages an entry at a path, as git-update-index does with `--add` and `--replace`. `entries` and `storage` are those
+/// of an index whose ids are of the kind.
+///
+/// The entry takes the place of the one with its path and its stage or, where it is merged, of all stages of its path.
+/// What is of the same stage, and a file where the path needs a folder or below the path, goes. All else stays. So path
+/// and stage strictly increase again, and no file is where a folder is, where that was so before.
+///
+/// What is wrong with the path, the mode, the id or a name of the path is refused, and a want of room or memory. The
+/// entries and the storage are then as they were. Over entries that don't strictly increase nothing more is said.
+///
+/// It makes a few searches and moves what lies behind; where others go, it looks at each entry once.
+pub fn stage<C: ComponentCheck>(
+    entries: &mut Vec<Entry>,
+    storage: &mut PathStorage,
+    check: &C,
+    kind: Kind,
+    entry: Pathless,
+    path: &[u8],
+) -> Result<Displaced, Error>
+    requires placed { All (IsPlaced (length storage.old.items)) entries.old.items }
+    ensures reason { MatchResult result
+        (λ _. fault_of (C.refusal check.now) kind entry path.now ≡ None)
+        (IsReason (fault_of (C.refusal check.now) kind entry path.now)
+        (length storage.old.items) path.now) }
+    ensures staged { OnOk result (IsStrictlyOrdered (records_in storage.old.items entries.old.items)
+        → IsStagedInto (with_path path.now entry)
+        (records_in storage.old.items entries.old.items)
+        (records_in storage.new.items entries.new.items)) }
+    ensures told { IfOk result (λ told.
+        IsStrictlyOrdered (records_in storage.old.items entries.old.items)
+        → IsToldOf (with_path path.now entry)
+        (records_in storage.old.items entries.old.items) told) }
+    ensures placed { All (IsPlaced (length storage.new.items)) entries.new.items }
+    ensures err_entries { OnErr result (entries.new.items ≡ entries.old.items) }
+    ensures err_storage { OnErr result (storage.new.items ≡ storage.old.items) }
+{
+    check_entry(check, kind, entry, path)?;
+    if PathRange::new(storage.len(), path.len()).is_none() {
+        return Err(Error::PathTooLong { len: path.len() });
+    }
+    let told = settle(entries, storage, entry, path)?;
+    Ok(told)
+}

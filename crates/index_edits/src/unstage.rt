@@ -1,0 +1,43 @@
+//! Taking a path out of the index.
+
+ghost use Rattle.std.specs.Prelude.{◌≡◌, ◌≤◌, ◌++◌, All, count_by, drop, length, take};
+ghost use Rattle.index_entries.specs.Order.{IsStrictlyOrdered};
+ghost use Rattle.index_entries.specs.Record.{IsPlaced, records_in};
+ghost use Rattle.index_lookups.specs.Range.{is_at};
+ghost use Rattle.index_edits.specs.Edits.{IsUnstagedFrom};
+
+use index_entries::Entry;
+use index_entries::slice::EntrySlice;
+use index_lookups::range::entry_range;
+
+/// Takes the elements from one place up to another out.
+fn cut(entries: &mut Vec<Entry>, start: usize, end: usize)
+    requires in_order { start ≤ end }
+    requires inside { end ≤ length entries.old.items }
+    ensures { entries.new.items ≡ take start entries.old.items ++ drop end entries.old.items }
+{
+    let rest = entries.len() - (end - start);
+    let (_, back) = entries.as_mut_slice().split_at_mut(start);
+    back.rotate_left(end - start);
+    entries.truncate(rest);
+}
+
+/// Takes the entries at the path out, whatever their stage, as git-update-index does with `--force-remove`, and says how
+/// many there were. All else stays, and so does the storage of paths. No memory is asked for.
+///
+/// Over entries whose paths fall somewhere nothing is said of which go.
+pub fn unstage(entries: &mut Vec<Entry>, storage: &[u8], path: &[u8]) -> usize
+    requires { All (IsPlaced (length storage.now)) entries.old.items }
+    ensures unstaged { IsStrictlyOrdered (records_in storage.now entries.old.items)
+        → IsUnstagedFrom path.now (records_in storage.now entries.old.items)
+        (records_in storage.now entries.new.items) }
+    ensures count { IsStrictlyOrdered (records_in storage.now entries.old.items)
+        → result ≡ count_by (is_at path.now) (records_in storage.now entries.old.items) }
+    ensures placed { All (IsPlaced (length storage.now)) entries.new.items }
+{
+    let Some(places) = entry_range(&EntrySlice::new(entries, storage), path) else {
+        return 0;
+    };
+    cut(entries, places.start, places.end);
+    places.end - places.start
+}
