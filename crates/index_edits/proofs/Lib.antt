@@ -2,6 +2,7 @@ pub mod Anys
 pub mod Displacings
 pub mod Names
 pub mod Puts
+pub mod Resolvings
 pub mod Stages
 pub mod Stagings
 pub mod Unstagings

@@ -1,10 +1,14 @@
 -- A record at its place among others.
-use Rattle.std.proofs.Common.{◌≡◌, ◌≢◌, ℕ, suc, ◌+◌, ◌<◌, ◌≤◌, List, [], ◌∷◌, ◌++◌, All, length, get_or, take, drop, map}
-use Rattle.std.proofs.Common.{Option, Some, None, Result, Ok, Err, IfErr, IfOk, refl, sym, ap, ◌∙◌, subst, arith, length-take}
+use Rattle.std.proofs.Common.{◌≡◌, ◌≢◌, ℕ, suc, ◌+◌, ◌<◌, ◌≤◌, List, [], ◌∷◌, ◌++◌, All, length, get_or, take, drop}
+use Rattle.std.proofs.Common.{map}
+use Rattle.std.proofs.Common.{Option, Some, None, Result, Ok, Err, IfErr, IfOk, refl, sym, ap, ◌∙◌, subst, arith}
+use Rattle.std.proofs.Common.{length-take}
 use Rattle.std.proofs.Math.ListN.{set}
 use Rattle.std.proofs.Math.Seq.{drop-cons}
-use Rattle.std.proofs.lemmas.List.{take-append-drop, take-set, drop-set, length-drop, get_or-take, get_or-drop, get_or_default}
-use Rattle.std.proofs.lemmas.List.{take-map, drop-map, map-append, length-append, get_or_append_left, get_or_at, map-set}
+use Rattle.std.proofs.lemmas.List.{take-append-drop, take-set, drop-set, length-drop, get_or-take, get_or-drop}
+use Rattle.std.proofs.lemmas.List.{get_or_default}
+use Rattle.std.proofs.lemmas.List.{take-map, drop-map, map-append, length-append, get_or_append_left, get_or_at}
+use Rattle.std.proofs.lemmas.List.{map-set}
 use Rattle.std.proofs.lemmas.List.Elements.{All-append, All-push, All-take, All-drop, All-cons}
 use Rattle.std.specs.List.{insert}
 use Rattle.std.specs.Option.{ok_or}

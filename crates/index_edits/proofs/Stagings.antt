@@ -1,10 +1,13 @@
 -- The list after a record is staged, and what it says.
 use Rattle.std.proofs.Common.{◌≡◌, ◌≢◌, ℕ, zero, suc, ◌+◌, ◌-◌, ◌<◌, ◌⊎◌, inl, inr, Bool, true, false, cond, not}
-use Rattle.std.proofs.Common.{List, [], ◌∷◌, ◌++◌, length, get_or, take, drop, filter, All, refl, sym, ap, ◌∙◌, subst, arith}
+use Rattle.std.proofs.Common.{List, [], ◌∷◌, ◌++◌, length, get_or, take, drop, filter, All, refl, sym, ap, ◌∙◌, subst}
+use Rattle.std.proofs.Common.{arith}
 use Rattle.std.proofs.Math.Seq.{drop-append_seam, take-append_seam}
 use Rattle.std.proofs.lemmas.List.{get_or-append_right, get_or_append_left, length-append, take-append-drop}
-use Rattle.std.proofs.lemmas.List.Elements.{All-append, All-contains, All-contains_itself, All-cons, All-filter, All-head, All-tail}
-use Rattle.std.proofs.lemmas.List.Elements.{All-drop, All-same, All-take, All-weaker, Contains-append_cases, Contains-append_left}
+use Rattle.std.proofs.lemmas.List.Elements.{All-append, All-contains, All-contains_itself, All-cons, All-filter}
+use Rattle.std.proofs.lemmas.List.Elements.{All-head, All-tail}
+use Rattle.std.proofs.lemmas.List.Elements.{All-drop, All-same, All-take, All-weaker, Contains-append_cases}
+use Rattle.std.proofs.lemmas.List.Elements.{Contains-append_left}
 use Rattle.std.proofs.lemmas.List.Elements.{Contains-append_right, filter-append, filter_passes}
 use Rattle.std.proofs.lemmas.List.Filters.{length-filter_both}
 use Rattle.std.proofs.lemmas.List.Kept.{AllPairs-filter}
@@ -24,9 +27,11 @@ use Rattle.std.proofs.Math.ListN.{set}
 use Rattle.std.proofs.lemmas.List.Folds.{list_any_none}
 use Rattle.index_edits.proofs.Puts.{put_over}
 use Rattle.index_search.proofs.Halving.{count_by_is}
-use Rattle.index_edits.specs.Edits.{IsStagedInto, LieApart, are_at_odds, displaced, is_displaced, put_in, staged, unstaged}
+use Rattle.index_edits.specs.Edits.{IsStagedInto, LieApart, are_at_odds, displaced, is_displaced, put_in, staged}
+use Rattle.index_edits.specs.Edits.{unstaged}
 use Rattle.index_edits.specs.EditSteps.{IsPutInto, is_other}
-use Rattle.index_edits.proofs.Displacings.{alone, displaced_key, displaced_other, odds_both, own_odds, own_other, stays_apart}
+use Rattle.index_edits.proofs.Displacings.{alone, displaced_key, displaced_other, odds_both, own_odds, own_other}
+use Rattle.index_edits.proofs.Displacings.{stays_apart}
 
 -- ---- filters
 
@@ -204,7 +209,7 @@ module _ (new : Record) (old now : List Record) (p : IsPutInto new old now) wher
 -- ---- what stays
 
 -- it is the new one, or was there and isn't displaced
-abbrev IsFrom : Record → List Record → Record → Type 0
+abbrev pub IsFrom : Record → List Record → Record → Type 0
 IsFrom new old r = (r ≡ new) ⊎ (Contains old r × (is_displaced new r ≡ false))
 
 not_true : (b : Bool) → not b ≡ true → b ≡ false

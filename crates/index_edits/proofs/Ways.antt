@@ -1,6 +1,7 @@
 -- What stands in the way of a record, above it, below it or at its path.
 use Rattle.std.proofs.Common.{◌≡◌, ℕ, ◌+◌, ◌<◌, ◌≤◌, ◌==◌, Bool, true, false, ◌&&◌, ◌||◌, not, List, [], ◌∷◌}
-use Rattle.std.proofs.Common.{◌++◌, length, get_or, take, All, Option, Some, None, IfSome, ◌⊎◌, inl, inr, refl, sym, ap, ◌∙◌, arith}
+use Rattle.std.proofs.Common.{◌++◌, length, get_or, take, All, Option, Some, None, IfSome, ◌⊎◌, inl, inr, refl, sym, ap}
+use Rattle.std.proofs.Common.{◌∙◌, arith}
 use Rattle.std.specs.List.{HoldsAt, list_any, starts_with}
 use Rattle.std.specs.Option.{is_some}
 use Rattle.std.specs.Prelude.{nat_eq}

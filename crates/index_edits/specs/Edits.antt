@@ -1,13 +1,15 @@
 -- What an entry that is staged displaces, and the list after it (git-update-index, "--replace" and "--cacheinfo";
 -- gitformat-index, "Index entries are sorted in ascending order"). Each definition speaks of any list.
-use Rattle.std.specs.Prelude.{◌≡◌, ℕ, ◌==◌, ◌&&◌, ◌||◌, Bool, true, false, not, nat_lt, List, All, Contains, filter, length}
-use Rattle.std.specs.Prelude.{slice_set}
+use Rattle.std.specs.Prelude.{◌≡◌, ℕ, ◌==◌, ◌&&◌, ◌||◌, Bool, true, false, not, nat_lt, List, All, Contains, filter}
+use Rattle.std.specs.Prelude.{length}
+use Rattle.std.specs.Prelude.{bit_and, slice_set}
 use Rattle.std.specs.List.{insert, list_any}
 use Rattle.index_entries.specs.Order.{IsStrictlyOrdered, record_stage}
 use Rattle.index_entries.specs.Record.{Record}
 use Rattle.index_lookups.specs.Closest.{is_below}
 use Rattle.index_lookups.specs.Lookup.{HasKey, IsKeyAt, insertion_of}
 use Rattle.index_lookups.specs.Range.{is_at}
+use Rattle.index_entries.specs.declared.Pathless.{Pathless}
 use Rattle.index_edits.specs.declared.stage.Displaced.{Displaced}
 
 -- at the same stage, one is a file where the other needs a folder
@@ -33,6 +35,10 @@ put_in new rs = insert rs (insertion_of new.path (record_stage new) rs) new
 -- the list without those that go, and with the new record
 unfoldable pub staged : Record → List Record → List Record
 staged new rs = put_in new (filter (λ r. not (is_displaced new r)) rs)
+
+-- the same entry at stage 0: bits 12 and 13 are clear
+abbrev pub merged : Pathless → Pathless
+merged e = record e { flags = record { 0 = bit_and e.flags.0 0xffffcfff } }
 
 -- the list without any stage of the path
 unfoldable pub unstaged : List ℕ → List Record → List Record
@@ -61,10 +67,16 @@ pub record IsStagedInto (new : Record) (old now : List Record) : Type 0 where
   pub back : All (λ r. is_displaced new r ≡ false) old → All (λ r. is_at new.path r ≡ false) old
       → unstaged new.path now ≡ old
 
--- The list after it is that without the path. Path and stage strictly increase again; none is a file where another needs
--- a folder, where none was; and what has another path stays.
+-- The list after it is that without the path. Path and stage strictly increase again; none is a file where another
+-- needs a folder, where none was; and what has another path stays.
 pub record IsUnstagedFrom (path : List ℕ) (old now : List Record) : Type 0 where
   pub is : now ≡ unstaged path old
   pub ordered : IsStrictlyOrdered now
   pub apart : LieApart old → LieApart now
   pub others : (r : Record) → Contains old r → is_at path r ≡ false → Contains now r
+
+-- a merged record is staged, and nothing else has its path
+pub record IsResolvedInto (new : Record) (old now : List Record) : Type 0 where
+  pub staged : IsStagedInto new old now
+  pub merged : record_stage new ≡ 0
+  pub alone : (r : Record) → Contains now r → is_at new.path r ≡ true → r ≡ new

@@ -1,6 +1,7 @@
 -- Why an entry isn't staged (git-update-index, "--cacheinfo"; gitformat-index, "Index entry"). What is named first
 -- decides.
-use Rattle.std.specs.Prelude.{◌⊎◌, ℕ, ◌≤◌, ◌^◌, ◌-◌, ◌==◌, Bool, List, [], ◌∷◌, length, take, Option, Some, None, position}
+use Rattle.std.specs.Prelude.{◌⊎◌, ℕ, ◌≤◌, ◌^◌, ◌-◌, ◌==◌, Bool, List, [], ◌∷◌, length, take, Option, Some, None}
+use Rattle.std.specs.Prelude.{position}
 use Rattle.std.specs.Prelude.{slice_index, MatchOption, ◌≡◌, if◌then◌else◌}
 use Rattle.std.specs.List.{slice_split}
 use Rattle.std.specs.Option.{option_or, option_map}
@@ -59,7 +60,8 @@ names_of path = slice_split (λ b. b == 47) path
 -- the path of a whole directory has a slash at the end
 abbrev pub whole_path_fault : Check → EntryKind → List ℕ → Option Error
 whole_path_fault check kinds.Tree path =
-    if slice_index path (length path - 1) == 47 then names_fault check kinds.Tree (names_of (take (length path - 1) path))
+    if slice_index path (length path - 1) == 47
+    then names_fault check kinds.Tree (names_of (take (length path - 1) path))
     else Some errors.NoSlash
 whole_path_fault check kind path = names_fault check kind (names_of path)
 

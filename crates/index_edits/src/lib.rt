@@ -9,5 +9,6 @@ mod odds;
 mod others;
 mod put;
 mod refusals;
+pub mod resolve;
 pub mod stage;
 pub mod unstage;

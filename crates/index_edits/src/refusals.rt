@@ -1,6 +1,7 @@
 //! What an entry that is to be staged has to fulfil.
 
-ghost use Rattle.std.specs.Prelude.{◌≡◌, ◌==◌, ◌<◌, All, IfSome, IsNone, MatchResult, false, length, position, slice_index};
+ghost use Rattle.std.specs.Prelude.{◌≡◌, ◌==◌, ◌<◌, All, IfSome, IsNone, MatchResult, false, length, position};
+ghost use Rattle.std.specs.Prelude.{slice_index};
 ghost use Rattle.std.specs.Prelude.{take};
 ghost use Rattle.index_edits.specs.Refusals.{fault_of, id_fault, name_fault, names_fault, names_of, path_fault};
 ghost use Rattle.index_edits.specs.Refusals.{whole_path_fault};

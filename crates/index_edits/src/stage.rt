@@ -1,7 +1,8 @@
 //! Staging an entry.
 
 ghost use Rattle.std.specs.List.{list_any};
-ghost use Rattle.std.specs.Prelude.{◌≡◌, ◌==◌, ◌&&◌, ◌||◌, ◌++◌, ◌∷◌, [], All, Contains, None, false, length, IfOk, MatchResult, OnErr, OnOk};
+ghost use Rattle.std.specs.Prelude.{◌≡◌, ◌==◌, ◌&&◌, ◌||◌, ◌++◌, ◌∷◌, [], All, Contains, None, false, length, IfOk};
+ghost use Rattle.std.specs.Prelude.{MatchResult, OnErr, OnOk};
 ghost use Rattle.index_entries.specs.Order.{IsStrictlyOrdered};
 ghost use Rattle.index_entries.specs.Record.{IsPlaced, Record, records_in, with_path};
 ghost use Rattle.index_edits.specs.Edits.{IsStagedInto, IsToldOf};
@@ -111,8 +112,9 @@ fn settle(
 /// of an index whose ids are of the kind.
 ///
 /// The entry takes the place of the one with its path and its stage or, where it is merged, of all stages of its path.
-/// What is of the same stage, and a file where the path needs a folder or below the path, goes. All else stays. So path
-/// and stage strictly increase again, and no file is where a folder is, where that was so before.
+/// What is of the same stage goes where it is a file and the path needs a folder there, or where it lies below the
+/// path. All else stays. So path and stage strictly increase again, and no file is where a folder is, where that was
+/// so before.
 ///
 /// What is wrong with the path, the mode, the id or a name of the path is refused, and a want of room or memory. The
 /// entries and the storage are then as they were. Over entries that don't strictly increase nothing more is said.

@@ -22,8 +22,8 @@ fn cut(entries: &mut Vec<Entry>, start: usize, end: usize)
     entries.truncate(rest);
 }
 
-/// Takes the entries at the path out, whatever their stage, as git-update-index does with `--force-remove`, and says how
-/// many there were. All else stays, and so does the storage of paths. No memory is asked for.
+/// Takes the entries at the path out, whatever their stage, as git-update-index does with `--force-remove`, and says
+/// how many there were. All else stays, and so does the storage of paths. No memory is asked for.
 ///
 /// Over entries whose paths fall somewhere nothing is said of which go.
 pub fn unstage(entries: &mut Vec<Entry>, storage: &[u8], path: &[u8]) -> usize

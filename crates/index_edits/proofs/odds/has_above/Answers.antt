@@ -2,7 +2,8 @@ use Rattle.std.proofs.Common.{◌∙◌, sym, arith, take}
 use Rattle.index_metadata.specs.Flags.{stage_code}
 use Rattle.index_edits.proofs.Ways.{above_at, none_above, none_has, one_more}
 use Rattle.index_edits.proofs.odds.has_above.Goals as goal
-use Rattle.index_edits.proofs.odds.has_above.Goals.{else-byte-eq47-via-then-byte-eq47+else-is_some, else-byte-eq47-via-else-byte-eq47}
+use Rattle.index_edits.proofs.odds.has_above.Goals.{else-byte-eq47-via-then-byte-eq47+else-is_some}
+use Rattle.index_edits.proofs.odds.has_above.Goals.{else-byte-eq47-via-else-byte-eq47}
 
 pub returns-then-is_some : goal.returns-then-is_some
 returns-then-is_some c = λ o.
@@ -16,7 +17,12 @@ loop-at-preserved c = λ k within slash o.
     let rs = c.args.entries.now in
     let stage = stage_code c.args.stage in
     one_more path stage rs c.loop-at.at c.loop-at.invariant (λ here.
-    elim c.else-byte-eq47.branch [ else-byte-eq47-via-then-byte-eq47+else-is_some w ↦ none_has (take c.loop-at.at path) stage rs w.entry_index_by_path_and_stage.result (sym w.is_some.ensures ∙ w.if-is_some.false) (w.entry_index_by_path_and_stage.ensures.answer o) o | else-byte-eq47-via-else-byte-eq47 w ↦ absurd (w.if-byte-eq47.false here) ]) k within slash o
+    elim c.else-byte-eq47.branch [
+      | else-byte-eq47-via-then-byte-eq47+else-is_some w ↦
+          none_has (take c.loop-at.at path) stage rs w.entry_index_by_path_and_stage.result
+          (sym w.is_some.ensures ∙ w.if-is_some.false) (w.entry_index_by_path_and_stage.ensures.answer o) o
+      | else-byte-eq47-via-else-byte-eq47 w ↦ absurd (w.if-byte-eq47.false here)
+    ]) k within slash o
 
 pub returns : goal.returns
 returns c = λ o.
