@@ -1,6 +1,6 @@
 //! Putting an entry at its place among others.
 
-ghost use Rattle.std.specs.Prelude.{◌≡◌, ◌+◌, ◌<◌, ◌≤◌, ◌∷◌, ◌++◌, [], List, All, length, OnErr, OnOk, IfOk};
+ghost use Rattle.std.specs.Prelude.{◌⊎◌, ◌≡◌, ◌+◌, ◌<◌, ◌≤◌, ◌∷◌, ◌++◌, [], List, All, length, OnErr, OnOk, IfOk};
 ghost use Rattle.std.specs.List.{insert};
 ghost use Rattle.index_entries.specs.Order.{IsStrictlyOrdered};
 ghost use Rattle.index_entries.specs.Record.{IsPlaced, made_entry, records_in, with_path};
@@ -47,6 +47,8 @@ pub(crate) fn put(
         (records_in storage.new.items entries.new.items)) }
     ensures more { length entries.new.items ≤ length entries.old.items + 1 }
     ensures placed { All (IsPlaced (length storage.new.items)) entries.new.items }
+    ensures storage { (storage.new.items ≡ storage.old.items)
+        ⊎ (storage.new.items ≡ storage.old.items ++ path.now) }
     ensures err_entries { OnErr result (entries.new.items ≡ entries.old.items) }
     ensures err_storage { OnErr result (storage.new.items ≡ storage.old.items) }
 {

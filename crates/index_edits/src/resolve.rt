@@ -1,6 +1,6 @@
 //! Ending a conflict.
 
-ghost use Rattle.std.specs.Prelude.{◌≡◌, All, None, length, IfOk, MatchResult, OnErr, OnOk};
+ghost use Rattle.std.specs.Prelude.{◌++◌, ◌⊎◌, ◌≡◌, All, None, length, IfOk, MatchResult, OnErr, OnOk};
 ghost use Rattle.index_entries.specs.Order.{IsStrictlyOrdered};
 ghost use Rattle.index_entries.specs.Record.{IsPlaced, records_in, with_path};
 ghost use Rattle.index_edits.specs.Edits.{IsResolvedInto, IsToldOf, merged};
@@ -50,6 +50,8 @@ pub fn resolve<C: ComponentCheck>(
         → IsToldOf (with_path path.now (merged entry))
         (records_in storage.old.items entries.old.items) told) }
     ensures placed { All (IsPlaced (length storage.new.items)) entries.new.items }
+    ensures storage { (storage.new.items ≡ storage.old.items)
+        ⊎ (storage.new.items ≡ storage.old.items ++ path.now) }
     ensures err_entries { OnErr result (entries.new.items ≡ entries.old.items) }
     ensures err_storage { OnErr result (storage.new.items ≡ storage.old.items) }
 {

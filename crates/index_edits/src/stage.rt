@@ -1,7 +1,7 @@
 //! Staging an entry.
 
 ghost use Rattle.std.specs.List.{list_any};
-ghost use Rattle.std.specs.Prelude.{◌≡◌, ◌==◌, ◌&&◌, ◌||◌, ◌++◌, ◌∷◌, [], All, Contains, None, false, length, IfOk};
+ghost use Rattle.std.specs.Prelude.{◌⊎◌, ◌≡◌, ◌==◌, ◌&&◌, ◌||◌, ◌++◌, ◌∷◌, [], All, Contains, None, false, length, IfOk};
 ghost use Rattle.std.specs.Prelude.{MatchResult, OnErr, OnOk};
 ghost use Rattle.index_entries.specs.Order.{IsStrictlyOrdered};
 ghost use Rattle.index_entries.specs.Record.{IsPlaced, Record, records_in, with_path};
@@ -89,6 +89,8 @@ fn settle(
         → IsToldOf (with_path path.now entry)
         (records_in storage.old.items entries.old.items) told) }
     ensures placed { All (IsPlaced (length storage.new.items)) entries.new.items }
+    ensures storage { (storage.new.items ≡ storage.old.items)
+        ⊎ (storage.new.items ≡ storage.old.items ++ path.now) }
     ensures err_entries { OnErr result (entries.new.items ≡ entries.old.items) }
     ensures err_storage { OnErr result (storage.new.items ≡ storage.old.items) }
 {
@@ -142,6 +144,8 @@ pub fn stage<C: ComponentCheck>(
         → IsToldOf (with_path path.now entry)
         (records_in storage.old.items entries.old.items) told) }
     ensures placed { All (IsPlaced (length storage.new.items)) entries.new.items }
+    ensures storage { (storage.new.items ≡ storage.old.items)
+        ⊎ (storage.new.items ≡ storage.old.items ++ path.now) }
     ensures err_entries { OnErr result (entries.new.items ≡ entries.old.items) }
     ensures err_storage { OnErr result (storage.new.items ≡ storage.old.items) }
 {
