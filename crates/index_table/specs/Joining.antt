@@ -1,15 +1,14 @@
 -- What a call that reads a split index with its shared index says of the bytes of both (gitformat-index, "Split
 -- index").
-use Rattle.std.specs.Prelude.{◌≡◌, ℕ, ◌⊎◌, Bool, false, List, Option, Some, Ok}
+use Rattle.std.specs.Prelude.{◌≡◌, ℕ, ◌⊎◌, Bool, List, Option, Some, Ok}
 use Rattle.gix_index.specs.Contents.{Contents}
 use Rattle.gix_index.specs.Dissolve.{IsDissolved, SaysDissolve}
 use Rattle.gix_index.specs.Edits.{without_link}
 use Rattle.gix_index.specs.FileFaults.ReadErrors.{link_error_of}
-use Rattle.gix_index.specs.Id.{id_bytes, is_null}
 use Rattle.gix_index.specs.Kind.{Kind}
 use Rattle.gix_index.specs.Link.{LinkValue}
 use Rattle.gix_index.specs.LinkError.{Error as LinkError}
-use Rattle.gix_index.specs.Linked.{IsUnfollowed}
+use Rattle.gix_index.specs.Linked.{IsFollowed as IsFollowedLink, IsUnfollowed}
 use Rattle.gix_index.specs.ObjectId.{ObjectId}
 use Rattle.index_table.specs.Reading.{BytesEndAs, FailsOwn, FailsSo, IsReadSo}
 use Rattle.index_table.specs.declared.fault.Failure.{Failure}
@@ -18,9 +17,8 @@ use Rattle.index_table.specs.declared.fault.Whose.TheVariants.{Own, Shared}
 -- ---- the value of both
 
 -- the value has a link, whose id isn't null
-pub record LinksTo (split : Contents) (link : LinkValue) : Type 0 where
-  pub has_link : split.extensions.link ≡ Some link
-  pub followed : is_null (id_bytes link.shared) ≡ false
+abbrev pub LinksTo : Contents → LinkValue → Type 0
+LinksTo split link = IsFollowedLink split.extensions.link link
 
 -- the bytes of the shared index have this answer: their trailer has to be the link's id, unless it is null
 abbrev pub SharedReadsAs : Bool → Kind → LinkValue → List ℕ → Contents → Option ObjectId → Type 0

@@ -79,12 +79,9 @@ pub fn both_of(
             });
         }
     };
-    let Some(link) = split.take_link() else {
+    let Some(link) = file::take_followed_link(&mut split) else {
         return Ok(split);
     };
-    if link.shared_index_checksum.is_null() {
-        return Ok(split);
-    }
     join(alloc, split, link, shared, kind, skip_hash)
 }
 

@@ -1,9 +1,7 @@
-use Rattle.std.proofs.Common.{◌≡◌, ap, inl, refl, subst, sym, ◌∙◌}
+use Rattle.std.proofs.Common.{◌≡◌, inl, refl}
 use Rattle.std.proofs.lemmas.Result.{IfErr-weaker, IfOk-weaker}
-use Rattle.std.specs.Option.{option_map}
 use Rattle.gix_index.specs.Contents.{Contents}
 use Rattle.gix_index.specs.Link.{link_of}
-use Rattle.gix_index.specs.Linked.{IsUnfollowed}
 use Rattle.gix_index.specs.State.{contents}
 use Rattle.gix_index.specs.StateType.{State}
 use Rattle.index_table.specs.Joining.{AreReadSo, FailBoth, FailsJoined, IsJoinedBy}
@@ -16,56 +14,38 @@ returns-in-Err-clause-failed c = inl (record { whose = refl; says = c.in-Err.ens
 
 pub returns-in_default-clause-read : goal.returns-in_default-clause-read
 returns-in_default-clause-read c =
-    let t = c.take_link.ensures in
+    let t = c.take_followed_link.ensures in
     own c.args.skip_hash c.args.kind c.args.bytes.now c.args.shared.now (contents c.in-Ok.state)
-    (contents c.take_link.new.self) c.in-Ok.ensures.read.0 c.in-Ok.ensures.read.1 t.removed
-    (λ (v : Contents). v ≡ contents c.take_link.new.self)
-    (subst IsUnfollowed (sym (sym t.given ∙ ap (option_map link_of) c.in_default.is)) tt) refl
-
-pub returns-then-is_null-clause-read : goal.returns-then-is_null-clause-read
-returns-then-is_null-clause-read c =
-    let t = c.take_link.ensures in
-    own c.args.skip_hash c.args.kind c.args.bytes.now c.args.shared.now (contents c.in-Ok.state)
-    (contents c.take_link.new.self) c.in-Ok.ensures.read.0 c.in-Ok.ensures.read.1 t.removed
-    (λ (v : Contents). v ≡ contents c.take_link.new.self)
-    (subst IsUnfollowed (sym (sym t.given ∙ ap (option_map link_of) c.in-Some.is))
-    (sym c.is_null.ensures ∙ c.if-is_null.true)) refl
+    (contents c.take_followed_link.new.state) c.in-Ok.ensures.read.0 c.in-Ok.ensures.read.1 t.removed
+    (λ (v : Contents). v ≡ contents c.take_followed_link.new.state) (rw c.in_default.is at t.given) refl
 
 pub join-requires-clause-kind : goal.join-requires-clause-kind
 join-requires-clause-kind c =
-    same_kind (contents c.in-Ok.state) (contents c.take_link.new.self) c.args.kind c.take_link.ensures.removed
+    same_kind (contents c.in-Ok.state) (contents c.take_followed_link.new.state) c.args.kind c.take_followed_link.ensures.removed
     (of_kind _ c.args.skip_hash c.args.kind c.args.bytes.now (contents c.in-Ok.state) c.in-Ok.ensures.read.0
     c.in-Ok.ensures.read.1)
 
 pub returns-clause-read : goal.returns-clause-read
 returns-clause-read c =
-    let t = c.take_link.ensures in
+    let t = c.take_followed_link.ensures in
     IfOk-weaker c.join.result
     (λ (s : State). IsJoinedBy c.args.skip_hash c.args.kind (link_of c.in-Some.link) c.args.shared.now
-    (λ (v : Contents). v ≡ contents s) (contents c.take_link.new.self))
+    (λ (v : Contents). v ≡ contents s) (contents c.take_followed_link.new.state))
     (λ (s : State). AreReadSo c.args.skip_hash c.args.kind c.args.bytes.now c.args.shared.now
     (λ (v : Contents). v ≡ contents s))
     (λ s h. joined c.args.skip_hash c.args.kind c.args.bytes.now c.args.shared.now (contents c.in-Ok.state)
-    (contents c.take_link.new.self) c.in-Ok.ensures.read.0 c.in-Ok.ensures.read.1 t.removed
+    (contents c.take_followed_link.new.state) c.in-Ok.ensures.read.0 c.in-Ok.ensures.read.1 t.removed
     (λ (v : Contents). v ≡ contents s) (link_of c.in-Some.link)
-    (record {
-      has_link = sym t.given ∙ ap (option_map link_of) c.in-Some.is;
-      followed = sym c.is_null.ensures ∙ c.if-is_null.false;
-    })
-    h) c.join.ensures.joined
+    (rw c.in-Some.is at t.given) h) c.join.ensures.joined
 
 pub returns-clause-failed : goal.returns-clause-failed
 returns-clause-failed c =
-    let t = c.take_link.ensures in
+    let t = c.take_followed_link.ensures in
     IfErr-weaker c.join.result
     (FailsJoined c.args.skip_hash c.args.kind (link_of c.in-Some.link) c.args.shared.now
-    (contents c.take_link.new.self))
+    (contents c.take_followed_link.new.state))
     (FailBoth c.args.skip_hash c.args.kind c.args.bytes.now c.args.shared.now)
     (λ failure h. failed c.args.skip_hash c.args.kind c.args.bytes.now c.args.shared.now (contents c.in-Ok.state)
-    (contents c.take_link.new.self) c.in-Ok.ensures.read.0 c.in-Ok.ensures.read.1 t.removed
+    (contents c.take_followed_link.new.state) c.in-Ok.ensures.read.0 c.in-Ok.ensures.read.1 t.removed
     failure (link_of c.in-Some.link)
-    (record {
-      has_link = sym t.given ∙ ap (option_map link_of) c.in-Some.is;
-      followed = sym c.is_null.ensures ∙ c.if-is_null.false;
-    })
-    h) c.join.ensures.failed
+    (rw c.in-Some.is at t.given) h) c.join.ensures.failed
