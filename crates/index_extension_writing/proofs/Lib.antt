@@ -1,5 +1,9 @@
+pub mod EncodedBits
+pub mod EncodedForms
 pub mod Lengths
+pub mod MarkedWords
 mod OctalDigits
 pub mod WrittenBitmaps
+pub mod WrittenForms
 pub mod WrittenMonitors
 pub mod WrittenPaths

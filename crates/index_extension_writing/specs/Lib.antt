@@ -1,3 +1,5 @@
 pub mod BitmapImage
+pub mod EncodedBitmap
+pub mod EncodingSteps
 pub mod MonitorImage
 pub mod ResolveUndoImage

@@ -22,10 +22,10 @@ pub struct LentVec<'a> {
 
 /// The bytes of a bitmap without its words: the number of bits, the number of words, and the position of the last run
 /// word.
-const WORDLESS_LEN: u64 = 12;
+pub(crate) const WORDLESS_LEN: u64 = 12;
 
 /// The bytes of a word.
-const WORD_LEN: u64 = 8;
+pub(crate) const WORD_LEN: u64 = 8;
 
 /// The bits of a run word below its number of literal words: the repeated bit, and the number of repetitions.
 const LITERALS_SHIFT: u32 = 33;

@@ -2,6 +2,7 @@
 //! (gitformat-index, "Extensions").
 #![tactic(auto)]
 
+pub mod encoding;
 pub mod ewah;
 pub mod fs_monitor;
 pub mod laws;
