@@ -1,9 +1,11 @@
 pub mod EncodedBits
 pub mod EncodedForms
 pub mod Lengths
+pub mod MarkedDirectories
 pub mod MarkedWords
 mod OctalDigits
 pub mod WrittenBitmaps
+pub mod WrittenDirectories
 pub mod WrittenForms
 pub mod WrittenMonitors
 pub mod WrittenPaths

@@ -3,3 +3,4 @@ pub mod EncodedBitmap
 pub mod EncodingSteps
 pub mod MonitorImage
 pub mod ResolveUndoImage
+pub mod UntrackedImage

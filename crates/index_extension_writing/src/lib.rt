@@ -6,5 +6,7 @@ pub mod encoding;
 pub mod ewah;
 pub mod fs_monitor;
 pub mod laws;
+mod marks;
 mod pieces;
 pub mod resolve_undo;
+pub mod untracked_cache;

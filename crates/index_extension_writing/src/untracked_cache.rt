@@ -1,0 +1,258 @@
+//! Writing an untracked cache (gitformat-index, "Untracked cache").
+
+ghost use Rattle.std.specs.Prelude.{◌≡◌, ◌++◌, ◌<◌, ◌^◌, [], ◌∷◌, false, length, map};
+ghost use Rattle.std.specs.List.{flat_map};
+ghost use Rattle.bstr.specs.Owned.{bstring_bytes};
+ghost use Rattle.index_extensions.specs.Encoding.{item_bytes};
+ghost use Rattle.index_parts.specs.Id.{id_bytes};
+ghost use Rattle.index_parts.specs.Puts.{Puts};
+ghost use Rattle.index_untracked.specs.Blocks.{directory_value};
+ghost use Rattle.index_untracked.specs.Untracked.{cache_of};
+ghost use Rattle.index_extension_writing.specs.BitmapImage.{bitmap_bytes};
+ghost use Rattle.index_extension_writing.specs.EncodedBitmap.{encoded};
+ghost use Rattle.index_extension_writing.specs.UntrackedImage.{bitmaps_bytes, cache_bytes, cache_item};
+ghost use Rattle.index_extension_writing.specs.UntrackedImage.{directories_bytes, directory_bytes};
+ghost use Rattle.index_extension_writing.specs.UntrackedImage.{file_id, file_stat, has_mark, preamble_bytes};
+ghost use Rattle.index_extension_writing.specs.UntrackedImage.{start_bytes, stat_bytes, tail_bytes, valid_id, valid_stat};
+
+use crate::encoding;
+use crate::marks::{Mark, Marks};
+use crate::pieces::{put_head, put_text};
+use bstr::BString;
+use index_metadata::entry::Stat;
+use index_parts::encode;
+use index_parts::hash::io::Out;
+use index_parts::hash::{Kind, ObjectId};
+use index_parts::util::write_var_int;
+use index_untracked::{Directory, OidStat, SIGNATURE, UntrackedCache};
+use std::io;
+
+/// The bytes of a stat.
+const STAT_LEN: usize = 36;
+
+/// The nine numbers of a stat.
+#[tactic(auto, unfolding(crate::specs::UntrackedImage::stat_bytes))]
+fn numbers_of(stat: &Stat) -> [u8; STAT_LEN]
+    ensures { result ≡ stat_bytes stat.now }
+{
+    let [a0, a1, a2, a3] = stat.ctime.secs.to_be_bytes();
+    let [b0, b1, b2, b3] = stat.ctime.nsecs.to_be_bytes();
+    let [c0, c1, c2, c3] = stat.mtime.secs.to_be_bytes();
+    let [d0, d1, d2, d3] = stat.mtime.nsecs.to_be_bytes();
+    let [e0, e1, e2, e3] = stat.dev.to_be_bytes();
+    let [f0, f1, f2, f3] = stat.ino.to_be_bytes();
+    let [g0, g1, g2, g3] = stat.uid.to_be_bytes();
+    let [h0, h1, h2, h3] = stat.gid.to_be_bytes();
+    let [i0, i1, i2, i3] = stat.size.to_be_bytes();
+    [
+        a0, a1, a2, a3, b0, b1, b2, b3, c0, c1, c2, c3, d0, d1, d2, d3, e0, e1, e2, e3, f0, f1, f2,
+        f3, g0, g1, g2, g3, h0, h1, h2, h3, i0, i1, i2, i3,
+    ]
+}
+
+/// The stat of a file of exclude patterns, or zeros.
+fn file_stat(file: &Option<OidStat>) -> [u8; STAT_LEN]
+    ensures { result ≡ file_stat file.now }
+{
+    match file {
+        Some(file) => numbers_of(file.stat()),
+        None => [0; STAT_LEN],
+    }
+}
+
+/// The id of a file of exclude patterns, or the id of zeros.
+pub(crate) fn file_id(kind: Kind, file: &Option<OidStat>) -> ObjectId
+    ensures { id_bytes result ≡ file_id kind file.now }
+{
+    match file {
+        Some(file) => file.id(),
+        None => kind.null(),
+    }
+}
+
+/// Writes what a cache says of itself.
+#[tactic(auto, unfolding(crate::specs::UntrackedImage::preamble_bytes))]
+fn put_preamble<W: Out>(cache: &UntrackedCache, kind: Kind, out: &mut W) -> io::Result<()>
+    requires { W.failed out.old ≡ false }
+    ensures { Puts W.Out out.old out.new result (preamble_bytes kind (cache_of cache.now).preamble) }
+{
+    let (bytes, start) = encode::offset(cache.identifier().len() as u64);
+    let (_, len) = bytes.split_at(start);
+    let info = cache.info_exclude().copied();
+    let excludes = cache.excludes_file().copied();
+    out.put_each(&[
+        len,
+        cache.identifier(),
+        &file_stat(&info),
+        &file_stat(&excludes),
+        &cache.dir_flags().to_be_bytes(),
+        file_id(kind, &info).as_bytes(),
+        file_id(kind, &excludes).as_bytes(),
+        cache.exclude_filename_per_dir(),
+        b"\0",
+    ])
+}
+
+/// Writes names, each with a NUL.
+fn put_names<W: Out>(names: &[BString], out: &mut W) -> io::Result<()>
+    requires { W.failed out.old ≡ false }
+    ensures { Puts W.Out out.old out.new result
+        (flat_map (λ name. bstring_bytes name ++ 0 ∷ []) names.now) }
+{
+    for name in names {
+        put_text(name.as_bytes(), out)?;
+    }
+    Ok(())
+}
+
+/// Writes how many names and directories are in a directory, and its name.
+fn put_start<W: Out>(directory: &Directory, out: &mut W) -> io::Result<()>
+    requires { W.failed out.old ≡ false }
+    ensures { Puts W.Out out.old out.new result (start_bytes (directory_value directory.now)) }
+{
+    let (bytes, start) = encode::offset(directory.untracked_entries().len() as u64);
+    let (_, names) = bytes.split_at(start);
+    let (bytes, start) = encode::offset(directory.sub_directories().len() as u64);
+    let (_, directories) = bytes.split_at(start);
+    out.put_each(&[names, directories, directory.name(), b"\0"])
+}
+
+/// Writes a directory without those in it.
+fn put_directory<W: Out>(directory: &Directory, out: &mut W) -> io::Result<()>
+    requires { W.failed out.old ≡ false }
+    ensures { Puts W.Out out.old out.new result (directory_bytes (directory_value directory.now)) }
+{
+    put_start(directory, out)?;
+    put_names(directory.untracked_entries(), out)
+}
+
+/// Writes directories, one behind another.
+fn put_blocks<W: Out>(directories: &[Directory], out: &mut W) -> io::Result<()>
+    requires { W.failed out.old ≡ false }
+    ensures { Puts W.Out out.old out.new result
+        (flat_map (λ d. directory_bytes (directory_value d)) directories.now) }
+{
+    for directory in directories {
+        put_directory(directory, out)?;
+    }
+    Ok(())
+}
+
+/// Writes the bitmap of the directories that have a mark.
+fn put_marks<W: Out>(directories: &[Directory], mark: Mark, out: &mut W) -> io::Result<()>
+    requires few { length directories.now < 2 ^ 32 }
+    requires unfailed { W.failed out.old ≡ false }
+    ensures { Puts W.Out out.old out.new result
+        (bitmap_bytes (encoded (map (has_mark mark) directories.now))) }
+{
+    let marks = Marks::new(directories, mark);
+    encoding::put(marks.num_bits(), &marks, out)
+}
+
+/// Writes the three bitmaps.
+fn put_bitmaps<W: Out>(directories: &[Directory], out: &mut W) -> io::Result<()>
+    requires few { length directories.now < 2 ^ 32 }
+    requires unfailed { W.failed out.old ≡ false }
+    ensures { Puts W.Out out.old out.new result
+        (bitmaps_bytes (map directory_value directories.now)) }
+{
+    put_marks(directories, Mark::Valid, out)?;
+    put_marks(directories, Mark::CheckOnly, out)?;
+    put_marks(directories, Mark::HashValid, out)
+}
+
+/// Writes a stat, where it is valid.
+fn put_stat<W: Out>(stat: &Option<Stat>, out: &mut W) -> io::Result<()>
+    requires { W.failed out.old ≡ false }
+    ensures { Puts W.Out out.old out.new result (valid_stat stat.now) }
+{
+    match stat {
+        Some(stat) => out.put(&numbers_of(stat)),
+        None => Ok(()),
+    }
+}
+
+/// Writes an id, where it is valid.
+fn put_id<W: Out>(id: &Option<ObjectId>, out: &mut W) -> io::Result<()>
+    requires { W.failed out.old ≡ false }
+    ensures { Puts W.Out out.old out.new result (valid_id id.now) }
+{
+    match id {
+        Some(id) => out.put(id.as_bytes()),
+        None => Ok(()),
+    }
+}
+
+/// Writes the stats of directories that are valid.
+fn put_stats<W: Out>(directories: &[Directory], out: &mut W) -> io::Result<()>
+    requires { W.failed out.old ≡ false }
+    ensures { Puts W.Out out.old out.new result (flat_map (λ d. valid_stat d.stat) directories.now) }
+{
+    for directory in directories {
+        put_stat(&directory.stat, out)?;
+    }
+    Ok(())
+}
+
+/// Writes the ids of directories that are valid.
+fn put_ids<W: Out>(directories: &[Directory], out: &mut W) -> io::Result<()>
+    requires { W.failed out.old ≡ false }
+    ensures { Puts W.Out out.old out.new result
+        (flat_map (λ d. valid_id d.exclude_file_oid) directories.now) }
+{
+    for directory in directories {
+        put_id(&directory.exclude_file_oid, out)?;
+    }
+    Ok(())
+}
+
+/// Writes what stands behind the directories.
+fn put_tail<W: Out>(directories: &[Directory], out: &mut W) -> io::Result<()>
+    requires few { length directories.now < 2 ^ 32 }
+    requires unfailed { W.failed out.old ≡ false }
+    ensures { Puts W.Out out.old out.new result (tail_bytes (map directory_value directories.now)) }
+{
+    put_bitmaps(directories, out)?;
+    put_stats(directories, out)?;
+    put_ids(directories, out)?;
+    out.put(b"\0")
+}
+
+/// Writes directories, and what stands behind them.
+fn put_directories<W: Out>(directories: &[Directory], out: &mut W) -> io::Result<()>
+    requires few { length directories.now < 2 ^ 32 }
+    requires unfailed { W.failed out.old ≡ false }
+    ensures { Puts W.Out out.old out.new result
+        (directories_bytes (map directory_value directories.now)) }
+{
+    if directories.is_empty() {
+        return Ok(());
+    }
+    put_blocks(directories, out)?;
+    put_tail(directories, out)
+}
+
+/// Writes the content of the extension.
+fn put_content<W: Out>(cache: &UntrackedCache, kind: Kind, out: &mut W) -> io::Result<()>
+    requires few { length (cache_of cache.now).directories < 2 ^ 32 }
+    requires unfailed { W.failed out.old ≡ false }
+    ensures { Puts W.Out out.old out.new result (cache_bytes kind (cache_of cache.now)) }
+{
+    put_preamble(cache, kind, out)?;
+    write_var_int(out, cache.directories().len() as u64)?;
+    put_directories(cache.directories(), out)
+}
+
+/// Writes an untracked cache as the extension of a file with ids of this kind (gitformat-index, "Untracked cache"), in
+/// the bitmaps that git's encoder makes. Its content has this length, which [`content_len`] counts.
+///
+/// An error comes only where the writer failed, which then took a prefix of the bytes. No memory is taken.
+pub fn put_item<W: Out>(cache: &UntrackedCache, kind: Kind, len: u32, out: &mut W) -> io::Result<()>
+    requires len { len ≡ length (cache_bytes kind (cache_of cache.now)) }
+    requires unfailed { W.failed out.old ≡ false }
+    ensures written { Puts W.Out out.old out.new result
+        (item_bytes (cache_item kind (cache_of cache.now))) }
+{
+    put_head(SIGNATURE, len, out)?;
+    put_content(cache, kind, out)
+}
