@@ -1,5 +1,8 @@
+pub mod BlocksAgain
+pub mod CacheAgain
 pub mod EncodedBits
 pub mod EncodedForms
+pub mod KnownAgain
 pub mod Lengths
 pub mod MarkedDirectories
 pub mod MarkedWords

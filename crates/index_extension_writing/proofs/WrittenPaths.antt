@@ -21,7 +21,7 @@ use Rattle.index_extension_writing.proofs.OctalDigits.{digits_spell}
 
 -- ---- a stage
 
-id_made : (kind : Kind) (id : ObjectId) → id_kind id ≡ kind → id ≡ make_id kind (id_bytes id)
+pub id_made : (kind : Kind) (id : ObjectId) → id_kind id ≡ kind → id ≡ make_id kind (id_bytes id)
 id_made kind id e = rw (← e) (made id)
   where
     made : (i : ObjectId) → i ≡ make_id (id_kind i) (id_bytes i)

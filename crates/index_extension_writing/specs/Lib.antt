@@ -3,4 +3,5 @@ pub mod EncodedBitmap
 pub mod EncodingSteps
 pub mod MonitorImage
 pub mod ResolveUndoImage
+pub mod SpellableCache
 pub mod UntrackedImage

@@ -1,15 +1,18 @@
 //! Laws of the bytes that are written: they are read as the values that they are made of. A law computes nothing.
 
-ghost use Rattle.std.specs.Prelude.{◌≡◌, ◌<◌, ◌≤◌, ◌^◌, ◌++◌, ℕ, Bool, List, All, Ok, length, map};
+ghost use Rattle.std.specs.Prelude.{◌≡◌, ◌<◌, ◌≤◌, ◌^◌, ◌++◌, ℕ, Bool, List, All, Ok, Option, length, map};
 ghost use Rattle.index_bitmaps.specs.Bitmap.{Bitmap, IsBitmap};
 ghost use Rattle.index_bitmaps.specs.Bits.{ListPlaces};
 ghost use Rattle.index_parts.specs.declared.hash.Kind.{Kind};
 ghost use Rattle.index_small_extensions.specs.FsMonitor.{IsMonitor, Monitor};
 ghost use Rattle.index_small_extensions.specs.ResolveUndo.{IsResolveUndo, PathStages};
+ghost use Rattle.index_untracked.specs.Untracked.{Cache, IsCache};
 ghost use Rattle.index_extension_writing.specs.BitmapImage.{bitmap_bytes, IsSpellableBitmap};
 ghost use Rattle.index_extension_writing.specs.EncodedBitmap.{encoded, set_from};
 ghost use Rattle.index_extension_writing.specs.MonitorImage.{monitor_bytes, IsSpellableMonitor};
 ghost use Rattle.index_extension_writing.specs.ResolveUndoImage.{resolve_undo_bytes, AreSpellablePaths};
+ghost use Rattle.index_extension_writing.specs.SpellableCache.{IsSpellableCache};
+ghost use Rattle.index_extension_writing.specs.UntrackedImage.{cache_bytes};
 
 /// What is written of a bitmap is read as the bitmap, whatever stands behind it. A bitmap that was read can be written
 /// so.
@@ -44,4 +47,10 @@ pub fn resolve_undo_reads_back()
         → IsResolveUndo kind (resolve_undo_bytes paths) paths }
     ensures spellable { (kind : Kind) (bytes : List ℕ) (paths : List PathStages)
         → IsResolveUndo kind bytes paths → AreSpellablePaths kind paths }
+{}
+
+/// What is written of an untracked cache is read as the cache, by the kind of its ids, within the limit.
+pub fn untracked_cache_reads_back()
+    ensures read { (kind : Kind) (limit : Option ℕ) (c : Cache) → IsSpellableCache kind limit c
+        → IsCache kind limit (cache_bytes kind c) c }
 {}
