@@ -41,7 +41,7 @@ use Rattle.index_extension_writing.proofs.WrittenDirectories.{many_directories}
 
 -- ---- what a cache says of itself
 
-file_stat_len : (o : Option OidStat) → length (file_stat o) ≡ 36
+pub file_stat_len : (o : Option OidStat) → length (file_stat o) ≡ 36
 file_stat_len None = refl
 file_stat_len (Some file) = stat_len file.stat
 
@@ -179,7 +179,7 @@ tail_there kind ds lt h =
 -- ---- directories
 
 mutual
-  listed_len : (place : ℕ) (b : Block) → length (listed place b) ≡ block_size b
+  pub listed_len : (place : ℕ) (b : Block) → length (listed place b) ≡ block_size b
   listed_len place (block name untracked subs) = omega (arith, all_listed_len (place + 1) subs)
 
   all_listed_len : (place : ℕ) (bs : Blocks) → length (all_listed place bs) ≡ blocks_size bs

@@ -1,5 +1,6 @@
 pub mod BlocksAgain
 pub mod CacheAgain
+pub mod CacheRead
 pub mod EncodedBits
 pub mod EncodedForms
 pub mod KnownAgain
@@ -12,3 +13,4 @@ pub mod WrittenDirectories
 pub mod WrittenForms
 pub mod WrittenMonitors
 pub mod WrittenPaths
+pub mod WrittenSizes

@@ -31,7 +31,7 @@ pub directory_parts : (d : DirectoryValue) (names : List (List ℕ)) → names �
 unfolding directory_bytes
 directory_parts d names e = ap (λ (l : List (List ℕ)). start_bytes d ++ names_bytes l) e
 
-names_same : (names : List BString)
+pub names_same : (names : List BString)
     → flat_map (λ name. bstring_bytes name ++ 0 ∷ []) names ≡ names_bytes (map bstring_bytes names)
 names_same [] = refl
 names_same (name ∷ names) = ap (λ (l : List ℕ). (bstring_bytes name ++ 0 ∷ []) ++ l) (names_same names)
@@ -72,7 +72,7 @@ cache_grouped kind u n ds e f =
     append_assoc (preamble_bytes kind u.preamble) (offset_bytes n) (directories_bytes ds)
     ∙ cache_parts kind u n ds e f
 
-start_some : (d : DirectoryValue) → 1 ≤ length (directory_bytes d)
+pub start_some : (d : DirectoryValue) → 1 ≤ length (directory_bytes d)
 unfolding directory_bytes start_bytes
 start_some d = omega (
   arith,

@@ -84,6 +84,9 @@ pub record IsSpellableCache (kind : Kind) (limit : Option ℕ) (c : Cache) : Typ
   pub blocks : AllByRecursion (IsSpellableBlock limit) c.directories
   pub known : AllByRecursion (IsSpellableKnown kind) c.directories
 
--- no untracked name is empty
+-- no untracked name in a directory is empty
+abbrev pub has_names : DirectoryValue → Bool
+has_names d = list_all (λ name. not (length name == 0)) d.untracked
+
 abbrev pub names_are_some : Cache → Bool
-names_are_some c = list_all (λ d. list_all (λ name. not (length name == 0)) d.untracked) c.directories
+names_are_some c = list_all has_names c.directories

@@ -87,6 +87,10 @@ abbrev pub valid_id : Option ObjectId → List ℕ
 valid_id None = []
 valid_id (Some id) = id_bytes id
 
+-- a directory, its stat and its id, where they are valid
+abbrev pub known_bytes : DirectoryValue → List ℕ
+known_bytes d = directory_bytes d ++ (valid_stat d.stat ++ valid_id d.exclude)
+
 -- the three bitmaps, the stats that are valid, the ids that are, and a NUL
 unfoldable pub tail_bytes : List DirectoryValue → List ℕ
 tail_bytes ds =

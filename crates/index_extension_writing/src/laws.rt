@@ -1,6 +1,6 @@
 //! Laws of the bytes that are written: they are read as the values that they are made of. A law computes nothing.
 
-ghost use Rattle.std.specs.Prelude.{◌≡◌, ◌<◌, ◌≤◌, ◌^◌, ◌++◌, ℕ, Bool, List, All, Ok, Option, length, map};
+ghost use Rattle.std.specs.Prelude.{◌≡◌, ◌<◌, ◌≤◌, ◌^◌, ◌++◌, ℕ, Bool, List, All, Ok, Option, length, map, true};
 ghost use Rattle.index_bitmaps.specs.Bitmap.{Bitmap, IsBitmap};
 ghost use Rattle.index_bitmaps.specs.Bits.{ListPlaces};
 ghost use Rattle.index_parts.specs.declared.hash.Kind.{Kind};
@@ -11,7 +11,7 @@ ghost use Rattle.index_extension_writing.specs.BitmapImage.{bitmap_bytes, IsSpel
 ghost use Rattle.index_extension_writing.specs.EncodedBitmap.{encoded, set_from};
 ghost use Rattle.index_extension_writing.specs.MonitorImage.{monitor_bytes, IsSpellableMonitor};
 ghost use Rattle.index_extension_writing.specs.ResolveUndoImage.{resolve_undo_bytes, AreSpellablePaths};
-ghost use Rattle.index_extension_writing.specs.SpellableCache.{IsSpellableCache};
+ghost use Rattle.index_extension_writing.specs.SpellableCache.{IsSpellableCache, names_are_some};
 ghost use Rattle.index_extension_writing.specs.UntrackedImage.{cache_bytes};
 
 /// What is written of a bitmap is read as the bitmap, whatever stands behind it. A bitmap that was read can be written
@@ -49,8 +49,12 @@ pub fn resolve_undo_reads_back()
         → IsResolveUndo kind bytes paths → AreSpellablePaths kind paths }
 {}
 
-/// What is written of an untracked cache is read as the cache, by the kind of its ids, within the limit.
+/// What is written of an untracked cache is read as the cache, by the kind of its ids, within the limit. A cache that was
+/// read can be written so, where no untracked name is empty.
 pub fn untracked_cache_reads_back()
     ensures read { (kind : Kind) (limit : Option ℕ) (c : Cache) → IsSpellableCache kind limit c
         → IsCache kind limit (cache_bytes kind c) c }
+    ensures spellable { (kind : Kind) (limit : Option ℕ) (bytes : List ℕ) (c : Cache)
+        → All (λ n. n < 256) bytes → length bytes < 2 ^ 32 → IsCache kind limit bytes c
+        → names_are_some c ≡ true → IsSpellableCache kind limit c }
 {}

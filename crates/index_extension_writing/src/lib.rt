@@ -10,3 +10,4 @@ mod marks;
 mod pieces;
 pub mod resolve_undo;
 pub mod untracked_cache;
+mod untracked_sizes;

@@ -1,8 +1,9 @@
 //! Writing an untracked cache (gitformat-index, "Untracked cache").
 
-ghost use Rattle.std.specs.Prelude.{◌≡◌, ◌++◌, ◌<◌, ◌^◌, [], ◌∷◌, false, length, map};
-ghost use Rattle.std.specs.List.{flat_map};
+ghost use Rattle.std.specs.Prelude.{◌≡◌, ◌==◌, ◌++◌, ◌<◌, ◌^◌, [], ◌∷◌, false, not, length, map};
+ghost use Rattle.std.specs.List.{flat_map, list_all};
 ghost use Rattle.bstr.specs.Owned.{bstring_bytes};
+ghost use Rattle.index_cached_tree.specs.TreeWriting.{within_32};
 ghost use Rattle.index_extensions.specs.Encoding.{item_bytes};
 ghost use Rattle.index_parts.specs.Id.{id_bytes};
 ghost use Rattle.index_parts.specs.Puts.{Puts};
@@ -10,14 +11,15 @@ ghost use Rattle.index_untracked.specs.Blocks.{directory_value};
 ghost use Rattle.index_untracked.specs.Untracked.{cache_of};
 ghost use Rattle.index_extension_writing.specs.BitmapImage.{bitmap_bytes};
 ghost use Rattle.index_extension_writing.specs.EncodedBitmap.{encoded};
+ghost use Rattle.index_extension_writing.specs.SpellableCache.{has_names, names_are_some};
 ghost use Rattle.index_extension_writing.specs.UntrackedImage.{bitmaps_bytes, cache_bytes, cache_item};
 ghost use Rattle.index_extension_writing.specs.UntrackedImage.{directories_bytes, directory_bytes};
 ghost use Rattle.index_extension_writing.specs.UntrackedImage.{file_id, file_stat, has_mark, preamble_bytes};
 ghost use Rattle.index_extension_writing.specs.UntrackedImage.{start_bytes, stat_bytes, tail_bytes, valid_id, valid_stat};
 
-use crate::encoding;
 use crate::marks::{Mark, Marks};
 use crate::pieces::{put_head, put_text};
+use crate::{encoding, untracked_sizes};
 use bstr::BString;
 use index_metadata::entry::Stat;
 use index_parts::encode;
@@ -255,4 +257,56 @@ pub fn put_item<W: Out>(cache: &UntrackedCache, kind: Kind, len: u32, out: &mut 
 {
     put_head(SIGNATURE, len, out)?;
     put_content(cache, kind, out)
+}
+
+/// How many bytes the content of the extension has in a file with ids of this kind; None where it has more than
+/// 2^32 - 1. It takes no memory.
+pub fn content_len(cache: &UntrackedCache, kind: Kind) -> Option<u32>
+    ensures { result ≡ within_32 (length (cache_bytes kind (cache_of cache.now))) }
+{
+    untracked_sizes::content_len(cache, kind)
+}
+
+/// Whether a name has a byte.
+fn is_some_name(name: &BString) -> bool
+    ensures { result ≡ not (length (bstring_bytes name.now) == 0) }
+{
+    !name.as_bytes().is_empty()
+}
+
+/// Whether each of these names has a byte.
+fn names_are_some(names: &[BString]) -> bool
+    ensures { result ≡ list_all (λ name. not (length (bstring_bytes name) == 0)) names.now }
+{
+    let mut all = true;
+    for name in names {
+        all &= is_some_name(name);
+    }
+    all
+}
+
+/// Whether each untracked name in a directory has a byte.
+fn has_names(directory: &Directory) -> bool
+    ensures { result ≡ has_names (directory_value directory.now) }
+{
+    names_are_some(directory.untracked_entries())
+}
+
+/// Whether each untracked name in these directories has a byte.
+fn have_names(directories: &[Directory]) -> bool
+    ensures { result ≡ list_all (λ d. has_names (directory_value d)) directories.now }
+{
+    let mut all = true;
+    for directory in directories {
+        all &= has_names(directory);
+    }
+    all
+}
+
+/// Whether no untracked name of the cache is empty, as none is that git writes. What is written of a cache with an empty
+/// name may be read as none, since a file has two bytes at least for each name that a directory counts.
+pub fn is_spellable(cache: &UntrackedCache) -> bool
+    ensures { result ≡ names_are_some (cache_of cache.now) }
+{
+    have_names(cache.directories())
 }
