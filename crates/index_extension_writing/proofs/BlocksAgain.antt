@@ -1,5 +1,5 @@
 -- Directory blocks that were written are read again.
-use Rattle.std.proofs.Common.{◌≡◌, ℕ, zero, suc, ◌+◌, ◌-◌, ◌*◌, ◌/◌, ◌^◌, ◌<◌, ◌≤◌, List, [], ◌∷◌, ◌++◌, length, map, All}
+use Rattle.std.proofs.Common.{◌≡◌, ℕ, ◌+◌, ◌*◌, ◌≤◌, List, [], ◌∷◌, ◌++◌, length, All}
 use Rattle.std.proofs.Common.{Option, refl, sym, ap, subst, ◌∙◌, arith, append_assoc, length-append}
 use Rattle.std.specs.Prelude.{◌≢◌}
 use Rattle.std.specs.List.{AllByRecursion, flat_map}
@@ -8,11 +8,11 @@ use Rattle.index_parts.proofs.Encodings.{offset_is, offset_some}
 use Rattle.index_parts.specs.Limit.{IsWithin}
 use Rattle.index_parts.specs.Numbers.{IsUpTo}
 use Rattle.index_parts.specs.Offset.{offset_bytes}
-use Rattle.index_untracked.specs.Blocks.{Block, block, Blocks, none, more, how_many_blocks, BlockHead, IsBlockHead}
+use Rattle.index_untracked.specs.Blocks.{Block, block, Blocks, none, more, how_many_blocks}
 use Rattle.index_untracked.specs.Blocks.{SpellNames, IsBlock, AreBlocks, block_size, DirectoryValue, bare_directory}
 use Rattle.index_untracked.specs.Blocks.{places_from, listed, all_listed}
 use Rattle.index_extension_writing.specs.UntrackedImage.{names_bytes, start_bytes, directory_bytes}
-use Rattle.index_extension_writing.specs.SpellableCache.{IsName, IsSpellableBlock, bare}
+use Rattle.index_extension_writing.specs.SpellableCache.{IsName, IsSpellableBlock}
 
 -- ---- names
 

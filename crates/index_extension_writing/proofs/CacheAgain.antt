@@ -1,29 +1,27 @@
 -- An untracked cache that was written is read again.
-use Rattle.std.proofs.Common.{◌≡◌, ℕ, zero, suc, ◌+◌, ◌*◌, ◌^◌, ◌<◌, ◌≤◌, Bool, true, false, List, [], ◌∷◌, ◌++◌, length, map}
-use Rattle.std.proofs.Common.{All, Option, Some, None, Ok, refl, sym, ap, subst, ◌∙◌, arith, append_assoc, length-append}
-use Rattle.std.specs.Prelude.{IfSome, replicate}
-use Rattle.std.specs.List.{AllByRecursion, concat, enumerate_from, flat_map}
+use Rattle.std.proofs.Common.{◌≡◌, ℕ, suc, ◌+◌, ◌^◌, ◌<◌, ◌≤◌, Bool, true, false, List, [], ◌∷◌, ◌++◌, length, map}
+use Rattle.std.proofs.Common.{All, Option, Some, None, refl, sym, ap, subst, ◌∙◌, arith, append_assoc, length-append}
+use Rattle.std.specs.Prelude.{IfSome}
+use Rattle.std.specs.List.{AllByRecursion, flat_map}
 use Rattle.std.proofs.lemmas.List.{length-map}
 use Rattle.std.proofs.lemmas.List.Elements.{All-nil, All-cons}
-use Rattle.index_bitmaps.specs.Bits.{ListPlaces}
 use Rattle.index_extensions.proofs.WrittenItems.{be_be32}
 use Rattle.index_parts.proofs.Encodings.{offset_is}
-use Rattle.index_parts.specs.Id.{id_bytes, id_len, is_null, make_id}
-use Rattle.index_parts.specs.Limit.{IsWithin}
-use Rattle.index_parts.specs.Numbers.{be, be32}
-use Rattle.index_parts.specs.Offset.{IsOffset, continued_bytes, offset_bytes}
+use Rattle.index_parts.specs.Id.{id_bytes, id_len, make_id}
+use Rattle.index_parts.specs.Numbers.{be32}
+use Rattle.index_parts.specs.Offset.{continued_bytes, offset_bytes}
 use Rattle.index_parts.specs.declared.hash.Kind.{Kind}
 use Rattle.index_parts.specs.declared.hash.Kind.TheVariants as kinds
 use Rattle.index_parts.specs.declared.hash.ObjectId.{ObjectId}
 use Rattle.index_metadata.specs.declared.entry.stat.Stat.{Stat}
-use Rattle.index_untracked.specs.Blocks.{Block, IsBlock, block_depth, block_size, DirectoryValue, listed, blocks_size}
+use Rattle.index_untracked.specs.Blocks.{Block, IsBlock, block_size, DirectoryValue, listed, blocks_size}
 use Rattle.index_untracked.specs.Blocks.{Blocks, block, none, more, all_listed}
-use Rattle.index_untracked.specs.CacheBitmaps.{DirectoryBitmaps, ListsBelow, AreBitmaps, ArePieces, IsTail, with_bitmaps}
+use Rattle.index_untracked.specs.CacheBitmaps.{ListsBelow, AreBitmaps, IsTail}
 use Rattle.index_untracked.specs.CachedStat.{cached_stat}
 use Rattle.index_untracked.specs.Untracked.{oid_stat, Preamble, Cache, IsPreamble, IsNest, AreDirectories, IsCache}
 use Rattle.index_untracked.specs.declared.OidStat.{OidStat}
 use Rattle.index_extension_writing.specs.BitmapImage.{bitmap_bytes}
-use Rattle.index_extension_writing.specs.EncodedBitmap.{encoded, set_from, up_to_last}
+use Rattle.index_extension_writing.specs.EncodedBitmap.{encoded, set_from}
 use Rattle.index_extension_writing.specs.UntrackedImage.{file_stat, file_id, preamble_bytes, directory_bytes, is_marked}
 use Rattle.index_extension_writing.specs.UntrackedImage.{marks_bytes, bitmaps_bytes, valid_stat, valid_id, tail_bytes}
 use Rattle.index_extension_writing.specs.UntrackedImage.{directories_bytes, cache_bytes, start_bytes, stat_bytes}
@@ -31,7 +29,7 @@ use Rattle.index_extension_writing.specs.declared.marks.Mark.{Mark}
 use Rattle.index_extension_writing.specs.declared.marks.Mark.TheVariants as marks
 use Rattle.index_extension_writing.specs.SpellableCache.{IsSpellableFile, IsSpellablePreamble, IsSpellableBlock, bare}
 use Rattle.index_extension_writing.specs.SpellableCache.{IsSpellableKnown, AreOfBlock, IsSpellableCache}
-use Rattle.index_extension_writing.proofs.BlocksAgain.{block_there, directories_len}
+use Rattle.index_extension_writing.proofs.BlocksAgain.{block_there}
 use Rattle.index_extension_writing.proofs.EncodedBits.{bits_listed, bits_spellable, last_len}
 use Rattle.index_extension_writing.proofs.KnownAgain.{stat_len, stat_again, id_again, stat_piece, id_piece, pieces_of}
 use Rattle.index_extension_writing.proofs.KnownAgain.{bits_by, maps_from, known_again, stats_joined, ids_joined}

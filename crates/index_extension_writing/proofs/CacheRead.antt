@@ -5,20 +5,18 @@ use Rattle.std.proofs.Common.{length-append, take-append-drop}
 use Rattle.std.specs.Prelude.{◌≢◌, IfSome, not, ◌==◌}
 use Rattle.std.specs.List.{AllByRecursion, concat, enumerate_from, list_all}
 use Rattle.std.specs.Option.{option_map}
-use Rattle.std.proofs.lemmas.Bool.{and_parts, eqb-false}
+use Rattle.std.proofs.lemmas.Bool.{and_parts}
 use Rattle.std.proofs.lemmas.List.{length-drop, length-map, length-take, map-append}
 use Rattle.std.proofs.lemmas.List.Elements.{All-nil, All-cons, All-head, All-tail}
 use Rattle.index_bitmaps.specs.Bitmap.{Bitmap, IsBitmap}
-use Rattle.index_metadata.specs.declared.entry.stat.Stat.{Stat}
 use Rattle.index_parts.proofs.Ids.{id_kind-make_id, id_bytes-make_id}
-use Rattle.index_parts.specs.Id.{id_bytes, id_len, is_null, make_id}
+use Rattle.index_parts.specs.Id.{id_len, is_null, make_id}
 use Rattle.index_parts.specs.Limit.{IsWithin}
-use Rattle.index_parts.specs.Numbers.{be, number}
+use Rattle.index_parts.specs.Numbers.{number}
 use Rattle.index_parts.specs.declared.hash.Kind.{Kind}
-use Rattle.index_parts.specs.declared.hash.ObjectId.{ObjectId}
 use Rattle.index_untracked.specs.Blocks.{Block, block, Blocks, none, more, how_many_blocks, SpellNames, IsBlock, AreBlocks}
 use Rattle.index_untracked.specs.Blocks.{block_size, DirectoryValue, bare_directory, places_from, listed, all_listed}
-use Rattle.index_untracked.specs.CacheBitmaps.{DirectoryBitmaps, value_at, with_bitmaps, IsTail, ArePieces}
+use Rattle.index_untracked.specs.CacheBitmaps.{DirectoryBitmaps, value_at, with_bitmaps, IsTail}
 use Rattle.index_untracked.specs.CachedStat.{cached_stat}
 use Rattle.index_untracked.specs.Untracked.{oid_stat, Preamble, Cache, IsPreamble, IsNest, AreDirectories, IsCache}
 use Rattle.index_untracked.specs.declared.OidStat.{OidStat}

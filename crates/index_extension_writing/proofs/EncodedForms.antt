@@ -1,12 +1,11 @@
 -- The compressed form of words: its run words, and the position of the last one.
-use Rattle.std.proofs.Common.{◌≡◌, ℕ, zero, suc, ◌+◌, ◌-◌, ◌*◌, ◌/◌, ◌%◌, ◌^◌, ◌<◌, ◌≤◌, Bool, true, false, cond, eqb}
-use Rattle.std.proofs.Common.{List, [], ◌∷◌, ◌++◌, length, take, drop, refl, sym, ap, subst, ◌∙◌, arith, append_assoc}
+use Rattle.std.proofs.Common.{◌≡◌, ℕ, suc, ◌+◌, ◌-◌, ◌*◌, ◌/◌, ◌%◌, ◌^◌, ◌<◌, ◌≤◌, Bool, true, false, eqb}
+use Rattle.std.proofs.Common.{List, [], ◌∷◌, ◌++◌, length, drop, refl, sym, ap, subst, ◌∙◌, arith}
 use Rattle.std.proofs.Common.{length-append}
 use Rattle.std.specs.List.{flat_map}
 use Rattle.std.proofs.lemmas.Grind.{flat_map-append}
-use Rattle.std.proofs.lemmas.List.{drop_at, append-nil}
+use Rattle.std.proofs.lemmas.List.{drop_at}
 use Rattle.index_bitmaps.specs.Bits.{literal_count}
-use Rattle.index_parts.specs.Numbers.{be32}
 use Rattle.index_extension_writing.specs.BitmapImage.{be64, last_run, bitmap_bytes}
 use Rattle.index_extension_writing.specs.EncodedBitmap.{Marked, with_run_word, with_literal, with_word, marked, run_word}
 use Rattle.index_extension_writing.specs.EncodedBitmap.{marked_words, encoded_words, bitmap_of_words}

@@ -1,6 +1,6 @@
 -- What is known of directories is read again of the bitmaps, the stats and the ids that were written.
-use Rattle.std.proofs.Common.{◌≡◌, ℕ, zero, suc, ◌+◌, ◌-◌, ◌*◌, ◌^◌, ◌<◌, ◌≤◌, Bool, true, false, eqb, List, [], ◌∷◌}
-use Rattle.std.proofs.Common.{◌++◌, map, All, Option, Some, None, refl, sym, ap, subst, ◌∙◌, arith, append_assoc}
+use Rattle.std.proofs.Common.{◌≡◌, ℕ, suc, ◌+◌, ◌<◌, ◌≤◌, Bool, true, false, eqb, List, [], ◌∷◌}
+use Rattle.std.proofs.Common.{◌++◌, map, All, Option, Some, None, refl, sym, ap, ◌∙◌, arith}
 use Rattle.std.specs.Prelude.{IfSome, is_some, length}
 use Rattle.std.specs.List.{AllByRecursion, concat, enumerate_from, flat_map, list_any}
 use Rattle.std.specs.Option.{option_map}
@@ -12,7 +12,7 @@ use Rattle.index_parts.specs.Id.{id_bytes, id_len, make_id}
 use Rattle.index_parts.specs.declared.hash.Kind.{Kind}
 use Rattle.index_parts.specs.declared.hash.ObjectId.{ObjectId}
 use Rattle.index_untracked.specs.Blocks.{DirectoryValue}
-use Rattle.index_untracked.specs.CacheBitmaps.{DirectoryBitmaps, value_at, with_bitmaps, ArePieces}
+use Rattle.index_untracked.specs.CacheBitmaps.{DirectoryBitmaps, value_at, with_bitmaps}
 use Rattle.index_untracked.specs.CachedStat.{cached_stat}
 use Rattle.index_extension_writing.specs.EncodedBitmap.{set_from}
 use Rattle.index_extension_writing.specs.UntrackedImage.{stat_bytes, valid_stat, valid_id, is_marked}

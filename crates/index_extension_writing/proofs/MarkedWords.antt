@@ -1,15 +1,14 @@
 -- Runs of words and the literal words behind them, found one after another.
-use Rattle.std.proofs.Common.{◌≡◌, ℕ, zero, suc, ◌+◌, ◌-◌, ◌*◌, ◌%◌, ◌^◌, ◌<◌, ◌≤◌, Bool, true, false, cond, eqb, ◌⊎◌}
+use Rattle.std.proofs.Common.{◌≡◌, ℕ, zero, suc, ◌+◌, ◌-◌, ◌%◌, ◌^◌, ◌<◌, ◌≤◌, Bool, true, false, eqb, ◌⊎◌}
 use Rattle.std.proofs.Common.{inl, inr, List, [], ◌∷◌, ◌++◌, length, take, drop, All, refl, sym, ap, subst, ◌∙◌, arith}
-use Rattle.std.proofs.Common.{append_assoc, take-append-drop}
-use Rattle.std.specs.Prelude.{◌≢◌, replicate}
-use Rattle.std.specs.List.{flat_map}
+use Rattle.std.proofs.Common.{take-append-drop}
+use Rattle.std.specs.Prelude.{replicate}
 use Rattle.std.proofs.lemmas.Bool.{eq-eqb, ne_eqb}
 use Rattle.std.proofs.lemmas.List.{drop-drop, length-take}
-use Rattle.std.proofs.lemmas.List.Elements.{All-nil, All-cons, All-head, All-tail, All-append}
+use Rattle.std.proofs.lemmas.List.Elements.{All-head, All-tail}
 use Rattle.std.proofs.Math.Seq.{take-add}
 use Rattle.index_extension_writing.specs.EncodedBitmap.{Marked, with_run_word, with_literal, with_word, marked}
-use Rattle.index_extension_writing.specs.EncodingSteps.{IsLiteral, EndsRun, EndsLiterals, words_between, marked_at}
+use Rattle.index_extension_writing.specs.EncodingSteps.{IsLiteral, EndsRun, EndsLiterals, words_between}
 
 -- ---- places among words
 

@@ -1,17 +1,15 @@
 -- The pieces that an untracked cache is written in.
-use Rattle.std.proofs.Common.{◌≡◌, ℕ, ◌+◌, ◌≤◌, Bool, List, [], ◌∷◌, ◌++◌, length, map, refl, sym, ap, ◌∙◌, append_assoc, length-append, arith}
+use Rattle.std.proofs.Common.{◌≡◌, ℕ, ◌≤◌, Bool, List, [], ◌∷◌, ◌++◌, length, map, refl, ap, ◌∙◌, append_assoc, length-append, arith}
 use Rattle.std.specs.List.{flat_map}
 use Rattle.bstr.specs.Owned.{bstring_bytes}
 use Rattle.bstr.specs.declared.bstring.BString.{BString}
 use Rattle.index_parts.proofs.Encodings.{offset_some}
-use Rattle.index_parts.specs.Id.{id_bytes}
 use Rattle.index_parts.specs.Numbers.{be32}
 use Rattle.index_parts.specs.Offset.{offset_bytes}
 use Rattle.index_parts.specs.declared.hash.Kind.{Kind}
 use Rattle.index_untracked.specs.Blocks.{DirectoryValue, directory_value}
 use Rattle.index_untracked.specs.Untracked.{Cache, Preamble}
 use Rattle.index_untracked.specs.declared.Directory.{Directory}
-use Rattle.index_untracked.specs.declared.OidStat.{OidStat}
 use Rattle.index_extension_writing.specs.BitmapImage.{bitmap_bytes}
 use Rattle.index_extension_writing.specs.EncodedBitmap.{encoded}
 use Rattle.index_extension_writing.specs.UntrackedImage.{file_stat, file_id, preamble_bytes, start_bytes, bitmaps_bytes}

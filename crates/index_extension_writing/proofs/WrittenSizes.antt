@@ -1,11 +1,10 @@
 -- How many bytes an untracked cache has.
-use Rattle.std.proofs.Common.{◌≡◌, ℕ, ◌+◌, ◌*◌, ◌≤◌, List, [], ◌∷◌, ◌++◌, length, map, refl, sym, ap, ◌∙◌, arith}
+use Rattle.std.proofs.Common.{◌≡◌, ℕ, ◌+◌, ◌≤◌, List, [], ◌∷◌, ◌++◌, length, map, refl, ap, ◌∙◌, arith}
 use Rattle.std.proofs.Common.{length-append}
 use Rattle.std.specs.Prelude.{Bool, not, ◌==◌, ◌&&◌}
 use Rattle.std.specs.List.{flat_map, list_all}
 use Rattle.bstr.specs.Owned.{bstring_bytes}
 use Rattle.bstr.specs.declared.bstring.BString.{BString}
-use Rattle.index_parts.proofs.Encodings.{offset_some}
 use Rattle.index_parts.specs.Numbers.{be32}
 use Rattle.index_parts.specs.Offset.{offset_bytes}
 use Rattle.index_parts.specs.declared.hash.Kind.{Kind}

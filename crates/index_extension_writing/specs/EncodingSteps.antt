@@ -1,8 +1,7 @@
 -- What the encoder of a bitmap finds at a place among words (git's bitmap-format document, "Serialization format for an
 -- EWAH bitmap"). Public clauses cite none of these.
 use Rattle.std.specs.Prelude.{◌≡◌, ◌≢◌, ◌⊎◌, ℕ, ◌+◌, ◌-◌, ◌^◌, List, [], ◌∷◌, length, take, drop}
-use Rattle.std.specs.List.{flat_map}
-use Rattle.index_extension_writing.specs.EncodedBitmap.{Marked, marked_words}
+use Rattle.index_extension_writing.specs.EncodedBitmap.{Marked}
 use Rattle.index_extension_writing.specs.declared.encoding.Chunk.{Chunk}
 
 -- its bits aren't all alike

@@ -1,6 +1,4 @@
-use Rattle.std.proofs.Common.{◌≡◌, ◌⊎◌, inl, inr, ◌-◌, ap, ◌∙◌, ◌∷◌, drop, arith}
-use Rattle.index_extension_writing.specs.EncodedBitmap.{marked}
-use Rattle.index_extension_writing.specs.EncodingSteps.{words_between}
+use Rattle.std.proofs.Common.{◌≡◌, ◌⊎◌, inl, inr}
 use Rattle.index_extension_writing.proofs.MarkedWords.{literals_at, run_at}
 use Rattle.index_extension_writing.proofs.encoding.chunk_at.Goals as goal
 use Rattle.index_extension_writing.proofs.encoding.chunk_at.Goals.{else-first-ne0-via-then-first-ne0+else-first, else-first-ne0-via-else-first-ne0}

@@ -1,4 +1,4 @@
-use Rattle.std.proofs.Common.{◌≡◌, arith}
+use Rattle.std.proofs.Common.{arith}
 use Rattle.index_extension_writing.proofs.EncodedForms.{form_len}
 use Rattle.index_extension_writing.proofs.encoding.content_len.Goals as goal
 

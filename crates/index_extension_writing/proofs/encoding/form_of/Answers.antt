@@ -1,4 +1,4 @@
-use Rattle.std.proofs.Common.{◌≡◌, ◌∙◌, ap, sym, length, arith}
+use Rattle.std.proofs.Common.{◌∙◌, ap, sym, length, arith}
 use Rattle.index_extension_writing.specs.BitmapImage.{last_run}
 use Rattle.index_extension_writing.proofs.EncodedForms.{encoded_none, encoded_some, last_there, one_run}
 use Rattle.index_extension_writing.proofs.encoding.form_of.Goals as goal

@@ -1,7 +1,7 @@
-use Rattle.std.proofs.Common.{◌≡◌, ◌++◌, ◌∙◌, ap, sym, length, drop, [], arith}
+use Rattle.std.proofs.Common.{◌∙◌, ap, sym, length, drop, arith}
 use Rattle.std.specs.List.{flat_map}
 use Rattle.std.proofs.lemmas.List.{drop_all}
-use Rattle.index_extension_writing.specs.EncodedBitmap.{marked, marked_words}
+use Rattle.index_extension_writing.specs.EncodedBitmap.{marked_words}
 use Rattle.index_extension_writing.specs.EncodingSteps.{last_behind}
 use Rattle.index_extension_writing.proofs.EncodedForms.{none_left}
 use Rattle.index_extension_writing.proofs.encoding.form_of_chunks.Goals as goal

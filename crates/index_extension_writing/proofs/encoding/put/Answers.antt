@@ -1,4 +1,4 @@
-use Rattle.std.proofs.Common.{◌≡◌, ◌++◌, refl}
+use Rattle.std.proofs.Common.{◌++◌}
 use Rattle.std.specs.List.{flat_map}
 use Rattle.index_parts.proofs.Puts.{puts_after, puts_is, puts_stopped}
 use Rattle.index_parts.specs.Numbers.{be32}

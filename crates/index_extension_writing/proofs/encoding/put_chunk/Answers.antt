@@ -1,4 +1,3 @@
-use Rattle.std.proofs.Common.{◌≡◌, ◌++◌, refl}
 use Rattle.std.specs.List.{flat_map}
 use Rattle.index_parts.proofs.Puts.{puts_after, puts_is, puts_stopped}
 use Rattle.index_extension_writing.specs.BitmapImage.{be64}

@@ -1,10 +1,10 @@
-use Rattle.std.proofs.Common.{◌≡◌, ◌∙◌, ◌++◌, ap, sym, append-nil, drop, [], arith}
+use Rattle.std.proofs.Common.{◌∙◌, ◌++◌, ap, sym, append-nil, drop, arith}
 use Rattle.std.specs.List.{flat_map}
 use Rattle.std.proofs.lemmas.List.{drop_all}
 use Rattle.index_parts.proofs.Puts.{puts_is, puts_stopped_after}
 use Rattle.index_parts.proofs.Taking.{Took-trans}
 use Rattle.index_extension_writing.specs.BitmapImage.{be64}
-use Rattle.index_extension_writing.specs.EncodedBitmap.{marked, marked_words}
+use Rattle.index_extension_writing.specs.EncodedBitmap.{marked_words}
 use Rattle.index_extension_writing.specs.EncodingSteps.{marked_at}
 use Rattle.index_extension_writing.proofs.EncodedForms.{none_left}
 use Rattle.index_extension_writing.proofs.WrittenForms.{chunk_rest}

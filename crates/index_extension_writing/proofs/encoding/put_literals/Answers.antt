@@ -1,11 +1,7 @@
-use Rattle.std.proofs.Common.{◌≡◌, ◌++◌, ◌∷◌, [], ◌+◌, ◌∙◌, ap, sym, subst, append_assoc, arith}
-use Rattle.std.specs.List.{flat_map}
-use Rattle.std.proofs.lemmas.Grind.{flat_map-append}
+use Rattle.std.proofs.Common.{◌∙◌, subst}
 use Rattle.index_parts.proofs.Puts.{puts_stopped_after}
 use Rattle.index_parts.proofs.Taking.{Took-trans}
 use Rattle.index_parts.specs.Taking.{Took}
-use Rattle.index_extension_writing.specs.BitmapImage.{be64}
-use Rattle.index_extension_writing.specs.EncodingSteps.{words_between}
 use Rattle.index_extension_writing.proofs.WrittenForms.{between_rest, words_taken}
 use Rattle.index_extension_writing.proofs.encoding.put_literals.Goals as goal
 

@@ -1,4 +1,4 @@
-use Rattle.std.proofs.Common.{◌≡◌, ◌-◌, false}
+use Rattle.std.proofs.Common.{◌≡◌, false}
 use Rattle.std.specs.List.{flat_map}
 use Rattle.index_parts.specs.Taking.{Took}
 use Rattle.index_extension_writing.specs.BitmapImage.{be64}

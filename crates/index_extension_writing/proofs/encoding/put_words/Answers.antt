@@ -1,4 +1,4 @@
-use Rattle.std.proofs.Common.{◌≡◌, ◌∙◌, ap, sym, arith}
+use Rattle.std.proofs.Common.{◌∙◌, ap, sym, arith}
 use Rattle.std.specs.List.{flat_map}
 use Rattle.index_parts.proofs.Puts.{puts_is}
 use Rattle.index_extension_writing.specs.BitmapImage.{be64}

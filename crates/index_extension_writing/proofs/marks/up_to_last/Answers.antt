@@ -1,5 +1,4 @@
-use Rattle.std.proofs.Common.{map, length, sym, ◌∙◌, ap, arith}
-use Rattle.std.proofs.lemmas.List.{nil_from_length}
+use Rattle.std.proofs.Common.{sym, ◌∙◌, arith}
 use Rattle.index_extension_writing.specs.UntrackedImage.{has_mark}
 use Rattle.index_extension_writing.proofs.MarkedDirectories.{marked_last, unmarked_last, none_marked, one_less}
 use Rattle.index_extension_writing.proofs.marks.up_to_last.Goals as goal

@@ -1,4 +1,4 @@
-use Rattle.std.proofs.Common.{drop, length, arith}
+use Rattle.std.proofs.Common.{arith}
 use Rattle.index_extension_writing.specs.UntrackedImage.{has_mark}
 use Rattle.index_extension_writing.proofs.MarkedDirectories.{bit_small, word_small}
 use Rattle.index_extension_writing.proofs.marks.word_of.Goals as goal

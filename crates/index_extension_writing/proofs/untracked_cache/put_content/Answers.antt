@@ -1,4 +1,4 @@
-use Rattle.std.proofs.Common.{map, refl, sym, length, ap, ◌≡◌, ◌∙◌, ◌++◌}
+use Rattle.std.proofs.Common.{map, refl, sym, length, ap, ◌∙◌, ◌++◌}
 use Rattle.std.proofs.lemmas.List.{length-map}
 use Rattle.index_parts.proofs.Puts.{puts_after, puts_is, puts_stopped}
 use Rattle.index_parts.specs.Offset.{offset_bytes}

@@ -1,4 +1,4 @@
-use Rattle.std.proofs.Common.{map, refl, ◌≡◌, length}
+use Rattle.std.proofs.Common.{map, refl, length}
 use Rattle.std.proofs.lemmas.Bool.{eqb-true, eqb-false}
 use Rattle.index_parts.proofs.Puts.{puts_after, puts_is, puts_stopped}
 use Rattle.index_parts.proofs.Taking.{Took-nil}

@@ -1,4 +1,3 @@
-use Rattle.std.proofs.Common.{length, arith}
 use Rattle.index_extension_writing.specs.UntrackedImage.{has_mark}
 use Rattle.index_extension_writing.proofs.MarkedDirectories.{marks_count}
 use Rattle.index_extension_writing.proofs.marks.MarksWords.count.Goals as goal

@@ -1,4 +1,4 @@
-use Rattle.std.proofs.Common.{length, arith, ◌∙◌, ap, take}
+use Rattle.std.proofs.Common.{arith, ◌∙◌, ap, take}
 use Rattle.index_extension_writing.specs.UntrackedImage.{has_mark}
 use Rattle.index_extension_writing.proofs.MarkedDirectories.{marks_at, marks_len}
 use Rattle.index_extension_writing.proofs.marks.MarksWords.word.Goals as goal
