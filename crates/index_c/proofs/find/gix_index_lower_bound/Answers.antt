@@ -1,4 +1,4 @@
-use Rattle.std.proofs.Common.{arith, length, map}
+use Rattle.std.proofs.Common.{arith}
 use Rattle.std.proofs.lemmas.List.{length-map}
 use Rattle.gix_index.specs.Order.{key_cmp}
 use Rattle.index_table.specs.Table.{records_of, spelled}
