@@ -1,7 +1,8 @@
 """What was seen refused: refusals/seen has a sum of each edit that was, over all that the verdict stands on.
 
 That is the edit and the judge's rules for its kind, the crate's own sources, specs and proofs, and what the crates
-below state: their specs, and their sources without the bodies of functions. Comments count nowhere.
+below state: their specs, and their sources without the bodies of functions and without private ones. Comments count
+nowhere, and of the crates below no private imports.
 """
 
 import collections
@@ -15,6 +16,8 @@ FILE = "refusals/seen"
 # Of the edits that are as they were seen, the share that a run judges again all the same: one of so many.
 AGAIN = 10
 COMMENT = re.compile(r"\s*(//|--)")
+IMPORT = re.compile(r"\s*use ")
+PUBLIC = re.compile(r"\s*pub\b")
 
 
 def sum_of(*parts):
@@ -25,16 +28,25 @@ def without_comments(text):
     return "\n".join(it for it in text.split("\n") if not COMMENT.match(it))
 
 
-def without_bodies(text):
-    """The text of a formatted file without what stands in its functions."""
-    lines, bodies = text.split("\n"), set()
+def is_private(function, lines):
+    """Whether no other crate can call the function: it is neither public nor a trait's."""
+    is_public = any(PUBLIC.match(line) for line in lines if f"fn {function.name}" in line)
+    return not is_public and not re.search(r"\btrait\b| for ", function.block)
+
+
+def stated_in(text):
+    """The text of a formatted file without private functions, what stands in others, and private imports."""
+    lines, left_out = text.split("\n"), set()
     for it in functions_in("", text):
         own = lines[it.first - 1 : it.last]
         indent = re.match(r"\s*", own[-1])[0]
         opening = next((at for at, line in enumerate(own) if line == f"{indent}{{"), None)
-        if opening is not None and own[-1] == f"{indent}}}":
-            bodies.update(range(it.first + opening, it.last))
-    return "\n".join(line for number, line in enumerate(lines) if number not in bodies)
+        if is_private(it, own):
+            left_out.update(range(it.first - 1, it.last))
+        elif opening is not None and own[-1] == f"{indent}}}":
+            left_out.update(range(it.first + opening, it.last))
+    kept = (line for number, line in enumerate(lines) if number not in left_out and not IMPORT.match(line))
+    return "\n".join(line for line in kept if line.strip())
 
 
 class Sums:
@@ -55,7 +67,7 @@ class Sums:
         if crate not in self.stated:
             folder = f"{self.root}/crates/{crate}"
             found = texts_of(folder, "specs/**/*.antt")
-            found |= {file: without_bodies(text) for file, text in texts_of(folder, "src/**/*.rt").items()}
+            found |= {file: stated_in(text) for file, text in texts_of(folder, "src/**/*.rt").items()}
             self.stated[crate] = sum_of(*[
                 it for file in sorted(found) for it in (file, without_comments(found[file]))
             ])
