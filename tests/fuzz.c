@@ -140,6 +140,11 @@ static void search(const table *t, size_t i, bool is_in_order) {
     expect(place <= len && (!is_in_order || place == i), "a row is found");
     if (place < len)
         expect(rows[place].path_len == row->path_len && has_path(t, place, path, row->path_len), "its path is so");
+    size_t bound = gix_index_lower_bound(rows, len, t->paths, paths_len, path, row->path_len, row->stage);
+    expect(bound <= len && (!is_in_order || bound == i), "it goes where it is");
+    const gix_index_comparison by_default = GIX_INDEX_COMPARISON;
+    expect(gix_index_matches(row, row, &by_default), "it matches itself");
+    expect(gix_index_is_racy(row, row->mtime_secs, 0, &by_default), "it is racy at its own time");
     gix_index_places places = {0, 0};
     uint32_t status = gix_index_find_prefix(rows, len, t->paths, paths_len, path, front, &places);
     expect(status == GIX_INDEX_DONE || (status == GIX_INDEX_NONE && !is_in_order), "a front is found");
