@@ -14,7 +14,7 @@ from judge import functions_in, texts_of
 
 FILE = "refusals/seen"
 # Of the edits that are as they were seen, the share that a run judges again all the same: one of so many.
-AGAIN = 10
+AGAIN = 20
 COMMENT = re.compile(r"\s*(//|--)")
 IMPORT = re.compile(r"\s*use ")
 PUBLIC = re.compile(r"\s*pub\b")
@@ -107,8 +107,9 @@ def due(root, below, edits):
         if new:
             left[crate] = [it for it in its if it in new or it.is_right]
     turn = sum_of(*[sum for crate in sorted(of) for sum in of[crate].values()])
-    same, wanted = [it for it in of if it not in left], sum(map(len, of.values())) / AGAIN
-    for crate in sorted(same, key=lambda it: sum_of(turn, it)):
-        if wanted > 0:
-            left[crate], wanted = list(of[crate]), wanted - len(of[crate])
+    same, room = [it for it in of if it not in left], sum(map(len, of.values())) // AGAIN
+    for place, crate in enumerate(sorted(same, key=lambda it: sum_of(turn, it))):
+        # (the first has its turn, however many edits it has)
+        if place == 0 or len(of[crate]) <= room:
+            left[crate], room = list(of[crate]), room - len(of[crate])
     return dict(left)
