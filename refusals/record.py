@@ -1,8 +1,8 @@
 """What was seen refused: refusals/seen has a sum of each edit that was, over all that the verdict stands on.
 
-That is the edit and the judge's rules for its kind, the crate's own sources, specs and proofs, and what the crates
-below state: their specs, and their sources without the bodies of functions and without private ones. Comments count
-nowhere, and of the crates below no private imports.
+That is the edit, whether it is right, and which function has to refuse it; the crate's own sources, specs and proofs;
+and what the crates below state: their specs, and their sources without the bodies of functions and without private
+ones. Comments count nowhere, and of the crates below no private imports.
 """
 
 import collections
@@ -26,6 +26,10 @@ def sum_of(*parts):
 
 def without_comments(text):
     return "\n".join(it for it in text.split("\n") if not COMMENT.match(it))
+
+
+def sum_of_files(texts):
+    return sum_of(*[it for file in sorted(texts) for it in (file, without_comments(texts[file]))])
 
 
 def is_private(function, lines):
@@ -57,10 +61,10 @@ class Sums:
 
     def of_own(self, crate):
         if crate not in self.own:
-            folder = f"{self.root}/crates/{crate}"
-            found = {file: text for part in ("src", "specs", "proofs") for file, text in texts_of(
-                folder, f"{part}/**/*.*").items()}
-            self.own[crate] = sum_of(*[it for file in sorted(found) for it in (file, without_comments(found[file]))])
+            folder, found = f"{self.root}/crates/{crate}", {}
+            for part in ("src", "specs", "proofs"):
+                found |= texts_of(folder, f"{part}/**/*.*")
+            self.own[crate] = sum_of_files(found)
         return self.own[crate]
 
     def of_stated(self, crate):
@@ -68,9 +72,7 @@ class Sums:
             folder = f"{self.root}/crates/{crate}"
             found = texts_of(folder, "specs/**/*.antt")
             found |= {file: stated_in(text) for file, text in texts_of(folder, "src/**/*.rt").items()}
-            self.stated[crate] = sum_of(*[
-                it for file in sorted(found) for it in (file, without_comments(found[file]))
-            ])
+            self.stated[crate] = sum_of_files(found)
         return self.stated[crate]
 
     def of(self, edit):
