@@ -1,19 +1,19 @@
-"""What was seen refused: refusals/seen has a sum of each edit that was, over all that the verdict stands on.
+"""What was seen refused: refusals/seen has two sums of each edit that was, over all that the verdict stands on.
 
-That is the edit, whether it is right, and which function has to refuse it; the crate's own sources, specs and proofs;
-and what the crates below state: their specs, and their sources without the bodies of functions and without private
-ones. Comments count nowhere, and of the crates below no private imports.
+The one is of the edit, whether it is right, and which function has to refuse it, and of the crate's own sources, specs
+and proofs. The other is of what the crates below state: their specs, and their sources without the bodies of functions
+and without private ones. Comments count nowhere, and of the crates below no private imports.
 """
 
-import collections
 import hashlib
 import os
 import re
+from typing import NamedTuple
 
 from judge import functions_in, texts_of
 
 FILE = "refusals/seen"
-# Of the edits that are as they were seen, the share that a run judges again all the same: one of so many.
+# Of the edits that needn't be judged, the share that a run judges all the same: so many as one of so many of all.
 AGAIN = 20
 COMMENT = re.compile(r"\s*(//|--)")
 IMPORT = re.compile(r"\s*use ")
@@ -53,11 +53,18 @@ def stated_in(text):
     return "\n".join(line for line in kept if line.strip())
 
 
+class Sum(NamedTuple):
+    """The two sums of an edit."""
+
+    own: str
+    below: str
+
+
 class Sums:
     """The sums of edits, and what they are made of, each taken once."""
 
     def __init__(self, root, below):
-        self.root, self.below, self.own, self.stated = root, below, {}, {}
+        self.root, self.below, self.own, self.stated, self.under = root, below, {}, {}, {}
 
     def of_own(self, crate):
         if crate not in self.own:
@@ -75,9 +82,15 @@ class Sums:
             self.stated[crate] = sum_of_files(found)
         return self.stated[crate]
 
+    def of_below(self, crate):
+        if crate not in self.under:
+            stated = [it for name in sorted(self.below[crate]) for it in (name, self.of_stated(name))]
+            self.under[crate] = sum_of(*stated)
+        return self.under[crate]
+
     def of(self, edit):
-        stated = [it for name in sorted(self.below[edit.crate]) for it in (name, self.of_stated(name))]
-        return sum_of(str(edit.is_right), edit.at or "", repr(edit.pairs), self.of_own(edit.crate), *stated)
+        own = sum_of(str(edit.is_right), edit.at or "", repr(edit.pairs), self.of_own(edit.crate))
+        return Sum(own, self.of_below(edit.crate))
 
 
 def seen(root):
@@ -86,32 +99,55 @@ def seen(root):
     if not os.path.isfile(path):
         return {}
     with open(path, encoding="utf-8") as text:
-        return {label: sum for sum, _, label in (line.partition(" ") for line in text.read().splitlines())}
+        lines = (line.split(" ", 2) for line in text.read().splitlines())
+        return {label: Sum(own, below) for own, below, label in lines}
 
 
 def note(root, found):
     """Puts these sums into the record, and drops edits that are gone."""
     kept = {label: sum for label, sum in {**seen(root), **found}.items() if os.path.isfile(f"{root}/{label}")}
     with open(f"{root}/{FILE}.new", "w", encoding="utf-8") as out:
-        out.writelines(f"{sum} {label}\n" for label, sum in sorted(kept.items()))
+        out.writelines(f"{sum.own} {sum.below} {label}\n" for label, sum in sorted(kept.items()))
     os.replace(f"{root}/{FILE}.new", f"{root}/{FILE}")
 
 
-def due(root, below, edits):
-    """Of each crate the edits that are to be judged: those that aren't as they were seen, and some crates' in turn.
+class Due(NamedTuple):
+    """Of each crate the edits that are to be judged, and how many there are of each sort."""
 
-    The crates whose turn it is change with each change of what the sums are of. Right edits go with the others.
-    """
-    sums, known, left = Sums(root, below), seen(root), collections.defaultdict(list)
-    of = {crate: {it: sums.of(it) for it in its} for crate, its in edits.items()}
-    for crate, its in of.items():
-        new = [it for it, sum in its.items() if known.get(it.label) != sum]
-        if new:
-            left[crate] = [it for it in its if it in new or it.is_right]
-    turn = sum_of(*[sum for crate in sorted(of) for sum in of[crate].values()])
-    same, room = [it for it in of if it not in left], sum(map(len, of.values())) // AGAIN
-    for place, crate in enumerate(sorted(same, key=lambda it: sum_of(turn, it))):
+    edits: dict
+    changed: int
+    in_turn: int
+    waiting: int
+
+
+def in_turn(crates, turn, waiting, room):
+    """The crates that have their turn, those with edits that wait before others, as many as there is room for."""
+    order = sorted(crates, key=lambda it: (it not in waiting, sum_of(turn, it)))
+    for place, crate in enumerate(order):
         # (the first has its turn, however many edits it has)
-        if place == 0 or len(of[crate]) <= room:
-            left[crate], room = list(of[crate]), room - len(of[crate])
-    return dict(left)
+        if place == 0 or len(crates[crate]) <= room:
+            room -= len(crates[crate])
+            yield crate
+
+
+def due(root, below, edits):
+    """The edits that are to be judged: those that aren't as they were seen, or whose crate isn't; and others in turn.
+
+    Where crates below state something else, an edit waits for its turn. The crates whose turn it is change with each
+    change of what the sums are of. Right edits go with the others.
+    """
+    sums, known, left = Sums(root, below), seen(root), {}
+    of = {crate: {it: sums.of(it) for it in its} for crate, its in edits.items()}
+    was = {it: known.get(it.label) for its in of.values() for it in its}
+    changed = {it for its in of.values() for it, sum in its.items() if not was[it] or was[it].own != sum.own}
+    waiting = {it for its in of.values() for it, sum in its.items() if it not in changed and was[it] != sum}
+    for crate, its in of.items():
+        if any(it in changed for it in its):
+            left[crate] = [it for it in its if it in changed or it.is_right]
+    turn = sum_of(*[part for crate in sorted(of) for sum in of[crate].values() for part in sum])
+    same = {crate: its for crate, its in of.items() if crate not in left}
+    crates = {it.crate for it in waiting}
+    for crate in list(in_turn(same, turn, crates, len(was) // AGAIN)):
+        left[crate] = list(of[crate])
+    tried = {it for its in left.values() for it in its}
+    return Due(left, len(changed), len(tried - changed), len(waiting - tried))
