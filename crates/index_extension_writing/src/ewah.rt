@@ -3,21 +3,33 @@
 ghost use Rattle.std.specs.Prelude.{◌≡◌, ◌++◌, ◌+◌, ◌*◌, ◌^◌, ◌<◌, false, length};
 ghost use Rattle.std.specs.List.{flat_map};
 ghost use Rattle.index_cached_tree.specs.TreeWriting.{within_32};
+ghost use Rattle.index_bitmaps.specs.Bitmap.{bitmap};
 ghost use Rattle.index_parts.specs.Numbers.{be32};
 ghost use Rattle.index_parts.specs.Puts.{Puts};
 ghost use Rattle.index_extension_writing.specs.BitmapImage.{be64, bitmap_bytes, last_run, lent_bitmap};
 
 use crate::pieces::{put_number, put_word};
+use index_bitmaps::ewah;
 use index_parts::hash::io::Out;
 use std::io;
 
 /// A bitmap in its compressed form, whose words are lent.
 #[derive(Clone, Copy, Debug)]
-pub struct LentVec<'a> {
+pub(crate) struct LentVec<'a> {
     /// How many bits the bitmap declares.
-    pub num_bits: u32,
+    num_bits: u32,
     /// Its words.
-    pub words: &'a [u64],
+    words: &'a [u64],
+}
+
+/// The same bitmap, with its words lent.
+pub(crate) fn lent(map: &ewah::Vec) -> LentVec<'_>
+    ensures { lent_bitmap result ≡ bitmap map.now }
+{
+    LentVec {
+        num_bits: map.num_bits(),
+        words: map.words(),
+    }
 }
 
 /// The bytes of a bitmap without its words: the number of bits, the number of words, and the position of the last run
@@ -83,7 +95,7 @@ fn put_behind_bits<W: Out>(words: &[u64], out: &mut W) -> io::Result<()>
 }
 
 /// How many bytes a bitmap has; None where it has more than 2^32 - 1. It takes no memory.
-pub fn content_len(bitmap: LentVec<'_>) -> Option<u32>
+pub(crate) fn content_len(bitmap: LentVec<'_>) -> Option<u32>
     ensures { result ≡ within_32 (length (bitmap_bytes (lent_bitmap bitmap.entry))) }
 {
     let count = bitmap.words.len() as u64;
@@ -101,7 +113,7 @@ pub fn content_len(bitmap: LentVec<'_>) -> Option<u32>
 /// its words, the words, and the position of the last run word.
 ///
 /// An error comes only where the writer failed, which then took a prefix of the bytes. No memory is taken.
-pub fn put<W: Out>(bitmap: LentVec<'_>, out: &mut W) -> io::Result<()>
+pub(crate) fn put<W: Out>(bitmap: LentVec<'_>, out: &mut W) -> io::Result<()>
     requires count { length bitmap.words.now < 2 ^ 32 }
     requires unfailed { W.failed out.old ≡ false }
     ensures written { Puts W.Out out.old out.new result

@@ -5,16 +5,16 @@ ghost use Rattle.index_cached_tree.specs.TreeWriting.{within_32};
 ghost use Rattle.index_extensions.specs.Encoding.{item_bytes};
 ghost use Rattle.index_parts.specs.Numbers.{be32};
 ghost use Rattle.index_parts.specs.Puts.{Puts};
-ghost use Rattle.index_small_extensions.specs.FsMonitor.{token_value};
+ghost use Rattle.index_small_extensions.specs.FsMonitor.{monitor_of, token_value};
 ghost use Rattle.index_extension_writing.specs.BitmapImage.{bitmap_bytes, lent_bitmap};
 ghost use Rattle.index_extension_writing.specs.MonitorImage.{lent_monitor, monitor_bytes, monitor_item};
 ghost use Rattle.index_extension_writing.specs.MonitorImage.{sized_bitmap_bytes, token_bytes, version_of};
 
 use crate::ewah;
-use crate::ewah::LentVec;
+use crate::ewah::{LentVec, lent};
 use crate::pieces::{put_head, put_number, put_text, put_word};
 use index_parts::hash::io::Out;
-use index_small_extensions::fs_monitor::{SIGNATURE, Token};
+use index_small_extensions::fs_monitor::{FsMonitor, SIGNATURE, Token};
 use std::io;
 
 /// The bytes of a version and of the size of a bitmap.
@@ -92,8 +92,8 @@ fn put_content<W: Out>(token: &Token, dirty: LentVec<'_>, size: u32, out: &mut W
     put_behind_version(token, dirty, size, out)
 }
 
-/// How many bytes the content of the extension has; None where it has more than 2^32 - 1. It takes no memory.
-pub fn content_len(token: &Token, dirty: LentVec<'_>) -> Option<u32>
+/// How many bytes the content of the extension has, whose parts are lent.
+fn len_of(token: &Token, dirty: LentVec<'_>) -> Option<u32>
     ensures { result ≡ within_32 (length (monitor_bytes (lent_monitor token.now dirty.entry))) }
 {
     let size = ewah::content_len(dirty)?;
@@ -104,11 +104,8 @@ pub fn content_len(token: &Token, dirty: LentVec<'_>) -> Option<u32>
     Some(len as u32)
 }
 
-/// Writes what a file system monitor said as the extension of a file (gitformat-index, "File System Monitor cache"). Its
-/// content has this length, which [`content_len`] counts.
-///
-/// An error comes only where the writer failed, which then took a prefix of the bytes. No memory is taken.
-pub fn put_item<W: Out>(token: &Token, dirty: LentVec<'_>, len: u32, out: &mut W) -> io::Result<()>
+/// Writes the extension, whose parts are lent, and whose content has this length.
+fn put_parts<W: Out>(token: &Token, dirty: LentVec<'_>, len: u32, out: &mut W) -> io::Result<()>
     requires len { len ≡ length (monitor_bytes (lent_monitor token.now dirty)) }
     requires unfailed { W.failed out.old ≡ false }
     ensures written { Puts W.Out out.old out.new result
@@ -117,4 +114,25 @@ pub fn put_item<W: Out>(token: &Token, dirty: LentVec<'_>, len: u32, out: &mut W
     let size = (u64::from(len) - NUMBERS_LEN - token_len(token)) as u32;
     put_head(SIGNATURE, len, out)?;
     put_content(token, dirty, size, out)
+}
+
+/// How many bytes the content of the extension has; None where it has more than 2^32 - 1. It takes no memory.
+pub fn content_len(monitor: &FsMonitor) -> Option<u32>
+    ensures { result ≡ within_32 (length (monitor_bytes (monitor_of monitor.now))) }
+{
+    len_of(monitor.token(), lent(monitor.entry_dirty()))
+}
+
+/// Writes what a file system monitor said as the extension of a file (gitformat-index, "File System Monitor cache"). Its
+/// content has this length, which [`content_len`] counts.
+///
+/// An error comes only where the writer failed, which then took a prefix of the bytes. No memory is taken.
+pub fn put_item<W: Out>(monitor: &FsMonitor, len: u32, out: &mut W) -> io::Result<()>
+    requires len { len ≡ length (monitor_bytes (monitor_of monitor.now)) }
+    requires unfailed { W.failed out.old ≡ false }
+    ensures written { Puts W.Out out.old out.new result
+        (item_bytes (monitor_item (monitor_of monitor.now))) }
+{
+    let token = monitor.token();
+    put_parts(token, lent(monitor.entry_dirty()), len, out)
 }

@@ -3,7 +3,7 @@
 #![tactic(auto)]
 
 pub mod encoding;
-pub mod ewah;
+mod ewah;
 pub mod fs_monitor;
 pub mod laws;
 mod marks;

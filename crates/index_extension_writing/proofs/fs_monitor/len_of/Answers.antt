@@ -4,7 +4,7 @@ use Rattle.index_extension_writing.specs.BitmapImage.{bitmap_bytes}
 use Rattle.index_extension_writing.specs.MonitorImage.{lent_monitor, monitor_bytes}
 use Rattle.index_extension_writing.proofs.Lengths.{none_within, some_within, within_none, within_some}
 use Rattle.index_extension_writing.proofs.WrittenMonitors.{monitor_len}
-use Rattle.index_extension_writing.proofs.fs_monitor.content_len.Goals as goal
+use Rattle.index_extension_writing.proofs.fs_monitor.len_of.Goals as goal
 
 pub returns-in_err-size : goal.returns-in_err-size
 returns-in_err-size c =

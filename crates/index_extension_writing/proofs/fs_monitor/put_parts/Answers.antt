@@ -4,7 +4,7 @@ use Rattle.index_parts.proofs.Puts.{puts_after, puts_is, puts_stopped}
 use Rattle.index_extension_writing.specs.MonitorImage.{lent_monitor, monitor_bytes}
 use Rattle.index_extension_writing.proofs.Lengths.{item_parts}
 use Rattle.index_extension_writing.proofs.WrittenMonitors.{monitor_len}
-use Rattle.index_extension_writing.proofs.fs_monitor.put_item.Goals as goal
+use Rattle.index_extension_writing.proofs.fs_monitor.put_parts.Goals as goal
 
 pub overflow_sub-size : goal.overflow_sub-size
 overflow_sub-size g c =
