@@ -1,0 +1,45 @@
+-- The extensions that are written of an index, one behind another, in the order in which git writes them
+-- (gitformat-index, "Extensions").
+use Rattle.std.specs.Prelude.{◌≡◌, ℕ, Bool, List, [], ◌∷◌, ◌++◌, length, map, Option, Some, None}
+use Rattle.std.specs.Option.{option_map}
+use Rattle.index_parts.specs.declared.hash.Kind.{Kind}
+use Rattle.index_cached_tree.specs.Tree.{Node, node_of}
+use Rattle.index_cached_tree.specs.TreeImage.{tree_item}
+use Rattle.index_extensions.specs.Walk.{Item}
+use Rattle.index_extension_writing.specs.MonitorImage.{monitor_item}
+use Rattle.index_extension_writing.specs.ResolveUndoImage.{resolve_undo_item}
+use Rattle.index_extension_writing.specs.UntrackedImage.{cache_item}
+use Rattle.index_format.specs.Image.{sparse_items}
+use Rattle.index_small_extensions.specs.FsMonitor.{Monitor, monitor_of}
+use Rattle.index_small_extensions.specs.ResolveUndo.{PathStages, path_stages}
+use Rattle.index_untracked.specs.Untracked.{Cache, cache_of}
+use Rattle.index_extension_list.specs.declared.Chosen.{Chosen}
+
+-- the extensions that are written, where there is one of each
+pub record Extensions : Type 0 where
+  pub tree : Option Node
+  pub resolve_undo : Option (List PathStages)
+  pub untracked : Option Cache
+  pub fs_monitor : Option Monitor
+  pub sparse : Bool
+
+-- what the code has of them, as plain data
+abbrev pub extensions_of : Chosen → Extensions
+extensions_of c = record {
+  tree = option_map (λ t. node_of t.now) c.tree;
+  resolve_undo = option_map (λ paths. map path_stages paths.now) c.resolve_undo;
+  untracked = option_map (λ cache. cache_of cache.now) c.untracked;
+  fs_monitor = option_map (λ monitor. monitor_of monitor.now) c.fs_monitor;
+  sparse = c.is_sparse;
+}
+
+-- an extension, where there is one
+abbrev pub item_if : {A : Type 0} → (A → Item) → Option A → List Item
+item_if item None = []
+item_if item (Some a) = item a ∷ []
+
+-- the cached tree, resolve-undo, the untracked cache, what a file system monitor said, and the mark of a sparse index
+unfoldable pub items : Kind → Extensions → List Item
+items kind e =
+    item_if tree_item e.tree ++ (item_if resolve_undo_item e.resolve_undo
+    ++ (item_if (cache_item kind) e.untracked ++ (item_if monitor_item e.fs_monitor ++ sparse_items e.sparse)))

@@ -1,0 +1,27 @@
+-- How long the contents of the extensions are that are written.
+use Rattle.std.specs.Prelude.{◌≡◌, ℕ, ◌+◌, ◌++◌, List, [], ◌∷◌, length, codes, Option, Some, None, Bool}
+use Rattle.std.specs.Option.{option_map}
+use Rattle.index_parts.specs.declared.hash.Kind.{Kind}
+use Rattle.index_cached_tree.specs.TreeImage.{node_bytes}
+use Rattle.index_extension_writing.specs.MonitorImage.{monitor_bytes}
+use Rattle.index_extension_writing.specs.ResolveUndoImage.{resolve_undo_bytes}
+use Rattle.index_extension_writing.specs.UntrackedImage.{cache_bytes}
+use Rattle.index_extension_list.specs.Chosen.{Extensions}
+use Rattle.index_extension_list.specs.declared.lens.Lens.{Lens}
+
+-- how many bytes each content has, where there is one
+pub record AreLens (kind : Kind) (e : Extensions) (lens : Lens) : Type 0 where
+  pub tree : lens.tree ≡ option_map (λ t. length (node_bytes t)) e.tree
+  pub resolve_undo : lens.resolve_undo ≡ option_map (λ paths. length (resolve_undo_bytes paths)) e.resolve_undo
+  pub untracked : lens.untracked ≡ option_map (λ c. length (cache_bytes kind c)) e.untracked
+  pub fs_monitor : lens.fs_monitor ≡ option_map (λ m. length (monitor_bytes m)) e.fs_monitor
+
+-- the bytes of an extension whose content has this length, where there is one
+abbrev pub whole_len : Option ℕ → ℕ
+whole_len None = 0
+whole_len (Some len) = 8 + len
+
+-- the signature and the length of an extension, where there is one
+abbrev pub head_if : List ℕ → Option ℕ → List (List ℕ × ℕ)
+head_if signature None = []
+head_if signature (Some len) = (signature, len) ∷ []

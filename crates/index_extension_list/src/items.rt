@@ -1,0 +1,166 @@
+//! Writing extensions, and the end marker behind them.
+
+ghost use Rattle.std.specs.Prelude.{◌≡◌, ◌++◌, ◌<◌, ◌+◌, false, length, map, take};
+ghost use Rattle.std.specs.List.{flat_map};
+ghost use Rattle.std.specs.Option.{option_map};
+ghost use Rattle.index_parts.specs.Puts.{Puts};
+ghost use Rattle.index_extensions.specs.EndMarker.{heads};
+ghost use Rattle.index_extensions.specs.Encoding.{heads_bytes, item_bytes, marker_item};
+ghost use Rattle.index_cached_tree.specs.Tree.{node_of};
+ghost use Rattle.index_cached_tree.specs.TreeImage.{node_bytes, tree_item};
+ghost use Rattle.index_format.specs.Image.{sparse_items};
+ghost use Rattle.index_small_extensions.specs.FsMonitor.{monitor_of};
+ghost use Rattle.index_small_extensions.specs.ResolveUndo.{path_stages};
+ghost use Rattle.index_untracked.specs.Untracked.{cache_of};
+ghost use Rattle.index_extension_writing.specs.MonitorImage.{monitor_bytes, monitor_item};
+ghost use Rattle.index_extension_writing.specs.ResolveUndoImage.{resolve_undo_bytes, resolve_undo_item};
+ghost use Rattle.index_extension_writing.specs.UntrackedImage.{cache_bytes, cache_item};
+ghost use Rattle.index_extension_list.specs.Chosen.{extensions_of, item_if, items};
+ghost use Rattle.index_extension_list.specs.Listing.{AreLens, head_if};
+
+use crate::{Chosen, Lens};
+use index_cached_tree::Tree;
+use index_cached_tree::write::put_item;
+use index_extension_writing::{fs_monitor, resolve_undo, untracked_cache};
+use index_extensions::{Signature, end_of_index_entry, sparse};
+use index_parts::hash::Kind;
+use index_parts::hash::io::Out;
+use index_small_extensions::FsMonitor;
+use index_small_extensions::resolve_undo::ResolvePath;
+use index_untracked::UntrackedCache;
+use std::io;
+
+/// Writes a cached tree, where there is one, whose content has this length.
+fn put_tree<W: Out>(tree: Option<&Tree>, len: Option<u32>, out: &mut W) -> io::Result<()>
+    requires len { len ≡ option_map (λ t. length (node_bytes (node_of t.now))) tree }
+    requires unfailed { W.failed out.old ≡ false }
+    ensures { Puts W.Out out.old out.new result
+        (flat_map item_bytes (item_if tree_item (option_map (λ t. node_of t.now) tree.entry))) }
+{
+    match (tree, len) {
+        (Some(tree), Some(len)) => put_item(tree, len, out),
+        _ => Ok(()),
+    }
+}
+
+/// Writes resolve-undo, where there is one, whose content has this length.
+fn put_resolve_undo<W: Out>(
+    paths: Option<&[ResolvePath]>,
+    len: Option<u32>,
+    out: &mut W,
+) -> io::Result<()>
+    requires len { len ≡ option_map (λ it. length (resolve_undo_bytes (map path_stages it.now))) paths }
+    requires unfailed { W.failed out.old ≡ false }
+    ensures { Puts W.Out out.old out.new result (flat_map item_bytes
+        (item_if resolve_undo_item (option_map (λ it. map path_stages it.now) paths.entry))) }
+{
+    match (paths, len) {
+        (Some(paths), Some(len)) => resolve_undo::put_item(paths, len, out),
+        _ => Ok(()),
+    }
+}
+
+/// Writes an untracked cache with ids of this kind, where there is one, whose content has this length.
+fn put_untracked<W: Out>(
+    cache: Option<&UntrackedCache>,
+    kind: Kind,
+    len: Option<u32>,
+    out: &mut W,
+) -> io::Result<()>
+    requires len { len ≡ option_map (λ it. length (cache_bytes kind (cache_of it.now))) cache }
+    requires unfailed { W.failed out.old ≡ false }
+    ensures { Puts W.Out out.old out.new result (flat_map item_bytes
+        (item_if (cache_item kind) (option_map (λ it. cache_of it.now) cache.entry))) }
+{
+    match (cache, len) {
+        (Some(cache), Some(len)) => untracked_cache::put_item(cache, kind, len, out),
+        _ => Ok(()),
+    }
+}
+
+/// Writes what a file system monitor said, where one did, whose content has this length.
+fn put_monitor<W: Out>(monitor: Option<&FsMonitor>, len: Option<u32>, out: &mut W) -> io::Result<()>
+    requires len { len ≡ option_map (λ it. length (monitor_bytes (monitor_of it.now))) monitor }
+    requires unfailed { W.failed out.old ≡ false }
+    ensures { Puts W.Out out.old out.new result (flat_map item_bytes
+        (item_if monitor_item (option_map (λ it. monitor_of it.now) monitor.entry))) }
+{
+    match (monitor, len) {
+        (Some(monitor), Some(len)) => fs_monitor::put_item(monitor, len, out),
+        _ => Ok(()),
+    }
+}
+
+/// Writes the mark of a sparse index, where it is one.
+fn put_sparse<W: Out>(is_sparse: bool, out: &mut W) -> io::Result<()>
+    requires { W.failed out.old ≡ false }
+    ensures { Puts W.Out out.old out.new result (flat_map item_bytes (sparse_items is_sparse)) }
+{
+    if is_sparse {
+        return sparse::write_to(out);
+    }
+    Ok(())
+}
+
+/// Writes what a file system monitor said, and the mark of a sparse index.
+fn put_last<W: Out>(chosen: Chosen<'_>, kind: Kind, lens: Lens, out: &mut W) -> io::Result<()>
+    requires lens { AreLens kind (extensions_of chosen) lens }
+    requires unfailed { W.failed out.old ≡ false }
+    ensures { Puts W.Out out.old out.new result (flat_map item_bytes
+        (item_if monitor_item (extensions_of chosen.entry).fs_monitor
+        ++ sparse_items chosen.entry.is_sparse)) }
+{
+    put_monitor(chosen.fs_monitor, lens.fs_monitor, out)?;
+    put_sparse(chosen.is_sparse, out)
+}
+
+/// Writes the extensions behind resolve-undo.
+fn put_untracked_and_last<W: Out>(
+    chosen: Chosen<'_>,
+    kind: Kind,
+    lens: Lens,
+    out: &mut W,
+) -> io::Result<()>
+    requires lens { AreLens kind (extensions_of chosen) lens }
+    requires unfailed { W.failed out.old ≡ false }
+    ensures { Puts W.Out out.old out.new result (flat_map item_bytes
+        (item_if (cache_item kind) (extensions_of chosen.entry).untracked
+        ++ (item_if monitor_item (extensions_of chosen.entry).fs_monitor
+        ++ sparse_items chosen.entry.is_sparse))) }
+{
+    put_untracked(chosen.untracked, kind, lens.untracked, out)?;
+    put_last(chosen, kind, lens, out)
+}
+
+/// Writes the extensions behind the cached tree.
+fn put_behind_tree<W: Out>(
+    chosen: Chosen<'_>,
+    kind: Kind,
+    lens: Lens,
+    out: &mut W,
+) -> io::Result<()>
+    requires lens { AreLens kind (extensions_of chosen) lens }
+    requires unfailed { W.failed out.old ≡ false }
+    ensures { Puts W.Out out.old out.new result (flat_map item_bytes
+        (item_if resolve_undo_item (extensions_of chosen.entry).resolve_undo
+        ++ (item_if (cache_item kind) (extensions_of chosen.entry).untracked
+        ++ (item_if monitor_item (extensions_of chosen.entry).fs_monitor
+        ++ sparse_items chosen.entry.is_sparse)))) }
+{
+    put_resolve_undo(chosen.resolve_undo, lens.resolve_undo, out)?;
+    put_untracked_and_last(chosen, kind, lens, out)
+}
+
+/// Writes the extensions, one behind another, whose contents have these lengths, as [`Lens::of`] counts them.
+///
+/// An error comes only where the writer failed, which then took a prefix of the bytes. No memory is taken.
+#[tactic(auto, unfolding(crate::specs::Chosen::items))]
+pub fn put_items<W: Out>(chosen: Chosen<'_>, kind: Kind, lens: Lens, out: &mut W) -> io::Result<()>
+    requires lens { AreLens kind (extensions_of chosen) lens }
+    requires unfailed { W.failed out.old ≡ false }
+    ensures written { Puts W.Out out.old out.new result
+        (flat_map item_bytes (items kind (extensions_of chosen.entry))) }
+{
+    put_tree(chosen.tree, lens.tree, out)?;
+    put_behind_tree(chosen, kind, lens, out)
+}

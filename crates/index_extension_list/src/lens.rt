@@ -1,0 +1,153 @@
+//! How long the contents of extensions are, before any of them is written.
+
+ghost use Rattle.std.specs.Prelude.{◌≡◌, ◌≤◌, ◌<◌, ◌^◌, length, map, IfNone, IfSome};
+ghost use Rattle.std.specs.List.{flat_map};
+ghost use Rattle.std.specs.Option.{option_map};
+ghost use Rattle.index_cached_tree.specs.Tree.{node_of};
+ghost use Rattle.index_cached_tree.specs.TreeImage.{node_bytes};
+ghost use Rattle.index_extensions.specs.Encoding.{item_bytes};
+ghost use Rattle.index_format.specs.LayoutSteps.{len_within_32, sparse_len};
+ghost use Rattle.index_small_extensions.specs.FsMonitor.{monitor_of};
+ghost use Rattle.index_small_extensions.specs.ResolveUndo.{path_stages};
+ghost use Rattle.index_untracked.specs.Untracked.{cache_of};
+ghost use Rattle.index_extension_writing.specs.MonitorImage.{monitor_bytes};
+ghost use Rattle.index_extension_writing.specs.ResolveUndoImage.{resolve_undo_bytes};
+ghost use Rattle.index_extension_writing.specs.UntrackedImage.{cache_bytes};
+ghost use Rattle.index_extension_list.specs.Chosen.{extensions_of, items};
+ghost use Rattle.index_extension_list.specs.Listing.{AreLens, whole_len};
+
+use crate::Chosen;
+use index_cached_tree::Tree;
+use index_extension_writing::{fs_monitor, resolve_undo, untracked_cache};
+use index_parts::hash::Kind;
+use index_small_extensions::FsMonitor;
+use index_small_extensions::resolve_undo::ResolvePath;
+use index_untracked::UntrackedCache;
+
+/// How many bytes the content of each extension has, where there is one.
+#[derive(Clone, Copy, Debug, PartialEq, Eq)]
+pub struct Lens {
+    /// That of the cached tree.
+    pub tree: Option<u32>,
+    /// That of resolve-undo.
+    pub resolve_undo: Option<u32>,
+    /// That of the untracked cache.
+    pub untracked: Option<u32>,
+    /// That of a file system monitor.
+    pub fs_monitor: Option<u32>,
+}
+
+/// The length of a cached tree, where there is one; None where 32 bits can't count it.
+fn tree_len(tree: Option<&Tree>) -> Option<Option<u32>>
+    ensures { result ≡ len_within_32
+        (option_map (λ t. length (node_bytes (node_of t.now))) tree.entry) }
+{
+    match tree {
+        None => Some(None),
+        Some(tree) => match tree.content_len() {
+            Some(len) => Some(Some(len)),
+            None => None,
+        },
+    }
+}
+
+/// The same of resolve-undo.
+fn resolve_undo_len(paths: Option<&[ResolvePath]>) -> Option<Option<u32>>
+    ensures { result ≡ len_within_32 (option_map
+        (λ it. length (resolve_undo_bytes (map path_stages it.now))) paths.entry) }
+{
+    match paths {
+        None => Some(None),
+        Some(paths) => match resolve_undo::content_len(paths) {
+            Some(len) => Some(Some(len)),
+            None => None,
+        },
+    }
+}
+
+/// The same of an untracked cache, with ids of this kind.
+fn untracked_len(cache: Option<&UntrackedCache>, kind: Kind) -> Option<Option<u32>>
+    ensures { result ≡ len_within_32
+        (option_map (λ it. length (cache_bytes kind (cache_of it.now))) cache.entry) }
+{
+    match cache {
+        None => Some(None),
+        Some(cache) => match untracked_cache::content_len(cache, kind) {
+            Some(len) => Some(Some(len)),
+            None => None,
+        },
+    }
+}
+
+/// The same of what a file system monitor said.
+fn monitor_len(monitor: Option<&FsMonitor>) -> Option<Option<u32>>
+    ensures { result ≡ len_within_32
+        (option_map (λ it. length (monitor_bytes (monitor_of it.now))) monitor.entry) }
+{
+    match monitor {
+        None => Some(None),
+        Some(monitor) => match fs_monitor::content_len(monitor) {
+            Some(len) => Some(Some(len)),
+            None => None,
+        },
+    }
+}
+
+/// How many bytes an extension has whose content has this length, where there is one.
+fn whole_len(len: Option<u32>) -> u64
+    ensures len { result ≡ whole_len len }
+    ensures small { result < 0x100000008 }
+{
+    match len {
+        Some(len) => 8 + u64::from(len),
+        None => 0,
+    }
+}
+
+/// How many bytes the mark of a sparse index has, where it is one.
+fn sparse_len(is_sparse: bool) -> u64
+    ensures { result ≡ sparse_len is_sparse }
+{
+    if is_sparse { 8 } else { 0 }
+}
+
+impl Lens {
+    /// How long the contents of the extensions are, in a file with ids of this kind; None where one has more than
+    /// 2^32 - 1 bytes. No memory is taken.
+    pub fn of(chosen: Chosen<'_>, kind: Kind) -> Option<Lens>
+        ensures some { IfSome result (AreLens kind (extensions_of chosen.entry)) }
+        ensures none { IfNone result
+            (2 ^ 32 ≤ length (flat_map item_bytes (items kind (extensions_of chosen.entry)))) }
+    {
+        let Some(tree) = tree_len(chosen.tree) else {
+            return None;
+        };
+        let Some(resolve_undo) = resolve_undo_len(chosen.resolve_undo) else {
+            return None;
+        };
+        let Some(untracked) = untracked_len(chosen.untracked, kind) else {
+            return None;
+        };
+        let Some(fs_monitor) = monitor_len(chosen.fs_monitor) else {
+            return None;
+        };
+        Some(Lens {
+            tree,
+            resolve_undo,
+            untracked,
+            fs_monitor,
+        })
+    }
+
+    /// How many bytes all of these extensions have, and the mark of a sparse index.
+    pub fn total(&self, chosen: Chosen<'_>, kind: Kind) -> u64
+        requires { AreLens kind (extensions_of chosen) self.now }
+        ensures { result ≡ length (flat_map item_bytes (items kind (extensions_of chosen.entry))) }
+    {
+        whole_len(self.tree)
+            + whole_len(self.resolve_undo)
+            + whole_len(self.untracked)
+            + whole_len(self.fs_monitor)
+            + sparse_len(chosen.is_sparse)
+    }
+}
