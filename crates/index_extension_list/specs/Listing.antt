@@ -1,5 +1,5 @@
 -- How long the contents of the extensions are that are written.
-use Rattle.std.specs.Prelude.{◌≡◌, ℕ, ◌+◌, ◌++◌, List, [], ◌∷◌, length, codes, Option, Some, None, Bool}
+use Rattle.std.specs.Prelude.{◌≡◌, ℕ, ◌+◌, ◌++◌, List, [], ◌∷◌, length, codes, Option, Some, None, Bool, true, false}
 use Rattle.std.specs.Option.{option_map}
 use Rattle.index_parts.specs.declared.hash.Kind.{Kind}
 use Rattle.index_cached_tree.specs.TreeImage.{node_bytes}
@@ -25,3 +25,15 @@ whole_len (Some len) = 8 + len
 abbrev pub head_if : List ℕ → Option ℕ → List (List ℕ × ℕ)
 head_if signature None = []
 head_if signature (Some len) = (signature, len) ∷ []
+
+-- the length of the mark of a sparse index, which has no content, where it is one
+abbrev pub sparse_head_len : Bool → Option ℕ
+sparse_head_len true = Some 0
+sparse_head_len false = None
+
+-- the signatures and the lengths of all extensions
+abbrev pub listed_heads : Lens → Bool → List (List ℕ × ℕ)
+listed_heads lens sparse =
+    (((head_if (codes "TREE") lens.tree ++ head_if (codes "REUC") lens.resolve_undo)
+    ++ head_if (codes "UNTR") lens.untracked) ++ head_if (codes "FSMN") lens.fs_monitor)
+    ++ head_if (codes "sdir") (sparse_head_len sparse)

@@ -9,6 +9,7 @@ use index_untracked::UntrackedCache;
 
 pub mod items;
 pub mod lens;
+pub mod marker;
 
 pub use lens::Lens;
 
