@@ -29,7 +29,7 @@ pub bytes_behind : (xs ys : List Item)
     → flat_map item_bytes xs ++ flat_map item_bytes ys ≡ flat_map item_bytes (xs ++ ys)
 bytes_behind xs ys = sym (flat_map-append item_bytes xs ys)
 
-len_behind : (xs ys : List Item) → length (flat_map item_bytes (xs ++ ys))
+pub len_behind : (xs ys : List Item) → length (flat_map item_bytes (xs ++ ys))
     ≡ length (flat_map item_bytes xs) + length (flat_map item_bytes ys)
 len_behind xs ys =
     omega (arith, ap length (bytes_behind xs ys), length-append (flat_map item_bytes xs) (flat_map item_bytes ys))
