@@ -1,3 +1,4 @@
 pub mod Chosen
+pub mod Keepable
 pub mod Listing
 pub mod ReadBack
