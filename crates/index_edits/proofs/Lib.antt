@@ -1,4 +1,6 @@
 pub mod Anys
+pub mod Applied
+pub mod Checks
 pub mod Displacings
 pub mod Names
 pub mod Puts

@@ -1,3 +1,4 @@
+pub mod Changes
 pub mod EditSteps
 pub mod Edits
 pub mod Refusals

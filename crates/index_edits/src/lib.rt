@@ -4,6 +4,8 @@
 //! What is here speaks of entries as a list, and of the storage in which their paths lie as bytes.
 #![tactic(auto)]
 
+pub mod apply;
+pub mod change;
 pub mod error;
 mod odds;
 mod others;

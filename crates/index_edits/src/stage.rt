@@ -73,7 +73,7 @@ fn in_the_way(entries: &EntrySlice<'_>, entry: Pathless, path: &[u8], folder: &[
 }
 
 /// Puts the entry at its place, and takes out what goes where it comes.
-fn settle(
+pub(crate) fn settle(
     entries: &mut Vec<Entry>,
     storage: &mut PathStorage,
     entry: Pathless,
