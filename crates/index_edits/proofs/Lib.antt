@@ -3,8 +3,10 @@ pub mod Applied
 pub mod Checks
 pub mod Displacings
 pub mod Names
+pub mod Passes
 pub mod Puts
 pub mod Resolvings
+pub mod Splits
 pub mod Stages
 pub mod Stagings
 pub mod Unstagings

@@ -17,6 +17,11 @@ use Rattle.index_edits.specs.declared.change.ApplyError.TheVariants as refusals
 use Rattle.index_edits.specs.declared.error.Error.{Error}
 use Rattle.index_edits.specs.declared.error.Error.TheVariants as errors
 
+-- the path that a change is of
+abbrev pub path_of : Change → List ℕ
+path_of (changes.Stage entry path) = path.now
+path_of (changes.Unstage path) = path.now
+
 -- what a change makes of a list
 abbrev pub applied_one : Change → List Record → List Record
 applied_one (changes.Stage entry path) rs = staged (with_path path.now entry) rs

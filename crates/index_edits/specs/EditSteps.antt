@@ -1,9 +1,9 @@
 -- A list around the place of a new record, and what else goes where it comes (the library's own). Public clauses cite
 -- none of these.
-use Rattle.std.specs.Prelude.{◌≡◌, ℕ, ◌==◌, nat_eq, ◌&&◌, Bool, not, List, [], ◌∷◌, ◌++◌, All, if◌then◌else◌}
+use Rattle.std.specs.Prelude.{◌≡◌, ℕ, ◌==◌, nat_eq, ◌&&◌, Bool, false, not, List, [], ◌∷◌, ◌++◌, All, if◌then◌else◌}
 use Rattle.std.specs.List.{starts_with}
 use Rattle.std.specs.declared.cmp.Ordering.TheVariants.{Less, Greater}
-use Rattle.index_entries.specs.Order.{record_cmp, record_stage}
+use Rattle.index_entries.specs.Order.{path_cmp, record_cmp, record_stage}
 use Rattle.index_entries.specs.Record.{Record}
 use Rattle.index_lookups.specs.Lookup.{HasKey}
 use Rattle.index_lookups.specs.Range.{begins_with, is_at}
@@ -41,3 +41,8 @@ stands_above path stage r = (record_stage r == stage) && starts_with nat_eq path
 abbrev pub is_other : Record → Record → Bool
 is_other new r =
     if is_at new.path r then (record_stage new == 0) && not (record_stage r == 0) else are_at_odds new r
+
+-- the record stands behind the path, and behind all that begins with it
+pub record IsBeyond (path : List ℕ) (r : Record) : Type 0 where
+  pub greater : path_cmp r.path path ≡ Greater
+  pub apart : begins_with path r ≡ false

@@ -1,7 +1,7 @@
 //! Changes of an index that are made together, and why they aren't.
 
 ghost use Rattle.std.specs.Prelude.{◌≡◌, ◌+◌, ◌<◌, ◌^◌, MatchResult, Some, None, length};
-ghost use Rattle.index_edits.specs.Changes.{added_len, change_fault, refusal_from, refusal_of, room_fault};
+ghost use Rattle.index_edits.specs.Changes.{added_len, change_fault, refusal_from, refusal_of, room_fault, path_of};
 ghost use Rattle.index_edits.specs.declared.change.ApplyError.TheVariants.{Memory};
 
 use crate::error::Error;
@@ -27,6 +27,18 @@ pub enum Change<'a> {
         /// The path.
         path: &'a [u8],
     },
+}
+
+impl<'a> Change<'a> {
+    /// The path that is staged or taken out.
+    pub fn path(&self) -> &'a [u8]
+        ensures { result.now ≡ path_of self.now }
+    {
+        match *self {
+            Change::Stage { path, .. } => path,
+            Change::Unstage { path } => path,
+        }
+    }
 }
 
 /// Why changes aren't made. The entries and the storage of their paths are as they were.

@@ -1,27 +1,62 @@
-use Rattle.std.proofs.Common.{[], sym, subst, arith, append-nil, take}
-use Rattle.std.proofs.lemmas.List.{take_more}
-use Rattle.index_entries.specs.Record.{records_in}
+use Rattle.std.proofs.Common.{◌≡◌, ◌∙◌, ◌++◌, [], All, ap, append-nil, arith, drop, length, subst, sym}
+use Rattle.std.proofs.lemmas.List.{length-drop}
+use Rattle.std.proofs.lemmas.List.Elements.{All-append, All-drop, same_from_all_zip}
+use Rattle.index_entries.specs.Record.{IsPlaced, records_in}
 use Rattle.index_edits.specs.Changes.{IsAppliedTo}
-use Rattle.index_edits.proofs.Applied.{applied_none, applied_then, grown_twice}
+use Rattle.index_edits.proofs.Applied.{applied_none, grown_twice}
+use Rattle.index_edits.proofs.Passes.{all_made, one_more, placed_wider, same_entry}
 use Rattle.index_edits.proofs.apply.apply_each.Goals as goal
 
 pub loop-change-init : goal.loop-change-init
-loop-change-init c = record {
-  placed = c.requires.placed;
-  applied = λ o. applied_none _ o;
-  storage = ([], sym (append-nil c.args.storage.now.items));
-}
+loop-change-init c =
+    let s = c.args.storage.now.items in
+    let es = c.args.entries.now in
+    let none : c.in_ok-done.done.items ≡ [] = c.in_ok-done.ensures.items in
+    record {
+      inside = omega arith;
+      placed = subst (All (IsPlaced (length s))) (sym none) (λ k d l. absurd (omega arith));
+      applied = λ o. subst (λ l. IsAppliedTo [] (records_in s es) (records_in s (l ++ es))) (sym none) (applied_none _ o);
+      storage = ([], sym (append-nil s));
+    }
 
 pub loop-change-preserved : goal.loop-change-preserved
-loop-change-preserved c = record {
-  placed = c.in_ok-apply_one.ensures.placed;
-  applied = λ o.
-      let cs = c.args.changes.now in
-      let i = c.loop-change.change-index in
-      let old = records_in c.args.storage.now.items c.args.entries.now.items in
-      let now = records_in c.apply_one.new.storage.items c.apply_one.new.entries.items in
-      let p = c.loop-change.invariant.applied o in
-      subst (λ l. IsAppliedTo l old now) (sym (take_more cs i _ (omega (arith, c.loop-change-test.true))))
-      (applied_then (take i cs) _ old _ now p (c.in_ok-apply_one.ensures.applied p.ordered));
-  storage = grown_twice _ _ _ c.loop-change.invariant.storage c.in_ok-apply_one.ensures.storage;
-}
+loop-change-preserved c =
+    let inv = c.loop-change.invariant in
+    let told = c.in_ok-at.ensures in
+    record {
+      inside = omega (
+        arith,
+        told.inside,
+        inv.inside,
+        ap length c.split_at.ensures.back,
+        length-drop c.loop-change.at c.args.entries.now,
+      );
+      placed = told.placed;
+      applied = λ o. one_more c.args.changes.now c.loop-change.change-index _ c.loop-change.storage.items
+          c.loop-change.done.items c.args.entries.now c.split_at.result.1.now c.loop-change.at c.split_at.ensures.back
+          (inv.applied o) _ c.apply_next.new.storage.items c.apply_next.new.done.items c.in_ok-at.field-0
+          (omega (arith, c.loop-change-test.true)) told.applied;
+      storage = grown_twice _ _ _ inv.storage told.storage;
+    }
+
+pub returns-clause-applied : goal.returns-clause-applied
+returns-clause-applied c = λ o.
+    let more = c.in_ok-extend_from_slice.ensures.items in
+    all_made c.args.changes.now c.loop-change.change-index _ c.loop-change.storage.items c.loop-change.done.items
+    c.args.entries.now c.split_at-2.result.1.now c.loop-change.at c.split_at-2.ensures.back
+    (c.loop-change.invariant.applied o) _ (omega (arith, c.loop-change-test.false))
+    (more.1 ∙ ap (λ l. c.loop-change.done.items ++ l) (same_from_all_zip _ _ more.0 more.2 same_entry))
+
+pub returns-clause-placed : goal.returns-clause-placed
+returns-clause-placed c =
+    let more = c.in_ok-extend_from_slice.ensures.items in
+    let s = c.args.storage.now.items in
+    let t = c.loop-change.storage.items in
+    let at = c.loop-change.at in
+    let grown = c.loop-change.invariant.storage in
+    let P = All (IsPlaced (length t)) in
+    let is = more.1 ∙ ap (λ l. c.loop-change.done.items ++ l)
+    (same_from_all_zip _ _ more.0 more.2 same_entry ∙ c.split_at-2.ensures.back) in
+    subst P (sym is) (All-append (IsPlaced (length t)) c.loop-change.done.items (drop at c.args.entries.now)
+    c.loop-change.invariant.placed (All-drop (IsPlaced (length t)) at c.args.entries.now
+    (placed_wider s grown.0 t c.args.entries.now grown.1 c.requires.placed)))

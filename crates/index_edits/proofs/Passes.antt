@@ -1,0 +1,144 @@
+-- Entries that are passed by on the way to a path, and those beyond.
+use Rattle.std.proofs.Common.{◌≡◌, ◌≢◌, ℕ, ◌+◌, ◌<◌, ◌≤◌, true, false, List, [], ◌∷◌, ◌++◌, All, length, get_or, take}
+use Rattle.std.proofs.Common.{drop, Some, None, refl, sym, ap, ◌∙◌, subst, arith, append_assoc}
+use Rattle.std.specs.List.{AllPairs, AllWithin}
+use Rattle.std.specs.declared.cmp.Ordering.{Ordering}
+use Rattle.std.specs.declared.cmp.Ordering.TheVariants.{Less, Equal, Greater}
+use Rattle.std.specs.declared.ops.Range.{Range}
+use Rattle.std.proofs.Math.Seq.{drop-append_seam, take-append_seam}
+use Rattle.std.proofs.lemmas.List.{drop-map, get_or-drop, length-append, length-drop, map-append, take-append-drop, take_all}
+use Rattle.std.proofs.lemmas.List.Elements.{All-drop, All-weaker}
+use Rattle.std.proofs.lemmas.List.{drop-drop, take_more}
+use Rattle.index_entries.specs.declared.Entry.{Entry}
+use Rattle.index_entries.specs.Order.{IsOrderedByPath, IsStrictlyOrdered, path_cmp, record_cmp}
+use Rattle.index_entries.specs.Record.{IsPlaced, Record, record_in, records_in}
+use Rattle.index_entries.proofs.Orders.{same_path}
+use Rattle.index_entries.proofs.Storing.{records_grow}
+use Rattle.index_lookups.specs.Lookup.{insertion_of_path}
+use Rattle.index_lookups.specs.Range.{IsPrefixRange, begins_with}
+use Rattle.index_lookups.proofs.Insertion.{insertion_of_path-splits}
+use Rattle.index_lookups.proofs.Lookup.{ordered_by_path}
+use Rattle.index_lookups.proofs.Pairs.{pairs_drop, pairs_take}
+use Rattle.index_lookups.proofs.TableMade.{same_to}
+use Rattle.index_edits.specs.Changes.{IsAppliedTo, applied, path_of}
+use Rattle.index_edits.specs.EditSteps.{IsBeyond}
+use Rattle.index_edits.specs.declared.change.Change.{Change}
+use Rattle.index_edits.proofs.Applied.{applied_then}
+use Rattle.index_edits.proofs.Splits.{change_front}
+
+greater_is : (o : Ordering) → o ≢ Less → o ≢ Equal → o ≡ Greater
+greater_is Less a b = absurd (a refl)
+greater_is Equal a b = absurd (b refl)
+greater_is Greater a b = refl
+
+own_begins : (path : List ℕ) (r : Record) → r.path ≡ path → begins_with path r ≡ true
+own_begins path r e = same_to path (take (length path) r.path)
+    (sym (ap (take (length path)) e ∙ take_all (length path) path (omega arith)))
+
+pub beyond_from : (path : List ℕ) (rs : List Record) (k : ℕ) → IsOrderedByPath rs → insertion_of_path path rs ≤ k
+    → AllWithin (λ r. begins_with path r ≡ false) rs k (length rs) → All (IsBeyond path) (drop k rs)
+beyond_from path rs k o low h j d within =
+    let n : k + j < length rs = omega (arith, within, length-drop k rs) in
+    let r = get_or rs (k + j) d in
+    let apart : begins_with path r ≡ false = h (k + j) d (omega arith) n in
+    let b : IsBeyond path r = record {
+      greater = greater_is (path_cmp r.path path) ((insertion_of_path-splits path rs o).1 (k + j) d (omega arith) n)
+          (λ e. let both : true ≡ false = sym (own_begins path r ((same_path r.path path).0 e)) ∙ apart in cc);
+      apart = apart;
+    } in
+    subst (IsBeyond path) (sym (get_or-drop k rs j d)) b
+
+pub prefix_behind : (path : List ℕ) (rs : List Record) (p : Range ℕ) (k : ℕ) → IsPrefixRange path rs (Some p) → p.end ≤ k
+    → AllWithin (λ r. begins_with path r ≡ false) rs k (length rs)
+prefix_behind [] rs p k h low i d l u = absurd (omega (arith, h.1))
+prefix_behind (b ∷ bs) rs p k h low i d l u = h.1.behind i d (omega arith) u
+
+pub prefix_none : (path : List ℕ) (rs : List Record) (k : ℕ) → IsPrefixRange path rs None
+    → AllWithin (λ r. begins_with path r ≡ false) rs k (length rs)
+prefix_none [] rs k h i d l u = absurd h
+prefix_none (b ∷ bs) rs k h i d l u = h i d u
+
+-- ---- a change of what is done and what was passed by
+
+pub placed_wider : (s more t : List ℕ) (es : List Entry) → t ≡ s ++ more → All (IsPlaced (length s)) es
+    → All (IsPlaced (length t)) es
+placed_wider s more t es e h = All-weaker (IsPlaced (length s)) (IsPlaced (length t))
+    (λ x p. let n : length s ≤ length t = omega (arith, ap length e, length-append s more) in
+    record { inside = omega (arith, p.inside) }) es h
+
+front_ordered : (xs ys : List Record) → IsStrictlyOrdered (xs ++ ys) → IsStrictlyOrdered xs
+front_ordered xs ys o = record {
+  less = subst (AllPairs (λ r q. record_cmp r q ≡ Less)) (take-append_seam xs ys)
+      (pairs_take (λ r q. record_cmp r q ≡ Less) (length xs) (xs ++ ys) o.less);
+}
+
+back_ordered : (xs ys : List Record) → IsStrictlyOrdered (xs ++ ys) → IsStrictlyOrdered ys
+back_ordered xs ys o = record {
+  less = subst (AllPairs (λ r q. record_cmp r q ≡ Less)) (drop-append_seam xs ys)
+      (pairs_drop (λ r q. record_cmp r q ≡ Less) (length xs) (xs ++ ys) o.less);
+}
+
+module _ (c : Change) (s more t : List ℕ) (done rest mid now : List Entry) (k : ℕ) (grown : t ≡ s ++ more)
+    (placed : All (IsPlaced (length s)) rest) (passes : mid ≡ done ++ take k rest) where
+  split_here : done ++ rest ≡ mid ++ drop k rest
+  split_here = ap (λ l. done ++ l) (sym (take-append-drop k rest)) ∙ sym (append_assoc done (take k rest) (drop k rest))
+      ∙ ap (λ l. l ++ drop k rest) (sym passes)
+
+  pub next_applied : (IsOrderedByPath (records_in s rest) → All (IsBeyond (path_of c)) (drop k (records_in s rest)))
+      → (IsStrictlyOrdered (records_in s mid) → IsAppliedTo (c ∷ []) (records_in s mid) (records_in t now))
+      → IsStrictlyOrdered (records_in s (done ++ rest))
+      → IsAppliedTo (c ∷ []) (records_in s (done ++ rest)) (records_in t (now ++ drop k rest))
+  unfolding applied
+  next_applied beyond one o =
+      let ordered = ordered_by_path (records_in s rest) (back_ordered (records_in s done) (records_in s rest)
+      (subst IsStrictlyOrdered (map-append (record_in s) done rest) o)) in
+      let behind = drop k rest in
+      let old : records_in s (done ++ rest) ≡ records_in s mid ++ records_in s behind =
+      ap (records_in s) split_here ∙ map-append (record_in s) mid behind in
+      let same : records_in t behind ≡ records_in s behind =
+      ap (λ u. records_in u behind) grown
+      ∙ records_grow s more behind (All-drop (IsPlaced (length s)) k rest placed) in
+      let new : records_in t (now ++ behind) ≡ records_in t now ++ records_in s behind =
+      map-append (record_in t) now behind ∙ ap (λ l. records_in t now ++ l) same in
+      let whole : IsStrictlyOrdered (records_in s mid ++ records_in s behind) = subst IsStrictlyOrdered old o in
+      let front = front_ordered (records_in s mid) (records_in s behind) whole in
+      let b : All (IsBeyond (path_of c)) (records_in s behind) =
+      subst (All (IsBeyond (path_of c))) (drop-map (record_in s) k rest) (beyond ordered) in
+      subst (λ l. IsAppliedTo (c ∷ []) l (records_in t (now ++ behind))) (sym old)
+      (subst (IsAppliedTo (c ∷ []) (records_in s mid ++ records_in s behind)) (sym new)
+      (change_front c (records_in s mid) (records_in s behind) (records_in t now) whole front b (one front).is))
+
+-- ---- the loop over the changes
+
+pub same_entry : (x y : Entry) → (y.stat ≡ x.stat) × ((y.id ≡ x.id)
+    × ((y.flags ≡ x.flags) × ((y.mode ≡ x.mode) × (y.path ≡ x.path)))) → y ≡ x
+same_entry x y e = λ i. record {
+  stat = e.0 i;
+  id = e.1.0 i;
+  flags = e.1.1.0 i;
+  mode = e.1.1.1.0 i;
+  path = e.1.1.1.1 i;
+}
+
+module _ (cs : List Change) (i : ℕ) (old : List Record) (s : List ℕ) (done entries rest : List Entry) (at : ℕ)
+    (is : rest ≡ drop at entries)
+    (p : IsAppliedTo (take i cs) old (records_in s (done ++ drop at entries))) where
+  pub one_more : (d : Change) (t : List ℕ) (now : List Entry) (k : ℕ) → i < length cs
+      → (IsStrictlyOrdered (records_in s (done ++ rest)) → IsAppliedTo (get_or cs i d ∷ [])
+      (records_in s (done ++ rest)) (records_in t (now ++ drop k rest)))
+      → IsAppliedTo (take (i + 1) cs) old (records_in t (now ++ drop (at + k) entries))
+  one_more d t now k within h =
+      let there = subst (λ l. IsStrictlyOrdered (records_in s (done ++ l)) → IsAppliedTo (get_or cs i d ∷ [])
+      (records_in s (done ++ l)) (records_in t (now ++ drop k l))) is h in
+      let q = subst (λ l. IsAppliedTo (get_or cs i d ∷ []) (records_in s (done ++ drop at entries))
+      (records_in t (now ++ l))) dropped (there p.ordered) in
+      subst (λ l. IsAppliedTo l old (records_in t (now ++ drop (at + k) entries))) (sym (take_more cs i d within))
+      (applied_then (take i cs) (get_or cs i d ∷ []) old _ _ p q)
+    where
+      dropped : drop k (drop at entries) ≡ drop (at + k) entries
+      dropped = drop-drop k at entries
+
+  pub all_made : (now : List Entry) → length cs ≤ i → now ≡ done ++ rest → IsAppliedTo cs old (records_in s now)
+  all_made now l e =
+      subst (λ es. IsAppliedTo cs old (records_in s es)) (sym (e ∙ ap (λ l. done ++ l) is))
+      (subst (λ l. IsAppliedTo l old (records_in s (done ++ drop at entries))) (take_all i cs l) p)
