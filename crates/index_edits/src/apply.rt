@@ -24,7 +24,8 @@ fn apply_one(
     change: &Change<'_>,
 ) -> Result<(), AllocError>
     requires placed { All (IsPlaced (length storage.old.items)) entries.old.items }
-    ensures applied { OnOk result (IsStrictlyOrdered (records_in storage.old.items entries.old.items)
+    ensures applied { OnOk result
+        (IsStrictlyOrdered (records_in storage.old.items entries.old.items)
         → IsAppliedTo (change.now ∷ []) (records_in storage.old.items entries.old.items)
         (records_in storage.new.items entries.new.items)) }
     ensures placed { All (IsPlaced (length storage.new.items)) entries.new.items }
@@ -41,7 +42,7 @@ fn apply_one(
     Ok(())
 }
 
-/// How many of the entries are passed by on the way to a path: those in front of it, up to the last that begins with it.
+/// How many of the entries are passed by on the way to a path: those in front of it, and all that begin with it.
 fn passed(rest: &EntrySlice<'_>, path: &[u8]) -> usize
     ensures inside { result ≤ length rest.now }
     ensures beyond { IsOrderedByPath rest.now → All (IsBeyond path.now) (drop result rest.now) }
@@ -85,7 +86,8 @@ fn apply_each(
     changes: &[Change<'_>],
 ) -> Result<Vec<Entry>, AllocError>
     requires placed { All (IsPlaced (length storage.old.items)) entries.now }
-    ensures applied { IfOk result (λ done. IsStrictlyOrdered (records_in storage.old.items entries.now)
+    ensures applied { IfOk result (λ done.
+        IsStrictlyOrdered (records_in storage.old.items entries.now)
         → IsAppliedTo changes.now (records_in storage.old.items entries.now)
         (records_in storage.new.items done.items)) }
     ensures placed { IfOk result (λ done. All (IsPlaced (length storage.new.items)) done.items) }
@@ -110,8 +112,9 @@ fn apply_each(
 /// the entries and the storage are then as they were. Each path that is staged asks for room of its own, even where an
 /// entry has it or another change displaces it. Over entries that don't strictly increase nothing more is said.
 ///
-/// The entries are copied once, into one list. Where the changes rise by path, each costs a few searches, and moves only
-/// entries that begin with its path; one that goes back moves what was copied from its place on.
+/// The entries are copied once, into one list. Where the changes rise by path, each costs a few searches, and moves
+/// only entries that begin with its path; one that goes back moves what was copied from its place on. Where others go
+/// than what has the path and the stage, it looks once at each of those copied so far.
 pub fn apply<C: ComponentCheck>(
     entries: &mut Vec<Entry>,
     storage: &mut PathStorage,
@@ -124,7 +127,8 @@ pub fn apply<C: ComponentCheck>(
         (λ _. refusal_of (C.refusal check.now) kind (length storage.old.items) changes.now ≡ None)
         (IsApplyReason
         (refusal_of (C.refusal check.now) kind (length storage.old.items) changes.now)) }
-    ensures applied { OnOk result (IsStrictlyOrdered (records_in storage.old.items entries.old.items)
+    ensures applied { OnOk result
+        (IsStrictlyOrdered (records_in storage.old.items entries.old.items)
         → IsAppliedTo changes.now (records_in storage.old.items entries.old.items)
         (records_in storage.new.items entries.new.items)) }
     ensures placed { All (IsPlaced (length storage.new.items)) entries.new.items }

@@ -1,6 +1,6 @@
 //! Changes of an index that are made together, and why they aren't.
 
-ghost use Rattle.std.specs.Prelude.{◌≡◌, ◌+◌, ◌<◌, ◌^◌, MatchResult, Some, None, length};
+ghost use Rattle.std.specs.Prelude.{◌≡◌, ◌+◌, ◌<◌, ◌^◌, IfOk, MatchResult, OnOk, Some, None, length};
 ghost use Rattle.index_edits.specs.Changes.{added_len, change_fault, refusal_from, refusal_of, room_fault, path_of};
 ghost use Rattle.index_edits.specs.declared.change.ApplyError.TheVariants.{Memory};
 
@@ -75,7 +75,7 @@ const PATH_LIMIT: usize = 1 << 32;
 fn check_room(len: usize, path: &[u8]) -> Result<(), Error>
     ensures none { MatchResult result (λ _. room_fault len path.now ≡ None)
         (λ e. room_fault len path.now ≡ Some e) }
-    ensures fits { MatchResult result (λ _. len + length path.now < 2 ^ 49) (λ _. Unit {0}) }
+    ensures fits { OnOk result (len + length path.now < 2 ^ 49) }
 {
     if len < STORAGE_LIMIT && path.len() < PATH_LIMIT {
         return Ok(());
@@ -94,7 +94,7 @@ fn check_change<C: ComponentCheck>(
     ensures fault { MatchResult result
         (λ _. change_fault (C.refusal check.now) kind len change.now ≡ None)
         (λ e. change_fault (C.refusal check.now) kind len change.now ≡ Some e) }
-    ensures grown { MatchResult result (λ grown. grown ≡ len + added_len change.now) (λ _. Unit {0}) }
+    ensures grown { IfOk result (λ grown. grown ≡ len + added_len change.now) }
 {
     match change {
         Change::Stage { entry, path } => {
