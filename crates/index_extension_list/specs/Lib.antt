@@ -1,4 +1,5 @@
 pub mod Chosen
 pub mod Keepable
+pub mod Kept
 pub mod Listing
 pub mod ReadBack

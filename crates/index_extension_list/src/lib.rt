@@ -8,6 +8,7 @@ use index_small_extensions::resolve_undo::ResolvePath;
 use index_untracked::UntrackedCache;
 
 pub mod items;
+mod kept;
 pub mod laws;
 pub mod lens;
 pub mod marker;
