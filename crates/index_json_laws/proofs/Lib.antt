@@ -1,0 +1,7 @@
+mod Document
+mod Entries
+mod Extensions
+mod OneReading
+mod Pieces
+mod Told
+mod Untracked

@@ -1,0 +1,4 @@
+pub mod Document
+pub mod Extensions
+pub mod Reading
+pub mod Value
