@@ -37,7 +37,8 @@ all_and t k u n m b e s = simp append_assoc
 
 pub document_text : (c : Contents) (checksum : Option ObjectId) (marks : Marks)
     → json_text c checksum marks ≡ spelling (document_value c checksum marks) ++ codes "\n"
-unfolding document_value document_events head_events behind_events last_events first_field next_field begin_of escape_byte
+unfolding document_value document_events head_events behind_events last_events first_field next_field begin_of
+    escape_byte
 document_text c checksum marks =
     let o = c.extensions in
     let table = option_map (λ v. v.items) marks.table in

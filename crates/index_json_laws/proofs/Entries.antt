@@ -49,8 +49,10 @@ unfolding stat_value time_members file_members written_member escape_byte
 stat_text s =
     seven_and (written_member (codes "{") (codes "mtime") (time_value s.mtime))
     (written_member (codes ",") (codes "ctime") (time_value s.ctime))
-    (written_member (codes ",") (codes "dev") (decimal s.dev)) (written_member (codes ",") (codes "ino") (decimal s.ino))
-    (written_member (codes ",") (codes "uid") (decimal s.uid)) (written_member (codes ",") (codes "gid") (decimal s.gid))
+    (written_member (codes ",") (codes "dev") (decimal s.dev))
+    (written_member (codes ",") (codes "ino") (decimal s.ino))
+    (written_member (codes ",") (codes "uid") (decimal s.uid))
+    (written_member (codes ",") (codes "gid") (decimal s.gid))
     (written_member (codes ",") (codes "size") (decimal s.size)) (codes "}")
     ∙ (member_told (codes "{") (codes "mtime") (time_value s.mtime) (time_object s.mtime) refl (time_text s.mtime)
     (member_told (codes ",") (codes "ctime") (time_value s.ctime) (time_object s.ctime) refl (time_text s.ctime)

@@ -82,7 +82,8 @@ link_told {after} {ms} (Some link) es others =
     let tail = end_object ∷ es in
     record {
       is = ap (λ (l : List Event). named (codes ",") (codes "link") ++ codes "{"
-          ++ (named [] (codes "shared_index_checksum") ++ spelling (digits (id_bytes link.shared)) ++ print event_text l))
+          ++ (named [] (codes "shared_index_checksum") ++ spelling (digits (id_bytes link.shared))
+          ++ print event_text l))
           (append_assoc (pair_events link.bitmaps) (end_object ∷ []) es)
           ∙ (object_told (codes ",") (codes "link") refl
           (member_told [] (codes "shared_index_checksum") (spelling (digits (id_bytes link.shared)))

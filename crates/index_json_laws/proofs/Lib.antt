@@ -3,5 +3,6 @@ mod Entries
 mod Extensions
 mod OneReading
 mod Pieces
+mod Printed
 mod Told
 mod Untracked

@@ -85,7 +85,8 @@ directory_text place d =
     (parts_and (stat_events d.stat)
     (id_field (next_field (codes "    ") (codes "exclude file") (codes "exclude_file_oid")) d.exclude
     ∷ answer_field (next_field (codes "    ") (codes "check only") (codes "check_only")) d.check_only ∷ [])
-    (listed name_events d.untracked) (listed subdirectory_events d.subs) (begin_array (next (codes "untracked_entries")))
+    (listed name_events d.untracked) (listed subdirectory_events d.subs)
+    (begin_array (next (codes "untracked_entries")))
     end_array (begin_array (next (codes "sub_directories"))) end_object)
     ∙ element_is (separator place)
     (first_told (codes "name") d.name refl refl

@@ -8,16 +8,24 @@ ghost use Rattle.index_parts.specs.declared.hash.ObjectId.{ObjectId};
 ghost use Rattle.json.specs.Json.{Json};
 ghost use Rattle.index_json.specs.Json.{json_text};
 ghost use Rattle.index_json_laws.specs.Document.{document_value};
-ghost use Rattle.index_json_laws.specs.Reading.{IsJson};
-ghost use Rattle.index_json_laws.specs.Value.{spelling};
+ghost use Rattle.index_json_laws.specs.Reading.{FitsWords, IsJson, json_of};
+ghost use Rattle.index_json_laws.specs.Value.{Value, spelling};
 
-/// What is printed of an index is the text of its value, and a newline.
+/// What is printed of an index is the text of its value, and a newline. The law names the value, member by member.
 pub fn text_spells_value()
     ensures { (c : Contents) (checksum : Option ObjectId) (marks : Marks)
         → json_text c checksum marks ≡ spelling (document_value c checksum marks) ++ codes "\n" }
 {}
 
-/// A text is one JSON value at most.
+/// The text of a value is JSON: by the grammar of the kit's `json` its tokens are those of that value. Each number in
+/// it has at most 64 bits, as those of a file have, and what is told in base 16 is bytes.
+pub fn text_is_json()
+    ensures { (v : Value) → FitsWords v → IsJson (spelling v) (json_of v) }
+{}
+
+/// A text is one JSON value at most. So two values with the same text are the same to the grammar.
 pub fn one_reading()
-    ensures { (text : List ℕ) (a b : Json) → IsJson text a → IsJson text b → a ≡ b }
+    ensures text { (text : List ℕ) (a b : Json) → IsJson text a → IsJson text b → a ≡ b }
+    ensures value { (v w : Value) → FitsWords v → FitsWords w → spelling v ≡ spelling w
+        → json_of v ≡ json_of w }
 {}
