@@ -1,0 +1,31 @@
+-- What an edit of a path makes untrue in a cached tree (gitformat-index, "Cache tree": an entry that is invalidated has
+-- a negative number of entries, and no object name). Each definition speaks of children in any order.
+use Rattle.std.specs.Prelude.{ℕ, ◌+◌, ◌==◌, Bool, List, Option, Some, None, take, drop, position, if◌then◌else◌}
+use Rattle.std.specs.Cmp.Lexicographic.{slice_cmp}
+use Rattle.std.specs.Ordering.{nat_cmp, is_eq}
+use Rattle.index_parts.specs.Id.{id_kind, null_id}
+use Rattle.index_cached_tree.specs.Tree.{Node, Nodes, node, none, more, name_of}
+
+-- where the first slash of a path stands
+abbrev pub slash_of : List ℕ → Option ℕ
+slash_of path = position (λ b. b == 47) path
+
+-- the node has this name
+abbrev pub is_named : List ℕ → Node → Bool
+is_named name t = is_eq (slice_cmp nat_cmp (name_of t) name)
+
+abbrev mutual
+  -- The node has no count any more, and no id; below it, the path's directories are invalidated too.
+  pub invalidated : List ℕ → Node → Node
+  invalidated path (node name id count children) =
+      node name (null_id (id_kind id)) None (invalidated_below path (slash_of path) children)
+
+  -- Behind a slash, the first child whose name is before it is invalidated by the rest. Without one, the first child
+  -- with that name goes, since a file is there now. Other children stay.
+  pub invalidated_below : List ℕ → Option ℕ → Nodes → Nodes
+  invalidated_below path slash none = none
+  invalidated_below path None (more t ts) =
+      if is_named path t then ts else more t (invalidated_below path None ts)
+  invalidated_below path (Some k) (more t ts) =
+      if is_named (take k path) t then more (invalidated (drop (k + 1) path) t) ts
+      else more t (invalidated_below path (Some k) ts)
