@@ -66,13 +66,13 @@ placed_wider s more t es e h = All-weaker (IsPlaced (length s)) (IsPlaced (lengt
     (λ x p. let n : length s ≤ length t = omega (arith, ap length e, length-append s more) in
     record { inside = omega (arith, p.inside) }) es h
 
-front_ordered : (xs ys : List Record) → IsStrictlyOrdered (xs ++ ys) → IsStrictlyOrdered xs
+pub front_ordered : (xs ys : List Record) → IsStrictlyOrdered (xs ++ ys) → IsStrictlyOrdered xs
 front_ordered xs ys o = record {
   less = subst (AllPairs (λ r q. record_cmp r q ≡ Less)) (take-append_seam xs ys)
       (pairs_take (λ r q. record_cmp r q ≡ Less) (length xs) (xs ++ ys) o.less);
 }
 
-back_ordered : (xs ys : List Record) → IsStrictlyOrdered (xs ++ ys) → IsStrictlyOrdered ys
+pub back_ordered : (xs ys : List Record) → IsStrictlyOrdered (xs ++ ys) → IsStrictlyOrdered ys
 back_ordered xs ys o = record {
   less = subst (AllPairs (λ r q. record_cmp r q ≡ Less)) (drop-append_seam xs ys)
       (pairs_drop (λ r q. record_cmp r q ≡ Less) (length xs) (xs ++ ys) o.less);

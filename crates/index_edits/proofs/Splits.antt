@@ -44,19 +44,19 @@ false_from true h = absurd (h refl)
 false_from false h = refl
 
 module _ (path : List ℕ) (r : Record) (b : IsBeyond path r) where
-  beyond_at : is_at path r ≡ false
+  pub beyond_at : is_at path r ≡ false
   beyond_at = false_from (is_at path r) (λ t.
       let e = equal_key path (record_stage r) r (same_from r.path path t) refl in
       let g = ap (λ o. ordering_then o (nat_cmp (record_stage r) (record_stage r))) b.greater in
       let both : Greater ≡ Equal = sym g ∙ e in cc)
 
-  beyond_below : is_below path r ≡ false
+  pub beyond_below : is_below path r ≡ false
   beyond_below = false_from (is_below path r) (λ t.
       let at = begins_at path r.path 47 t in
       let begins : begins_with path r ≡ true = same_to path (take (length path) r.path) (sym at.2) in
       let both : true ≡ false = sym begins ∙ b.apart in cc)
 
-  beyond_above : (new : Record) → new.path ≡ path → is_below r.path new ≡ false
+  pub beyond_above : (new : Record) → new.path ≡ path → is_below r.path new ≡ false
   beyond_above new e = false_from (is_below r.path new) (λ t.
       let at = begins_at r.path new.path 47 t in
       let less = ap (λ p. path_cmp p new.path) (sym at.2) ∙ prefix_less (length r.path) new.path at.0 in

@@ -1,5 +1,5 @@
--- A list around the place of a new record, and what else goes where it comes (the library's own). Public clauses cite
--- none of these.
+-- A list around the place of a new record, and what else goes where it comes (the library's own). The clauses of steps
+-- cite these, and those of whole edits don't.
 use Rattle.std.specs.Prelude.{◌≡◌, ℕ, ◌==◌, nat_eq, ◌&&◌, Bool, false, not, List, [], ◌∷◌, ◌++◌, All, if◌then◌else◌}
 use Rattle.std.specs.List.{starts_with}
 use Rattle.std.specs.declared.cmp.Ordering.TheVariants.{Less, Greater}

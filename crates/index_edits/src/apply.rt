@@ -1,7 +1,7 @@
 //! Making several changes, all or none.
 
 ghost use Rattle.std.specs.Prelude.{◌≡◌, ◌++◌, ◌∷◌, [], ℕ, List, All, IfOk, MatchResult, None, OnErr, OnOk, drop};
-ghost use Rattle.std.specs.Prelude.{◌≤◌, length};
+ghost use Rattle.std.specs.Prelude.{◌≤◌, length, take};
 ghost use Rattle.index_entries.specs.Order.{IsOrderedByPath, IsStrictlyOrdered};
 ghost use Rattle.index_entries.specs.Record.{IsPlaced, records_in};
 ghost use Rattle.index_edits.specs.Changes.{IsAppliedTo, IsApplyReason, refusal_of};
@@ -17,8 +17,8 @@ use index_objects::check::ComponentCheck;
 use index_parts::hash::Kind;
 use std::alloc::AllocError;
 
-/// Makes one change, which may be made.
-fn apply_one(
+/// Makes one change that [`check_changes`] lets pass, as [`apply`] does it. A want of memory leaves all as it was.
+pub fn apply_one(
     entries: &mut Vec<Entry>,
     storage: &mut PathStorage,
     change: &Change<'_>,
@@ -54,6 +54,26 @@ fn passed(rest: &EntrySlice<'_>, path: &[u8]) -> usize
     }
 }
 
+/// Copies those of the rest that a change of the path may concern behind the entries that are done, and tells how many:
+/// those in front of the path, and all that begin with it. An error is want of memory.
+pub fn pass(
+    done: &mut Vec<Entry>,
+    storage: &[u8],
+    rest: &[Entry],
+    path: &[u8],
+) -> Result<usize, AllocError>
+    requires { All (IsPlaced (length storage.now)) rest.now }
+    ensures inside { IfOk result (λ count. count ≤ length rest.now) }
+    ensures copied { IfOk result (λ count. done.new.items ≡ done.old.items ++ take count rest.now) }
+    ensures beyond { IfOk result (λ count. IsOrderedByPath (records_in storage.now rest.now)
+        → All (IsBeyond path.now) (drop count (records_in storage.now rest.now))) }
+{
+    let count = passed(&EntrySlice::new(rest, storage), path);
+    let (near, _) = rest.split_at(count);
+    done.extend_from_slice(near)?;
+    Ok(count)
+}
+
 /// Makes one change of entries of which the first are done, and the rest are still to be copied behind these. Copies
 /// those that the change may concern, and tells how many.
 fn apply_next(
@@ -72,9 +92,7 @@ fn apply_next(
     ensures placed { OnOk result (All (IsPlaced (length storage.new.items)) done.new.items) }
     ensures storage { (more : List ℕ) × (storage.new.items ≡ storage.old.items ++ more) }
 {
-    let count = passed(&EntrySlice::new(rest, storage), change.path());
-    let (near, _) = rest.split_at(count);
-    done.extend_from_slice(near)?;
+    let count = pass(done, storage, rest, change.path())?;
     apply_one(done, storage, change)?;
     Ok(count)
 }

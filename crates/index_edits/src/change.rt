@@ -106,8 +106,9 @@ fn check_change<C: ComponentCheck>(
     }
 }
 
-/// That all may be made, one after another.
-pub(crate) fn check_changes<C: ComponentCheck>(
+/// That all may be made, one after another, in an index of the kind, whose storage of paths has so many bytes. An error
+/// is the first that may not, with its place.
+pub fn check_changes<C: ComponentCheck>(
     check: &C,
     kind: Kind,
     len: usize,

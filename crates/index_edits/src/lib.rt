@@ -7,8 +7,8 @@
 pub mod apply;
 pub mod change;
 pub mod error;
-mod odds;
-mod others;
+pub mod odds;
+pub mod others;
 mod put;
 mod refusals;
 pub mod resolve;

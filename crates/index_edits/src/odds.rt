@@ -48,7 +48,7 @@ fn has_stage(
 }
 
 /// Whether sides of a conflict stand at the path.
-pub(crate) fn has_sides(entries: &EntrySlice<'_>, path: &[u8]) -> bool
+pub fn has_sides(entries: &EntrySlice<'_>, path: &[u8]) -> bool
     ensures { IsOrderedByPath entries.now
         → result ≡ list_any (is_side_at path.now) entries.now }
 {
@@ -79,12 +79,7 @@ fn has_above(entries: &EntrySlice<'_>, path: &[u8], stage: Stage) -> bool
 
 /// Whether an entry is a file where the new one needs a folder, or the other way round. The folder is the path with a
 /// slash at its end.
-pub(crate) fn has_odds(
-    entries: &EntrySlice<'_>,
-    entry: Pathless,
-    path: &[u8],
-    folder: &[u8],
-) -> bool
+pub fn has_odds(entries: &EntrySlice<'_>, entry: Pathless, path: &[u8], folder: &[u8]) -> bool
     requires { folder.now ≡ path.now ++ 47 ∷ [] }
     ensures { IsStrictlyOrdered entries.now
         → result ≡ list_any (are_at_odds (with_path path.now entry)) entries.now }

@@ -17,7 +17,7 @@ fn is_below(folder: &[u8], path: &[u8]) -> bool
 }
 
 /// Whether another entry, with its path, goes where the new one comes, but has another path or another stage.
-fn is_other(entry: Pathless, path: &[u8], other: &Entry, other_path: &[u8]) -> bool
+pub fn is_other(entry: Pathless, path: &[u8], other: &Entry, other_path: &[u8]) -> bool
     ensures { result ≡ is_other (with_path path.now entry) (record {
       path = other_path.now;
       stat = other.now.stat;

@@ -31,8 +31,8 @@ pub struct Displaced {
     pub conflict: bool,
 }
 
-/// The path with a slash at its end.
-fn folder_of(alloc: Global, path: &[u8]) -> Result<Vec<u8>, AllocError>
+/// The path with a slash at its end. An error is want of memory.
+pub fn folder_of(alloc: Global, path: &[u8]) -> Result<Vec<u8>, AllocError>
     ensures { IfOk result (λ folder. folder.items ≡ path.now ++ 47 ∷ []) }
 {
     let mut folder = Vec::with_capacity(alloc, path.len() + 1)?;

@@ -1,3 +1,4 @@
+pub mod Clones
 pub mod EntryBlocks
 pub mod FirstContent
 pub mod Monitors

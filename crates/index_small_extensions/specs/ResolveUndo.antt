@@ -1,8 +1,10 @@
 -- Resolve-undo (gitformat-index, "Resolve undo"): conflicted paths as they were before the conflict was resolved.
-use Rattle.std.specs.Prelude.{◌≡◌, ◌≢◌, ℕ, List, [], ◌∷◌, ◌++◌, All, length, Option, Some, None, IfSome}
+use Rattle.std.specs.Prelude.{◌≡◌, ◌≢◌, ℕ, ◌==◌, List, [], ◌∷◌, ◌++◌, All, length, Option, Some, None, IfSome}
+use Rattle.std.specs.Prelude.{if◌then◌else◌}
 use Rattle.bstr.specs.Owned.{bstring_bytes}
 use Rattle.index_parts.specs.Id.{id_len, id_kind, make_id}
 use Rattle.index_parts.specs.declared.hash.Kind.{Kind}
+use Rattle.index_parts.specs.declared.hash.ObjectId.{ObjectId}
 use Rattle.index_small_extensions.specs.ModeDigits.{IsMode}
 use Rattle.index_small_extensions.specs.declared.resolve_undo.Stage.{Stage}
 use Rattle.index_small_extensions.specs.declared.resolve_undo.ResolvePath.{ResolvePath}
@@ -15,6 +17,10 @@ pub record PathStages : Type 0 where
 -- a path as plain data
 abbrev pub path_stages : ResolvePath → PathStages
 path_stages p = record { name = bstring_bytes p.name; stages = p.stages }
+
+-- the side with a mode and an id; a mode of 0 says that there is none
+abbrev pub side_of : ℕ → ObjectId → Option Stage
+side_of mode id = if mode == 0 then None else Some (record { mode = mode; id = id })
 
 -- A mode's text and the bytes of an id are a stage. A mode of 0 says that there is none, and has no id.
 pub data IsStage (kind : Kind) (text id : List ℕ) (stage : Option Stage) : Type 0 where

@@ -1,10 +1,10 @@
 //! What conflicts were before they were resolved (gitformat-index, "Resolve undo").
 
-ghost use Rattle.std.specs.Prelude.{◌≡◌, map, IfOk, IfErr};
+ghost use Rattle.std.specs.Prelude.{◌≡◌, ◌<◌, ◌∷◌, [], map, None, IfOk, IfErr, slice_set};
 ghost use Rattle.std.specs.Option.{option_map};
 ghost use Rattle.bstr.specs.Owned.{bstring_bytes};
 ghost use Rattle.index_extensions.specs.ExtensionValue.{IsRead};
-ghost use Rattle.index_small_extensions.specs.ResolveUndo.{HasResolvePath, path_stages, IsResolveUndo};
+ghost use Rattle.index_small_extensions.specs.ResolveUndo.{HasResolvePath, path_stages, IsResolveUndo, side_of};
 
 use bstr::BString;
 use index_extensions::Signature;
@@ -28,6 +28,16 @@ pub struct Stage {
 }
 
 impl Stage {
+    /// The side with a mode and an id. None where the mode is 0, by which a file says that there is no such side.
+    pub fn new(mode: u32, id: ObjectId) -> Option<Stage>
+        ensures { result ≡ side_of mode id }
+    {
+        if mode == 0 {
+            return None;
+        }
+        Some(Stage { mode, id })
+    }
+
     /// The mode of the file, which isn't 0. It is as the file has it: any other number may stand there.
     pub fn mode(&self) -> u32
         ensures { result ≡ self.now.mode }
@@ -63,6 +73,29 @@ impl Clone for ResolvePath {
 }
 
 impl ResolvePath {
+    /// A path without a side, with slashes between directories. An error is want of memory for the path.
+    pub fn new(alloc: Global, name: &[u8]) -> Result<ResolvePath, AllocError>
+        ensures { IfOk result
+            (λ path. path_stages path ≡ record { name = name.now; stages = None ∷ None ∷ None ∷ [] }) }
+    {
+        Ok(ResolvePath {
+            name: BString::from_slice(alloc, name)?,
+            stages: [None, None, None],
+        })
+    }
+
+    /// Puts a side, or None, in place of one of the three: the common ancestor's at 0, ours at 1 and theirs at 2. The
+    /// path and the other sides stay.
+    pub fn set_side(&mut self, place: usize, side: Option<Stage>)
+        requires { place < 3 }
+        ensures { path_stages self.new ≡ record {
+          name = (path_stages self.old).name;
+          stages = slice_set (path_stages self.old).stages place side;
+        } }
+    {
+        self.stages[place] = side;
+    }
+
     /// The path, with slashes between directories.
     pub fn name(&self) -> &[u8]
         ensures { result.now ≡ (path_stages self.now).name }

@@ -1,0 +1,161 @@
+-- Sides that go from a list of records, and what is recorded of them.
+use Rattle.std.proofs.Common.{◌≡◌, ◌≢◌, ℕ, suc, ◌+◌, ◌-◌, ◌<◌, ◌≤◌, Bool, true, false, ◌&&◌, ◌||◌, ◌==◌, not, List, [], ◌∷◌, ◌++◌, length, take, drop}
+use Rattle.std.proofs.Common.{get_or, filter, All, Option, Some, None, refl, sym, ap, ◌∙◌, arith, Bor, Result, Ok, Err, IfOk}
+use Rattle.std.specs.List.{list_any}
+use Rattle.std.specs.Prelude.{MatchOption, slice_range}
+use Rattle.std.specs.declared.ops.Range.{Range}
+use Rattle.std.proofs.lemmas.List.{get_or-drop, length-drop, take_all, take_more}
+use Rattle.std.proofs.lemmas.List.Elements.{filter-append}
+use Rattle.std.proofs.lemmas.List.Folds.{list_any_at}
+use Rattle.index_entries.specs.Order.{record_stage}
+use Rattle.index_entries.specs.Record.{Record, with_path}
+use Rattle.index_entries.specs.Slice.{IsRecordOf}
+use Rattle.index_entries.specs.declared.Entry.{Entry}
+use Rattle.index_entries.specs.declared.Pathless.{Pathless}
+use Rattle.index_lookups.proofs.RunFilters.{run_is_filter}
+use Rattle.index_lookups.specs.Closest.{is_below}
+use Rattle.index_lookups.specs.Range.{IsRange, is_at, part_of}
+use Rattle.index_metadata.specs.Flags.{stage_number}
+use Rattle.index_edits.proofs.Displacings.{not_number}
+use Rattle.index_edits.specs.Edits.{are_at_odds}
+use Rattle.index_edits.specs.declared.change.Change.{Change}
+use Rattle.index_edits.specs.declared.change.Change.TheVariants.{Stage, Unstage}
+use Rattle.index_small_extensions.specs.ResolveUndo.{PathStages}
+use Rattle.index_updates.specs.Recorded.{record_at}
+use Rattle.index_updates.specs.Undone.{all_recorded, is_lost, lost}
+
+pub all_recorded-append : (rs qs : List Record) (undo : Option (List PathStages))
+    → all_recorded (rs ++ qs) undo ≡ all_recorded qs (all_recorded rs undo)
+unfolding all_recorded
+all_recorded-append [] qs undo = refl
+all_recorded-append (r ∷ rs) qs undo = all_recorded-append rs qs _
+
+pub lost-append : (c : Change) (rs qs : List Record) → lost c (rs ++ qs) ≡ lost c rs ++ lost c qs
+lost-append c rs qs = filter-append (is_lost c) rs qs
+
+pub recorded_none : (undo : Option (List PathStages)) → undo ≡ all_recorded [] undo
+unfolding all_recorded
+recorded_none undo = refl
+
+-- one place more
+range_more : {X : Type 0} (xs : List X) (start k : ℕ) (d : X) → start ≤ k → k < length xs
+    → slice_range xs start (k + 1) ≡ slice_range xs start k ++ get_or xs k d ∷ []
+range_more xs start k d low within =
+    let n : (k + 1) - start ≡ (k - start) + 1 = omega arith in
+    let m : start + (k - start) ≡ k = omega arith in
+    ap (λ l. take l (drop start xs)) n
+    ∙ take_more (drop start xs) (k - start) d (omega (arith, length-drop start xs))
+    ∙ ap (λ x. take (k - start) (drop start xs) ++ x ∷ []) (get_or-drop start xs (k - start) d ∙ ap (λ l. get_or xs l d) m)
+
+same_record : (r : Record) (path : List ℕ) (e : Entry) → r.path ≡ path → IsRecordOf e r → r ≡ record_at path e
+same_record r path e p h = λ i. record { path = p i; stat = h.stat i; id = h.id i; flags = h.flags i; mode = h.mode i }
+
+-- the entry at one place more is recorded where it goes
+pub recorded_more : (c : Change) (rs : List Record) (start k : ℕ) (path : List ℕ) (e : Entry)
+    (old undo now : Option (List PathStages)) → start ≤ k → k < length rs
+    → ((d : Record) → (get_or rs k d).path ≡ path) → ((d : Record) → IsRecordOf e (get_or rs k d))
+    → undo ≡ all_recorded (lost c (slice_range rs start k)) old
+    → now ≡ all_recorded (lost c (record_at path e ∷ [])) undo
+    → now ≡ all_recorded (lost c (slice_range rs start (k + 1))) old
+recorded_more c rs start k path e old undo now low within p h before one =
+    let d = record_at path e in
+    let part = slice_range rs start k in
+    one ∙ ap (all_recorded (lost c (d ∷ []))) before
+    ∙ sym (all_recorded-append (lost c part) (lost c (d ∷ [])) old)
+    ∙ ap (λ l. all_recorded l old) (sym (lost-append c part (d ∷ [])))
+    ∙ ap (λ l. all_recorded (lost c l) old)
+    (sym (range_more rs start k d low within ∙ ap (λ r. part ++ r ∷ []) (same_record _ path e (p d) (h d))))
+
+pub range_none : {X : Type 0} (xs : List X) (k : ℕ) → slice_range xs k k ≡ []
+range_none xs k = let n : k - k ≡ 0 = omega arith in ap (λ l. take l (drop k xs)) n
+
+range_all : {X : Type 0} (xs : List X) → slice_range xs 0 (length xs) ≡ xs
+range_all xs = let n : length xs - 0 ≡ length xs = omega arith in
+    ap (λ l. take l xs) n ∙ take_all (length xs) xs (omega arith)
+
+-- ---- places among which are all sides that go
+
+pub filter_none : {X : Type 0} (p : X → Bool) (xs : List X) → All (λ x. p x ≡ false) xs → filter p xs ≡ []
+filter_none p [] h = refl
+filter_none p (x ∷ xs) h = rw (h 0 x (omega arith)) (filter_none p xs (λ k d u. h (suc k) d (omega arith)))
+
+-- a test that passes only where another does
+filter_twice : {X : Type 0} (p q : X → Bool) → ((x : X) → p x ≡ true → q x ≡ true) → (xs : List X)
+    → filter p (filter q xs) ≡ filter p xs
+filter_twice p q h [] = refl
+filter_twice p q h (x ∷ xs) = by (q x) (p x) refl refl (filter_twice p q h xs)
+  where
+    by : (b a : Bool) → q x ≡ b → p x ≡ a → filter p (filter q xs) ≡ filter p xs
+        → filter p (filter q (x ∷ xs)) ≡ filter p (x ∷ xs)
+    by true true e f rest = rw (e, f) (ap (λ l. x ∷ l) rest)
+    by true false e f rest = rw (e, f) rest
+    by false true e f rest = let both : true ≡ false = sym (h x f) ∙ e in cc
+    by false false e f rest = rw (e, f) rest
+
+not_true : (b : Bool) → (b ≡ true → ⊥) → b ≡ false
+not_true true h = absurd (h refl)
+not_true false h = refl
+
+-- where only records at a path go
+pub lost_in_range : (c : Change) (path : List ℕ) (rs : List Record) (places : Option (Range ℕ))
+    → ((r : Record) → is_lost c r ≡ true → is_at path r ≡ true) → IsRange (is_at path) rs places
+    → lost c (part_of rs places) ≡ lost c rs
+lost_in_range c path rs None h none =
+    sym (filter_none (is_lost c) rs (λ k d u. not_true (is_lost c (get_or rs k d)) (λ t.
+    let both : true ≡ false = sym (h (get_or rs k d) t) ∙ none k d u in cc)))
+lost_in_range c path rs (Some p) h some =
+    ap (lost c) (run_is_filter (is_at path) rs p.start p.end some.1) ∙ filter_twice (is_lost c) (is_at path) h rs
+
+pub lost_unstaged : (path : Bor (List ℕ)) (r : Record) → is_lost (Unstage path) r ≡ true → is_at path.now r ≡ true
+lost_unstaged path r h = by (not (record_stage r == 0)) (is_at path.now r) h
+  where
+    by : (z a : Bool) → (z && (a && not false)) ≡ true → a ≡ true
+    by true true e = refl
+    by true false e = cc
+    by false a e = cc
+
+merged_lost : (a x : Bool) (s n : ℕ) → n ≡ 0
+    → (not (s == 0) && (((a && ((n == 0) || (s == n))) || ((s == n) && x)) && not (a && (s == n)))) ≡ true → a ≡ true
+merged_lost true x s n z h = refl
+merged_lost false x s n z h = by (s == 0) (rw z at h)
+  where
+    by : (b : Bool) → (not b && ((false || (b && x)) && not false)) ≡ true → false ≡ true
+    by true e = cc
+    by false e = cc
+
+pub lost_merged : (entry : Pathless) (path : Bor (List ℕ)) (r : Record) → stage_number entry.flags.0 ≡ 0
+    → is_lost (Stage entry path) r ≡ true → is_at path.now r ≡ true
+lost_merged entry path r z h =
+    merged_lost (is_at path.now r) (is_below path.now r || is_below r.path (with_path path.now entry)) (record_stage r)
+    (stage_number entry.flags.0) z h
+
+unmerged_lost : (z a b e o : Bool) → b ≡ false → o ≡ false → (z && (((a && (b || e)) || o) && not (a && e))) ≡ false
+unmerged_lost z a b e o f g = rw (f, g) (by z a e)
+  where
+    by : (z a e : Bool) → (z && (((a && (false || e)) || false) && not (a && e))) ≡ false
+    by false a e = refl
+    by true true true = refl
+    by true true false = refl
+    by true false e = refl
+
+-- where a side is staged, only those that are at odds with it go
+pub lost_odds : (entry : Pathless) (path : Bor (List ℕ)) (rs : List Record) (places : Option (Range ℕ))
+    → stage_number entry.flags.0 ≢ 0
+    → MatchOption places (list_any (are_at_odds (with_path path.now entry)) rs ≡ false)
+    (λ p. (p.start ≡ 0) × (p.end ≡ length rs))
+    → lost (Stage entry path) (part_of rs places) ≡ lost (Stage entry path) rs
+lost_odds entry path rs None some none =
+    sym (filter_none (is_lost (Stage entry path)) rs (λ k d u.
+    let r = get_or rs k d in
+    unmerged_lost (not (record_stage r == 0)) (is_at path.now r) (stage_number entry.flags.0 == 0)
+    (record_stage r == stage_number entry.flags.0) (are_at_odds (with_path path.now entry) r)
+    (not_number (stage_number entry.flags.0) 0 some)
+    (not_true _ (λ t.
+    let odds = are_at_odds (with_path path.now entry) in
+    let both : true ≡ false = sym (list_any_at odds rs k d u t) ∙ none in cc))))
+lost_odds entry path rs (Some p) some all =
+    ap (lost (Stage entry path)) (ap (λ k. slice_range rs k p.end) all.0 ∙ ap (slice_range rs 0) all.1 ∙ range_all rs)
+
+pub if_ok : {T E : Type 0} (r : Result T E) (P Q : T → Type 0) → ((x : T) → P x → Q x) → IfOk r P → IfOk r Q
+if_ok (Ok x) P Q f h = f x h
+if_ok (Err e) P Q f h = tt

@@ -1,0 +1,110 @@
+-- What one change takes out of entries that are done and the rest, and what several do.
+use Rattle.std.proofs.Common.{◌≡◌, ℕ, ◌+◌, ◌<◌, get_or, length, Bool, true, false, ◌&&◌, ◌||◌, ◌==◌, not, List, [], ◌∷◌, ◌++◌, All, take, drop}
+use Rattle.std.proofs.Common.{Option, refl, sym, ap, ◌∙◌, subst, append-nil, append_assoc}
+use Rattle.std.proofs.lemmas.List.{drop-map, map-append, take-append-drop, take_more}
+use Rattle.std.proofs.lemmas.List.Elements.{All-weaker}
+use Rattle.index_entries.specs.Order.{IsOrderedByPath, IsStrictlyOrdered, record_stage}
+use Rattle.index_entries.specs.Record.{Record, record_in, records_in, with_path}
+use Rattle.index_entries.specs.declared.Entry.{Entry}
+use Rattle.index_lookups.proofs.Lookup.{ordered_by_path}
+use Rattle.index_lookups.specs.Closest.{is_below}
+use Rattle.index_lookups.specs.Lookup.{has_key}
+use Rattle.index_lookups.specs.Range.{is_at}
+use Rattle.index_metadata.specs.Flags.{stage_number}
+use Rattle.index_edits.proofs.Passes.{back_ordered, front_ordered}
+use Rattle.index_edits.proofs.Splits.{beyond_above, beyond_at, beyond_below}
+use Rattle.index_edits.specs.Changes.{IsAppliedTo, applied, path_of}
+use Rattle.index_edits.specs.EditSteps.{IsBeyond}
+use Rattle.index_edits.specs.declared.change.Change.{Change}
+use Rattle.index_edits.specs.declared.change.Change.TheVariants.{Stage, Unstage}
+use Rattle.index_small_extensions.specs.ResolveUndo.{PathStages}
+use Rattle.index_updates.specs.Undone.{all_recorded, is_lost, lost, undone}
+use Rattle.index_updates.proofs.Losings.{filter_none, lost-append}
+
+-- ---- what stands beyond a change's path stays
+
+none_goes : (z a m s x y k : Bool) → a ≡ false → x ≡ false → y ≡ false
+    → (z && (((a && m) || (s && (x || y))) && k)) ≡ false
+none_goes z a m s x y k e f g = rw (e, f, g) (by z s)
+  where
+    by : (z s : Bool) → (z && ((false || (s && false)) && k)) ≡ false
+    by false s = refl
+    by true true = refl
+    by true false = refl
+
+not_there : (z a : Bool) → a ≡ false → (z && (a && not false)) ≡ false
+not_there true a e = rw e refl
+not_there false a e = refl
+
+beyond_lost : (c : Change) (r : Record) → IsBeyond (path_of c) r → is_lost c r ≡ false
+beyond_lost (Stage entry path) r b =
+    let new = with_path path.now entry in
+    none_goes (not (record_stage r == 0)) (is_at new.path r) ((record_stage new == 0) || (record_stage r == record_stage new))
+    (record_stage r == record_stage new) (is_below new.path r) (is_below r.path new)
+    (not (has_key path.now (stage_number entry.flags.0) r))
+    (beyond_at new.path r b) (beyond_below new.path r b) (beyond_above new.path r b new refl)
+beyond_lost (Unstage path) r b = not_there (not (record_stage r == 0)) (is_at path.now r) (beyond_at path.now r b)
+
+module _ (c : Change) (s : List ℕ) (done rest mid : List Entry) (k : ℕ) (passes : mid ≡ done ++ take k rest)
+    (beyond : IsOrderedByPath (records_in s rest) → All (IsBeyond (path_of c)) (drop k (records_in s rest)))
+    (o : IsStrictlyOrdered (records_in s (done ++ rest))) where
+  split_here : done ++ rest ≡ mid ++ drop k rest
+  split_here = ap (λ l. done ++ l) (sym (take-append-drop k rest)) ∙ sym (append_assoc done (take k rest) (drop k rest))
+      ∙ ap (λ l. l ++ drop k rest) (sym passes)
+
+  split_records : records_in s (done ++ rest) ≡ records_in s mid ++ drop k (records_in s rest)
+  split_records = ap (records_in s) split_here ∙ map-append (record_in s) mid (drop k rest)
+      ∙ ap (λ l. records_in s mid ++ l) (sym (drop-map (record_in s) k rest))
+
+  pub mid_ordered : IsStrictlyOrdered (records_in s mid)
+  mid_ordered = front_ordered (records_in s mid) (drop k (records_in s rest)) (subst IsStrictlyOrdered split_records o)
+
+  -- so all that goes goes from those that are done
+  pub next_lost : lost c (records_in s mid) ≡ lost c (records_in s (done ++ rest))
+  next_lost =
+      let behind = drop k (records_in s rest) in
+      let ordered = ordered_by_path (records_in s rest) (back_ordered (records_in s done) (records_in s rest)
+      (subst IsStrictlyOrdered (map-append (record_in s) done rest) o)) in
+      let none = filter_none (is_lost c) behind
+      (All-weaker (IsBeyond (path_of c)) (λ r. is_lost c r ≡ false) (beyond_lost c) behind (beyond ordered)) in
+      sym (ap (lost c) split_records ∙ lost-append c (records_in s mid) behind
+      ∙ ap (λ l. lost c (records_in s mid) ++ l) none ∙ append-nil (lost c (records_in s mid)))
+
+-- ---- several changes
+
+pub undone_none : (rs : List Record) (undo : Option (List PathStages)) → undo ≡ undone [] rs undo
+unfolding undone
+undone_none rs undo = refl
+
+pub undone-append : (cs ds : List Change) (rs : List Record) (undo : Option (List PathStages))
+    → undone (cs ++ ds) rs undo ≡ undone ds (applied cs rs) (undone cs rs undo)
+unfolding undone applied
+undone-append [] ds rs undo = refl
+undone-append (c ∷ cs) ds rs undo = undone-append cs ds _ _
+
+undone_one : (c : Change) (rs : List Record) (undo : Option (List PathStages))
+    → undone (c ∷ []) rs undo ≡ all_recorded (lost c rs) undo
+unfolding undone
+undone_one c rs undo = refl
+
+-- one change more
+pub undone_then : (cs : List Change) (c : Change) (old mid : List Record) (undo before now : Option (List PathStages))
+    → mid ≡ applied cs old → before ≡ undone cs old undo → now ≡ all_recorded (lost c mid) before
+    → now ≡ undone (cs ++ c ∷ []) old undo
+undone_then cs c old mid undo before now is h one =
+    one ∙ ap (λ rs. all_recorded (lost c rs) before) is ∙ ap (all_recorded (lost c (applied cs old))) h
+    ∙ sym (undone_one c (applied cs old) (undone cs old undo)) ∙ sym (undone-append cs (c ∷ []) old undo)
+
+module _ (cs : List Change) (i : ℕ) (old : List Record) (s : List ℕ) (done entries rest : List Entry) (at : ℕ)
+    (is : rest ≡ drop at entries)
+    (p : IsAppliedTo (take i cs) old (records_in s (done ++ drop at entries))) where
+  pub one_more_undone : (d : Change) (undo before now : Option (List PathStages)) → i < length cs
+      → before ≡ undone (take i cs) old undo
+      → (IsStrictlyOrdered (records_in s (done ++ rest))
+      → now ≡ all_recorded (lost (get_or cs i d) (records_in s (done ++ rest))) before)
+      → now ≡ undone (take (i + 1) cs) old undo
+  one_more_undone d undo before now within b h =
+      let there = subst (λ l. IsStrictlyOrdered (records_in s (done ++ l))
+      → now ≡ all_recorded (lost (get_or cs i d) (records_in s (done ++ l))) before) is h in
+      undone_then (take i cs) (get_or cs i d) old _ undo before now p.is b (there p.ordered)
+      ∙ ap (λ l. undone l old undo) (sym (take_more cs i d within))

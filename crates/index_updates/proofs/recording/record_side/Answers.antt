@@ -1,0 +1,40 @@
+use Rattle.std.proofs.Common.{◌∙◌, List, ap, map, refl, subst}
+use Rattle.index_small_extensions.specs.declared.resolve_undo.ResolvePath.{ResolvePath}
+use Rattle.index_small_extensions.specs.ResolveUndo.{path_stages}
+use Rattle.index_updates.specs.Recorded.{record_at, with_side}
+use Rattle.index_updates.proofs.Recordings.{IsHere, IsOther, IsPlaceFor, recorded_between, recorded_over}
+use Rattle.index_updates.proofs.recording.record_side.Goals as goal
+
+pub returns-then-is_there : goal.returns-then-is_there
+returns-then-is_there c =
+    let path = c.args.path.now in
+    let entry = c.args.entry.now in
+    let xs = c.args.paths.now.items in
+    let i = c.place_for-place.result in
+    let d = c.index_mut.result.now in
+    let place = subst (λ (l : List ResolvePath). IsPlaceFor path_stages path l i) c.deref.ensures.value (record {
+      inside = c.place_for-place.ensures.inside;
+      before = c.place_for-place.ensures.before;
+      here = c.place_for-place.ensures.here;
+    }) in
+    let there = subst (λ (l : List ResolvePath). IsHere path_stages path l i) c.deref-2.ensures.value
+    (c.if-is_there.ensures.there refl) in
+    let name = ap (λ (x : ResolvePath). (path_stages x).name) c.index_mut.ensures.value ∙ there.1 d in
+    recorded_over path_stages (record_at path entry) d c.put_side.new.path xs i place there (c.put_side.ensures
+    ∙ ap (λ n. with_side (record_at n entry) (path_stages d)) name
+    ∙ ap (λ (x : ResolvePath). with_side (record_at path entry) (path_stages x)) c.index_mut.ensures.value)
+
+pub returns : goal.returns
+returns c =
+    let path = c.args.path.now in
+    let xs = c.args.paths.now.items in
+    let i = c.place_for-place.result in
+    let place = subst (λ (l : List ResolvePath). IsPlaceFor path_stages path l i) c.deref.ensures.value (record {
+      inside = c.place_for-place.ensures.inside;
+      before = c.place_for-place.ensures.before;
+      here = c.place_for-place.ensures.here;
+    }) in
+    let other = subst (λ (l : List ResolvePath). IsOther path_stages path l i) c.deref-2.ensures.value
+    (c.if-is_there.ensures.other refl) in
+    ap (map path_stages) c.in_ok-insert.ensures.items
+    ∙ recorded_between path_stages (record_at path c.args.entry.now) c.in_ok-made.made xs i place other c.in_ok-made.ensures

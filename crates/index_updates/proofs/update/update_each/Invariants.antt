@@ -1,0 +1,20 @@
+use Rattle.std.proofs.Common.{◌≡◌, ◌≤◌, ◌++◌, ℕ, List, All, drop, length, take}
+use Rattle.index_entries.specs.Order.{IsStrictlyOrdered}
+use Rattle.index_entries.specs.Record.{IsPlaced, records_in}
+use Rattle.index_edits.specs.Changes.{IsAppliedTo}
+use Rattle.index_updates.specs.Undone.{undo_paths, undone}
+use Rattle.index_updates.proofs.update.update_each.Given as goal
+
+-- the changes so far are made, of those that are done and the rest, and what they take out is recorded
+abbrev pub invariant-loop-change : goal.invariant-loop-change
+invariant-loop-change l = record {
+  inside : l.at ≤ length l.entries;
+  placed : All (IsPlaced (length l.storage.items)) l.done.items;
+  applied : IsStrictlyOrdered (records_in l.initial.storage.items l.entries)
+      → IsAppliedTo (take l.change-index l.changes) (records_in l.initial.storage.items l.entries)
+      (records_in l.storage.items (l.done.items ++ drop l.at l.entries));
+  undone : IsStrictlyOrdered (records_in l.initial.storage.items l.entries) → undo_paths l.undo
+      ≡ undone (take l.change-index l.changes) (records_in l.initial.storage.items l.entries)
+      (undo_paths l.initial.undo);
+  storage : (more : List ℕ) × (l.storage.items ≡ l.initial.storage.items ++ more);
+}

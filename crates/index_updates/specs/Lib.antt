@@ -1,0 +1,4 @@
+pub mod Invalidated
+pub mod Recorded
+pub mod Rising
+pub mod Undone

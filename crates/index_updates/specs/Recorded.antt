@@ -1,0 +1,28 @@
+-- What resolve-undo records of a side of a conflict that goes (gitformat-index, "Resolve undo"; git-update-index,
+-- "--unresolve"). Each definition speaks of any list; where paths rise by their bytes, they rise afterwards.
+use Rattle.std.specs.Prelude.{ℕ, ◌-◌, List, [], ◌∷◌, None, slice_set, if◌then◌else◌}
+use Rattle.std.specs.Ordering.{is_eq, is_lt}
+use Rattle.index_entries.specs.Order.{path_cmp, record_stage}
+use Rattle.index_entries.specs.Record.{Record}
+use Rattle.index_entries.specs.declared.Entry.{Entry}
+use Rattle.index_small_extensions.specs.ResolveUndo.{PathStages, side_of}
+
+-- the record of an entry with its path
+abbrev pub record_at : List ℕ → Entry → Record
+record_at path e = record { path = path; stat = e.stat; id = e.id; flags = e.flags.0; mode = e.mode.0 }
+
+-- a path without a side
+abbrev pub no_sides : List ℕ → PathStages
+no_sides path = record { name = path; stages = None ∷ None ∷ None ∷ [] }
+
+-- the path with the record's mode and id in the place of its stage, which is 1 to 3
+abbrev pub with_side : Record → PathStages → PathStages
+with_side r p = record { name = p.name; stages = slice_set p.stages (record_stage r - 1) (side_of r.mode r.id) }
+
+-- The paths with the record as a side: behind those below its path, at its path, or else between them and the next.
+unfoldable pub recorded : Record → List PathStages → List PathStages
+recorded r [] = with_side r (no_sides r.path) ∷ []
+recorded r (p ∷ ps) =
+    if is_lt (path_cmp p.name r.path) then p ∷ recorded r ps
+    else if is_eq (path_cmp p.name r.path) then with_side r p ∷ ps
+    else with_side r (no_sides r.path) ∷ p ∷ ps

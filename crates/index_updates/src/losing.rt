@@ -1,0 +1,159 @@
+//! Sides of conflicts that a change takes out, and recording them.
+
+ghost use Rattle.std.specs.Prelude.{◌≡◌, ◌≢◌, ◌∷◌, [], IfOk, IfSome, MatchOption, OnOk, Some, false, length};
+ghost use Rattle.std.specs.List.{list_any};
+ghost use Rattle.std.specs.Option.{unwrap_or};
+ghost use Rattle.index_entries.specs.Order.{IsStrictlyOrdered, record_stage};
+ghost use Rattle.index_entries.specs.Record.{with_path};
+ghost use Rattle.index_lookups.specs.Range.{LiesWithin, part_at, part_of};
+ghost use Rattle.index_edits.specs.Edits.{are_at_odds};
+ghost use Rattle.index_updates.specs.Recorded.{record_at, recorded};
+ghost use Rattle.index_updates.specs.Undone.{all_recorded, is_lost, lost, undo_paths};
+
+use crate::recording::record_side;
+use index_edits::change::Change;
+use index_edits::odds::has_odds;
+use index_edits::others::is_other;
+use index_edits::stage::folder_of;
+use index_entries::slice::EntrySlice;
+use index_entries::{Entry, Pathless};
+use index_lookups::range::entry_range;
+use index_small_extensions::resolve_undo::Paths;
+use std::alloc::{AllocError, Global};
+use std::ops::Range;
+
+/// Whether the entry is a side of a conflict, and goes where the change is made.
+fn is_lost(change: &Change<'_>, entry: &Entry, path: &[u8]) -> bool
+    ensures { result ≡ is_lost change.now (record_at path.now entry.now) }
+{
+    if entry.stage_raw() == 0 {
+        return false;
+    }
+    match change {
+        Change::Stage {
+            entry: new,
+            path: new_path,
+        } => is_other(*new, new_path, entry, path),
+        Change::Unstage { path: gone } => path == *gone,
+    }
+}
+
+/// All places, where an entry is a file where the new one needs a folder, or the other way round; else None. An error is
+/// want of memory.
+fn odd_places(
+    alloc: Global,
+    entries: &EntrySlice<'_>,
+    entry: Pathless,
+    path: &[u8],
+) -> Result<Option<Range<usize>>, AllocError>
+    ensures all { IfOk result (λ places. IsStrictlyOrdered entries.now → MatchOption places
+        (list_any (are_at_odds (with_path path.now entry)) entries.now ≡ false)
+        (λ p. (p.start ≡ 0) × (p.end ≡ length entries.now))) }
+    ensures inside { IfOk result (λ places. IfSome places (LiesWithin entries.now)) }
+{
+    let folder = folder_of(alloc, path)?;
+    if has_odds(entries, entry, path, &folder) {
+        return Ok(Some(0..entries.len()));
+    }
+    Ok(None)
+}
+
+/// Places among which all sides that go have theirs, or None where none goes. An error is want of memory.
+fn lost_places(
+    alloc: Global,
+    entries: &EntrySlice<'_>,
+    change: &Change<'_>,
+) -> Result<Option<Range<usize>>, AllocError>
+    ensures all { IfOk result (λ places. IsStrictlyOrdered entries.now
+        → lost change.now (part_of entries.now places) ≡ lost change.now entries.now) }
+    ensures inside { IfOk result (λ places. IfSome places (LiesWithin entries.now)) }
+{
+    match change {
+        Change::Stage { entry, path } => {
+            if entry.flags.stage_raw() != 0 {
+                return odd_places(alloc, entries, *entry, path);
+            }
+            Ok(entry_range(entries, path))
+        }
+        Change::Unstage { path } => Ok(entry_range(entries, path)),
+    }
+}
+
+/// Records a side: among the paths that there are, or as the first. An error is want of memory.
+fn record_among(
+    undo: &mut Option<Paths>,
+    alloc: Global,
+    path: &[u8],
+    entry: &Entry,
+) -> Result<(), AllocError>
+    requires { record_stage (record_at path.now entry.now) ≢ 0 }
+    ensures { OnOk result (undo_paths undo.new
+        ≡ Some (recorded (record_at path.now entry.now)
+        (unwrap_or (undo_paths undo.old) []))) }
+{
+    if let Some(paths) = undo {
+        return record_side(paths, path, entry);
+    }
+    let mut paths = Vec::new(alloc);
+    record_side(&mut paths, path, entry)?;
+    *undo = Some(paths);
+    Ok(())
+}
+
+/// Records the entry if it is a side that goes. An error is want of memory.
+#[tactic(auto, unfolding(crate::specs::Undone::all_recorded))]
+fn record_if_lost(
+    undo: &mut Option<Paths>,
+    alloc: Global,
+    path: &[u8],
+    entry: &Entry,
+    change: &Change<'_>,
+) -> Result<(), AllocError>
+    ensures { OnOk result (undo_paths undo.new
+        ≡ all_recorded (lost change.now (record_at path.now entry.now ∷ []))
+        (undo_paths undo.old)) }
+{
+    if is_lost(change, entry, path) {
+        record_among(undo, alloc, path, entry)?;
+    }
+    Ok(())
+}
+
+/// Records those sides that go which have their places here, from the first to the last. An error is want of memory.
+fn record_lost_at(
+    undo: &mut Option<Paths>,
+    alloc: Global,
+    entries: &EntrySlice<'_>,
+    places: Range<usize>,
+    change: &Change<'_>,
+) -> Result<(), AllocError>
+    requires { LiesWithin entries.now places }
+    ensures { OnOk result (undo_paths undo.new
+        ≡ all_recorded (lost change.now (part_at entries.now places))
+        (undo_paths undo.old)) }
+{
+    for place in places.start..places.end {
+        let path = entries.path(place);
+        record_if_lost(undo, alloc, path, entries.entry(place), change)?;
+    }
+    Ok(())
+}
+
+/// Records the sides that go where the change is made, from the first to the last: at each one's path its mode and id,
+/// in place of what was recorded of its stage. Where none goes nothing comes of it. An error is want of memory.
+pub(crate) fn record_lost(
+    undo: &mut Option<Paths>,
+    alloc: Global,
+    entries: &EntrySlice<'_>,
+    change: &Change<'_>,
+) -> Result<(), AllocError>
+    ensures { OnOk result (IsStrictlyOrdered entries.now
+        → undo_paths undo.new
+        ≡ all_recorded (lost change.now entries.now)
+        (undo_paths undo.old)) }
+{
+    if let Some(places) = lost_places(alloc, entries, change)? {
+        record_lost_at(undo, alloc, entries, places, change)?;
+    }
+    Ok(())
+}

@@ -1,0 +1,185 @@
+//! Making several changes of an index, all or none, with what speaks of its entries.
+
+ghost use Rattle.std.specs.Prelude.{◌≡◌, ◌++◌, ◌∷◌, [], ℕ, List, All, IfOk, IfSome, MatchResult, None, OnErr, OnOk};
+ghost use Rattle.std.specs.Prelude.{◌≤◌, drop, length};
+ghost use Rattle.std.specs.Option.{option_map};
+ghost use Rattle.index_entries.specs.Order.{IsStrictlyOrdered};
+ghost use Rattle.index_entries.specs.Record.{IsPlaced, records_in};
+ghost use Rattle.index_cached_tree.specs.Sound.{CountsAtMost};
+ghost use Rattle.index_cached_tree.specs.Tree.{node_of};
+ghost use Rattle.index_edits.specs.Changes.{IsAppliedTo, IsApplyReason, refusal_of};
+ghost use Rattle.index_updates.specs.Invalidated.{all_invalidated};
+ghost use Rattle.index_updates.specs.Rising.{ArePathsRising};
+ghost use Rattle.index_updates.specs.Undone.{all_recorded, lost, undo_paths, undone};
+
+use crate::invalidating::invalidate_all;
+use crate::losing::record_lost;
+use index_cached_tree::Tree;
+use index_edits::apply::{apply_one, pass};
+use index_edits::change::{ApplyError, Change, check_changes};
+use index_entries::slice::EntrySlice;
+use index_entries::{Entry, PathStorage};
+use index_objects::check::ComponentCheck;
+use index_parts::hash::Kind;
+use index_small_extensions::resolve_undo::Paths;
+use std::alloc::AllocError;
+
+/// Makes one change of entries of which the first are done, and the rest are still to be copied behind these, and
+/// records the sides that go. Copies those entries that the change may concern, and tells how many.
+fn update_next(
+    done: &mut Vec<Entry>,
+    storage: &mut PathStorage,
+    undo: &mut Option<Paths>,
+    rest: &[Entry],
+    change: &Change<'_>,
+) -> Result<usize, AllocError>
+    requires placed { All (IsPlaced (length storage.old.items)) done.old.items }
+    requires rest_placed { All (IsPlaced (length storage.old.items)) rest.now }
+    ensures inside { IfOk result (λ count. count ≤ length rest.now) }
+    ensures applied { IfOk result (λ count.
+        IsStrictlyOrdered (records_in storage.old.items (done.old.items ++ rest.now))
+        → IsAppliedTo (change.now ∷ []) (records_in storage.old.items (done.old.items ++ rest.now))
+        (records_in storage.new.items (done.new.items ++ drop count rest.now))) }
+    ensures undone { OnOk result (
+        IsStrictlyOrdered (records_in storage.old.items (done.old.items ++ rest.now))
+        → undo_paths undo.new ≡ all_recorded
+        (lost change.now (records_in storage.old.items (done.old.items ++ rest.now)))
+        (undo_paths undo.old)) }
+    ensures placed { OnOk result (All (IsPlaced (length storage.new.items)) done.new.items) }
+    ensures storage { (more : List ℕ) × (storage.new.items ≡ storage.old.items ++ more) }
+{
+    let count = pass(done, storage, rest, change.path())?;
+    record_lost(
+        undo,
+        *storage.allocator(),
+        &EntrySlice::new(done, storage),
+        change,
+    )?;
+    apply_one(done, storage, change)?;
+    Ok(count)
+}
+
+/// The same paths. An error is want of memory.
+#[tactic(auto, using(index_small_extensions::proofs::Clones::same_paths))]
+fn copy_of(undo: &Option<Paths>) -> Result<Option<Paths>, AllocError>
+    ensures { IfOk result (λ copy. undo_paths copy ≡ undo_paths undo.now) }
+{
+    match undo {
+        Some(paths) => Ok(Some(paths.clone()?)),
+        None => Ok(None),
+    }
+}
+
+/// The entries after all changes, one after another, and what resolve-undo has then.
+struct Updated {
+    entries: Vec<Entry>,
+    undo: Option<Paths>,
+}
+
+/// The same as `entries` and `undo` after all changes, one after another, or a want of memory.
+fn update_each(
+    entries: &[Entry],
+    storage: &mut PathStorage,
+    undo: &Option<Paths>,
+    changes: &[Change<'_>],
+) -> Result<Updated, AllocError>
+    requires placed { All (IsPlaced (length storage.old.items)) entries.now }
+    ensures applied { IfOk result (λ made.
+        IsStrictlyOrdered (records_in storage.old.items entries.now)
+        → IsAppliedTo changes.now (records_in storage.old.items entries.now)
+        (records_in storage.new.items made.entries.items)) }
+    ensures undone { IfOk result (λ made.
+        IsStrictlyOrdered (records_in storage.old.items entries.now)
+        → undo_paths made.undo
+        ≡ undone changes.now (records_in storage.old.items entries.now) (undo_paths undo.now)) }
+    ensures placed { IfOk result (λ made. All (IsPlaced (length storage.new.items)) made.entries.items) }
+    ensures storage { (more : List ℕ) × (storage.new.items ≡ storage.old.items ++ more) }
+{
+    let mut undo = copy_of(undo)?;
+    let mut done = Vec::with_capacity(*storage.allocator(), entries.len())?;
+    let mut at = 0;
+    for change in changes {
+        let (_, rest) = entries.split_at(at);
+        at += update_next(&mut done, storage, &mut undo, rest, change)?;
+    }
+    let (_, rest) = entries.split_at(at);
+    done.extend_from_slice(rest)?;
+    Ok(Updated {
+        entries: done,
+        undo,
+    })
+}
+
+/// Makes changes one after another, all or none, and keeps what speaks of the entries.
+///
+/// The entries and the storage are then as [`apply`](index_edits::apply::apply) leaves them. In the cached tree the path
+/// of each change is invalidated, also where the change finds nothing to take out. Resolve-undo has each side of a
+/// conflict that a change took out, in the order of the changes: at its path, in the place of its stage, its mode and
+/// id, in place of what was recorded of that stage before. A path that isn't there yet is put in behind those below it
+/// by the order of bytes. A side with an entry of its path and its stage in its place isn't recorded. Where no side
+/// goes, resolve-undo stays as it is, and where it isn't there it comes with the first side.
+///
+/// `entries` and `storage` are those of an index whose ids are of the kind. An error is the same as that of `apply`, and
+/// leaves all four as they were. Over entries that don't strictly increase nothing more is said of the entries and of
+/// resolve-undo.
+///
+/// Beside what `apply` costs, resolve-undo is copied once; each change makes a search for sides; and each side that goes
+/// is compared with the recorded paths in front of it. Where a side is staged as a file where others of its stage need a
+/// folder, or the other way round, each entry copied so far is looked at once.
+pub fn update<C: ComponentCheck>(
+    entries: &mut Vec<Entry>,
+    storage: &mut PathStorage,
+    tree: &mut Option<Tree>,
+    undo: &mut Option<Paths>,
+    check: &C,
+    kind: Kind,
+    changes: &[Change<'_>],
+) -> Result<(), ApplyError>
+    requires placed { All (IsPlaced (length storage.old.items)) entries.old.items }
+    ensures reason { MatchResult result
+        (λ _. refusal_of (C.refusal check.now) kind (length storage.old.items) changes.now ≡ None)
+        (IsApplyReason
+        (refusal_of (C.refusal check.now) kind (length storage.old.items) changes.now)) }
+    ensures applied { OnOk result
+        (IsStrictlyOrdered (records_in storage.old.items entries.old.items)
+        → IsAppliedTo changes.now (records_in storage.old.items entries.old.items)
+        (records_in storage.new.items entries.new.items)) }
+    ensures placed { All (IsPlaced (length storage.new.items)) entries.new.items }
+    ensures storage { (more : List ℕ) × (storage.new.items ≡ storage.old.items ++ more) }
+    ensures tree { OnOk result (option_map node_of tree.new
+        ≡ option_map (λ t. all_invalidated changes.now (node_of t)) tree.old) }
+    ensures counts { (most : ℕ) → IfSome tree.old (λ t. CountsAtMost most (node_of t))
+        → IfSome tree.new (λ t. CountsAtMost most (node_of t)) }
+    ensures undone { OnOk result
+        (IsStrictlyOrdered (records_in storage.old.items entries.old.items)
+        → undo_paths undo.new
+        ≡ undone changes.now (records_in storage.old.items entries.old.items) (undo_paths undo.old)) }
+    ensures rising { OnOk result
+        (IsStrictlyOrdered (records_in storage.old.items entries.old.items)
+        → IfSome (undo_paths undo.old) ArePathsRising
+        → IfSome (undo_paths undo.new) ArePathsRising) }
+    ensures err_entries { OnErr result (entries.new.items ≡ entries.old.items) }
+    ensures err_storage { OnErr result (storage.new.items ≡ storage.old.items) }
+    ensures err_tree { OnErr result (tree.new ≡ tree.old) }
+    ensures err_undo { OnErr result (undo.new ≡ undo.old) }
+{
+    let len = storage.len();
+    check_changes(check, kind, len, changes)?;
+    match update_each(entries, storage, undo, changes) {
+        Ok(
+            Updated {
+                entries: edited,
+                undo: recorded,
+            },
+        ) => {
+            *entries = edited;
+            *undo = recorded;
+            invalidate_all(tree, changes);
+            Ok(())
+        }
+        Err(e) => {
+            storage.truncate(len);
+            Err(e.into())
+        }
+    }
+}
