@@ -1,20 +1,17 @@
 -- What the last content of a signature is among extensions that are written, and which signatures are there.
 use Rattle.std.proofs.Common.{◌≡◌, ℕ, Bool, true, false, List, [], ◌∷◌, ◌++◌, Option, Some, None, refl, sym, ap, subst}
 use Rattle.std.proofs.Common.{◌∙◌}
-use Rattle.std.specs.Prelude.{◌||◌, IfSome, codes}
-use Rattle.std.specs.List.{list_any}
+use Rattle.std.specs.Prelude.{IfSome, codes}
 use Rattle.std.specs.Option.{option_map}
-use Rattle.std.proofs.lemmas.List.Folds.{list_any-append}
 use Rattle.index_parts.specs.declared.hash.Kind.{Kind}
 use Rattle.index_cached_tree.specs.TreeImage.{node_bytes, tree_item}
-use Rattle.index_extensions.specs.ExtensionValue.{IsRead, IsValue, content_named, is_named, last_content, or_else}
+use Rattle.index_extensions.specs.ExtensionValue.{IsValue, content_named, last_content, or_else}
 use Rattle.index_extensions.specs.Walk.{Item}
 use Rattle.index_extension_writing.specs.MonitorImage.{monitor_bytes, monitor_item}
 use Rattle.index_extension_writing.specs.ResolveUndoImage.{resolve_undo_bytes, resolve_undo_item}
 use Rattle.index_extension_writing.specs.UntrackedImage.{cache_bytes, cache_item}
-use Rattle.index_format.specs.Image.{sparse_items}
-use Rattle.index_extension_list.specs.Chosen.{Extensions, item_if, items}
-use Rattle.index_extension_list.specs.ReadBack.{marked_items, marker_if}
+use Rattle.index_extension_list.specs.Chosen.{Extensions, item_if, items, sparse_items}
+use Rattle.index_extension_list.specs.Marked.{marked_items, marker_if}
 
 or_none : {A : Type 0} (x : Option A) → or_else x None ≡ x
 or_none None = refl

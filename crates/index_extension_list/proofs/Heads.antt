@@ -1,8 +1,7 @@
 -- The signatures and lengths of extensions are those of their items.
-use Rattle.std.proofs.Common.{◌≡◌, ℕ, Bool, true, false, List, [], ◌∷◌, ◌++◌, length, Option, Some, None, refl, sym, ap}
+use Rattle.std.proofs.Common.{◌≡◌, ℕ, Bool, true, false, List, ◌++◌, length, Option, Some, None, refl, sym, ap}
 use Rattle.std.proofs.Common.{◌∙◌, append_assoc}
 use Rattle.std.specs.Prelude.{codes}
-use Rattle.std.specs.List.{flat_map}
 use Rattle.std.specs.Option.{option_map}
 use Rattle.std.proofs.lemmas.Grind.{flat_map-append}
 use Rattle.index_parts.specs.Numbers.{be32}
@@ -14,8 +13,7 @@ use Rattle.index_extensions.specs.Walk.{Item}
 use Rattle.index_extension_writing.specs.MonitorImage.{monitor_bytes, monitor_item}
 use Rattle.index_extension_writing.specs.ResolveUndoImage.{resolve_undo_bytes, resolve_undo_item}
 use Rattle.index_extension_writing.specs.UntrackedImage.{cache_bytes, cache_item}
-use Rattle.index_format.specs.Image.{sparse_items}
-use Rattle.index_extension_list.specs.Chosen.{Extensions, item_if, items}
+use Rattle.index_extension_list.specs.Chosen.{Extensions, item_if, items, sparse_items}
 use Rattle.index_extension_list.specs.Listing.{AreLens, head_if, listed_heads, sparse_head_len}
 use Rattle.index_extension_list.specs.declared.lens.Lens.{Lens}
 

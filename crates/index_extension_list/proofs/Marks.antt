@@ -10,9 +10,8 @@ use Rattle.index_extensions.specs.Walk.{Item}
 use Rattle.index_extension_writing.specs.MonitorImage.{monitor_item}
 use Rattle.index_extension_writing.specs.ResolveUndoImage.{resolve_undo_item}
 use Rattle.index_extension_writing.specs.UntrackedImage.{cache_item}
-use Rattle.index_format.specs.Image.{sparse_items}
-use Rattle.index_extension_list.specs.Chosen.{Extensions, item_if, items}
-use Rattle.index_extension_list.specs.ReadBack.{marked_items, marker_if}
+use Rattle.index_extension_list.specs.Chosen.{Extensions, item_if, items, sparse_items}
+use Rattle.index_extension_list.specs.Marked.{marked_items, marker_if}
 
 -- whether one of six holds
 abbrev any_of_six : Bool → Bool → Bool → Bool → Bool → Bool → Bool

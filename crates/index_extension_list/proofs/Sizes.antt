@@ -1,7 +1,6 @@
 -- How many bytes extensions have, one behind another.
-use Rattle.std.proofs.Common.{◌≡◌, ℕ, ◌+◌, ◌≤◌, ◌^◌, Bool, true, false, cond, ltb, List, [], ◌∷◌, ◌++◌, length, Option}
-use Rattle.std.proofs.Common.{Some, None, refl, sym, ap, ◌∙◌, arith, length-append}
-use Rattle.std.specs.Prelude.{codes}
+use Rattle.std.proofs.Common.{◌≡◌, ℕ, ◌+◌, ◌≤◌, ◌^◌, Bool, true, false, cond, ltb, List, [], ◌++◌, length, Option}
+use Rattle.std.proofs.Common.{Some, None, refl, sym, ap, arith, length-append}
 use Rattle.std.specs.List.{flat_map}
 use Rattle.std.specs.Option.{option_map}
 use Rattle.std.proofs.lemmas.Bool.{ltb-false}
@@ -13,10 +12,8 @@ use Rattle.index_extensions.specs.Walk.{Item}
 use Rattle.index_extension_writing.specs.MonitorImage.{monitor_bytes, monitor_item}
 use Rattle.index_extension_writing.specs.ResolveUndoImage.{resolve_undo_bytes, resolve_undo_item}
 use Rattle.index_extension_writing.specs.UntrackedImage.{cache_bytes, cache_item}
-use Rattle.index_format.specs.Image.{sparse_items}
-use Rattle.index_format.specs.LayoutSteps.{len_within_32, sparse_len}
-use Rattle.index_extension_list.specs.Chosen.{Extensions, item_if, items}
-use Rattle.index_extension_list.specs.Listing.{AreLens, whole_len}
+use Rattle.index_extension_list.specs.Chosen.{Extensions, item_if, items, sparse_items}
+use Rattle.index_extension_list.specs.Listing.{AreLens, len_within_32, sparse_len, whole_len}
 use Rattle.index_extension_list.specs.declared.lens.Lens.{Lens}
 
 pub map_after : {X Y Z : Type 0} (f : X → Y) (g : Y → Z) (o : Option X)

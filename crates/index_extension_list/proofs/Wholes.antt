@@ -1,10 +1,8 @@
--- Extensions that are written are whole, and none is a fault.
+-- Extensions that are written are whole.
 use Rattle.std.proofs.Common.{◌≡◌, ℕ, ◌+◌, ◌^◌, ◌<◌, ◌≤◌, Bool, true, false, List, [], ◌∷◌, ◌++◌, length, Option, Some}
-use Rattle.std.proofs.Common.{None, refl, ap, ◌∙◌, arith, length-append}
+use Rattle.std.proofs.Common.{None, refl, arith, length-append}
 use Rattle.std.specs.Prelude.{codes}
 use Rattle.std.specs.List.{flat_map, AllByRecursion}
-use Rattle.std.proofs.lemmas.Grind.{flat_map-append}
-use Rattle.std.proofs.lemmas.List.Elements.{All-nil, All-cons, All-append}
 use Rattle.index_parts.proofs.Digests.{length-digest}
 use Rattle.index_parts.specs.Digest.{digest}
 use Rattle.index_parts.specs.Id.{id_len}
@@ -13,68 +11,15 @@ use Rattle.index_parts.specs.declared.hash.Kind.{Kind}
 use Rattle.index_parts.specs.declared.hash.Kind.TheVariants as kinds
 use Rattle.index_cached_tree.specs.TreeImage.{node_bytes, tree_item}
 use Rattle.index_extensions.specs.EndMarker.{heads}
-use Rattle.index_extensions.specs.Encoding.{item_bytes, item_of, marker_item}
-use Rattle.index_extensions.specs.ExtensionValue.{is_named}
+use Rattle.index_extensions.specs.Encoding.{item_bytes, item_of}
 use Rattle.index_extensions.specs.Walk.{Item}
 use Rattle.index_extensions.proofs.WrittenItems.{IsWhole, whole_item}
 use Rattle.index_extension_writing.specs.MonitorImage.{monitor_bytes, monitor_item}
 use Rattle.index_extension_writing.specs.ResolveUndoImage.{resolve_undo_bytes, resolve_undo_item}
 use Rattle.index_extension_writing.specs.UntrackedImage.{cache_bytes, cache_item}
-use Rattle.index_format.specs.Image.{sparse_items}
-use Rattle.index_format.specs.Outcome.{ExtensionFault, is_understood, IsFault, unknown, broken_link, AreSound}
-use Rattle.index_extension_list.specs.Chosen.{Extensions, item_if, items}
-use Rattle.index_extension_list.specs.ReadBack.{marked_items, marker_if}
+use Rattle.index_extension_list.specs.Chosen.{Extensions, item_if, items, sparse_items}
+use Rattle.index_extension_list.specs.Marked.{marked_items, marker_if}
 use Rattle.index_extension_list.proofs.Sizes.{len_behind}
-
--- ---- no fault
-
-abbrev IsSound : Kind → Item → Type 0
-IsSound kind i = (fault : ExtensionFault) → IsFault kind i fault → ⊥
-
-item_sound : (kind : Kind) (i : Item) → is_understood i.signature i.content ≡ true → is_named (codes "link") i ≡ false
-    → (fault : ExtensionFault) → IsFault kind i fault → ⊥
-item_sound kind i e n fault (unknown f is) = absurd cc
-item_sound kind i e n fault (broken_link l named f is) = absurd cc
-
-one_sound : (kind : Kind) (i : Item) → is_understood i.signature i.content ≡ true → is_named (codes "link") i ≡ false
-    → AreSound kind (i ∷ [])
-one_sound kind i e n = All-cons (IsSound kind) i [] (item_sound kind i e n) (All-nil (IsSound kind))
-
-if_sound : {A : Type 0} (kind : Kind) (item : A → Item)
-    → ((a : A) → is_understood (item a).signature (item a).content ≡ true)
-    → ((a : A) → is_named (codes "link") (item a) ≡ false) → (o : Option A) → AreSound kind (item_if item o)
-if_sound kind item e n None = All-nil (IsSound kind)
-if_sound kind item e n (Some a) = one_sound kind (item a) (e a) (n a)
-
-sparse_sound : (kind : Kind) (sparse : Bool) → AreSound kind (sparse_items sparse)
-sparse_sound kind true = one_sound kind (item_of (codes "sdir") []) refl refl
-sparse_sound kind false = All-nil (IsSound kind)
-
-marker_sound : (marker : Bool) (kind : Kind) (offset : ℕ) (e : Extensions)
-    → AreSound kind (marker_if marker kind offset e)
-marker_sound true kind offset e = one_sound kind (marker_item kind offset (heads (items kind e))) refl refl
-marker_sound false kind offset e = All-nil (IsSound kind)
-
-both_sound : (kind : Kind) (xs ys : List Item) → AreSound kind xs → AreSound kind ys → AreSound kind (xs ++ ys)
-both_sound kind xs ys h k = All-append (IsSound kind) xs ys h k
-
-pub all_sound : (marker : Bool) (kind : Kind) (offset : ℕ) (e : Extensions)
-    → AreSound kind (marked_items marker kind offset e)
-unfolding items
-all_sound marker kind offset e =
-    let t = item_if tree_item e.tree in
-    let r = item_if resolve_undo_item e.resolve_undo in
-    let c = item_if (cache_item kind) e.untracked in
-    let m = item_if monitor_item e.fs_monitor in
-    let l = sparse_items e.sparse in
-    both_sound kind (t ++ (r ++ (c ++ (m ++ l)))) (marker_if marker kind offset e)
-    (both_sound kind t (r ++ (c ++ (m ++ l))) (if_sound kind tree_item (λ a. refl) (λ a. refl) e.tree)
-    (both_sound kind r (c ++ (m ++ l)) (if_sound kind resolve_undo_item (λ a. refl) (λ a. refl) e.resolve_undo)
-    (both_sound kind c (m ++ l) (if_sound kind (cache_item kind) (λ a. refl) (λ a. refl) e.untracked)
-    (both_sound kind m l (if_sound kind monitor_item (λ a. refl) (λ a. refl) e.fs_monitor)
-    (sparse_sound kind e.sparse))))) (marker_sound marker kind offset e)
-
--- ---- whole extensions
 
 all_join : (xs ys : List Item) → AllByRecursion IsWhole xs → AllByRecursion IsWhole ys
     → AllByRecursion IsWhole (xs ++ ys)
@@ -113,11 +58,11 @@ marker_whole true kind offset e =
     (whole_item (codes "EOIE") (be32 offset ++ digest kind hs) refl small, tt)
 marker_whole false kind offset e = tt
 
-pub all_whole : (marker : Bool) (kind : Kind) (offset : ℕ) (e : Extensions)
-    → length (flat_map item_bytes (items kind e)) < 2 ^ 32
-    → AllByRecursion IsWhole (marked_items marker kind offset e)
+-- the extensions before an end marker
+pub some_whole : (kind : Kind) (e : Extensions) → length (flat_map item_bytes (items kind e)) < 2 ^ 32
+    → AllByRecursion IsWhole (items kind e)
 unfolding items
-all_whole marker kind offset e lt =
+some_whole kind e lt =
     let t = item_if tree_item e.tree in
     let r = item_if resolve_undo_item e.resolve_undo in
     let c = item_if (cache_item kind) e.untracked in
@@ -127,9 +72,15 @@ all_whole marker kind offset e lt =
     let b = len_behind r (c ++ (m ++ l)) in
     let d = len_behind c (m ++ l) in
     let f = len_behind m l in
-    all_join (t ++ (r ++ (c ++ (m ++ l)))) (marker_if marker kind offset e) (all_join t (r ++ (c ++ (m ++ l)))
+    all_join t (r ++ (c ++ (m ++ l)))
     (if_whole (codes "TREE") node_bytes refl e.tree (omega (arith, lt, a)))
     (all_join r (c ++ (m ++ l)) (if_whole (codes "REUC") resolve_undo_bytes refl e.resolve_undo
     (omega (arith, lt, a, b))) (all_join c (m ++ l) (if_whole (codes "UNTR") (cache_bytes kind) refl e.untracked
     (omega (arith, lt, a, b, d))) (all_join m l (if_whole (codes "FSMN") monitor_bytes refl e.fs_monitor
-    (omega (arith, lt, a, b, d, f))) (sparse_whole e.sparse))))) (marker_whole marker kind offset e)
+    (omega (arith, lt, a, b, d, f))) (sparse_whole e.sparse))))
+
+pub all_whole : (marker : Bool) (kind : Kind) (offset : ℕ) (e : Extensions)
+    → length (flat_map item_bytes (items kind e)) < 2 ^ 32
+    → AllByRecursion IsWhole (marked_items marker kind offset e)
+all_whole marker kind offset e lt =
+    all_join (items kind e) (marker_if marker kind offset e) (some_whole kind e lt) (marker_whole marker kind offset e)

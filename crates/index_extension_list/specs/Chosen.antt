@@ -1,15 +1,15 @@
 -- The extensions that are written of an index, one behind another, in the order in which git writes them
 -- (gitformat-index, "Extensions").
-use Rattle.std.specs.Prelude.{◌≡◌, ℕ, Bool, List, [], ◌∷◌, ◌++◌, length, map, Option, Some, None}
+use Rattle.std.specs.Prelude.{Bool, List, [], ◌∷◌, ◌++◌, map, Option, Some, None, if◌then◌else◌}
 use Rattle.std.specs.Option.{option_map}
 use Rattle.index_parts.specs.declared.hash.Kind.{Kind}
 use Rattle.index_cached_tree.specs.Tree.{Node, node_of}
 use Rattle.index_cached_tree.specs.TreeImage.{tree_item}
+use Rattle.index_extensions.specs.Encoding.{sparse_item}
 use Rattle.index_extensions.specs.Walk.{Item}
 use Rattle.index_extension_writing.specs.MonitorImage.{monitor_item}
 use Rattle.index_extension_writing.specs.ResolveUndoImage.{resolve_undo_item}
 use Rattle.index_extension_writing.specs.UntrackedImage.{cache_item}
-use Rattle.index_format.specs.Image.{sparse_items}
 use Rattle.index_small_extensions.specs.FsMonitor.{Monitor, monitor_of}
 use Rattle.index_small_extensions.specs.ResolveUndo.{PathStages, path_stages}
 use Rattle.index_untracked.specs.Untracked.{Cache, cache_of}
@@ -37,6 +37,10 @@ extensions_of c = record {
 abbrev pub item_if : {A : Type 0} → (A → Item) → Option A → List Item
 item_if item None = []
 item_if item (Some a) = item a ∷ []
+
+-- the mark of a sparse index, where it is one
+abbrev pub sparse_items : Bool → List Item
+sparse_items sparse = if sparse then sparse_item ∷ [] else []
 
 -- the cached tree, resolve-undo, the untracked cache, what a file system monitor said, and the mark of a sparse index
 unfoldable pub items : Kind → Extensions → List Item

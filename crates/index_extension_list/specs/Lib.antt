@@ -1,5 +1,3 @@
 pub mod Chosen
-pub mod Keepable
-pub mod Kept
 pub mod Listing
-pub mod ReadBack
+pub mod Marked

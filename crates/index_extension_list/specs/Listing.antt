@@ -3,6 +3,7 @@ use Rattle.std.specs.Prelude.{◌≡◌, ℕ, ◌+◌, ◌++◌, List, [], ◌�
 use Rattle.std.specs.Option.{option_map}
 use Rattle.index_parts.specs.declared.hash.Kind.{Kind}
 use Rattle.index_cached_tree.specs.TreeImage.{node_bytes}
+use Rattle.index_cached_tree.specs.TreeWriting.{within_32}
 use Rattle.index_extension_writing.specs.MonitorImage.{monitor_bytes}
 use Rattle.index_extension_writing.specs.ResolveUndoImage.{resolve_undo_bytes}
 use Rattle.index_extension_writing.specs.UntrackedImage.{cache_bytes}
@@ -16,10 +17,20 @@ pub record AreLens (kind : Kind) (e : Extensions) (lens : Lens) : Type 0 where
   pub untracked : lens.untracked ≡ option_map (λ c. length (cache_bytes kind c)) e.untracked
   pub fs_monitor : lens.fs_monitor ≡ option_map (λ m. length (monitor_bytes m)) e.fs_monitor
 
+-- a length, where there is none or 32 bits count it
+abbrev pub len_within_32 : Option ℕ → Option (Option ℕ)
+len_within_32 None = Some None
+len_within_32 (Some n) = option_map Some (within_32 n)
+
 -- the bytes of an extension whose content has this length, where there is one
 abbrev pub whole_len : Option ℕ → ℕ
 whole_len None = 0
 whole_len (Some len) = 8 + len
+
+-- the bytes of the mark of a sparse index, where it is one
+abbrev pub sparse_len : Bool → ℕ
+sparse_len true = 8
+sparse_len false = 0
 
 -- the signature and the length of an extension, where there is one
 abbrev pub head_if : List ℕ → Option ℕ → List (List ℕ × ℕ)

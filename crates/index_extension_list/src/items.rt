@@ -8,14 +8,13 @@ ghost use Rattle.index_extensions.specs.EndMarker.{heads};
 ghost use Rattle.index_extensions.specs.Encoding.{heads_bytes, item_bytes, marker_item};
 ghost use Rattle.index_cached_tree.specs.Tree.{node_of};
 ghost use Rattle.index_cached_tree.specs.TreeImage.{node_bytes, tree_item};
-ghost use Rattle.index_format.specs.Image.{sparse_items};
 ghost use Rattle.index_small_extensions.specs.FsMonitor.{monitor_of};
 ghost use Rattle.index_small_extensions.specs.ResolveUndo.{path_stages};
 ghost use Rattle.index_untracked.specs.Untracked.{cache_of};
 ghost use Rattle.index_extension_writing.specs.MonitorImage.{monitor_bytes, monitor_item};
 ghost use Rattle.index_extension_writing.specs.ResolveUndoImage.{resolve_undo_bytes, resolve_undo_item};
 ghost use Rattle.index_extension_writing.specs.UntrackedImage.{cache_bytes, cache_item};
-ghost use Rattle.index_extension_list.specs.Chosen.{extensions_of, item_if, items};
+ghost use Rattle.index_extension_list.specs.Chosen.{extensions_of, item_if, items, sparse_items};
 ghost use Rattle.index_extension_list.specs.Listing.{AreLens, head_if};
 
 use crate::{Chosen, Lens};

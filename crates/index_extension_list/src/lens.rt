@@ -6,7 +6,6 @@ ghost use Rattle.std.specs.Option.{option_map};
 ghost use Rattle.index_cached_tree.specs.Tree.{node_of};
 ghost use Rattle.index_cached_tree.specs.TreeImage.{node_bytes};
 ghost use Rattle.index_extensions.specs.Encoding.{item_bytes};
-ghost use Rattle.index_format.specs.LayoutSteps.{len_within_32, sparse_len};
 ghost use Rattle.index_small_extensions.specs.FsMonitor.{monitor_of};
 ghost use Rattle.index_small_extensions.specs.ResolveUndo.{path_stages};
 ghost use Rattle.index_untracked.specs.Untracked.{cache_of};
@@ -14,7 +13,7 @@ ghost use Rattle.index_extension_writing.specs.MonitorImage.{monitor_bytes};
 ghost use Rattle.index_extension_writing.specs.ResolveUndoImage.{resolve_undo_bytes};
 ghost use Rattle.index_extension_writing.specs.UntrackedImage.{cache_bytes};
 ghost use Rattle.index_extension_list.specs.Chosen.{extensions_of, items};
-ghost use Rattle.index_extension_list.specs.Listing.{AreLens, whole_len};
+ghost use Rattle.index_extension_list.specs.Listing.{AreLens, len_within_32, sparse_len, whole_len};
 
 use crate::Chosen;
 use index_cached_tree::Tree;
@@ -142,7 +141,8 @@ impl Lens {
     /// How many bytes all of these extensions have, and the mark of a sparse index.
     pub fn total(&self, chosen: Chosen<'_>, kind: Kind) -> u64
         requires { AreLens kind (extensions_of chosen) self.now }
-        ensures { result ≡ length (flat_map item_bytes (items kind (extensions_of chosen.entry))) }
+        ensures len { result ≡ length (flat_map item_bytes (items kind (extensions_of chosen.entry))) }
+        ensures small { result < 0x800000000 }
     {
         whole_len(self.tree)
             + whole_len(self.resolve_undo)

@@ -8,8 +8,6 @@ use index_small_extensions::resolve_undo::ResolvePath;
 use index_untracked::UntrackedCache;
 
 pub mod items;
-mod kept;
-pub mod laws;
 pub mod lens;
 pub mod marker;
 

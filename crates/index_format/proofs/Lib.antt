@@ -1,10 +1,11 @@
 pub mod Additions
 pub mod Answers
-pub mod Bodies
+pub mod BytesBehind
 pub mod Canonical
-pub mod Clones
 pub mod Extensions
 pub mod Ids
+pub mod KeepableExtensions
+pub mod KeptExtensions
 pub mod LinkErrors
 pub mod OnceAnswers
 pub mod Outcomes
@@ -12,4 +13,4 @@ pub mod ReadValues
 pub mod RoundTrip
 pub mod SomeAnswers
 pub mod Twice
-pub mod WrittenOutcomes
+pub mod WrittenExtensions

@@ -1,6 +1,6 @@
 -- A value that was read is storable.
 use Rattle.std.proofs.Common.{◌≡◌, ℕ, ◌<◌, ◌≤◌, Bool, true, false, ltb, List, [], ◌∷◌, length, drop, Option, Some, None}
-use Rattle.std.proofs.Common.{Result, Ok, Err, All, refl, sym, ap, subst, inl, inr}
+use Rattle.std.proofs.Common.{◌++◌, Result, Ok, Err, All, refl, sym, ap, subst, inl, inr}
 use Rattle.std.specs.Prelude.{◌≢◌, ◌||◌, MatchBool, MatchResult, codes, IfOk, IfSome}
 use Rattle.std.specs.List.{AllByRecursion}
 use Rattle.std.proofs.lemmas.List.Elements.{All-nil, All-cons, All-drop, All-from_recursion}
@@ -11,7 +11,7 @@ use Rattle.index_metadata.specs.declared.entry.stat.FileTime.{FileTime}
 use Rattle.index_extensions.specs.ExtensionValue.{last_content, IsValue}
 use Rattle.index_cached_tree.specs.StoredTree.{stored_node, IsStorableTree}
 use Rattle.index_cached_tree.specs.Tree.{Node, IsTree}
-use Rattle.index_extensions.specs.Walk.{Item}
+use Rattle.index_extensions.specs.Walk.{IsWalk, Item}
 use Rattle.index_cached_tree.proofs.KeptTrees.{read_stays, read_storable}
 use Rattle.index_entries.specs.declared.Version.{Version}
 use Rattle.index_entries.specs.Entries.{AreEntries}
@@ -28,7 +28,10 @@ use Rattle.index_format.specs.Answer.{IsAnswer}
 use Rattle.index_format.specs.DecodeErrors.{Says}
 use Rattle.index_format.specs.Outcome.{Outcome, IsOutcome}
 use Rattle.index_format.specs.Contents.{Contents, parts_contents}
+use Rattle.index_format.specs.Keepable.{AreKeepable}
 use Rattle.index_format.specs.Storable.{IsStorable}
+use Rattle.index_format.proofs.BytesBehind.{before_trailer, behind_entries}
+use Rattle.index_format.proofs.KeepableExtensions.{keepable}
 
 -- ---- the value of an answer
 
@@ -38,7 +41,11 @@ pub record HasValue (kind : Kind) (time : FileTime) (options : Options) (bytes :
   pub rest : List ℕ
   pub read : AreEntries version kind None (drop 12 bytes) records rest
   pub counted : length records ≡ count_of bytes
+  pub extensions : List ℕ
+  pub are_bytes : AreBytes bytes → AreBytes extensions
   pub items : List Item
+  pub tail : List ℕ
+  pub is_walk : IsWalk extensions items tail
   pub outcome : Outcome
   pub is_outcome : IsOutcome kind options.alloc_limit_bytes items outcome
   pub is : v ≡ value_of kind time version records outcome
@@ -56,18 +63,24 @@ verified_value (Some x) (Some y) v w c d (inl h) = same_value v w c d h.1
 verified_value (Some x) (Some y) v w c d (inr h) = let e = h.1 in absurd cc
 
 module _ (kind : Kind) (time : FileTime) (options : Options) (bytes : List ℕ) (v : Contents) (c : Option ObjectId) where
-  of_closed : (version : Version) (rs : List Record) (rest : List ℕ) (items : List Item) (tail trailer : List ℕ)
-      → AreEntries version kind None (drop 12 bytes) rs rest → length rs ≡ count_of bytes
+  of_closed : (version : Version) (rs : List Record) (rest : List ℕ) (items : List Item)
+      (extensions tail trailer : List ℕ) → AreEntries version kind None (drop 12 bytes) rs rest
+      → length rs ≡ count_of bytes → rest ≡ extensions ++ trailer → IsWalk extensions items tail
       → IsClosed kind time options version rs items tail trailer (Ok (v, c)) → HasValue kind time options bytes v
-  of_closed version rs rest items tail trailer read n (faulty f h e) = absurd cc
-  of_closed version rs rest items tail trailer read n (left s z e) = absurd cc
-  of_closed version rs rest items tail trailer read n (whole o s z out verified) = record {
+  of_closed version rs rest items extensions tail trailer read n parts walk (faulty f h e) = absurd cc
+  of_closed version rs rest items extensions tail trailer read n parts walk (left s z e) = absurd cc
+  of_closed version rs rest items extensions tail trailer read n parts walk (whole o s z out verified) = record {
     version = version;
     records = rs;
     rest = rest;
     read = read;
     counted = n;
+    extensions = extensions;
+    are_bytes = λ b. before_trailer rest extensions trailer parts (behind_entries version kind None (drop 12 bytes) rs rest
+        read (All-drop (λ x. x < 256) 12 bytes b));
     items = items;
+    tail = tail;
+    is_walk = walk;
     outcome = o;
     is_outcome = out;
     is = verified_value options.expected_checksum (trailer_checksum kind trailer) v _ c _ verified;
@@ -78,7 +91,7 @@ module _ (kind : Kind) (time : FileTime) (options : Options) (bytes : List ℕ) 
       → IsEnding kind time options version rs rest (Ok (v, c)) → HasValue kind time options bytes v
   of_ending version rs rest read n (short lt e) = absurd cc
   of_ending version rs rest read n (walked xs trailer items tail parts len walk closed) =
-      of_closed version rs rest items tail trailer read n closed
+      of_closed version rs rest items xs tail trailer read n parts walk closed
 
   of_body : (version : Version) → IsBehindHeader kind time options version (count_of bytes) (drop 12 bytes) (Ok (v, c))
       → HasValue kind time options bytes v
@@ -124,7 +137,9 @@ pub record IsReadValue (kind : Kind) (bytes : List ℕ) (v : Contents) : Type 0 
   pub kept : AreKept kind v.records
   pub tree : IfSome v.extensions.tree (λ t. stored_node kind t ≡ t)
   pub sparse : (v.extensions.sparse || has_directory v.records) ≡ v.extensions.sparse
+  pub fit : v.fit ≡ true
   pub storable : AreBytes bytes → IsStorable v
+  pub keepable : AreBytes bytes → AreKeepable v.kind v.extensions
 
 or_same : (a b : Bool) → ((a || b) || b) ≡ (a || b)
 or_same true b = refl
@@ -143,6 +158,10 @@ value_read kind time options bytes v h =
       tree = tree_value kind limit (λ t. stored_node kind t ≡ t)
           (λ b t. read_stays kind limit b t) content h.outcome.tree h.is_outcome.tree;
       sparse = or_same h.outcome.sparse (has_directory h.records);
+      fit = refl;
+      keepable = λ b.
+          let all = keepable kind limit h.extensions h.items h.tail h.outcome (h.are_bytes b) h.is_walk h.is_outcome in
+          record { tree = all.tree; resolve_undo = all.resolve_undo; untracked = all.untracked; fs_monitor = all.fs_monitor };
       storable = λ b. record {
         ids = each_of (IsKept kind) (λ r. id_kind r.id ≡ kind) (λ r k. k.id) h.records rs.kept;
         paths = each_of (IsKept kind) (λ r. 4095 ≤ length r.path → All (λ b. b ≢ 0) r.path)
@@ -165,3 +184,12 @@ pub says_storable : (kind : Kind) (time : FileTime) (options : Options) (bytes :
 says_storable kind time options bytes (Ok x) b h =
     (answer_read kind time options bytes (parts_contents x.0) x.1 h).storable b
 says_storable kind time options bytes (Err e) b h = tt
+
+-- and its extensions can be kept
+pub says_keepable : (kind : Kind) (time : FileTime) (options : Options) (bytes : List ℕ)
+    (r : Result (Parts × Option ObjectId) Error) → AreBytes bytes
+    → Says parts_contents r (IsAnswer kind time options bytes)
+    → IfOk r (λ x. AreKeepable (parts_contents x.0).kind (parts_contents x.0).extensions)
+says_keepable kind time options bytes (Ok x) b h =
+    (answer_read kind time options bytes (parts_contents x.0) x.1 h).keepable b
+says_keepable kind time options bytes (Err e) b h = tt

@@ -1,8 +1,8 @@
 -- The answer to the bytes that are written is what a file keeps.
 use Rattle.std.proofs.Common.{◌≡◌, ℕ, ◌+◌, ◌-◌, ◌*◌, ◌/◌, ◌^◌, ◌<◌, ◌≤◌, Bool, true, false, not, cond, ltb, List, []}
 use Rattle.std.proofs.Common.{◌∷◌, ◌++◌, length, map, drop, Option, Some, None, Ok, All, refl, sym, ap, subst, ◌∙◌}
-use Rattle.std.proofs.Common.{append_assoc, append-nil, length-append, arith}
-use Rattle.std.specs.Prelude.{◌≢◌, replicate, codes, IfSome}
+use Rattle.std.proofs.Common.{append_assoc, append-nil, eqb, length-append, arith}
+use Rattle.std.specs.Prelude.{◌≢◌, ◌||◌, replicate, codes}
 use Rattle.std.specs.List.{flat_map, list_any, AllByRecursion}
 use Rattle.std.proofs.lemmas.Bool.{le-ltb, and_parts}
 use Rattle.std.proofs.lemmas.Grind.{flat_map-append}
@@ -19,14 +19,11 @@ use Rattle.index_parts.specs.declared.hash.ObjectId.{ObjectId}
 use Rattle.index_metadata.specs.declared.entry.stat.FileTime.{FileTime}
 use Rattle.index_extensions.specs.EndMarker.{heads, EndsInMarker, IsMarker}
 use Rattle.index_extensions.specs.Encoding.{item_bytes, marker_item}
-use Rattle.index_parts.specs.Numbers.{be32}
-use Rattle.index_cached_tree.specs.StoredTree.{stored_node, IsStorableTree}
-use Rattle.index_cached_tree.specs.Tree.{Node, IsTree}
-use Rattle.index_cached_tree.specs.TreeImage.{node_bytes}
 use Rattle.index_extensions.specs.Walk.{Item, AreItems}
+use Rattle.index_extension_list.specs.Marked.{marker_if}
+use Rattle.index_extension_list.proofs.Wholes.{all_whole, some_whole}
 use Rattle.index_extensions.proofs.Walks.{no_empty}
 use Rattle.index_extensions.proofs.WrittenItems.{IsWhole, items_there, marker_there}
-use Rattle.index_cached_tree.proofs.WrittenTrees.{tree_again}
 use Rattle.index_entries.specs.declared.Version.{Version}
 use Rattle.index_entries.specs.declared.Version.TheVariants.{V2, V3, V4}
 use Rattle.index_entries.specs.declared.write.VersionChoice.{VersionChoice}
@@ -35,7 +32,7 @@ use Rattle.index_entries.specs.Entries.{AreEntries}
 use Rattle.index_entries.specs.EntryImage.{is_removed, written, header_bytes, stored_record, version_by}
 use Rattle.index_entries.specs.Header.{header_of, count_of}
 use Rattle.index_entries.specs.Limits.{block_len, most_entries, smallest_entry, is_too_large}
-use Rattle.index_entries.specs.Record.{Record, IsSized}
+use Rattle.index_entries.specs.Record.{Record, IsSized, has_directory}
 use Rattle.index_entries.proofs.Again.{IsStorableIn}
 use Rattle.index_entries.proofs.EntriesAgain.{HasPath, entries_again, smallest_entries}
 use Rattle.index_entries.proofs.Words.{be_be32}
@@ -43,14 +40,14 @@ use Rattle.index_format.specs.declared.decode.Options.{Options as ReadOptions}
 use Rattle.index_format.specs.declared.write.Options.{Options}
 use Rattle.index_format.specs.Answer.{Answer, trailer_checksum, IsVerified, value_of, whole, IsEnding, walked}
 use Rattle.index_format.specs.Answer.{IsBehindHeader, has, IsCounted, IsAnswer}
-use Rattle.index_format.specs.Image.{asks_for, image_version, entries_bytes, entries_end, items_of, has_marker}
-use Rattle.index_format.specs.Image.{marker_of, unmarked, body, trailer, image}
+use Rattle.index_format.specs.Image.{asks_for, is_kept, image_version, entries_bytes, entries_end, chosen, items_of, has_marker}
+use Rattle.index_format.specs.Image.{marks_extensions, marker_of, unmarked, body, trailer, image}
+use Rattle.index_format.specs.Kept.{kept, read_as, tree_and_mark}
 use Rattle.index_format.specs.Outcome.{Outcome, AreSound, IsOutcome}
 use Rattle.index_format.specs.Contents.{Contents}
-use Rattle.index_format.specs.Storable.{CanEncode, IsStorable, IsWritable, IsUnmistakable}
+use Rattle.index_format.specs.Storable.{CanEncode, IsKeepable, IsStorable, IsWritable, IsUnmistakable}
 use Rattle.index_format.specs.Stored.{expected}
-use Rattle.index_format.proofs.WrittenOutcomes.{marker_items, written_outcome, outcome_there, all_sound, some_whole}
-use Rattle.index_format.proofs.WrittenOutcomes.{all_whole, content_small, first_item}
+use Rattle.index_format.proofs.WrittenExtensions.{all_sound, chosen_spellable, read_back}
 
 -- ---- the records that are written can be read again
 
@@ -242,8 +239,13 @@ unmarked_len v options =
 front_parts : (h es x m t : List ℕ) → h ++ (es ++ ((x ++ m) ++ t)) ≡ (h ++ es) ++ (x ++ (m ++ t))
 front_parts h es x m t = simp append_assoc refl
 
--- where it has one, it names the place behind the entries
-marked : (v : Contents) (options : Options) → v.kind ≡ kinds.Sha1 → has_marker v options ≡ true
+first_item : (items : List Item) → not (eqb (length items) 0) ≡ true
+    → (first : Item) × (others : List Item) × (items ≡ first ∷ others)
+first_item [] e = absurd cc
+first_item (i ∷ items) e = (i, items, refl)
+
+-- where it has one behind other extensions, it names the place behind the entries
+marked : (v : Contents) (options : Options) → v.kind ≡ kinds.Sha1 → marks_extensions v options ≡ true
     → AllByRecursion IsWhole (items_of v options) → entries_end v options < 2 ^ 32
     → EndsInMarker v.kind (image v options) (entries_end v options)
 marked v options e b each low =
@@ -253,8 +255,9 @@ marked v options e b each low =
     let es : List ℕ = entries_bytes v options in
     let n : ℕ = entries_end v options in
     let m : Item = marker_item v.kind n (heads items) in
-    let one : marker_of v options ≡ m ∷ [] = rw b refl in
-    let some = first_item items (and_parts _ _ (and_parts _ _ b).1).1 in
+    let one : marker_of v options ≡ m ∷ [] =
+    ap (λ (k : Bool). marker_if k v.kind n (chosen v options)) (and_parts _ _ b).0 in
+    let some = first_item items (and_parts _ _ b).1 in
     let len : length (h ++ es) ≡ n = omega (arith, length-append h es) in
     let made = marker_there (h ++ es) t some.0 some.1 (omega (arith, len)) (omega (arith, len))
     (subst (AllByRecursion IsWhole) some.2 each) (length-trailer v options ∙ ap id_len e) in
@@ -280,7 +283,7 @@ record HasRoom (v : Contents) (options : Options) : Type 0 where
   marker : IsMarker v.kind (image v options) offset
   room : length (entries_bytes v options) ≤ block_len (length (image v options)) offset v.kind
 
-room_by : (v : Contents) (options : Options) (kind : Kind) (b : Bool) → v.kind ≡ kind → has_marker v options ≡ b
+room_by : (v : Contents) (options : Options) (kind : Kind) (b : Bool) → v.kind ≡ kind → marks_extensions v options ≡ b
     → AllByRecursion IsWhole (items_of v options) → entries_end v options < 2 ^ 32 → IsUnmistakable v options
     → length (entries_bytes v options) ≤ length (image v options) - id_len v.kind - 12 → HasRoom v options
 room_by v options kinds.Sha256 b e m each low u room =
@@ -291,53 +294,58 @@ room_by v options kinds.Sha1 false e m each low u room = record { offset = None;
 
 -- ---- the answer to an image
 
-tree_read : (kind : Kind) (tree : Option Node) → IfSome tree (IsStorableTree kind)
-    → IfSome tree (λ t. IsTree kind None (node_bytes t) (stored_node kind t))
-tree_read kind None h = tt
-tree_read kind (Some t) h = tree_again kind t h
+chosen_sparse : (v : Contents) (options : Options) → (chosen v options).sparse ≡ v.extensions.sparse
+chosen_sparse v options = by (is_kept options.extensions)
+  where
+    by : (k : Bool) → (cond k (kept v.fit (length (written v.records)) v.extensions)
+        (tree_and_mark (asks_for options.extensions (codes "TREE")) v.extensions)).sparse ≡ v.extensions.sparse
+    by true = refl
+    by false = refl
 
 -- reading the image of a storable value gives what is expected, and the trailer
 pub written_reads_back : (v : Contents) (options : Options) (time : FileTime) (reading : ReadOptions) → IsStorable v
-    → IsWritable v options → IsUnmistakable v options
+    → IsKeepable v options → IsWritable v options → IsUnmistakable v options
     → reading.alloc_limit_bytes ≡ None → reading.expected_checksum ≡ None
     → IsAnswer v.kind time reading (image v options)
     (Ok (expected v options time, trailer_checksum v.kind (trailer v options)))
-unfolding items_of
-written_reads_back v options time reading storable writable unmistakable limit check =
+written_reads_back v options time reading storable keepable writable unmistakable limit check =
     let version : Version = image_version v options in
     let rs : List Record = written v.records in
     let es : List ℕ = entries_bytes v options in
     let t : List ℕ = trailer v options in
-    let asked : Bool = asks_for options.extensions (codes "TREE") in
-    let tree : Option Node = v.extensions.tree in
-    let sparse : Bool = v.extensions.sparse in
+    let e = chosen v options in
     let m : Bool = has_marker v options in
-    let content : List ℕ = be32 (entries_end v options) ++ digest v.kind (heads (items_of v options)) in
-    let items : List Item = items_of v options ++ marker_items m content in
-    let o : Outcome = written_outcome v.kind asked tree sparse m in
+    let place : ℕ = entries_end v options in
+    let is : List Item = items_of v options ++ marker_of v options in
+    let o : Outcome = read_as m v.kind e in
     let small : 12 + (length es + length (flat_map item_bytes (items_of v options))) < 2 ^ 32 =
     omega (arith, writable.small, unmarked_len v options) in
-    let each = some_whole asked tree sparse (omega (arith, small)) in
-    let image_is : image v options ≡ bytes_of version rs es items t = body_parts v options t in
-    let parts : AreParts version v.kind rs es items t = record {
+    let spelled = chosen_spellable v options storable keepable (omega (arith, small)) in
+    let image_is : image v options ≡ bytes_of version rs es is t = body_parts v options t in
+    let parts : AreParts version v.kind rs es is t = record {
       entries = entries_there v options storable writable.paths (omega (arith, small));
       few = omega (arith, fewer_written v.records, writable.few);
-      whole_items = all_whole asked tree sparse m content (omega (arith, small))
-          (content_small v.kind (entries_end v options) (heads (items_of v options)));
-      sound = all_sound v.kind asked tree sparse m content;
+      whole_items = all_whole m v.kind place e spelled.small;
+      sound = all_sound m v.kind place e;
       len = length-trailer v options;
     } in
-    let out = outcome_there v.kind asked tree sparse m content (tree_read v.kind tree storable.tree) in
-    let long : length (image v options) ≡ 12 + (length es + (length (flat_map item_bytes items) + length t)) =
+    let out = read_back m v.kind place e spelled in
+    let long : length (image v options) ≡ 12 + (length es + (length (flat_map item_bytes is) + length t)) =
     ap length image_is ∙ omega (
       arith,
-      length-append es (flat_map item_bytes items ++ t),
-      length-append (flat_map item_bytes items) t,
+      length-append es (flat_map item_bytes is ++ t),
+      length-append (flat_map item_bytes is) t,
     ) in
-    let room = room_by v options v.kind m refl refl each (omega (arith, small)) unmistakable
+    let each = some_whole v.kind e spelled.small in
+    let room = room_by v options v.kind (marks_extensions v options) refl refl each (omega (arith, small)) unmistakable
     (omega (arith, long, length-trailer v options)) in
     let marker = subst (λ (l : List ℕ). IsMarker v.kind l room.offset) image_is room.marker in
     let fits = subst (λ (l : List ℕ). length es ≤ block_len (length l) room.offset v.kind) image_is room.room in
-    let read = file_again version v.kind time reading rs es items t o room.offset parts out limit check marker fits in
-    subst (λ (l : List ℕ). IsAnswer v.kind time reading l (Ok (expected v options time, trailer_checksum v.kind t)))
-    (sym image_is) read
+    let read = file_again version v.kind time reading rs es is t o room.offset parts out limit check marker fits in
+    let value : value_of v.kind time version (map stored_record rs) o ≡ expected v options time =
+    ap (λ (b : Bool). record (expected v options time) {
+      extensions = record (expected v options time).extensions { sparse = b || has_directory (map stored_record rs) };
+    }) (chosen_sparse v options) in
+    subst (λ (x : Contents). IsAnswer v.kind time reading (image v options) (Ok (x, trailer_checksum v.kind t))) value
+    (subst (λ (l : List ℕ). IsAnswer v.kind time reading l
+    (Ok (value_of v.kind time version (map stored_record rs) o, trailer_checksum v.kind t))) (sym image_is) read)

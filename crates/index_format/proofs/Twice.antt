@@ -1,47 +1,82 @@
 -- What a file keeps of what it kept is the same.
-use Rattle.std.proofs.Common.{◌≡◌, Bool, true, false, ◌||◌, List, Option, Some, None, refl, ap, ◌∙◌}
+use Rattle.std.proofs.Common.{◌≡◌, ℕ, Bool, true, false, cond, ◌||◌, List, Option, None, length, refl, ap, ◌∙◌}
 use Rattle.std.specs.Prelude.{codes}
-use Rattle.index_parts.specs.declared.hash.Kind.{Kind}
+use Rattle.std.specs.Option.{option_map}
+use Rattle.index_cached_tree.specs.StoredTree.{stored_node}
 use Rattle.index_cached_tree.specs.Tree.{Node}
-use Rattle.index_cached_tree.proofs.KeptTrees.{node_twice}
-use Rattle.index_entries.specs.EntryImage.{stored_records}
+use Rattle.index_entries.specs.EntryImage.{stored_records, written}
 use Rattle.index_entries.specs.Record.{Record, has_directory}
 use Rattle.index_entries.proofs.Kept.{records_twice}
+use Rattle.index_extension_list.specs.Chosen.{Extensions as Chosen}
+use Rattle.index_small_extensions.specs.FsMonitor.{Monitor}
+use Rattle.index_untracked.specs.Untracked.{Cache}
 use Rattle.index_format.specs.declared.write.Options.{Options}
-use Rattle.index_format.specs.Image.{asks_for}
 use Rattle.index_format.specs.Contents.{Contents}
-use Rattle.index_format.specs.Stored.{stored, stored_tree}
+use Rattle.index_format.specs.Image.{asks_for, is_kept}
+use Rattle.index_format.specs.Kept.{cache_with_names, kept, monitor_within, tree_and_mark}
+use Rattle.index_format.specs.Stored.{stored}
+use Rattle.index_format.proofs.KeptExtensions.{cache_again, count_again, fit_again, monitor_again, tree_again}
 
 or_twice : (a b : Bool) → ((a || b) || b) ≡ (a || b)
 or_twice true b = refl
 or_twice false true = refl
 or_twice false false = refl
 
-tree_twice : (kind : Kind) (asked : Bool) (tree : Option Node)
-    → stored_tree kind asked (stored_tree kind asked tree) ≡ stored_tree kind asked tree
-tree_twice kind true None = refl
-tree_twice kind true (Some t) = ap (λ (u : Node). Some u) (node_twice kind t)
-tree_twice kind false tree = refl
-
-abbrev with_kept : Contents → List Record → Bool → Option Node → Contents
-with_kept v rs a t = record v {
+abbrev with_kept : Contents → Chosen → List Record → Bool → Option Node → Option Cache → Option Monitor → Contents
+with_kept v e rs a t c m = record v {
   records = rs;
-  extensions = record v.extensions
-      { sparse = a; tree = t; link = None; resolve_undo = None; untracked = None; fs_monitor = None };
+  extensions = record v.extensions {
+    sparse = a;
+    tree = t;
+    link = None;
+    resolve_undo = e.resolve_undo;
+    untracked = c;
+    fs_monitor = m;
+  };
 }
 
-with_parts : (v : Contents) (rs ss : List Record) (a b : Bool) (t u : Option Node) → rs ≡ ss → a ≡ b → t ≡ u
-    → ◌≡◌ {A = Contents} (with_kept v rs a t) (with_kept v ss b u)
-with_parts v rs ss a b t u e h k = rw (e, h, k) refl
+with_parts : (v : Contents) (e : Chosen) (rs ss : List Record) (a b : Bool) (t u : Option Node) (c d : Option Cache)
+    (m n : Option Monitor) → rs ≡ ss → a ≡ b → t ≡ u → c ≡ d → m ≡ n
+    → ◌≡◌ {A = Contents} (with_kept v e rs a t c m) (with_kept v e ss b u d n)
+with_parts v e rs ss a b t u c d m n h i j k l = rw (h, i, j, k, l) refl
 
--- what a file keeps of what it kept is the same
-pub stored_twice : (v : Contents) (options : Options) → stored (stored v options) options ≡ stored v options
-stored_twice v options =
+-- the extensions that are chosen, by whether all is kept, and whether a cached tree is asked for
+abbrev chosen_by : Bool → Bool → Contents → Chosen
+chosen_by all asked v = cond all (kept v.fit (length (written v.records)) v.extensions) (tree_and_mark asked v.extensions)
+
+abbrev stored_by : Bool → Bool → Contents → Contents
+stored_by all asked v = with_kept v (chosen_by all asked v) (stored_records v.records)
+    (v.extensions.sparse || has_directory (stored_records v.records))
+    (option_map (stored_node v.kind) (chosen_by all asked v).tree) (chosen_by all asked v).untracked
+    (chosen_by all asked v).fs_monitor
+
+twice_by : (all asked : Bool) (v : Contents) → stored_by all asked (stored_by all asked v) ≡ stored_by all asked v
+twice_by all asked v =
     let rs : List Record = stored_records v.records in
-    let asked : Bool = asks_for options.extensions (codes "TREE") in
     let again : stored_records rs ≡ rs = records_twice v.records in
     let sparse : (v.extensions.sparse || has_directory rs || has_directory (stored_records rs))
     ≡ (v.extensions.sparse || has_directory rs) =
     ap (λ (l : List Record). v.extensions.sparse || has_directory rs || has_directory l) again
     ∙ or_twice v.extensions.sparse (has_directory rs) in
-    with_parts v (stored_records rs) rs _ _ _ _ again sparse (tree_twice v.kind asked v.extensions.tree)
+    by all again sparse
+  where
+    by : (k : Bool) → stored_records (stored_records v.records) ≡ stored_records v.records
+        → (v.extensions.sparse || has_directory (stored_records v.records)
+        || has_directory (stored_records (stored_records v.records)))
+        ≡ (v.extensions.sparse || has_directory (stored_records v.records))
+        → stored_by k asked (stored_by k asked v) ≡ stored_by k asked v
+    by true again sparse =
+        let n : ℕ = length (written v.records) in
+        let more : ℕ = length (written (stored_records v.records)) in
+        with_parts v (kept v.fit n v.extensions) _ _ _ _ _ _ _ _ _ _ again sparse
+        (tree_again v.kind v.fit v.extensions.tree)
+        (fit_again v.fit cache_with_names cache_with_names v.extensions.untracked
+        (cache_again v.fit v.extensions.untracked))
+        (fit_again v.fit (monitor_within n) (monitor_within more) v.extensions.fs_monitor
+        (monitor_again v.fit more n v.extensions.fs_monitor (count_again v.records)))
+    by false again sparse = with_parts v (tree_and_mark asked v.extensions) _ _ _ _ _ _ _ _ _ _ again sparse
+        (tree_again v.kind asked v.extensions.tree) refl refl
+
+-- what a file keeps of what it kept is the same
+pub stored_twice : (v : Contents) (options : Options) → stored (stored v options) options ≡ stored v options
+stored_twice v options = twice_by (is_kept options.extensions) (asks_for options.extensions (codes "TREE")) v

@@ -1,5 +1,5 @@
 -- What reading a file gives: the value and the trailer's id, or the first fault (gitformat-index, as a whole).
-use Rattle.std.specs.Prelude.{◌≡◌, ◌≢◌, ℕ, ◌+◌, ◌<◌, ◌||◌, ◌⊎◌, nat_lt, List, ◌++◌, length, drop, codes, Option, Some}
+use Rattle.std.specs.Prelude.{◌≡◌, ◌≢◌, ℕ, ◌+◌, ◌<◌, ◌||◌, ◌⊎◌, nat_lt, List, ◌++◌, length, drop, codes, Option, Some, true}
 use Rattle.std.specs.Prelude.{None, Result, Ok, Err, MatchBool, MatchResult, if◌then◌else◌}
 use Rattle.index_parts.specs.Id.{id_len, is_null, make_id}
 use Rattle.index_parts.specs.declared.hash.Kind.{Kind}
@@ -47,6 +47,7 @@ value_of kind time version rs o = record {
   version = version;
   records = rs;
   extensions = record o { sparse = o.sparse || has_directory rs };
+  fit = true;
 }
 
 -- what follows from the extensions, the bytes that their walk leaves, and the trailer: the first fault of an extension,

@@ -1,5 +1,5 @@
 -- An index as a value: what it says, apart from how it lies in memory (gitformat-index, as a whole).
-use Rattle.std.specs.Prelude.{◌≡◌, ℕ, List, All, IfSome, length}
+use Rattle.std.specs.Prelude.{◌≡◌, ℕ, Bool, List, All, IfSome, length}
 use Rattle.index_parts.specs.Id.{id_kind}
 use Rattle.index_parts.specs.declared.hash.Kind.{Kind}
 use Rattle.index_metadata.specs.declared.entry.stat.FileTime.{FileTime}
@@ -12,13 +12,14 @@ use Rattle.index_untracked.specs.Untracked.{CacheIdsAreOf}
 use Rattle.index_format.specs.Outcome.{Outcome, outcome_of}
 use Rattle.index_format.specs.declared.Parts.{Parts}
 
--- an index as a value
+-- an index as a value; `fit` where the extensions speak of these records, and not of those of a list before an edit
 pub record Contents : Type 0 where
   pub kind : Kind
   pub time : FileTime
   pub version : Version
   pub records : List Record
   pub extensions : Outcome
+  pub fit : Bool
 
 -- each id in the extensions, as far as they are there, is of this kind
 abbrev pub ExtensionIdsAreOf : Kind → Outcome → Type 0
@@ -44,6 +45,7 @@ parts_contents p = record {
   version = p.version;
   records = parts_records p;
   extensions = outcome_of p.extensions;
+  fit = p.extensions_fit;
 }
 
 -- each entry's path lies inside the storage

@@ -1,14 +1,13 @@
 -- A whole index as bytes (gitformat-index): the one spelling that is written of a value.
-use Rattle.std.specs.Prelude.{ℕ, ◌+◌, ◌==◌, nat_eq, ◌&&◌, not, Bool, true, false, List, [], ◌∷◌, ◌++◌, length}
-use Rattle.std.specs.Prelude.{replicate, codes, Option, Some, None, if◌then◌else◌}
+use Rattle.std.specs.Prelude.{ℕ, ◌+◌, ◌==◌, nat_eq, ◌&&◌, not, Bool, true, false, List, [], ◌++◌, length}
+use Rattle.std.specs.Prelude.{replicate, codes, if◌then◌else◌}
 use Rattle.std.specs.Cmp.Lexicographic.{pointwise}
 use Rattle.std.specs.List.{flat_map}
 use Rattle.index_parts.specs.Digest.{digest}
 use Rattle.index_parts.specs.Id.{id_len}
-use Rattle.index_extensions.specs.EndMarker.{heads}
-use Rattle.index_extensions.specs.Encoding.{item_bytes, sparse_item, marker_item}
-use Rattle.index_cached_tree.specs.TreeImage.{tree_item}
-use Rattle.index_cached_tree.specs.Tree.{Node}
+use Rattle.index_extensions.specs.Encoding.{item_bytes}
+use Rattle.index_extension_list.specs.Chosen.{Extensions as Chosen, items}
+use Rattle.index_extension_list.specs.Marked.{marker_if}
 use Rattle.index_extensions.specs.Walk.{Item}
 use Rattle.index_entries.specs.EntryImage.{chosen_version, entries_in, header_bytes, written}
 use Rattle.index_entries.specs.Header.{header_len}
@@ -17,6 +16,7 @@ use Rattle.index_format.specs.declared.write.Extensions.{Extensions}
 use Rattle.index_format.specs.declared.write.Extensions.TheVariants as extensions
 use Rattle.index_format.specs.declared.write.Options.{Options}
 use Rattle.index_format.specs.Contents.{Contents}
+use Rattle.index_format.specs.Kept.{kept, tree_and_mark}
 
 -- ---- header and entries
 
@@ -34,39 +34,48 @@ entries_end v options = header_len + length (entries_bytes v options)
 
 -- ---- the extensions ("Extensions")
 
+-- whether all that fits is kept
+abbrev pub is_kept : Extensions → Bool
+is_kept extensions.Kept = true
+is_kept extensions.All = false
+is_kept (extensions.Given tree marker) = false
+is_kept extensions.None = false
+
 -- whether an extension that a reader can do without is asked for
 abbrev pub asks_for : Extensions → List ℕ → Bool
+asks_for extensions.Kept signature = true
 asks_for extensions.All signature = true
 asks_for (extensions.Given tree marker) signature =
     if pointwise nat_eq signature (codes "TREE") then tree else if pointwise nat_eq signature (codes "EOIE") then marker
     else false
 asks_for extensions.None signature = false
 
--- the cached tree, where there is one and it is asked for
-abbrev pub tree_items : Bool → Option Node → List Item
-tree_items true (Some t) = tree_item t ∷ []
-tree_items true None = []
-tree_items false t = []
-
--- the extension of a sparse index, which no option leaves out
-abbrev pub sparse_items : Bool → List Item
-sparse_items sparse = if sparse then sparse_item ∷ [] else []
+-- the extensions that are chosen: all that fit the entries that are written, or the cached tree, where it is asked for,
+-- and the mark of a sparse index, which no option leaves out
+abbrev pub chosen : Contents → Options → Chosen
+chosen v options =
+    if is_kept options.extensions then kept v.fit (length (written v.records)) v.extensions
+    else tree_and_mark (asks_for options.extensions (codes "TREE")) v.extensions
 
 -- all extensions before the end marker
-unfoldable pub items_of : Contents → Options → List Item
-items_of v options =
-    tree_items (asks_for options.extensions (codes "TREE")) v.extensions.tree ++ sparse_items v.extensions.sparse
+abbrev pub items_of : Contents → Options → List Item
+items_of v options = items v.kind (chosen v options)
 
--- an end marker comes behind other extensions, where there are entries, written or left out, and it is asked for
+-- An end marker is kept where there was one. Else it comes behind other extensions, where there are entries, written or
+-- left out, and it is asked for.
 abbrev pub has_marker : Contents → Options → Bool
 has_marker v options =
-    not (length v.records == 0) &&
+    if is_kept options.extensions then v.extensions.had_end_marker
+    else not (length v.records == 0) &&
     (asks_for options.extensions (codes "EOIE") && not (length (items_of v options) == 0))
+
+-- an end marker that readers follow stands behind other extensions
+abbrev pub marks_extensions : Contents → Options → Bool
+marks_extensions v options = has_marker v options && not (length (items_of v options) == 0)
 
 -- it names the place behind the entries
 abbrev pub marker_of : Contents → Options → List Item
-marker_of v options =
-    if has_marker v options then marker_item v.kind (entries_end v options) (heads (items_of v options)) ∷ [] else []
+marker_of v options = marker_if (has_marker v options) v.kind (entries_end v options) (chosen v options)
 
 -- ---- the file
 

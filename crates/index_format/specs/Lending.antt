@@ -1,6 +1,6 @@
 -- What is lent of an index in memory, to be changed in place: what it ends as, once the loan is over (the library's
 -- own).
-use Rattle.std.specs.Prelude.{ℕ, List, Option, Some}
+use Rattle.std.specs.Prelude.{ℕ, false, List, Option, Some}
 use Rattle.std.specs.Borrow.{Lends, LendsIf, MutBor, Fml, Array}
 use Rattle.std.specs.Vec.{with_item, with_items}
 use Rattle.index_cached_tree.specs.declared.Tree.{Tree}
@@ -16,13 +16,13 @@ use Rattle.index_format.specs.contracts.extension.Outcome as outcome
 abbrev pub LendsOwnTree : MutBor Outcome → Option (MutBor Tree) → Fml
 LendsOwnTree o r = LendsIf outcome.the_row tree.the_row o r (λ t. record o.now { tree = Some t }) o.now
 
--- the parts with these entries, as many as there are, with another entry at a place, or with this cached tree; all else
--- stays
+-- The parts with these entries, as many as there are, with another entry at a place, or with this cached tree. Behind
+-- entries that may have changed the extensions aren't known to fit; all else stays.
 abbrev pub parts_with_entries : Parts → List Entry → Parts
-parts_with_entries p entries = record p { entries = with_items p.entries entries }
+parts_with_entries p entries = record p { entries = with_items p.entries entries; extensions_fit = false }
 
 abbrev pub parts_with_entry_at : Parts → ℕ → Entry → Parts
-parts_with_entry_at p i e = record p { entries = with_item p.entries i e }
+parts_with_entry_at p i e = record p { entries = with_item p.entries i e; extensions_fit = false }
 
 abbrev pub parts_with_tree : Parts → Tree → Parts
 parts_with_tree p t = record p { extensions = record p.extensions { tree = Some t } }

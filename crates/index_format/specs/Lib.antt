@@ -4,7 +4,8 @@ pub mod DecodeErrors
 pub mod ExtensionSteps
 pub mod HeaderErrors
 pub mod Image
-pub mod LayoutSteps
+pub mod Keepable
+pub mod Kept
 pub mod Lending
 pub mod Outcome
 pub mod Storable

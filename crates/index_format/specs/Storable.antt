@@ -1,5 +1,5 @@
 -- What a file can hold: what is written of such a value is read again (gitformat-index, "Index entry", "Cache tree").
-use Rattle.std.specs.Prelude.{◌≡◌, ◌≢◌, ◌<◌, ◌≤◌, ◌^◌, All, IfSome, length, false, None}
+use Rattle.std.specs.Prelude.{◌≡◌, ◌≢◌, ◌<◌, ◌≤◌, ◌^◌, All, IfSome, length, true, false, None}
 use Rattle.index_parts.specs.Id.{id_kind}
 use Rattle.index_parts.specs.declared.hash.Kind.TheVariants.{Sha1}
 use Rattle.index_extensions.specs.EndMarker.{IsMarker}
@@ -9,7 +9,8 @@ use Rattle.index_entries.specs.declared.write.VersionChoice.TheVariants as choic
 use Rattle.index_entries.specs.EntryImage.{LackNul}
 use Rattle.index_entries.specs.Record.{IsSized}
 use Rattle.index_format.specs.declared.write.Options.{Options}
-use Rattle.index_format.specs.Image.{has_marker, image, unmarked}
+use Rattle.index_format.specs.Image.{image, is_kept, marks_extensions, unmarked}
+use Rattle.index_format.specs.Keepable.{AreKeepable}
 use Rattle.index_format.specs.Contents.{Contents}
 
 -- The ids of all entries, also of those that a file leaves out, are of the value's kind, and all numbers fit their
@@ -32,6 +33,10 @@ pub record IsWritable (v : Contents) (options : Options) : Type 0 where
   pub paths : CanEncode options.version v
   pub small : length (unmarked v options) < 2 ^ 32
 
--- a file of SHA-1 that has no end marker doesn't end as if it had one
+-- a file of SHA-1 that has no end marker behind other extensions doesn't end as if it had one
 abbrev pub IsUnmistakable : Contents → Options → Type 0
-IsUnmistakable v options = v.kind ≡ Sha1 → has_marker v options ≡ false → IsMarker v.kind (image v options) None
+IsUnmistakable v options = v.kind ≡ Sha1 → marks_extensions v options ≡ false → IsMarker v.kind (image v options) None
+
+-- where all that fits is kept, each extension that is there can be spelled
+abbrev pub IsKeepable : Contents → Options → Type 0
+IsKeepable v options = is_kept options.extensions ≡ true → AreKeepable v.kind v.extensions

@@ -2,7 +2,7 @@
 
 ghost use Rattle.std.specs.Prelude.{◌≡◌, Some, None, if◌then◌else◌};
 ghost use Rattle.index_format.specs.declared.write.Error.TheVariants.{Io};
-ghost use Rattle.index_format.specs.Image.{asks_for};
+ghost use Rattle.index_format.specs.Image.{asks_for, is_kept};
 
 use index_cached_tree as tree;
 pub use index_entries::write::VersionChoice;
@@ -13,7 +13,7 @@ use thiserror::Error;
 /// Which of the extensions that a reader can do without are written.
 #[derive(Clone, Copy, Debug, Default, PartialEq, Eq)]
 pub enum Extensions {
-    /// All that the state has.
+    /// The cached tree where the state has one, and an end marker behind other extensions.
     #[default]
     All,
     /// Those that are chosen here.
@@ -23,6 +23,11 @@ pub enum Extensions {
         /// The end marker, behind other extensions.
         end_of_index_entry: bool,
     },
+    /// All that the state has and that still fits its entries, in git's order: the cached tree, resolve-undo, the
+    /// untracked cache, what a file system monitor said, and an end marker where there was one. A cached tree, an
+    /// untracked cache and a monitor's answer are left out once entries were edited in a way that doesn't keep them; so
+    /// are a cache with an empty name and a monitor with more bits than entries, which git doesn't read as they are.
+    Kept,
     /// None, which gives the smallest file.
     None,
 }
@@ -64,14 +69,21 @@ impl From<io::Error> for Error {
 }
 
 impl Extensions {
+    /// Whether all that fits is kept.
+    pub fn is_kept(&self) -> bool
+        ensures { result ≡ is_kept self.now }
+    {
+        matches!(*self, Extensions::Kept)
+    }
+
     /// The signature, where the extension with it is to be written. It speaks of those that a reader can do without:
     /// `sdir` is written wherever the index is sparse, though the answer to it is None with any choice but
-    /// [`Extensions::All`].
+    /// [`Extensions::All`] and [`Extensions::Kept`].
     pub fn should_write(&self, signature: Signature) -> Option<Signature>
         ensures { result ≡ (if asks_for self.now signature then Some signature else None) }
     {
         let asked = match *self {
-            Extensions::All => true,
+            Extensions::All | Extensions::Kept => true,
             Extensions::Given {
                 tree_cache,
                 end_of_index_entry,

@@ -7,7 +7,7 @@ use Rattle.index_entries.specs.Record.{AreBytes}
 use Rattle.index_format.specs.Answer.{IsAnswer}
 use Rattle.index_format.specs.Contents.{Contents}
 use Rattle.index_format.specs.Image.{image}
-use Rattle.index_format.specs.Storable.{IsStorable, IsWritable, IsUnmistakable}
+use Rattle.index_format.specs.Storable.{IsKeepable, IsStorable, IsWritable, IsUnmistakable}
 use Rattle.index_format.specs.declared.decode.Options.{Options}
 use Rattle.index_format.specs.declared.write.Options.{Options as WriteOptions}
 use Rattle.index_bitmaps.specs.Bitmap.{Bitmap, IsBitmap, HasBitmap, Lacks}
@@ -41,10 +41,11 @@ pub record TakesAll (reading : Options) : Type 0 where
   pub limit : reading.alloc_limit_bytes ≡ None
   pub checksum : reading.expected_checksum ≡ None
 
--- a file can hold the value, writing it is not refused, and its image doesn't end as if it had an end marker that it
--- hasn't
+-- a file can hold the value and the extensions that are kept of it, writing it is not refused, and its image doesn't end
+-- as if it had an end marker that it hasn't
 pub record IsFaithful (v : Contents) (options : WriteOptions) : Type 0 where
   pub storable : IsStorable v
+  pub keepable : IsKeepable v options
   pub writable : IsWritable v options
   pub unmistakable : IsUnmistakable v options
 

@@ -2,7 +2,7 @@
 //! of `File` cite. A law computes nothing.
 #![tactic(auto)]
 
-ghost use Rattle.std.specs.Prelude.{◌≡◌, ℕ, List, Bool, IfSome, Option, Result, Ok};
+ghost use Rattle.std.specs.Prelude.{◌≡◌, ℕ, List, Bool, true, IfSome, Option, Result, Ok, length};
 ghost use Rattle.index_parts.specs.declared.hash.Kind.{Kind};
 ghost use Rattle.index_metadata.specs.declared.entry.stat.FileTime.{FileTime};
 ghost use Rattle.index_extensions.specs.EndMarker.{EndsInMarker};
@@ -14,15 +14,18 @@ ghost use Rattle.index_untracked.specs.Untracked.{IsCache};
 ghost use Rattle.index_split.specs.Link.{LinkFault, IsLink, IsLinkFault};
 ghost use Rattle.index_objects.specs.Object.{Found};
 ghost use Rattle.index_parts.specs.declared.hash.ObjectId.{ObjectId};
-ghost use Rattle.index_entries.specs.Record.{Record};
+ghost use Rattle.index_entries.specs.EntryImage.{written};
+ghost use Rattle.index_entries.specs.Record.{AreBytes, Record};
 ghost use Rattle.index_tree_reader.specs.Leaves.{LeavesFault, AreLeaves};
 ghost use Rattle.index_tree_writer.specs.Kept.{HasNamesInOrder};
 ghost use Rattle.index_format.specs.declared.decode.Options.{Options};
 ghost use Rattle.index_format.specs.declared.write.Options.{Options as WriteOptions};
 ghost use Rattle.index_format.specs.Answer.{Answer, IsAnswer, trailer_checksum};
-ghost use Rattle.index_format.specs.Image.{image, trailer};
+ghost use Rattle.index_format.specs.Image.{image, image_version, is_kept, trailer};
+ghost use Rattle.index_format.specs.Keepable.{AreKeepable};
+ghost use Rattle.index_format.specs.Kept.{AreWellFormed};
 ghost use Rattle.index_format.specs.Contents.{Contents};
-ghost use Rattle.index_format.specs.Stored.{expected, stored};
+ghost use Rattle.index_format.specs.Stored.{expected, kept_value, stored};
 ghost use Rattle.index_laws.specs.Reading.{FitNamesPass, HasOneTree, ReadsBack, StoredReadBack};
 ghost use Rattle.index_laws.specs.Laws.{HasOneReading, HasOneWalk, HasOneBitmap, IsFaithful, IsReread, TakesAll};
 
@@ -67,7 +70,8 @@ pub fn one_listing()
 /// Reading what is written of a storable index gives what a file keeps of it, and the trailer: for either kind of id
 /// and all choices of writing, by a reader of the same kind that has no limit and expects no trailer. The index has no
 /// more entries and bytes than a file counts, in version 4 no path that is written has a NUL, and a SHA-1 file that has
-/// no end marker doesn't end as if it had one.
+/// no end marker doesn't end as if it had one. Where all that fits is kept, each extension can be spelled, as each that was
+/// read can ([`read_extensions_are_keepable`]).
 pub fn written_reads_back()
     ensures { (v : Contents) (options : WriteOptions) (time : FileTime) (reading : Options)
         → IsFaithful v options → TakesAll reading
@@ -95,6 +99,24 @@ pub fn rewrite_is_canonical()
 pub fn version_change_loses_nothing()
     ensures { (v w : Contents) (options chosen : WriteOptions) → IsReread v options w
         → chosen.extensions ≡ options.extensions → image w chosen ≡ image v chosen }
+{}
+
+/// An index that was read, written with all extensions that fit, and read again, is what was read, but for its time, its
+/// version, a link, which is merged, and an offset table: where no name in its untracked cache is empty, and what a file
+/// system monitor said has no more bits than there are entries. The premises are those of [`rewrite_is_canonical`].
+pub fn kept_loses_nothing()
+    ensures { (v w : Contents) (options : WriteOptions) → (reread : IsReread v options w)
+        → is_kept options.extensions ≡ true
+        → AreWellFormed (length (written v.records)) v.extensions
+        → w ≡ kept_value v reread.time_again (image_version v options) }
+{}
+
+/// What was read of the extensions of an index can be spelled, as all that is kept of an index has to be: an untracked
+/// cache where none of its untracked names is empty.
+pub fn read_extensions_are_keepable()
+    ensures { (kind : Kind) (time : FileTime) (options : Options) (bytes : List ℕ) (v : Contents)
+        (id : Option ObjectId) → AreBytes bytes → IsAnswer kind time options bytes (Ok (v, id))
+        → AreKeepable v.kind v.extensions }
 {}
 
 /// In the cached tree of an index that was read, the names of siblings increase, below each node. So it keeps each count

@@ -108,6 +108,7 @@ fn read_parts(
             is_sparse: outcome.is_sparse || read.sparse,
             ..outcome
         },
+        extensions_fit: true,
     };
     Ok((state, checksum))
 }

@@ -1,81 +1,24 @@
 //! Writing what stands behind the entries of a file: the extensions.
 
-ghost use Rattle.std.specs.Prelude.{◌≡◌, ◌++◌, length, true, false};
+ghost use Rattle.std.specs.Prelude.{◌≡◌, ◌++◌, false};
 ghost use Rattle.std.specs.List.{flat_map};
-ghost use Rattle.std.specs.Option.{option_map};
 ghost use Rattle.index_parts.specs.Puts.{Puts};
+ghost use Rattle.index_extension_list.specs.Chosen.{extensions_of};
 ghost use Rattle.index_extensions.specs.Encoding.{item_bytes};
-ghost use Rattle.index_cached_tree.specs.Tree.{node_of};
-ghost use Rattle.index_cached_tree.specs.TreeImage.{node_bytes};
-ghost use Rattle.index_format.specs.Image.{items_of, marker_of, sparse_items, tree_items};
-ghost use Rattle.index_format.specs.LayoutSteps.{IsLayout, marker_behind, wants_marker};
+ghost use Rattle.index_format.specs.Image.{chosen, has_marker, items_of, marker_of};
 ghost use Rattle.index_format.specs.Contents.{parts_contents};
+ghost use Rattle.index_writing.specs.Layout.{IsLayout, wants_marker};
 
-use crate::layout::{Layout, asked_tree};
-use index_cached_tree as tree;
-use index_cached_tree::Tree;
-use index_cached_tree::write::put_item;
-use index_extensions::{end_of_index_entry, sparse};
+use crate::chosen::chosen_of;
+use crate::layout::Layout;
+use index_extension_list::Chosen;
+use index_extension_list::items::put_items;
+use index_extension_list::marker::put_marker;
+use index_extensions::end_of_index_entry;
 use index_format::Parts;
 use index_format::write::Options;
-use index_parts::hash::Kind;
 use index_parts::hash::io::Out;
 use std::io;
-
-/// Writes a cached tree, where there is one, whose content has this length.
-fn put_tree<W: Out>(tree: Option<&Tree>, len: Option<u32>, out: &mut W) -> io::Result<()>
-    requires len { len ≡ option_map (λ t. length (node_bytes (node_of t.now))) tree }
-    requires unfailed { W.failed out.old ≡ false }
-    ensures { Puts W.Out out.old out.new result
-        (flat_map item_bytes (tree_items true (option_map (λ t. node_of t.now) tree.entry))) }
-{
-    match (tree, len) {
-        (Some(tree), Some(len)) => put_item(tree, len, out),
-        _ => Ok(()),
-    }
-}
-
-/// Writes the extension of a sparse index, where it is one.
-fn put_sparse<W: Out>(is_sparse: bool, out: &mut W) -> io::Result<()>
-    requires { W.failed out.old ≡ false }
-    ensures { Puts W.Out out.old out.new result
-        (flat_map item_bytes (sparse_items is_sparse)) }
-{
-    if is_sparse {
-        return sparse::write_to(out);
-    }
-    Ok(())
-}
-
-/// Writes the end marker behind a cached tree, the extension of a sparse index, or both; nothing where none was
-/// written.
-fn put_marker<W: Out>(
-    kind: Kind,
-    offset: u32,
-    tree: Option<u32>,
-    is_sparse: bool,
-    out: &mut W,
-) -> io::Result<()>
-    requires { W.failed out.old ≡ false }
-    ensures { Puts W.Out out.old out.new result
-        (marker_behind kind offset tree is_sparse) }
-{
-    match (tree, is_sparse) {
-        (Some(len), true) => end_of_index_entry::write_to(
-            out,
-            kind,
-            offset,
-            &[(tree::SIGNATURE, len), (sparse::SIGNATURE, 0)],
-        ),
-        (Some(len), false) => {
-            end_of_index_entry::write_to(out, kind, offset, &[(tree::SIGNATURE, len)])
-        }
-        (None, true) => {
-            end_of_index_entry::write_to(out, kind, offset, &[(sparse::SIGNATURE, 0)])
-        }
-        (None, false) => Ok(()),
-    }
-}
 
 /// Whether an end marker is asked for, and there are entries.
 fn wants_marker(parts: &Parts, options: Options) -> bool
@@ -88,35 +31,41 @@ fn wants_marker(parts: &Parts, options: Options) -> bool
             .is_some()
 }
 
-/// Writes the extensions before the end marker.
-fn put_items<W: Out>(parts: &Parts, layout: Layout, out: &mut W, options: Options) -> io::Result<()>
+/// Whether an end marker comes behind the extensions: where there was one, if all that fits is kept; else behind other
+/// extensions, where it is asked for and there are entries.
+fn has_marker(parts: &Parts, list: Chosen<'_>, layout: Layout, options: Options) -> bool
     requires layout { IsLayout layout.entries.version layout.entries.count layout.entries.end
-        layout.tree (parts_contents parts.now) options }
-    requires unfailed { W.failed out.old ≡ false }
-    ensures { Puts W.Out out.old out.new result
-        (flat_map item_bytes (items_of (parts_contents parts.now) options)) }
+        layout.lens (parts_contents parts.now) options }
+    requires list { extensions_of list ≡ chosen (parts_contents parts.now) options }
+    ensures { result ≡ has_marker (parts_contents parts.now) options }
 {
-    put_tree(asked_tree(parts, options), layout.tree, out)?;
-    put_sparse(parts.extensions.is_sparse, out)
+    if options.extensions.is_kept() {
+        return parts.extensions.had_end_of_index_marker;
+    }
+    if !wants_marker(parts, options) {
+        return false;
+    }
+    layout.lens.total(list, parts.object_hash) > 0
 }
 
 /// Writes the end marker, where there is one.
-fn put_end<W: Out>(parts: &Parts, layout: Layout, out: &mut W, options: Options) -> io::Result<()>
+fn put_end<W: Out>(
+    parts: &Parts,
+    list: Chosen<'_>,
+    layout: Layout,
+    out: &mut W,
+    options: Options,
+) -> io::Result<()>
     requires layout { IsLayout layout.entries.version layout.entries.count layout.entries.end
-        layout.tree (parts_contents parts.now) options }
+        layout.lens (parts_contents parts.now) options }
+    requires list { extensions_of list ≡ chosen (parts_contents parts.now) options }
     requires unfailed { W.failed out.old ≡ false }
     ensures { Puts W.Out out.old out.new result
         (flat_map item_bytes (marker_of (parts_contents parts.now) options)) }
 {
-    if wants_marker(parts, options) {
-        let is_sparse = parts.extensions.is_sparse;
-        return put_marker(
-            parts.object_hash,
-            layout.entries.end,
-            layout.tree,
-            is_sparse,
-            out,
-        );
+    if has_marker(parts, list, layout, options) {
+        let offset = layout.entries.end;
+        return put_marker(list, parts.object_hash, layout.lens, offset, out);
     }
     Ok(())
 }
@@ -129,12 +78,13 @@ pub(super) fn put_extensions<W: Out>(
     options: Options,
 ) -> io::Result<()>
     requires layout { IsLayout layout.entries.version layout.entries.count layout.entries.end
-        layout.tree (parts_contents parts.now) options }
+        layout.lens (parts_contents parts.now) options }
     requires unfailed { W.failed out.old ≡ false }
     ensures { Puts W.Out out.old out.new result
         (flat_map item_bytes (items_of (parts_contents parts.now) options) ++ flat_map
         item_bytes (marker_of (parts_contents parts.now) options)) }
 {
-    put_items(parts, layout, out, options)?;
-    put_end(parts, layout, out, options)
+    let list = chosen_of(parts, options, layout.entries.count);
+    put_items(list, parts.object_hash, layout.lens, out)?;
+    put_end(parts, list, layout, out, options)
 }

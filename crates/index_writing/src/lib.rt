@@ -1,6 +1,7 @@
 //! Writing an index as the bytes of a file (gitformat-index, as a whole).
 #![tactic(auto)]
 
+mod chosen;
 mod items;
 mod layout;
 pub mod storable;
@@ -9,10 +10,10 @@ ghost use Rattle.std.specs.Prelude.{◌≡◌, ◌<◌, ◌↔◌, false, IfOk, 
 ghost use Rattle.index_parts.specs.Taking.{Hashes};
 ghost use Rattle.index_parts.specs.Puts.{Puts};
 ghost use Rattle.index_format.specs.Image.{image_version, body};
-ghost use Rattle.index_format.specs.LayoutSteps.{header_and_entries, IsLayout};
 ghost use Rattle.index_format.specs.Contents.{PartsInStorage, parts_contents};
 ghost use Rattle.index_format.specs.Storable.{CanEncode, IsWritable};
 ghost use Rattle.index_format.specs.Writing.{RefusedWith, Writes};
+ghost use Rattle.index_writing.specs.Layout.{header_and_entries, IsLayout};
 
 use index_entries::paths::paths_without_nul;
 use index_entries::{Version, write};
@@ -31,7 +32,7 @@ fn put_header_and_entries<W: Out>(
     options: Options,
 ) -> io::Result<()>
     requires layout { IsLayout layout.entries.version layout.entries.count layout.entries.end
-        layout.tree (parts_contents parts.now) options }
+        layout.lens (parts_contents parts.now) options }
     requires placed { PartsInStorage parts.now }
     requires unfailed { W.failed out.old ≡ false }
     ensures { Puts W.Out out.old out.new result
@@ -45,7 +46,7 @@ fn put_header_and_entries<W: Out>(
 /// Writes all but the trailer.
 fn put_body<W: Out>(parts: &Parts, layout: Layout, out: &mut W, options: Options) -> io::Result<()>
     requires layout { IsLayout layout.entries.version layout.entries.count layout.entries.end
-        layout.tree (parts_contents parts.now) options }
+        layout.lens (parts_contents parts.now) options }
     requires placed { PartsInStorage parts.now }
     requires unfailed { W.failed out.old ≡ false }
     ensures { Puts W.Out out.old out.new result

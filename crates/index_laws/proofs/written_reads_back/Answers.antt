@@ -3,4 +3,4 @@ use Rattle.index_laws.proofs.written_reads_back.Goals as goal
 
 pub returns : goal.returns
 returns c = λ v options time reading h all.
-    written_reads_back v options time reading h.storable h.writable h.unmistakable all.limit all.checksum
+    written_reads_back v options time reading h.storable h.keepable h.writable h.unmistakable all.limit all.checksum

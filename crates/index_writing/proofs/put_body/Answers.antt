@@ -4,7 +4,7 @@ use Rattle.index_parts.proofs.Puts.{puts_after, puts_is, puts_stopped}
 use Rattle.index_extensions.specs.Encoding.{item_bytes}
 use Rattle.index_format.specs.Image.{items_of, marker_of}
 use Rattle.index_format.specs.Contents.{parts_contents}
-use Rattle.index_format.proofs.Bodies.{body_is}
+use Rattle.index_writing.proofs.Bodies.{body_is}
 use Rattle.index_writing.proofs.put_body.Goals as goal
 
 pub returns-in_err-put_header_and_entries : goal.returns-in_err-put_header_and_entries

@@ -6,8 +6,7 @@ use Rattle.index_extension_writing.specs.MonitorImage.{monitor_item}
 use Rattle.index_extension_writing.specs.ResolveUndoImage.{resolve_undo_item}
 use Rattle.index_extension_writing.specs.UntrackedImage.{cache_item}
 use Rattle.index_extensions.specs.Encoding.{item_bytes}
-use Rattle.index_format.specs.Image.{sparse_items}
-use Rattle.index_extension_list.specs.Chosen.{extensions_of, item_if, items}
+use Rattle.index_extension_list.specs.Chosen.{extensions_of, item_if, items, sparse_items}
 use Rattle.index_extension_list.proofs.Sizes.{bytes_behind}
 use Rattle.index_extension_list.proofs.items.put_items.Goals as goal
 

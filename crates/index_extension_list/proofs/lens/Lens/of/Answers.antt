@@ -4,7 +4,7 @@ use Rattle.index_cached_tree.specs.TreeImage.{node_bytes}
 use Rattle.index_extension_writing.specs.MonitorImage.{monitor_bytes}
 use Rattle.index_extension_writing.specs.ResolveUndoImage.{resolve_undo_bytes}
 use Rattle.index_extension_writing.specs.UntrackedImage.{cache_bytes}
-use Rattle.index_format.specs.LayoutSteps.{len_within_32}
+use Rattle.index_extension_list.specs.Listing.{len_within_32}
 use Rattle.index_small_extensions.specs.FsMonitor.{monitor_of}
 use Rattle.index_small_extensions.specs.ResolveUndo.{path_stages}
 use Rattle.index_untracked.specs.Untracked.{cache_of}

@@ -3,8 +3,8 @@ use Rattle.index_extension_list.specs.Chosen.{extensions_of}
 use Rattle.index_extension_list.proofs.Sizes.{items_len}
 use Rattle.index_extension_list.proofs.lens.Lens.total.Goals as goal
 
-pub returns : goal.returns
-returns c =
+pub returns-clause-len : goal.returns-clause-len
+returns-clause-len c =
     omega (
       arith,
       items_len c.args.kind (extensions_of c.args.chosen) c.args.self.now c.requires,
