@@ -1,4 +1,5 @@
 -- What a caller's clauses cite, each under one name, a type under its own where a file of definitions has the type's.
+pub mod Changing
 pub mod Checked
 pub mod Disk
 pub mod Ewah
@@ -6,6 +7,7 @@ pub mod File
 pub mod FileFaults
 pub mod Hashing
 pub mod InPlace
+pub mod Keeping
 pub mod Linked
 pub mod Outlined
 pub mod Searching

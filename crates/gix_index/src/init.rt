@@ -34,5 +34,6 @@ pub fn from_entries(list: EntryList, object_hash: Kind, now: FileTime) -> State
         entries,
         path_backing,
         extensions: Outcome::none(),
+        extensions_fit: true,
     })
 }

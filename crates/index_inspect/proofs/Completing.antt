@@ -5,7 +5,7 @@ use Rattle.std.specs.Prelude.{IsOk, IsSome, is_some}
 use Rattle.std.specs.List.{list_any}
 use Rattle.gix_index.specs.Contents.{Contents}
 use Rattle.gix_index.specs.Dissolve.{IsDissolved, IsDissolveFault, MergesBy}
-use Rattle.gix_index.specs.Edits.{IsUnchanged, empty_contents, with_records}
+use Rattle.gix_index.specs.Edits.{IsUnchanged, empty_contents, refit, with_records}
 use Rattle.gix_index.specs.EntryType.{Entry}
 use Rattle.gix_index.specs.FileTime.{FileTime}
 use Rattle.gix_index.specs.Id.{id_bytes, is_null}
@@ -33,6 +33,7 @@ pub index_of : (s : State) → IsPlainIndex s → IsIndexOf (contents s).kind (r
 index_of s h = record {
   time = (contents s).time;
   sparse = has_directory (records s);
+  fit = true;
   is = h.alone;
   placed = h.placed;
   storable = h.storable;
@@ -44,6 +45,7 @@ index_moved : (old new : State) → contents new ≡ with_records (contents old)
 index_moved old new e h placed storable = record {
   time = (contents old).time;
   sparse = has_directory (records old);
+  fit = true;
   is = e ∙ ap (λ (c : Contents). with_records c (records new)) h.alone;
   placed = placed;
   storable = storable;
@@ -51,8 +53,9 @@ index_moved old new e h placed storable = record {
 
 -- ---- the mark of a sparse index
 
-mark_storable : (v : Contents) (sparse : Bool) → IsStorable v → IsStorable (with_mark v sparse)
-mark_storable v sparse h = record { ids = h.ids; paths = h.paths; fits = h.fits; tree = h.tree }
+mark_storable : (v : Contents) (sparse fit : Bool) → IsStorable v
+    → IsStorable (refit (with_mark v sparse) v.records fit)
+mark_storable v sparse fit h = record { ids = h.ids; paths = h.paths; fits = h.fits; tree = h.tree }
 
 abbrev marked_as : State → Contents
 marked_as s = with_mark (with_records (empty_contents (contents s).kind (contents s).time) (records s))
@@ -69,11 +72,11 @@ plain_marked old new h e placed = record {
       (has_directory c.records)) (sym e) refl;
   placed = placed;
   storable = subst IsStorable (sym (e ∙ sym same))
-      (mark_storable (contents old) (has_directory (records old)) h.storable);
+      (mark_storable (contents old) (has_directory (records old)) true h.storable);
 }
   where
-    same : with_mark (contents old) (has_directory (records old)) ≡ marked_as old
-    same = ap (λ (c : Contents). with_mark c (has_directory (records old))) h.is
+    same : refit (with_mark (contents old) (has_directory (records old))) (records old) true ≡ marked_as old
+    same = ap (λ (c : Contents). refit (with_mark c (has_directory (records old))) (records old) true) h.is
         ∙ ap (λ (t : FileTime). with_mark (with_records (empty_contents (contents old).kind t) (records old))
         (has_directory (records old))) (same_time old h)
 
@@ -92,6 +95,7 @@ pub marked_contents : (old : State) (new : Contents) (kind : Kind) (time : FileT
       records = records_in storage entries;
       extensions =
           record outcome { sparse = sparse };
+      fit = true;
     } → kind ≡ (contents old).kind → time ≡ (contents old).time
     → entries ≡ entries_of old → storage ≡ storage_of old → outcome ≡ no_extension
     → sparse ≡ has_directory (records old) → new ≡ marked_as old

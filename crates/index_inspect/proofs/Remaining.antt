@@ -1,5 +1,5 @@
 -- What remains of a file, by the end of its parts and the entries before it.
-use Rattle.std.proofs.Common.{◌≡◌, ℕ, false, List, ◌++◌, Option, sym, ap, subst, ◌∙◌, option_map}
+use Rattle.std.proofs.Common.{◌≡◌, ℕ, true, false, List, ◌++◌, Option, sym, ap, subst, ◌∙◌, option_map}
 use Rattle.std.specs.Prelude.{IfSome, IsOk}
 use Rattle.gix_index.specs.DecodeError.{Error}
 use Rattle.gix_index.specs.Edits.{empty_contents, with_records}
@@ -46,6 +46,7 @@ pub read_index : (kind : Kind) (bytes : List ℕ) (rs : List Record) (parts : Li
 read_index kind bytes rs parts error time s small d is placed = record {
   time = time;
   sparse = false;
+  fit = true;
   is = is;
   placed = placed;
   storable = subst IsStorable (sym is)

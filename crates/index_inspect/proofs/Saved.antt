@@ -1,8 +1,8 @@
 -- Indexes of records: after a sort, and of what is saved.
-use Rattle.std.proofs.Common.{◌≡◌, ◌≢◌, ℕ, ◌≤◌, List, All, length, Result, Ok, Err, false, refl, sym, ap, subst, ◌∙◌}
+use Rattle.std.proofs.Common.{◌≡◌, ◌≢◌, ℕ, ◌≤◌, List, All, length, Result, Ok, Err, true, false, refl, sym, ap, subst, ◌∙◌}
 use Rattle.std.specs.Prelude.{IfOk}
 use Rattle.gix_index.specs.Contents.{Contents}
-use Rattle.gix_index.specs.Edits.{empty_contents, with_records}
+use Rattle.gix_index.specs.Edits.{empty_contents, refit, with_records}
 use Rattle.gix_index.specs.Kind.{Kind}
 use Rattle.gix_index.specs.EntryType.{Entry}
 use Rattle.gix_index.specs.FileTime.{FileTime}
@@ -22,12 +22,13 @@ if_ok (Ok x) f p = f x p
 if_ok (Err e) f p = p
 
 pub index_sorted : (kind : Kind) (rs : List Record) (old new : State) → IsIndexOf kind rs old
-    → contents new ≡ with_records (contents old) (records new) → PathsInStorage new
+    → contents new ≡ refit (contents old) (records new) (contents new).fit → PathsInStorage new
     → (IsStorable (contents old) → IsStorable (contents new)) → IsIndexOf kind (records new) new
 index_sorted kind rs old new h e placed storable = record {
   time = h.time;
   sparse = h.sparse;
-  is = e ∙ ap (λ (c : Contents). with_records c (records new)) h.is;
+  fit = (contents new).fit;
+  is = e ∙ ap (λ (c : Contents). refit c (records new) (contents new).fit) h.is;
   placed = placed;
   storable = storable h.storable;
 }
@@ -40,6 +41,7 @@ pub index_saved : (old new : State) → IsIndexOf (contents old).kind (records o
 index_saved old new h saved e placed = record {
   time = (contents old).time;
   sparse = false;
+  fit = true;
   is = e;
   placed = placed;
   storable = subst IsStorable (sym e) (record {
@@ -58,6 +60,7 @@ pub plain_contents : (old : State) (new : Contents) (kind : Kind) (time : FileTi
       version = V2;
       records = records_in storage entries;
       extensions = outcome;
+      fit = true;
     } → kind ≡ (contents old).kind → time ≡ (contents old).time → outcome ≡ no_extension
     → new ≡ with_records (empty_contents (contents old).kind (contents old).time) (records_in storage entries)
 plain_contents old new kind time storage entries outcome is a b c = is ∙ rw (a, b, c) refl

@@ -2,7 +2,7 @@
 use Rattle.std.specs.Prelude.{◌≡◌, ◌≢◌, ◌≤◌, ◌<◌, ◌-◌, ℕ, List, [], Bool, Option, length, take, slice_index_or}
 use Rattle.std.specs.declared.cmp.Ordering.TheVariants.{Less}
 use Rattle.gix_index.specs.Contents.{Contents}
-use Rattle.gix_index.specs.Edits.{empty_contents, with_records}
+use Rattle.gix_index.specs.Edits.{empty_contents, refit}
 use Rattle.gix_index.specs.FileTime.{FileTime}
 use Rattle.gix_index.specs.Kind.{Kind}
 use Rattle.gix_index.specs.Link.{LinkValue}
@@ -19,7 +19,8 @@ use Rattle.index_inspect.specs.declared.salvage.Completed.{Completed}
 pub record IsIndexOf (kind : Kind) (rs : List Record) (s : State) : Type 0 where
   pub time : FileTime
   pub sparse : Bool
-  pub is : contents s ≡ with_mark (with_records (empty_contents kind time) rs) sparse
+  pub fit : Bool
+  pub is : contents s ≡ with_mark (refit (empty_contents kind time) rs fit) sparse
   pub placed : PathsInStorage s
   pub storable : IsStorable (contents s)
 

@@ -103,6 +103,7 @@ pub(crate) fn marked(state: State) -> State
         entries,
         path_backing,
         extensions,
+        extensions_fit: true,
     })
 }
 

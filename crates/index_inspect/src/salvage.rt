@@ -201,6 +201,7 @@ fn firsts(state: State) -> State
         entries,
         path_backing,
         extensions: Outcome::none(),
+        extensions_fit: true,
     })
 }
 

@@ -111,6 +111,7 @@ bare_value kind time version rs o =
       version = version;
       records = [];
       extensions = record o { sparse = b };
+      fit = true;
     } in
     ap with_mark (or_none o.sparse (has_directory rs))
 

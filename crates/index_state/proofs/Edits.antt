@@ -3,7 +3,7 @@ use Rattle.std.proofs.Common.{◌≡◌, List, length, sym, ap, ◌∙◌, All}
 use Rattle.std.proofs.lemmas.List.{with_items_is}
 use Rattle.index_entries.specs.declared.Entry.{Entry}
 use Rattle.index_state.specs.declared.State.{State}
-use Rattle.index_state.specs.Edits.{with_entries}
+use Rattle.index_state.specs.Edits.{edited, with_entries}
 use Rattle.index_entries.specs.Record.{IsPlaced, records_in}
 use Rattle.index_state.specs.State.{PathsInStorage, contents, entries_of, storage_of}
 
@@ -12,9 +12,9 @@ pub entries_of-with_entries : (s : State) (es : List Entry) → length es ≡ le
 entries_of-with_entries s es h = with_items_is s.parts.entries es (h ∙ sym s.parts.entries.ok.0)
 
 pub contents-with_entries : (s : State) (es : List Entry) → length es ≡ length (entries_of s)
-    → contents (with_entries s es) ≡ record (contents s) { records = records_in (storage_of s) es }
+    → contents (with_entries s es) ≡ edited (contents s) (records_in (storage_of s) es)
 contents-with_entries s es h =
-    ap (λ (items : List Entry). record (contents s) { records = records_in (storage_of s) items })
+    ap (λ (items : List Entry). edited (contents s) (records_in (storage_of s) items))
     (entries_of-with_entries s es h)
 
 pub stored-with_entries : (s : State) (es : List Entry) → length es ≡ length (entries_of s)

@@ -3,14 +3,14 @@ use Rattle.std.proofs.Common.{◌≡◌, ◌≤◌, List, ℕ, All, length}
 use Rattle.std.specs.Prelude.{◌≢◌}
 use Rattle.index_parts.specs.Id.{id_kind}
 use Rattle.index_entries.specs.Record.{Record, IsSized}
-use Rattle.index_state.specs.Edits.{with_records}
+use Rattle.index_state.specs.Edits.{edited}
 use Rattle.index_format.specs.Contents.{Contents}
 use Rattle.index_format.specs.Storable.{IsStorable}
 
 -- other records in place of the value's, where what holds of each of those, whatever its flags, holds of each of these
 pub flags_storable : (v : Contents) (rs : List Record) → IsStorable v → ((P : Record → Type 0)
     → ((r : Record) (flags : ℕ) → P r → P (record r { flags = flags })) → All P v.records → All P rs)
-    → IsStorable (with_records v rs)
+    → IsStorable (edited v rs)
 flags_storable v rs h keeps = record {
   ids = keeps (λ r. id_kind r.id ≡ v.kind) (λ r flags p. p) h.ids;
   paths = keeps (λ r. 4095 ≤ length r.path → All (λ b. b ≢ 0) r.path) (λ r flags p. p) h.paths;

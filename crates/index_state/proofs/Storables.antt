@@ -1,6 +1,6 @@
 -- An empty index is storable, so is one of leaves alone; it stays so where an entry is added that is, where entries
 -- move, and where one is taken out.
-use Rattle.std.proofs.Common.{◌≡◌, ℕ, ◌<◌, ◌≤◌, List, ◌∷◌, length, get_or, All}
+use Rattle.std.proofs.Common.{◌≡◌, ℕ, ◌<◌, ◌≤◌, Bool, false, List, ◌∷◌, length, get_or, All}
 use Rattle.std.specs.Prelude.{◌≢◌, IfSome}
 use Rattle.std.proofs.lemmas.List.Elements.{All-nil, All-push, All-tail, All-weaker}
 use Rattle.std.specs.List.{remove}
@@ -14,7 +14,7 @@ use Rattle.index_entries.specs.Record.{Record, IsSized, record_in, records_in}
 use Rattle.index_entries.specs.Storable.{IsStorableIn}
 use Rattle.index_cached_tree.specs.StoredTree.{IsStorableTree}
 use Rattle.index_tree_reader.proofs.Fits.{FitsFile}
-use Rattle.index_state.specs.Edits.{empty_contents, with_record, with_records}
+use Rattle.index_state.specs.Edits.{edited, empty_contents, refit, with_record, with_records}
 use Rattle.index_format.specs.Contents.{Contents}
 use Rattle.index_format.specs.Storable.{IsStorable}
 
@@ -36,26 +36,26 @@ push_storable v r h id path fits = record {
 }
 
 -- other records in place of the value's, where what holds of each of those holds of each of these
-keeps_storable : (v : Contents) (rs : List Record) → IsStorable v → ((P : Record → Type 0) → All P v.records → All P rs)
-    → IsStorable (with_records v rs)
-keeps_storable v rs h keeps = record {
+keeps_storable : (v : Contents) (rs : List Record) (fit : Bool) → IsStorable v
+    → ((P : Record → Type 0) → All P v.records → All P rs) → IsStorable (refit v rs fit)
+keeps_storable v rs fit h keeps = record {
   ids = keeps (λ r. id_kind r.id ≡ v.kind) h.ids;
   paths = keeps HasLegalPath h.paths;
   fits = keeps IsSized h.fits;
   tree = h.tree;
 }
 
-pub permuted_storable : (v : Contents) (rs : List Record) → IsPermutation v.records rs → IsStorable v
-    → IsStorable (with_records v rs)
-permuted_storable v rs moved h = keeps_storable v rs h (λ P. All-permutation P v.records rs moved)
+pub permuted_storable : (v : Contents) (rs : List Record) (fit : Bool) → IsPermutation v.records rs → IsStorable v
+    → IsStorable (refit v rs fit)
+permuted_storable v rs fit moved h = keeps_storable v rs fit h (λ P. All-permutation P v.records rs moved)
 
 pub fewer_storable : (v : Contents) (storage : List ℕ) (es : List Entry) (i : ℕ) (e : Entry)
     → v.records ≡ records_in storage es → i < length es → e ≡ get_or es i e → IsStorable v
-    → IsStorable (with_records v (records_in storage (remove es i)))
+    → IsStorable (edited v (records_in storage (remove es i)))
 fewer_storable v storage es i e is inside read h =
     let moved : IsPermutation (records_in storage es) (record_in storage e ∷ records_in storage (remove es i)) =
     IsPermutation-map (record_in storage) es (e ∷ remove es i) (IsPermutation-remove es i e inside read) in
-    keeps_storable v (records_in storage (remove es i)) h (λ P a. All-tail P (record_in storage e)
+    keeps_storable v (records_in storage (remove es i)) false h (λ P a. All-tail P (record_in storage e)
     (records_in storage (remove es i)) (All-permutation P (records_in storage es) _ moved (rw is at a)))
 
 -- records that a file holds all of, in an index with nothing else

@@ -1,5 +1,8 @@
 -- Naming the first place that doesn't increase.
-use Rattle.std.proofs.Common.{◌≡◌, ℕ, ◌-◌, ◌<◌, List, [], ◌∷◌, length, get_or, refl, sym, ap, ◌∙◌, arith, Some}
+use Rattle.std.proofs.Common.{◌≡◌, ℕ, ◌-◌, ◌<◌, Bool, true, false, not, List, [], ◌∷◌, length, get_or, Option, None}
+use Rattle.std.proofs.Common.{refl, sym, ap, ◌∙◌, arith, Some}
+use Rattle.std.specs.Prelude.{◌↔◌, ◌&&◌, is_some, IsTrue}
+use Rattle.std.proofs.lemmas.Bool.{false≢true}
 use Rattle.std.proofs.lemmas.List.{length-map}
 use Rattle.index_entries.specs.declared.Entry.{Entry}
 use Rattle.index_entries.specs.Order.{IsStrictlyOrdered}
@@ -30,3 +33,21 @@ says_fall storage es place a b (OutOfOrder index path stage previous_path previo
           rw (at, above) (refl, named.1, named.2, named.3, named.4),
     )
 says_fall storage es place a b Memory fall ea eb named = absurd named
+
+-- whether there is no fall
+pub order_told : (rs : List Record) (fall : Option ℕ) (none : Bool) → IsFirstFall rs fall → is_some fall ≡ not none
+    → IsTrue none ↔ IsStrictlyOrdered rs
+order_told rs None true h e = (λ t. h, λ o. refl)
+order_told rs None false h e = absurd cc
+order_told rs (Some place) true h e = absurd cc
+order_told rs (Some place) false h e = (λ t. absurd (false≢true t), λ o. absurd (not_ordered rs place h.0 o))
+
+-- extensions fit records in order as they did
+pub fit_stays : (fit in_order : Bool) → in_order ≡ true → (fit && in_order) ≡ fit
+fit_stays true in_order e = e
+fit_stays false in_order e = refl
+
+pub unfit : (fit in_order : Bool) → (IsTrue in_order → ⊥) → (fit && in_order) ≡ false
+unfit true true h = absurd (h refl)
+unfit true false h = refl
+unfit false in_order h = refl

@@ -1,5 +1,5 @@
 -- An empty index, and what edits of one leave (the library's own).
-use Rattle.std.specs.Prelude.{◌≡◌, ℕ, List, [], ◌∷◌, ◌++◌, length, Option, Some, None, IfSome, slice_index_or}
+use Rattle.std.specs.Prelude.{◌≡◌, ℕ, Bool, true, false, List, [], ◌∷◌, ◌++◌, length, Option, Some, None, IfSome, slice_index_or}
 use Rattle.std.specs.Borrow.{Lends, LendsIf, LendsSo, MutBor, Fml, Array}
 use Rattle.index_parts.specs.declared.hash.Kind.{Kind}
 use Rattle.index_metadata.specs.declared.entry.stat.FileTime.{FileTime}
@@ -14,6 +14,7 @@ use Rattle.index_entries.specs.contracts.Entry as entry
 use Rattle.index_state.specs.contracts.State as state
 use Rattle.index_entries.specs.Record.{Record, IsPlaced, record_in}
 use Rattle.index_lookups.specs.Lookup.{IsKeyAt}
+use Rattle.index_format.specs.Kept.{where_fit}
 use Rattle.index_format.specs.Lending.{parts_with_entries, parts_with_entry_at, parts_with_tree}
 use Rattle.index_format.specs.Outcome.{no_extension}
 use Rattle.index_format.specs.Contents.{Contents}
@@ -27,6 +28,7 @@ empty_contents kind time = record {
   version = V2;
   records = [];
   extensions = no_extension;
+  fit = true;
 }
 
 -- with this time, with this version, or with these records; all else stays
@@ -39,9 +41,24 @@ with_version c version = record c { version = version }
 abbrev pub with_records : Contents → List Record → Contents
 with_records c records = record c { records = records }
 
--- with this cached tree
+-- with these records, and extensions that fit them or aren't known to; all else stays
+abbrev pub refit : Contents → List Record → Bool → Contents
+refit c records fit = record c { records = records; fit = fit }
+
+-- with these records, which the extensions aren't known to fit; all else stays
+abbrev pub edited : Contents → List Record → Contents
+edited c records = refit c records false
+
+-- with this cached tree; what else speaks of the entries stays where it fits them, and goes where it isn't known to
 abbrev pub with_cached_tree : Contents → Node → Contents
-with_cached_tree c t = record c { extensions = record c.extensions { tree = Some t } }
+with_cached_tree c t = record c {
+  extensions = record c.extensions {
+    tree = Some t;
+    untracked = where_fit c.fit c.extensions.untracked;
+    fs_monitor = where_fit c.fit c.extensions.fs_monitor;
+  };
+  fit = true;
+}
 
 -- without its cached tree, without its link, or without its stages of resolved conflicts; all else stays
 abbrev pub without_tree : Contents → Contents
@@ -53,19 +70,19 @@ without_link c = record c { extensions = record c.extensions { link = None } }
 abbrev pub without_resolve_undo : Contents → Contents
 without_resolve_undo c = record c { extensions = record c.extensions { resolve_undo = None } }
 
--- one more record at the end; all else stays
+-- one more record at the end, of which the extensions say nothing; all else stays
 abbrev pub with_record : Contents → Record → Contents
-with_record c r = record c { records = c.records ++ r ∷ [] }
+with_record c r = edited c (c.records ++ r ∷ [])
 
--- One more entry stands at the end, with this record, and its path at the end of the storage. All but the entries
--- stays.
+-- One more entry stands at the end, with this record, and its path at the end of the storage. The extensions aren't
+-- known to fit the entries then; all else stays.
 pub record AddsEntry (old new : State) (r : Record) : Type 0 where
   pub entry : Entry
   pub entries : entries_of new ≡ entries_of old ++ entry ∷ []
   pub storage : storage_of new ≡ storage_of old ++ r.path
   pub placed : IsPlaced (length (storage_of new)) entry
   pub is : record_in (storage_of new) entry ≡ r
-  pub others : contents new ≡ record (contents old) { records = records new }
+  pub others : contents new ≡ edited (contents old) (records new)
 
 -- as values the same entries, the same storage, and all else the same
 pub record IsUnchanged (old new : State) : Type 0 where
@@ -73,7 +90,7 @@ pub record IsUnchanged (old new : State) : Type 0 where
   pub same_storage : storage_of new ≡ storage_of old
   pub same_contents : contents new ≡ contents old
 
--- the state with these entries, as many as it has; all else stays
+-- the state with these entries, as many as it has, which the extensions aren't known to fit; all else stays
 abbrev pub with_entries : State → List Entry → State
 with_entries s entries = record s { parts = parts_with_entries s.parts entries }
 
@@ -81,7 +98,7 @@ with_entries s entries = record s { parts = parts_with_entries s.parts entries }
 abbrev pub LendsEntries : MutBor State → MutBor (List Entry) → Fml
 LendsEntries s r = Lends state.the_row (Array entry.the_row 0) s r (with_entries s.now)
 
--- the state with another entry at a place; all else stays
+-- the state with another entry at a place, and extensions that aren't known to fit; all else stays
 abbrev pub with_entry_at : State → ℕ → Entry → State
 with_entry_at s i e = record s { parts = parts_with_entry_at s.parts i e }
 

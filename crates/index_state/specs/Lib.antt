@@ -3,3 +3,4 @@ pub mod Edits
 pub mod Racy
 pub mod SoundState
 pub mod State
+pub mod Updates

@@ -111,8 +111,8 @@ impl State {
 }
 
 impl State {
-    /// The entries, lent for writing; what was last written through the slice is what the state has then. All else
-    /// stays.
+    /// The entries, lent for writing; what was last written through the slice is what the state has then. The extensions
+    /// aren't known to fit the entries behind it; all else stays.
     ///
     /// An entry from another state brings a range of that state's storage:
     /// [`paths_in_storage`](State::paths_in_storage) tells whether all ranges still lie inside this one's.
@@ -123,7 +123,8 @@ impl State {
         self.parts.entries_mut()
     }
 
-    /// Puts an entry at the end, and its path behind the others in the storage. All else stays.
+    /// Puts an entry at the end, and its path behind the others in the storage. The extensions aren't known to fit the
+    /// entries behind it; all else stays.
     ///
     /// It's dangerous because nothing is looked at: the entry stands at the end wherever it belongs, also beside
     /// another with its path and stage, and searches by path promise less until the entries are in order again. Room
@@ -164,6 +165,7 @@ impl State {
             entry,
             path,
         )?;
+        self.parts.extensions_fit = false;
         Ok(())
     }
 }

@@ -38,6 +38,7 @@ impl State {
                 entries: Vec::new(alloc),
                 path_backing: Vec::new(alloc),
                 extensions: Outcome::none(),
+                extensions_fit: true,
             },
         }
     }

@@ -12,6 +12,7 @@ use index_parts::hash::Kind;
 use std::alloc::AllocError;
 
 mod access;
+mod apply;
 mod debug;
 mod decode;
 mod dissolve;
@@ -42,6 +43,7 @@ impl Clone for State {
                 entries: self.parts.entries.clone()?,
                 path_backing: self.parts.path_backing.clone()?,
                 extensions: self.parts.extensions.clone()?,
+                extensions_fit: self.parts.extensions_fit,
             },
         })
     }

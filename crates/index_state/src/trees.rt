@@ -60,19 +60,25 @@ impl State {
         write_trees(alloc, self.parts.object_hash, &self.slice(), check, sink)
     }
 
-    /// Puts a cached tree in, in place of the one that is there. All else stays, and nothing is compared with the
-    /// entries.
+    /// Puts a cached tree in, in place of the one that is there. Nothing is compared with the entries, which it is to fit:
+    /// where the other extensions aren't known to fit them, an untracked cache and what a file system monitor said go.
+    /// All else stays.
     pub fn set_tree(&mut self, tree: Tree)
         ensures set { contents self.new ≡ with_cached_tree (contents self.old) (node_of tree) }
         ensures entries { entries_of self.new ≡ entries_of self.old }
         ensures storage { storage_of self.new ≡ storage_of self.old }
     {
+        if !self.parts.extensions_fit {
+            self.parts.extensions.untracked = None;
+            self.parts.extensions.fs_monitor = None;
+            self.parts.extensions_fit = true;
+        }
         self.parts.extensions.tree = Some(tree);
     }
 
     /// Puts a cached tree in that was made of the entries, with those counts alone that the one in its place has: a node
     /// keeps its count and id where that one has them at the same directory. Any other is invalid, and has the null id.
-    /// So it names no tree that the one before didn't name. All else stays.
+    /// So it names no tree that the one before didn't name. Else it does as [`set_tree`](State::set_tree).
     pub fn renew_tree(&mut self, mut tree: Tree)
         ensures set { (t : Node) × KeepsCounts (contents self.old).kind []
             (contents self.old).extensions.tree (node_of tree) t

@@ -43,7 +43,7 @@ impl State {
     }
 
     /// The entries, lent for writing, and beside them the storage of their paths. What was last written through the
-    /// slice is what the state has then; all else stays.
+    /// slice is what the state has then. The extensions aren't known to fit the entries behind it; all else stays.
     ///
     /// `entries[i].path_in(storage)` asks that the path lies in the storage. A loop that writes entries keeps that by
     /// the invariant `All (IsPlaced (length l.storage)) l.entries`, which is `PathsInStorage` before it and after it.
@@ -57,7 +57,7 @@ impl State {
 
     /// The entry at the path and the stage, lent for writing, or None, as
     /// [`entry_by_path_and_stage`](State::entry_by_path_and_stage) finds it. What was last written through it stands in
-    /// its place then; all else stays.
+    /// its place then. The extensions aren't known to fit the entries behind a loan; all else stays.
     pub fn entry_mut_by_path_and_stage(&mut self, path: &[u8], stage: Stage) -> Option<&mut Entry>
         requires { PathsInStorage self.old }
         ensures* writes_back { sem 𝓛 (LendsEntryAt path.now (stage_code stage) self.entry result) }

@@ -100,6 +100,16 @@ impl State {
         self.parts.extensions.fs_monitor.as_ref()
     }
 
+    /// Whether the extensions speak of these entries: the cached tree, the untracked cache, and what a file system monitor
+    /// said. True of a state that was read or newly made; false behind an edit of entries that doesn't keep them:
+    /// [`Extensions::Kept`](index_format::write::Extensions::Kept) leaves these three out then. A cached tree that is put
+    /// in by [`set_tree`](State::set_tree) makes it true.
+    pub fn extensions_fit(&self) -> bool
+        ensures { result ≡ (contents self.now).fit }
+    {
+        self.parts.extensions_fit
+    }
+
     /// Whether the file had an end marker, whatever it said (gitformat-index, "End of Index Entry").
     pub fn had_end_of_index_marker(&self) -> bool
         ensures { result ≡ (contents self.now).extensions.had_end_marker }

@@ -3,7 +3,7 @@
 ghost use Rattle.std.specs.Prelude.{◌≡◌, ◌<◌, ℕ, Bool, filter, length, not, remove, slice_get, Some};
 ghost use Rattle.index_entries.specs.Record.{Record};
 ghost use Rattle.index_entries.specs.Removed.{AnswersBy, AnswersByPlace, ChangesFlagsAlone, LeavesPaths, RemovesWith, left_by};
-ghost use Rattle.index_state.specs.Edits.{with_records};
+ghost use Rattle.index_state.specs.Edits.{edited};
 ghost use Rattle.index_state.specs.State.{PathsInStorage, contents, entries_of, records, storage_of};
 ghost use Rattle.index_format.specs.Storable.{IsStorable};
 
@@ -13,7 +13,8 @@ use index_entries::{Entry, remove};
 impl State {
     /// Shows every entry to the closure, from the first to the last and each one time, with its path and the place that
     /// it has at this call, and takes out those for which the closure answers true. The others keep their order and
-    /// what the closure changed. The storage of paths and all else stay. No memory is asked for.
+    /// what the closure changed. The extensions aren't known to fit the entries then. The storage of paths and all else
+    /// stay. No memory is asked for.
     ///
     /// Where the closure answers what a test of the record gives, or one of the place and the record, and leaves
     /// entries as they are, the records after are the filter of those before. A closure that changes flags alone keeps
@@ -33,7 +34,7 @@ impl State {
             → AnswersByPlace F.FnMut test should_remove
             → records self.new ≡ left_by test (records self.old) }
         ensures storage { storage_of self.new ≡ storage_of self.old }
-        ensures others { contents self.new ≡ with_records (contents self.old) (records self.new) }
+        ensures others { contents self.new ≡ edited (contents self.old) (records self.new) }
         ensures placed { LeavesPaths F.FnMut should_remove → PathsInStorage self.new }
         ensures storable { ChangesFlagsAlone F.FnMut should_remove
             → IsStorable (contents self.old) → IsStorable (contents self.new) }
@@ -43,19 +44,21 @@ impl State {
             &self.parts.path_backing,
             &mut should_remove,
         );
+        self.parts.extensions_fit = false;
     }
 
-    /// Takes the entry at a place out, counted from 0. The others keep their order; the storage of paths, its own among
-    /// them, and all else stay.
+    /// Takes the entry at a place out, counted from 0. The others keep their order, and the extensions aren't known to fit
+    /// them; the storage of paths, its own among them, and all else stay.
     pub fn remove_entry_at_index(&mut self, index: usize) -> Entry
         requires { index < length (entries_of self.old) }
         ensures given { slice_get (entries_of self.old) index ≡ Some result }
         ensures removed { entries_of self.new ≡ remove (entries_of self.old) index }
         ensures storage { storage_of self.new ≡ storage_of self.old }
-        ensures others { contents self.new ≡ with_records (contents self.old) (records self.new) }
+        ensures others { contents self.new ≡ edited (contents self.old) (records self.new) }
         ensures placed { PathsInStorage self.old → PathsInStorage self.new }
         ensures storable { IsStorable (contents self.old) → IsStorable (contents self.new) }
     {
+        self.parts.extensions_fit = false;
         self.parts.entries.remove(index)
     }
 }

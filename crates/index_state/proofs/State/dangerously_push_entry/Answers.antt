@@ -1,6 +1,7 @@
 use Rattle.std.proofs.Common.{refl, ap, ◌≡◌, inl, inr, length}
 use Rattle.index_entries.specs.Record.{IsSized}
 use Rattle.index_parts.specs.Id.{id_bytes, id_kind, id_len}
+use Rattle.index_state.specs.Edits.{edited}
 use Rattle.index_state.specs.State.{contents, entries_of, storage_of}
 use Rattle.index_entries.proofs.Appended.{appended_records}
 use Rattle.index_entries.proofs.StorableEntries.{variant_of}
@@ -15,7 +16,7 @@ returns-clause-added c =
 pub returns-clause-pushed : goal.returns-clause-pushed
 returns-clause-pushed c = λ placed.
     let old = c.args.self.now in
-    ap (λ rs. record (contents old) { records = rs })
+    ap (λ rs. edited (contents old) rs)
     (appended_records (storage_of old) (entries_of old) _ _ _ placed c.in_ok-append.ensures.appended)
 
 -- The types of the arguments say how many bits a number has and how many bytes an id: `given` is what they say, one

@@ -1,4 +1,4 @@
-use Rattle.std.proofs.Common.{◌≡◌, rules, sym, subst}
+use Rattle.std.proofs.Common.{◌≡◌, rules, sym, subst, true}
 use Rattle.index_state.specs.Edits.{empty_contents}
 use Rattle.index_state.specs.State.{contents}
 use Rattle.index_format.specs.Storable.{IsStorable}
@@ -16,6 +16,7 @@ returns-clause-storable c =
         entries = c.new.result;
         path_backing = c.new-2.result;
         extensions = c.none.result;
+        extensions_fit = true;
       };
     })
     ≡ empty_contents c.args.object_hash c.args.now = search rules in
