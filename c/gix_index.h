@@ -331,8 +331,9 @@ uint32_t gix_index_write(const gix_index_row *rows, size_t rows_len, const uint8
  * Where that index is a sparse one, so is this, and rows may have the mode GIX_INDEX_DIRECTORY. Its cached tree is kept
  * where it tells what the rows give: those that aren't in conflict have trees, and each directory of it that has a
  * number of entries has the id and the number that `git write-tree` gives it, and none in conflict below it. So a tree
- * that a changed row makes wrong is left out; told->tree says which. No other extension is kept, but an end marker
- * stands behind these two. A link isn't: the table is to have the shared entries.
+ * that a changed row makes wrong is left out; told->tree says which. Its stages of resolved conflicts are kept. Where
+ * the rows are its entries, bit by bit, its untracked cache and what a file system monitor said are kept too. An end
+ * marker stands behind these where it had one. A link isn't kept: the table is to have the shared entries.
  *
  * REFUSED: the fault is one that gix_index_read tells of index, and comes before those of the table; or as
  * gix_index_write tells it. MEMORY: malloc or realloc gave nothing. All else is as there. */

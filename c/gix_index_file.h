@@ -205,8 +205,8 @@ static inline uint8_t *gix_index_image(const gix_index_row *rows, size_t rows_le
 }
 
 /* Writes a table as the index that is locked, and ends the lock: what gix_index_write writes, or gix_index_write_over
- * where the table has the bytes of an index, as gix_index_read_file leaves them. So the cached tree of those is kept,
- * where it still tells what the rows give, and their mark of a sparse index.
+ * where the table has the bytes of an index, as gix_index_read_file leaves them. So their extensions are kept where
+ * they still fit the rows.
  *
  * The file has the permissions of the one that it takes the place of, or else those that the umask leaves. Its time is
  * t->mtime, so that git looks at each file that it would have looked at beside the index that was read; where that is
@@ -264,7 +264,7 @@ GIX_INDEX_API uint32_t gix_index_write_file(const char *path, const gix_index_ro
 }
 
 /* The same of what gix_index_write_over writes over the bytes of an index, as a table has them that was read from a
- * file: so its cached tree is kept, where it still tells what the rows give, and its mark of a sparse index. */
+ * file: so its extensions are kept where they still fit the rows. */
 GIX_INDEX_API uint32_t gix_index_write_file_over(const char *path, const gix_index_row *rows, size_t rows_len,
                                                  const uint8_t *paths, size_t paths_len, const uint8_t *index,
                                                  size_t index_len, const gix_index_form *form,

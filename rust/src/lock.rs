@@ -189,9 +189,9 @@ impl Locked {
     /// Writes an index in place of the one that is locked, and tells what became of that one's cached tree.
     ///
     /// Where that was [opened](Locked::open), with ids of the same kind, this is what
-    /// [`write_to_over`](Index::write_to_over) gives over its bytes: the mark of a sparse index and a cached tree that
-    /// still tells what the entries give are kept. So is version 4, where the options don't ask for another. Else it is
-    /// what [`write_to`](Index::write_to) gives, without extensions.
+    /// [`write_to_over`](Index::write_to_over) gives over its bytes, with all extensions that still fit the entries.
+    /// Version 4 is kept too, where the options don't ask for another. Else it is what
+    /// [`write_to`](Index::write_to) gives, without extensions.
     ///
     /// The file has the permissions of the one that it takes the place of, or else those that the umask leaves. Its
     /// time is the index's [`timestamp`](Index::timestamp), so that git looks at each file that it would have looked at

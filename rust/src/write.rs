@@ -133,7 +133,9 @@ impl Index {
     /// The same, in place of an index, given as all bytes of its file: mostly of the one that this was read from.
     ///
     /// The mark of a sparse index is kept, and then entries may be directories of one. So is its cached tree, where it
-    /// tells what the entries give, as `git write-tree` makes trees of them; else it is left out, and which is told.
+    /// tells what the entries give, as `git write-tree` makes trees of them; else it is left out, and which is told. Its
+    /// stages of resolved conflicts are kept, and, where the entries are its own, its untracked cache and what a file
+    /// system monitor said.
     /// [`Error::Refused`] tells a fault of those bytes first, as [`from_bytes`](Index::from_bytes) does, without words.
     pub fn write_to_over(&self, index: &[u8], options: Options) -> Result<(Vec<u8>, CachedTree), Error> {
         self.image(Some(index), options)

@@ -1,4 +1,3 @@
 pub mod Readings
 pub mod Replaced
 pub mod Restored
-pub mod Rewritings

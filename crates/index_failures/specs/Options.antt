@@ -4,7 +4,7 @@ use Rattle.gix_index.specs.Stat.{seconds_of, nanoseconds_of}
 use Rattle.gix_index.specs.FileTime.{FileTime}
 use Rattle.gix_index.specs.DecodeOptions.{Options}
 use Rattle.gix_index.specs.VersionChoice.{VersionChoice}
-use Rattle.gix_index.specs.WriteExtensions.TheVariants.{All}
+use Rattle.gix_index.specs.WriteExtensions.TheVariants.{Kept}
 use Rattle.gix_index.specs.WriteOptions.{Options as WriteOptions}
 
 -- no limit, and no id that the trailer has to be
@@ -19,6 +19,6 @@ unlimited_options = record {
 abbrev pub IsBeginOf1970 : FileTime → Type 0
 IsBeginOf1970 time = (seconds_of time ≡ pos 0) × (nanoseconds_of time ≡ 0)
 
--- the chosen version, all extensions, and the digest at the end
+-- the chosen version, all extensions that fit, and the digest at the end
 abbrev pub rewrite_options : VersionChoice → WriteOptions
-rewrite_options version = record { extensions = All; version = version; skip_hash = false }
+rewrite_options version = record { extensions = Kept; version = version; skip_hash = false }

@@ -14,7 +14,7 @@ use crate::failure::Failure;
 use gix_index::File;
 use gix_index::file::folder::Folder;
 use gix_index::file::lock::{Fault, Lock, acquire};
-use gix_index::write::{Options, VersionChoice};
+use gix_index::write::{Extensions, Options, VersionChoice};
 use std::alloc::Global;
 use std::path::PathBuf;
 
@@ -47,8 +47,8 @@ pub fn lock_at<'a, D: Folder>(
     }
 }
 
-/// Writes an index in the place of the file that was locked, with all extensions and the digest at the end. All bytes are
-/// on the disk before it takes that place. [`Failure::Rewrite`] names that file, which is as it was.
+/// Writes an index in the place of the file that was locked, with all extensions that it has and that fit, and the digest
+/// at the end. All bytes are on the disk before it takes that place. [`Failure::Rewrite`] names that file, which is as it was.
 pub fn commit_at<'a, D: Folder>(
     folder: &mut D,
     alloc: Global,
@@ -71,8 +71,9 @@ pub fn commit_at<'a, D: Folder>(
     ensures works { D.works folder.new ≡ D.works folder.old }
 {
     let options = Options {
+        extensions: Extensions::Kept,
         version,
-        ..Options::default()
+        skip_hash: false,
     };
     match index.commit(folder, alloc, lock, options, true) {
         Ok(()) => Ok(()),

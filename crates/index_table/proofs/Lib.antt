@@ -6,6 +6,7 @@ pub mod Refusals
 mod Replacements
 mod Results
 mod Rows
+mod SameRows
 mod Tables
 mod Trees
 mod Writes

@@ -1,12 +1,11 @@
 -- What is kept of a value in place of which another is written.
-use Rattle.std.proofs.Common.{◌≡◌, ℕ, List, Option, Some, None, inl, inr, ap, subst}
+use Rattle.std.proofs.Common.{◌≡◌, ℕ, List, Option, Some, None, inl, inr, sym, ap, ◌∙◌}
 use Rattle.gix_index.specs.Contents.{Contents}
-use Rattle.gix_index.specs.Edits.{with_records}
 use Rattle.gix_index.specs.EntryImage.{written}
 use Rattle.gix_index.specs.Kind.{Kind}
 use Rattle.gix_index.specs.Tree.{Node}
 use Rattle.index_table.specs.Fitting.{IsFitTable}
-use Rattle.index_table.specs.Overwriting.{KeepsThis, KeepsTree, TakesPlaceOf}
+use Rattle.index_table.specs.Overwriting.{KeepsThis, KeepsTree, Replaces, TakesPlaceOf}
 use Rattle.index_table.specs.Table.{records_of}
 use Rattle.index_table.specs.declared.over.CachedTree.{CachedTree}
 use Rattle.index_table.specs.declared.row.Row.{Row}
@@ -23,12 +22,19 @@ kept_records v w tree h = same_records v.extensions.tree v w tree h
 -- what is kept of the value that has the table's records, and what holds of it
 pub replaces : (kind : Kind) (paths : List ℕ) (rows : List Row) (before v w : Contents) (tree : CachedTree)
     (P : Contents → Type 0)
-    → IsFitTable kind before.extensions.sparse paths rows → v ≡ with_records before (written (records_of paths rows))
-    → KeepsTree v tree w
+    → IsFitTable kind before.extensions.sparse paths rows → Replaces before paths rows v → KeepsTree v tree w
     → P w → TakesPlaceOf kind paths rows tree P before
 replaces kind paths rows before v w tree P fit e keeps h = record {
   value = w;
+  replaced = v;
+  is_replaced = e;
   table = fit;
-  kept = subst (λ (x : Contents). KeepsTree x tree w) e keeps;
+  kept = keeps;
   holds = h;
 }
+
+-- the records that are replaced are those of the rows that aren't left out
+pub written_records : (before v : Contents) (paths : List ℕ) (rows : List Row) → Replaces before paths rows v
+    → v.records ≡ written (records_of paths rows)
+written_records before v paths rows (inl h) = ap (λ (x : Contents). x.records) h.1 ∙ sym h.0.are ∙ sym h.0.stay
+written_records before v paths rows (inr h) = ap (λ (x : Contents). x.records) h.1

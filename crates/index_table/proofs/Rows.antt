@@ -1,7 +1,7 @@
 -- A value whose records are put in anew.
-use Rattle.std.proofs.Common.{◌≡◌, ℕ, List, [], ◌++◌, ap, ◌∙◌}
+use Rattle.std.proofs.Common.{◌≡◌, ℕ, Bool, true, false, not, List, [], ◌∷◌, ◌++◌, filter, refl, ap, ◌∙◌}
 use Rattle.gix_index.specs.Contents.{Contents}
-use Rattle.gix_index.specs.Edits.{empty_contents, with_records}
+use Rattle.gix_index.specs.Edits.{edited, empty_contents, refit}
 use Rattle.gix_index.specs.EntryImage.{written}
 use Rattle.gix_index.specs.FileTime.{FileTime}
 use Rattle.gix_index.specs.Kind.{Kind}
@@ -11,19 +11,30 @@ use Rattle.index_table.specs.Writing.{IsSpelledBy}
 use Rattle.index_table.specs.declared.row.Row.{Row}
 
 -- set twice, it has the later ones
-pub set_again : (v w u : Contents) (rs : List Record) → w ≡ with_records v w.records → u ≡ with_records w rs
-    → u ≡ with_records v rs
-set_again v w u rs e f = f ∙ ap (λ (x : Contents). with_records x rs) e
+pub set_again : (v w u : Contents) (rs : List Record) → w ≡ refit v w.records w.fit → u ≡ refit w rs u.fit
+    → u ≡ refit v rs u.fit
+set_again v w u rs e f = f ∙ ap (λ (x : Contents). refit x rs u.fit) e
 
--- all are put in where there were none any more
-pub put_anew : (v w u : Contents) (rs : List Record) → w ≡ with_records v [] → u ≡ with_records w (w.records ++ rs)
-    → u ≡ with_records v rs
-put_anew v w u rs e f = f ∙ ap (λ (x : Contents). with_records x (x.records ++ rs)) e
+-- all are put in where there were none any more, and extensions that weren't known to fit
+pub put_anew : (v w u : Contents) (rs : List Record) → w ≡ edited v [] → u ≡ refit w (w.records ++ rs) u.fit
+    → (w.fit ≡ false → u.fit ≡ false) → u ≡ edited v rs
+put_anew v w u rs e f unfit =
+    f ∙ ap (λ (x : Contents). refit x (x.records ++ rs) u.fit) e
+    ∙ ap (λ (b : Bool). refit v rs b) (unfit (ap (λ (x : Contents). x.fit) e))
+
+no_records : (rs : List Record) → filter (λ (r : Record). not true) rs ≡ []
+no_records [] = refl
+no_records (r ∷ rs) = no_records rs
+
+-- where all are taken out, there is none
+pub none_left : (v w : Contents) → w ≡ edited v w.records → w.records ≡ filter (λ r. not true) v.records
+    → w ≡ edited v []
+none_left v w e h = e ∙ ap (edited v) (h ∙ no_records v.records)
 
 -- an empty value into which the records of rows are put
 pub spelled_from : (kind : Kind) (time : FileTime) (paths : List ℕ) (rows : List Row) (v w : Contents)
     → v ≡ empty_contents kind time
-    → w ≡ with_records v (v.records ++ written (records_of paths rows)) → IsSpelledBy kind paths rows w
+    → w ≡ refit v (v.records ++ written (records_of paths rows)) w.fit → IsSpelledBy kind paths rows w
 spelled_from kind time paths rows v w e f = record {
   kind_is = ap (λ (x : Contents). x.kind) f ∙ ap (λ (x : Contents). x.kind) e;
   records_are = ap (λ (x : Contents). x.records) f ∙ ap (λ (x : Contents). x.records ++ written (records_of paths rows)) e;

@@ -4,6 +4,7 @@ use Rattle.std.proofs.Common.{inr, refl, sym, subst}
 use Rattle.std.specs.Prelude.{IfSome, MatchOption}
 use Rattle.std.proofs.lemmas.List.Elements.{All-head, All-tail}
 use Rattle.gix_index.specs.Contents.{Contents}
+use Rattle.gix_index.specs.Edits.{with_cached_tree}
 use Rattle.gix_index.specs.Kind.{Kind}
 use Rattle.gix_index.specs.Record.{Record}
 use Rattle.gix_index.specs.Refusals.{AreFit, AreRefused, SaysTreesFault}
@@ -24,11 +25,12 @@ pub keeps_by : (o : Option Node) (v w : Contents) (tree : CachedTree) → v.exte
     → KeepsTree v tree w
 keeps_by o v w tree e h = subst (λ (x : Option Node). KeepsThis x v tree w) (sym e) h
 
-pub keeps_right : (o : Option Node) (v : Contents) → o ≢ None → IfSome o (AreRight v.kind v.records)
+pub keeps_right : (o : Option Node) (v w : Contents) → o ≢ None
+    → MatchOption o (w ≡ v) (λ t. w ≡ with_cached_tree v t) → IfSome o (AreRight v.kind v.records)
     → IfSome o (λ _. AreFit any_name v.kind (merged_in v.records))
-    → IfSome o (λ _. length (merged_in v.records) < 2 ^ 31) → KeepsThis o v Kept v
-keeps_right None v some right fit few = absurd (some refl)
-keeps_right (Some t) v some right fit few = inl (refl, refl, record { few = few; fit = fit; right = right })
+    → IfSome o (λ _. length (merged_in v.records) < 2 ^ 31) → KeepsThis o v Kept w
+keeps_right None v w some is right fit few = absurd (some refl)
+keeps_right (Some t) v w some is right fit few = inl (refl, is, record { few = few; fit = fit; right = right })
 
 in_middle : {X : Type 0} (P : X → Type 0) (before : List X) (x : X) (after : List X) → All P (before ++ x ∷ after) → P x
 in_middle P [] x after all = All-head P x after all

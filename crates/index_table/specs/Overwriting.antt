@@ -1,9 +1,10 @@
 -- What is kept of an index that a table is written over (gitformat-index, "Cache tree", "Sparse Directory Entries").
 use Rattle.std.specs.Prelude.{◌≡◌, ℕ, ◌⊎◌, ◌^◌, ◌<◌, false, List, length, Option, Some, None}
 use Rattle.gix_index.specs.Contents.{Contents}
-use Rattle.gix_index.specs.EntryImage.{written}
-use Rattle.gix_index.specs.Edits.{with_records, without_tree}
+use Rattle.gix_index.specs.EntryImage.{is_removed, written}
+use Rattle.gix_index.specs.Edits.{edited, with_cached_tree, without_tree}
 use Rattle.gix_index.specs.Kind.{Kind}
+use Rattle.gix_index.specs.Record.{Record}
 use Rattle.gix_index.specs.Refusals.{AreFit, AreRefused, Refusal}
 use Rattle.gix_index.specs.Staged.{merged_in}
 use Rattle.gix_index.specs.Tree.{Node}
@@ -12,7 +13,7 @@ use Rattle.gix_index.specs.WriteExtensions.TheVariants as extensions
 use Rattle.gix_index.specs.WriteOptions.{Options}
 use Rattle.index_table.specs.Fitting.{IsFitTable, IsUnfitTable}
 use Rattle.index_table.specs.Reading.{IsReadSo}
-use Rattle.index_table.specs.Table.{records_of}
+use Rattle.index_table.specs.Table.{records_of, spelled}
 use Rattle.index_table.specs.Writing.{PassesLimit, options_with}
 use Rattle.index_table.specs.declared.over.CachedTree.{CachedTree}
 use Rattle.index_table.specs.declared.over.CachedTree.TheVariants.{Absent, Kept, LeftOut}
@@ -37,7 +38,8 @@ IsWrongTree v t =
 abbrev pub KeepsThis : Option Node → Contents → CachedTree → Contents → Type 0
 KeepsThis None v tree kept = (tree ≡ Absent) × (kept ≡ v)
 KeepsThis (Some t) v tree kept =
-    ((tree ≡ Kept) × (kept ≡ v) × IsRightTree v t) ⊎ ((tree ≡ LeftOut) × (kept ≡ without_tree v) × IsWrongTree v t)
+    ((tree ≡ Kept) × (kept ≡ with_cached_tree v t) × IsRightTree v t)
+    ⊎ ((tree ≡ LeftOut) × (kept ≡ without_tree v) × IsWrongTree v t)
 
 -- the value has no cached tree; or it is kept, as it tells what the records give; or it is left out, as it doesn't
 abbrev pub KeepsTree : Contents → CachedTree → Contents → Type 0
@@ -45,17 +47,36 @@ KeepsTree v tree kept = KeepsThis v.extensions.tree v tree kept
 
 -- ---- what is written
 
--- how a format asks to write over an index: with the extensions that there are
+-- how a format asks to write over an index: with all extensions that fit
 abbrev pub full_options : Format → Options
-full_options f = options_with extensions.All f
+full_options f = options_with extensions.Kept f
+
+-- the row isn't left out of a file, and spells this record
+pub record SpellsThis (paths : List ℕ) (row : Row) (r : Record) : Type 0 where
+  pub stays : is_removed row.flags ≡ false
+  pub is : spelled paths row ≡ r
+
+-- none of the rows is left out of a file, and they spell these records
+pub record AreEntries (rs : List Record) (paths : List ℕ) (rows : List Row) : Type 0 where
+  pub stay : written (records_of paths rows) ≡ records_of paths rows
+  pub are : records_of paths rows ≡ rs
+
+-- Rows that are the entries of a value leave it as it is. Others have the records of those that are written put in their
+-- place, which the extensions aren't known to fit.
+abbrev pub Replaces : Contents → List ℕ → List Row → Contents → Type 0
+Replaces before paths rows v =
+    (AreEntries before.records paths rows × (v ≡ before))
+    ⊎ ((AreEntries before.records paths rows → ⊥) × (v ≡ edited before (written (records_of paths rows))))
 
 -- The table is fit, and this holds of the value that it gives in place of another: the records of the rows that are
 -- written in place of that one's, and its cached tree or none.
 pub record TakesPlaceOf (kind : Kind) (paths : List ℕ) (rows : List Row) (tree : CachedTree) (P : Contents → Type 0)
     (before : Contents) : Type 0 where
   pub value : Contents
+  pub replaced : Contents
+  pub is_replaced : Replaces before paths rows replaced
   pub table : IsFitTable kind before.extensions.sparse paths rows
-  pub kept : KeepsTree (with_records before (written (records_of paths rows))) tree value
+  pub kept : KeepsTree replaced tree value
   pub holds : P value
 
 -- the bytes are read as a value, and this holds of the one that the table gives in place of it

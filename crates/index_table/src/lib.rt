@@ -10,6 +10,7 @@ mod filling;
 pub mod over;
 pub mod read;
 pub mod row;
+mod same;
 mod spell;
 pub mod split;
 pub mod write;

@@ -1,12 +1,12 @@
-//! Writing a caller's table in place of an index, of which the cached tree and the mark of a sparse index are kept.
+//! Writing a caller's table in place of an index, of which all extensions that fit the rows are kept.
 
-ghost use Rattle.std.specs.Prelude.{◌≡◌, [], Err, IfErr, IfOk, IfSome, None, OnOk, false};
-ghost use Rattle.gix_index.specs.Edits.{with_records};
+ghost use Rattle.std.specs.Prelude.{◌≡◌, [], Err, IfErr, IfOk, IfSome, MatchOption, None, OnOk, false};
+ghost use Rattle.gix_index.specs.Edits.{edited, with_cached_tree};
 ghost use Rattle.gix_index.specs.EntryImage.{written};
 ghost use Rattle.gix_index.specs.Order.{IsStrictlyOrdered};
 ghost use Rattle.gix_index.specs.State.{PathsInStorage, contents, records};
 ghost use Rattle.index_table.specs.Fitting.{IsFitTable};
-ghost use Rattle.index_table.specs.Overwriting.{IsUnwrittenOver, KeepsTree, TakesPlaceOf, WritesOver, full_options};
+ghost use Rattle.index_table.specs.Overwriting.{IsUnwrittenOver, KeepsTree, Replaces, TakesPlaceOf, WritesOver, full_options};
 ghost use Rattle.index_table.specs.Reading.{FailsSo, LacksMemory};
 ghost use Rattle.index_table.specs.Table.{records_of};
 ghost use Rattle.index_table.specs.Writing.{HasImage, IfPassed, IfRefused, IfUnwritten, PassesLimit, PassesRoom};
@@ -15,6 +15,7 @@ ghost use Rattle.index_table.specs.declared.over.CachedTree.TheVariants.{Absent}
 use crate::fault::is_want_of_memory;
 use crate::read::index_of;
 use crate::row::Row;
+use crate::same::are_entries_of;
 use crate::spell::push_rows;
 use crate::write::{Format, Image, Unwritten, fault_in, options_of, put_state};
 use gix_index::write::Extensions;
@@ -26,7 +27,7 @@ use std::alloc::{AllocError, Global};
 pub enum CachedTree {
     /// There is none to keep, or it wasn't come to.
     Absent,
-    /// It is kept.
+    /// It is kept, as it tells what the rows give.
     Kept,
     /// It is left out, as it doesn't tell what the rows give.
     LeftOut,
@@ -51,22 +52,21 @@ fn not_written(e: Unwritten) -> Replacement
     }
 }
 
-/// Takes all entries out, from the last one on. All else stays.
+/// Takes all entries out. The extensions aren't known to fit them then; all else stays.
 fn remove_all(state: &mut State)
     requires { PathsInStorage state.old }
-    ensures value { contents state.new ≡ with_records (contents state.old) [] }
+    ensures value { contents state.new ≡ edited (contents state.old) [] }
     ensures placed { PathsInStorage state.new }
 {
-    while let Some(last) = state.entries().len().checked_sub(1) {
-        state.remove_entry_at_index(last);
-    }
+    state.remove_entries(|_place, _path, _entry| true);
 }
 
-/// Puts the entries of the rows that aren't left out in the place of those that are there. All else stays.
+/// Puts the entries of the rows that aren't left out in the place of those that are there. The extensions aren't known to
+/// fit them then; all else stays.
 fn replace_all(state: &mut State, rows: &[Row], paths: &[u8]) -> Result<(), AllocError>
     requires { PathsInStorage state.old }
     ensures value { OnOk result
-        (contents state.new ≡ with_records (contents state.old)
+        (contents state.new ≡ edited (contents state.old)
         (written (records_of paths.now rows.now))) }
     ensures placed { OnOk result (PathsInStorage state.new) }
 {
@@ -74,8 +74,33 @@ fn replace_all(state: &mut State, rows: &[Row], paths: &[u8]) -> Result<(), Allo
     push_rows(state, rows, paths)
 }
 
-/// Takes the cached tree out, unless it tells what the entries give, and says what became of it; None for want of
-/// memory.
+/// Puts the entries of the rows in the place of those that are there, unless these are the same.
+fn replace(state: &mut State, rows: &[Row], paths: &[u8]) -> Result<(), AllocError>
+    requires { PathsInStorage state.old }
+    ensures value { OnOk result
+        (Replaces (contents state.old) paths.now rows.now (contents state.new)) }
+    ensures placed { OnOk result (PathsInStorage state.new) }
+{
+    if are_entries_of(rows, paths, state) {
+        return Ok(());
+    }
+    replace_all(state, rows, paths)
+}
+
+/// Puts the cached tree in, in its own place: it fits the entries.
+fn put_in_anew(state: &mut State)
+    ensures value { MatchOption (contents state.old).extensions.tree
+        (contents state.new ≡ contents state.old)
+        (λ t. contents state.new ≡ with_cached_tree (contents state.old) t) }
+    ensures placed { PathsInStorage state.old → PathsInStorage state.new }
+{
+    if let Some(tree) = state.remove_tree() {
+        state.set_tree(tree);
+    }
+}
+
+/// Keeps the cached tree where it tells what the entries give: it fits them then. Else takes it out. Says what became of
+/// it; None for want of memory.
 fn keep_tree(alloc: Global, state: &mut State) -> Option<CachedTree>
     requires placed { PathsInStorage state.old }
     requires ordered { IsStrictlyOrdered (records state.old) }
@@ -87,7 +112,10 @@ fn keep_tree(alloc: Global, state: &mut State) -> Option<CachedTree>
         return Some(CachedTree::Absent);
     };
     let e = match state.verify_tree_ids(alloc) {
-        Ok(()) => return Some(CachedTree::Kept),
+        Ok(()) => {
+            put_in_anew(state);
+            return Some(CachedTree::Kept);
+        }
         Err(e) => e,
     };
     if is_want_of_memory(&e) {
@@ -122,18 +150,20 @@ fn put_fit(
         (contents state)) }
     ensures room { IfErr result.written (λ _. room.new ≡ room.old) }
 {
-    if let Err(_) = replace_all(&mut state, rows, paths) {
+    if let Err(_) = replace(&mut state, rows, paths) {
         return not_written(Unwritten::Memory);
     }
     let Some(tree) = keep_tree(alloc, &mut state) else {
         return not_written(Unwritten::Memory);
     };
-    let written = put_state(alloc, state, options_of(format, Extensions::All), room);
+    let written = put_state(alloc, state, options_of(format, Extensions::Kept), room);
     Replacement { written, tree }
 }
 
-/// Writes a table in place of the index of these bytes: with its cached tree, if that tells what the rows give, and
-/// with its mark of a sparse index, under which rows may stand for directories. The error is of those bytes.
+/// Writes a table in place of the index of these bytes: with its cached tree, if that tells what the rows give, with its
+/// stages of resolved conflicts, and with its mark of a sparse index, under which rows may stand for directories; and,
+/// where the rows are its entries, with its untracked cache and what a file system monitor said. The error is of those
+/// bytes.
 pub fn write_over(
     alloc: Global,
     rows: &[Row],

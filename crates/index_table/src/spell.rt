@@ -3,7 +3,7 @@
 ghost use Rattle.std.specs.Prelude.{◌≡◌, ◌≢◌, ◌+◌, ◌≤◌, ◌↔◌, ◌++◌, All, IfOk, IsTrue, None, OnOk, false, length, take};
 ghost use Rattle.std.specs.Option.{option_map_or};
 ghost use Rattle.std.specs.Ordering.{is_ge};
-ghost use Rattle.gix_index.specs.Edits.{with_records};
+ghost use Rattle.gix_index.specs.Edits.{refit};
 ghost use Rattle.gix_index.specs.EntryImage.{is_removed, written};
 ghost use Rattle.gix_index.specs.Order.{record_cmp};
 ghost use Rattle.gix_index.specs.State.{PathsInStorage, contents, records};
@@ -31,7 +31,7 @@ fn has_plain_path(row: &Row, paths: &[u8]) -> bool
 }
 
 /// Whether the row is marked `REMOVE`, and so left out of a file.
-fn is_left_out(row: &Row) -> bool
+pub(crate) fn is_left_out(row: &Row) -> bool
     ensures { result ≡ is_removed row.now.flags }
 {
     row.flags & 0x20000 == 0x20000
@@ -97,7 +97,7 @@ fn first_twenty(bytes: &[u8; 32]) -> [u8; 20]
 }
 
 /// The id of a row.
-fn id_of(row: &Row) -> ObjectId
+pub(crate) fn id_of(row: &Row) -> ObjectId
     ensures { result ≡ row_id row.now }
 {
     if row.kind == SHA256 {
@@ -145,11 +145,13 @@ pub(crate) fn first_fallen(rows: &[Row], paths: &[u8]) -> Option<usize>
     None
 }
 
-/// Puts the entry of each row that isn't left out at the end, in their order. All else stays.
+/// Puts the entry of each row that isn't left out at the end, in their order. Where there is one, the extensions aren't
+/// known to fit the entries then; all else stays.
 pub(crate) fn push_rows(state: &mut State, rows: &[Row], paths: &[u8]) -> Result<(), AllocError>
     requires { PathsInStorage state.old }
-    ensures value { OnOk result (contents state.new ≡ with_records (contents state.old)
-        (records state.old ++ written (records_of paths.now rows.now))) }
+    ensures value { OnOk result (contents state.new ≡ refit (contents state.old)
+        (records state.old ++ written (records_of paths.now rows.now)) (contents state.new).fit) }
+    ensures unfit { (contents state.old).fit ≡ false → (contents state.new).fit ≡ false }
     ensures placed { OnOk result (PathsInStorage state.new) }
 {
     for row in rows {

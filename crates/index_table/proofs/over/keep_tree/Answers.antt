@@ -15,7 +15,7 @@ pub returns-in-Ok-clause-keeps : goal.returns-in-Ok-clause-keeps
 returns-in-Ok-clause-keeps c =
     let v = contents c.args.state.now in
     let there = sym c.tree.ensures ∙ ap (option_map (λ t. node_of t.now)) c.in-Some.is in
-    keeps_right v.extensions.tree v (λ e. cc) c.in-Ok.ensures.right c.in-Ok.ensures.fit c.in-Ok.ensures.few
+    keeps_right v.extensions.tree v (contents c.put_in_anew.new.state) (λ e. cc) c.put_in_anew.ensures.value c.in-Ok.ensures.right c.in-Ok.ensures.fit c.in-Ok.ensures.few
 
 pub returns-clause-keeps : goal.returns-clause-keeps
 returns-clause-keeps c =

@@ -8,24 +8,25 @@ use Rattle.index_table.specs.Overwriting.{TakesPlaceOf, full_options}
 use Rattle.index_table.specs.Writing.{HasImage, PassesLimit, PassesRoom}
 use Rattle.index_table.specs.declared.write.Fault.{Fault}
 use Rattle.index_table.specs.declared.write.Image.{Image}
-use Rattle.index_table.proofs.Replacements.{kept_records, replaces}
+use Rattle.index_table.proofs.Replacements.{kept_records, replaces, written_records}
 use Rattle.index_table.proofs.Results.{passed_weaker, refused_weaker}
 use Rattle.index_table.proofs.Writes.{can_encode}
 use Rattle.index_table.proofs.over.put_fit.Goals as goal
 
 pub keep_tree-requires-clause-ordered : goal.keep_tree-requires-clause-ordered
 keep_tree-requires-clause-ordered c =
-    subst IsStrictlyOrdered (sym (ap (λ (v : Contents). v.records) c.in_default.ensures.value))
-    c.requires.table.ordered
+    subst IsStrictlyOrdered (sym (written_records (contents c.args.state) (contents c.replace.new.state)
+    c.args.paths.now c.args.rows.now c.in_default.ensures.value)) c.requires.table.ordered
 
 pub put_state-written-requires-clause-paths : goal.put_state-written-requires-clause-paths
 put_state-written-requires-clause-paths c =
-    let kept = kept_records (contents c.replace_all.new.state) (contents c.keep_tree.new.state) c.in-Some.tree
+    let kept = kept_records (contents c.replace.new.state) (contents c.keep_tree.new.state) c.in-Some.tree
     c.in-Some.ensures.keeps in
     can_encode c.options_of.result.version c.args.format.now.kind _ c.args.paths.now c.args.rows.now (contents
     c.keep_tree.new.state)
     c.requires.table.fit
-    (kept ∙ ap (λ (v : Contents). v.records) c.in_default.ensures.value)
+    (kept ∙ written_records (contents c.args.state) (contents c.replace.new.state) c.args.paths.now c.args.rows.now
+    c.in_default.ensures.value)
 
 pub returns-clause-done : goal.returns-clause-done
 returns-clause-done c =
@@ -36,7 +37,7 @@ returns-clause-done c =
     (λ (x : Image). TakesPlaceOf c.args.format.now.kind c.args.paths.now c.args.rows.now c.in-Some.tree
     (Holds (full_options c.args.format.now) x) (contents c.args.state))
     (λ x h. replaces c.args.format.now.kind c.args.paths.now c.args.rows.now (contents c.args.state)
-    (contents c.replace_all.new.state) value c.in-Some.tree (Holds (full_options c.args.format.now) x)
+    (contents c.replace.new.state) value c.in-Some.tree (Holds (full_options c.args.format.now) x)
     c.requires.table c.in_default.ensures.value c.in-Some.ensures.keeps
     (subst (λ (o : Options). Holds o x value) c.options_of.ensures h))
     c.put_state-written.ensures.done
@@ -49,7 +50,7 @@ returns-clause-refused c =
     (λ (x : Fault). TakesPlaceOf c.args.format.now.kind c.args.paths.now c.args.rows.now c.in-Some.tree
     (Holds (full_options c.args.format.now) x) (contents c.args.state))
     (λ x h. replaces c.args.format.now.kind c.args.paths.now c.args.rows.now (contents c.args.state)
-    (contents c.replace_all.new.state) value c.in-Some.tree (Holds (full_options c.args.format.now) x)
+    (contents c.replace.new.state) value c.in-Some.tree (Holds (full_options c.args.format.now) x)
     c.requires.table c.in_default.ensures.value c.in-Some.ensures.keeps
     (subst (λ (o : Options). Holds o x value) c.options_of.ensures h))
     c.put_state-written.ensures.refused
@@ -62,7 +63,7 @@ returns-clause-no_room c =
     (λ (x : Image). TakesPlaceOf c.args.format.now.kind c.args.paths.now c.args.rows.now c.in-Some.tree
     (Holds (full_options c.args.format.now) x) (contents c.args.state))
     (λ x h. replaces c.args.format.now.kind c.args.paths.now c.args.rows.now (contents c.args.state)
-    (contents c.replace_all.new.state) value c.in-Some.tree (Holds (full_options c.args.format.now) x)
+    (contents c.replace.new.state) value c.in-Some.tree (Holds (full_options c.args.format.now) x)
     c.requires.table c.in_default.ensures.value c.in-Some.ensures.keeps
     (subst (λ (o : Options). Holds o x value) c.options_of.ensures h))
     c.put_state-written.ensures.no_room

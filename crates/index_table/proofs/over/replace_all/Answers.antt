@@ -8,6 +8,6 @@ use Rattle.index_table.proofs.over.replace_all.Goals as goal
 pub returns-clause-value : goal.returns-clause-value
 returns-clause-value c =
     on_ok_weaker c.push_rows.result
-    (put_anew (contents c.args.state.now) (contents c.remove_all.new.state) (contents c.push_rows.new.state)
-    (written (records_of c.args.paths.now c.args.rows.now)) c.remove_all.ensures.value)
+    (λ h. put_anew (contents c.args.state.now) (contents c.remove_all.new.state) (contents c.push_rows.new.state)
+    (written (records_of c.args.paths.now c.args.rows.now)) c.remove_all.ensures.value h c.push_rows.ensures.unfit)
     c.push_rows.ensures.value

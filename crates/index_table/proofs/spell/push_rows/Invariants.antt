@@ -1,5 +1,5 @@
-use Rattle.std.proofs.Common.{◌≡◌, ◌++◌, take}
-use Rattle.gix_index.specs.Edits.{with_records}
+use Rattle.std.proofs.Common.{◌≡◌, ◌++◌, false, take}
+use Rattle.gix_index.specs.Edits.{refit}
 use Rattle.gix_index.specs.EntryImage.{written}
 use Rattle.gix_index.specs.State.{PathsInStorage, contents, records}
 use Rattle.index_table.specs.Table.{records_of}
@@ -9,6 +9,8 @@ abbrev pub invariant-loop-row : goal.invariant-loop-row
 invariant-loop-row l = record {
   records_are : records l.state ≡ records l.fn.state
       ++ written (records_of l.paths (take l.row-index l.rows));
-  others : contents l.state ≡ with_records (contents l.fn.state) (records l.state);
+  others : contents l.state
+      ≡ refit (contents l.fn.state) (records l.state) (contents l.state).fit;
+  unfit : (contents l.fn.state).fit ≡ false → (contents l.state).fit ≡ false;
   placed : PathsInStorage l.state;
 }
