@@ -1,5 +1,5 @@
 /* What tests/linked asks of what the library keeps of an index, and of two files that are read as one, in one process:
- * kept WORD KIND WANTED FILE [SHARED]. WANTED is what index-tool wrote of FILE, with its cached tree.
+ * kept WORD KIND WANTED FILE [SHARED]. WANTED is what is to be written of FILE, with its cached tree.
  *
  * over        writes the table of FILE over FILE into rooms of each size, from none up to one too large, and with rows
  *             that keep the cached tree, that put it out, and that can't be written; over WANTED again; and to a path

@@ -8,6 +8,8 @@ from bytes import Unreadable, number, numbers
 MALFORMED = "malformed"
 
 LAST_PLACE = 2 ** 64 - 1
+# A word whose bits are all set.
+FULL = 2 ** 64 - 1
 
 
 class PartMissing(Exception):
@@ -77,6 +79,42 @@ class Bitmap:
             if run.stop > self.bits:
                 break
         return ranges, False
+
+
+def last_run(words):
+    """The place of the last run word: the first word is one, and so is that behind the literal words of each."""
+    last = place = 0
+    while place < len(words):
+        last, place = place, place + 1 + (words[place] >> 33)
+    return last
+
+
+def to_bytes(bitmap):
+    """All bytes of a bitmap."""
+    pieces = [bitmap.bits.to_bytes(4, "big"), len(bitmap.words).to_bytes(4, "big")]
+    pieces += [word.to_bytes(8, "big") for word in bitmap.words]
+    return b"".join(pieces) + last_run(bitmap.words).to_bytes(4, "big")
+
+
+def of_places(places):
+    """The bitmap that git's encoder makes of the places of bits, ascending: none is declared behind the last of them.
+
+    A run word counts as many equal words as it can whose bits are all alike, and then the others up to the next such.
+    """
+    bits = places[-1] + 1 if places else 0
+    plain = [0] * -(-bits // 64)
+    for place in places:
+        plain[place // 64] |= 1 << place % 64
+    words = []
+    while plain:
+        first, runs, literals = plain[0], 0, 0
+        if first in (0, FULL):
+            runs = next((at for at, word in enumerate(plain) if word != first), len(plain))
+        rest = plain[runs:]
+        literals = next((at for at, word in enumerate(rest) if word in (0, FULL)), len(rest))
+        words += [(runs > 0 and first == FULL) + 2 * runs + (literals << 33), *rest[:literals]]
+        plain = rest[literals:]
+    return Bitmap(bits, words or [0])
 
 
 def read(data):

@@ -14,9 +14,10 @@ import words
 import worktree
 import writing
 
-# Which choice of extensions writes a cached tree and an end marker.
+# Which choice of extensions writes a cached tree and an end marker; `kept` keeps all that fits.
 CHOICES = {
     "all": (True, True),
+    "kept": (True, True),
     "none": (False, False),
     "neither": (False, False),
     "tree": (True, False),
@@ -151,7 +152,7 @@ def answer_image(row, folder, is_version_4=False):
         edits.mark_removed(found)
     if "tree" in row[4:]:
         found.tree = words.tree_of(row[-1], kind)
-    options = writing.Options(*CHOICES[choice], trailer == "digest", is_version_4)
+    options = writing.Options(*CHOICES[choice], trailer == "digest", is_version_4, choice == "kept")
     try:
         for _ in range(times):
             found, _ = state.read(writing.image(found, options)[2], kind)

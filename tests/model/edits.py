@@ -35,6 +35,7 @@ def mark_removed(state):
     """Marks all entries as ones that a file leaves out."""
     for entry in state.entries:
         entry.flags |= REMOVE
+    state.fits = False
 
 
 def make_executable(state, path, stage):

@@ -121,6 +121,15 @@ def read_resolve_undo(data, kind):
     return paths
 
 
+def resolve_undo_bytes(paths):
+    """The content of resolve-undo. A mode has no zeros before it."""
+    pieces = []
+    for path, stages in paths:
+        pieces += [path + b"\0"] + [b"%o\0" % (stage[0] if stage else 0) for stage in stages]
+        pieces += [stage[1] for stage in stages if stage]
+    return b"".join(pieces)
+
+
 @dataclass
 class Monitor:
     """The time in nanoseconds, or a token of bytes, and which entries are dirty."""
@@ -147,6 +156,14 @@ def read_monitor(data):
     if rest:
         raise Unreadable
     return Monitor(token, dirty)
+
+
+def monitor_bytes(monitor):
+    """The content of what a monitor said: version 1 where the token is a time, and else version 2."""
+    is_time = isinstance(monitor.token, int)
+    token = monitor.token.to_bytes(8, "big") if is_time else monitor.token + b"\0"
+    dirty = bitmaps.to_bytes(monitor.dirty)
+    return (1 if is_time else 2).to_bytes(4, "big") + token + len(dirty).to_bytes(4, "big") + dirty
 
 
 def read_offset_table(data):

@@ -6,7 +6,7 @@ A line `= NAME` in a file of rows/ stands for the rows that `ROWS[NAME]` makes.
 import made_trees
 import show
 from bitmaps import Bitmap
-from bytes import ID_LENGTH
+from bytes import ID_LENGTH, offset_number_bytes
 from draws import Draws
 from entries import DIRECTORY, EXECUTABLE, FILE, INTENT_TO_ADD, REMOVE, SUBMODULE, SYMLINK, Entry, flags_of_stage
 from lookups import is_ordered_by_path, is_strictly_ordered
@@ -197,6 +197,138 @@ def images():
     return rows[1:]
 
 
+def directory_words(below, names=(), name=""):
+    """A directory of an untracked cache: how many names and directories are in it, its name, and the names."""
+    numbers = offset_number_bytes(len(names)) + offset_number_bytes(below)
+    return numbers.hex() + "".join(text.encode().hex() + "00" for text in (name, *names))
+
+
+def bits_word(*words, bits):
+    """A bitmap of so many bits, whose last run word is said to be at another place than it is."""
+    return f"{bits:08x}{len(words):08x}" + "".join(f"{word:016x}" for word in words) + "000000ff"
+
+
+def untracked_words(kind, directories, marks, behind, *, files=False):
+    """The content of an untracked cache, with files of patterns or without, in pieces."""
+    some, none = f"22*{ID_LENGTH[kind]}", f"00*{ID_LENGTH[kind]}"
+    # (a stat without an id says that there is no such file, and isn't kept)
+    head = ["03696400", "05*36,06*36,00000006", some, some] if files else ["00", "05*36,00*36,00000007", none, none]
+    head += ["2e69676e6f726500" if files else "00", offset_number_bytes(len(directories)).hex(), *directories]
+    return ",".join([*head, *marks, *behind])
+
+
+def one_run(places):
+    """A bitmap of places below 64, in words of which the last one, a run word of nothing, isn't needed."""
+    if not places:
+        return bits_word(0, 0, bits=0)
+    return bits_word(1 << 33, sum(1 << place for place in places), 0, bits=places[-1] + 1)
+
+
+def untracked_contents(kind):
+    """Names and contents of untracked caches of each shape."""
+    some, stat = f"22*{ID_LENGTH[kind]}", "07*36"
+    deep = [directory_words(2, ["x", "y"]), directory_words(1, name="a"), directory_words(0, ["z"], "b"),
+            directory_words(0, name="c")]
+    none, zero = bits_word(0, bits=0), one_run([])
+    # (so many that their number takes two bytes, and their bits are a run and a word)
+    many = [directory_words(128), *[directory_words(0, name="d")] * 128]
+    full = bits_word(1 | 2 * 2 | 1 << 33, 1, bits=129)
+    yield "no directory", untracked_words(kind, [], [], [])
+    yield "no directory, with files of patterns", untracked_words(kind, [], [], [], files=True)
+    yield "one of which nothing is known", untracked_words(kind, deep[3:], [none, zero, none], ["00"])
+    yield "one with all", untracked_words(kind, deep[3:], [one_run([0])] * 3, [stat, some, "00"], files=True)
+    marks = [one_run([1, 3]), one_run([2]), one_run([0, 1, 2])]
+    yield "four of each kind", untracked_words(kind, deep, marks, [stat, stat, some, some, some, "00"])
+    yield "129 that are all valid", untracked_words(kind, many, [full, none, none], [f"07*{129 * 36}", "00"])
+    yield "an empty untracked name", untracked_words(kind, [directory_words(0, ["x", ""])], [none] * 3, ["00"])
+
+
+def monitor_contents():
+    """Names and contents of what a monitor said, beside one entry."""
+
+    def monitor(version, token, bitmap):
+        return f"{version:08x}{token}{len(bitmap) // 2:08x}{bitmap}"
+
+    first = bits_word(1 << 33, 1, bits=1)
+    yield "version 1", monitor(1, "0102030405060708", bits_word(bits=0))
+    yield "version 2", monitor(2, "746f6b656e00", first)
+    yield "an empty text", monitor(2, "00", bits_word(0, bits=0))
+    yield "words that could be fewer", monitor(2, "7400", bits_word(0, 1 << 33, 1, 0, bits=1))
+    yield "more bits than entries", monitor(2, "7400", bits_word(1 << 33, 3, bits=2))
+    yield "a bit behind those that it declares", monitor(2, "7400", bits_word(1 << 33, 3, bits=1))
+    yield "a run word that lacks its words", monitor(2, "7400", bits_word(3 << 33, 1, bits=1))
+    yield "an unknown version", monitor(3, "7400", first)
+
+
+def resolve_undo_contents(kind):
+    """Names and contents of resolve-undo."""
+    one, two = (f"{byte}*{ID_LENGTH[kind]}" for byte in ("33", "44"))
+    modes = ["31303036343400", "3000"]
+    yield "no path", None
+    yield "each stage", f"6100{modes[0] * 3},{one},{two},{one}"
+    yield "one stage", f"6100{modes[1]}{modes[0]}{modes[1]},{two},6200{modes[0]}{modes[1] * 2},{one}"
+    yield "no stage", f"6100{modes[1] * 3}"
+    yield "a mode with zeros and a plus before it", f"00{'2b30' + modes[0]}{'30' + modes[1]}{modes[1]},{one}"
+    yield "no octal digit", f"6100{'3800' * 3},{one}"
+
+
+def length_of(content):
+    """How many bytes pieces stand for."""
+    pieces = (piece.split("*") for piece in (content or "").split(",") if piece)
+    return sum(len(digits) // 2 * int((times or ["1"])[0]) for digits, *times in pieces)
+
+
+def item_word(signature, content):
+    """An extension in pieces."""
+    head = f"{signature.encode().hex()}{length_of(content):08x}"
+    return head if content is None else f"{head},{content}"
+
+
+def kept_images():
+    """Files with extensions of each shape, of which all that fits is kept."""
+    rows = []
+    for kind, length in ID_LENGTH.items():
+        one, none = (files_to_write(kind)[name][0] for name in ("one entry alone", "no entry and the mark"))
+        tree, trailer = "5452454500000006002d3120300a", f"00*{length}"
+        marker = item_word("EOIE", f"00000000,00*{length}")
+
+        def image(*pieces, front=one, end="kept digest 0", call="image"):
+            rows.append(f"{call} {kind} {','.join([front, *pieces, trailer])} {end}")
+
+        shapes = {
+            "REUC": [*resolve_undo_contents(kind)],
+            "UNTR": [*untracked_contents(kind)],
+            "FSMN": [*monitor_contents()],
+        }
+        for signature, contents in shapes.items():
+            for name, content in contents:
+                rows += ["", f"# {kind}, {signature}: {name}."]
+                image(item_word(signature, content))
+                image(item_word(signature, content), marker, end="kept digest 1")
+        first = {signature: item_word(signature, dict(contents)[name]) for (signature, contents), name in zip(
+            shapes.items(), ("each stage", "four of each kind", "version 2"))}
+        rows += ["", f"# {kind}: all extensions, in git's order and in another, and an end marker or none."]
+        ordered = [tree, *first.values(), "7364697200000000"]
+        for pieces in (ordered, [*ordered, marker], [marker, *reversed(ordered)]):
+            for call in ("image", "image4"):
+                image(*pieces, call=call)
+            image(*pieces, end="kept null 0")
+            image(*pieces, end="kept digest 2")
+            image(*pieces, end="all digest 0")
+        rows += ["", f"# {kind}: beside no entry, and where an edit left all out: what speaks of entries goes then."]
+        image(*ordered, marker, front=none)
+        image(marker, front=none)
+        image(marker)
+        image(item_word("EOIE", None))
+        image(*ordered, marker, end="kept digest 0 removed")
+        image(*ordered, end="kept digest 1 removed")
+        rows += ["", f"# {kind}: an offset table, an extension that isn't known, and one that comes twice."]
+        image(item_word("IEOT", "00000001,0000000c00000001"), tree, item_word("ABCD", "00"), marker)
+        image(*first.values(), item_word("FSMN", None))
+        image(item_word("REUC", "00"), *first.values())
+    return rows[1:]
+
+
 def changed_modes():
     """Every mode beside every kind of file, where the file system has links and bits for execution, or not."""
     rows, answers = [], ("yes", "no")
@@ -278,6 +410,7 @@ ROWS = {
     "edits": edits,
     "merges": merges,
     "images": images,
+    "kept images": kept_images,
     "changed modes": changed_modes,
     "stats": stats,
     "deep paths": deep_paths,

@@ -21,7 +21,10 @@ AVERAGE_TAIL = 80
 
 @dataclass
 class State:
-    """An index in memory. `storage` has the bytes of the paths in the order in which the entries came."""
+    """An index in memory. `storage` has the bytes of the paths in the order in which the entries came.
+
+    `fits` says whether the extensions speak of these entries, and not of those before an edit.
+    """
 
     kind: str
     version: int = 2
@@ -35,6 +38,7 @@ class State:
     resolve_undo: Optional[list] = None
     untracked: Optional[untracked_cache.Cache] = None
     monitor: Optional[extensions.Monitor] = None
+    fits: bool = True
 
     def push(self, entry):
         """Puts an entry at the end."""

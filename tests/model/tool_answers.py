@@ -81,7 +81,7 @@ def checked(found, name):
 def rewritten(is_version_4):
     """The command that writes the index in version 4, or in the smallest unless it has that version."""
     def made(found, _):
-        options = writing.Options(is_version_4=is_version_4 or found.version == 4)
+        options = writing.Options(is_version_4=is_version_4 or found.version == 4, is_kept=True)
         try:
             return Answer(written=writing.image(found, options)[2])
         except writing.NulInPath:
@@ -162,7 +162,7 @@ def salvaged(kind, name, files):
     for entry in found.saved(found.completed(kind, files)[0]):
         wanted.push(entry)
     counts = f"{found.declared} declared, {len(found.front)} read, {len(wanted.entries)} kept"
-    return Answer(fault=f"index-tool: {name}: {counts}".encode(), written=writing.image(wanted)[2])
+    return Answer(fault=f"index-tool: {name}: {counts}".encode(), written=writing.image(wanted, writing.Options(is_kept=True))[2])
 
 
 # The commands that look at an index with its shared one, those that look at the bytes of a file, and one that looks at

@@ -4,7 +4,7 @@ from dataclasses import dataclass, field
 from typing import Optional
 
 import bitmaps
-from bytes import ID_LENGTH, Unreadable, null_id, number, numbers, offset_number, take, up_to
+from bytes import ID_LENGTH, Unreadable, null_id, number, numbers, offset_number, offset_number_bytes, take, up_to
 from entries import Stat
 
 # Levels below the first directory that can be read.
@@ -148,3 +148,30 @@ def read_marks(data, kind, directories):
     for place in with_file:
         directories[place].exclude_file, data = take(data, ID_LENGTH[kind])
     return data
+
+
+def stat_bytes(stat):
+    return b"".join(value.to_bytes(4, "big") for value in stat)
+
+
+def marks_bytes(directories):
+    """What stands behind the directories: the bitmaps, the stats, and the ids of exclude files."""
+    marks = [[each.stat is not None for each in directories], [each.is_check_only for each in directories]]
+    marks.append([each.exclude_file is not None for each in directories])
+    pieces = [bitmaps.to_bytes(bitmaps.of_places([place for place, it in enumerate(mark) if it])) for mark in marks]
+    pieces += [stat_bytes(each.stat) for each in directories if each.stat is not None]
+    pieces += [each.exclude_file for each in directories if each.exclude_file is not None]
+    return b"".join(pieces)
+
+
+def to_bytes(cache, kind):
+    """The content of the extension, as git's files have it. A file of patterns that isn't there is zeros."""
+    info, excludes = (pair or (Stat(), null_id(kind)) for pair in (cache.info_exclude, cache.excludes_file))
+    data = offset_number_bytes(len(cache.identifier)) + cache.identifier + stat_bytes(info[0]) + stat_bytes(excludes[0])
+    data += cache.flags.to_bytes(4, "big") + info[1] + excludes[1] + cache.exclude_name + b"\0"
+    data += offset_number_bytes(len(cache.directories))
+    for each in cache.directories:
+        data += offset_number_bytes(len(each.untracked)) + offset_number_bytes(len(each.directories))
+        data += each.name + b"\0"
+        data += b"".join(name + b"\0" for name in each.untracked)
+    return data + marks_bytes(cache.directories) + b"\0" if cache.directories else data

@@ -4,6 +4,7 @@ from dataclasses import dataclass
 
 import extensions
 import trees
+import untracked_cache
 from bytes import digest, null_id, offset_number_bytes
 from entries import EXTENDED, LENGTH_BITS, first_word, second_word
 from state import SIGNATURE
@@ -15,12 +16,13 @@ class NulInPath(Exception):
 
 @dataclass
 class Options:
-    """What is written of a state."""
+    """What is written of a state. Where all that fits is kept, nothing is asked of a cached tree and an end marker."""
 
     with_tree: bool = True
     with_end_marker: bool = True
     with_digest: bool = True
     is_version_4: bool = False
+    is_kept: bool = False
 
 
 def fixed_bytes(entry):
@@ -78,20 +80,42 @@ def item_bytes(signature, content):
     return signature + len(content).to_bytes(4, "big") + content
 
 
+def kept_items(state, count):
+    """All that a state has and that fits so many entries that are written, in git's order.
+
+    An untracked cache with an empty name and a monitor's answer with more bits than entries are left out.
+    """
+    items = []
+    if state.tree is not None and state.fits:
+        items.append((extensions.TREE, trees.to_bytes(state.tree)))
+    if state.resolve_undo is not None:
+        items.append((extensions.RESOLVE_UNDO, extensions.resolve_undo_bytes(state.resolve_undo)))
+    cache, monitor = state.untracked, state.monitor
+    if cache is not None and state.fits and all(name for each in cache.directories for name in each.untracked):
+        items.append((extensions.UNTRACKED, untracked_cache.to_bytes(cache, state.kind)))
+    if monitor is not None and state.fits and monitor.dirty.bits <= count:
+        items.append((extensions.MONITOR, extensions.monitor_bytes(monitor)))
+    return items + [(extensions.SPARSE, b"")] * state.is_sparse
+
+
+def chosen_items(state, options):
+    """The cached tree where it is asked for, and the mark of a sparse index."""
+    tree = [(extensions.TREE, trees.to_bytes(state.tree))] if state.tree is not None and options.with_tree else []
+    return tree + [(extensions.SPARSE, b"")] * state.is_sparse
+
+
 def body(state, options=Options()):
     """The version that is written, and all bytes but the trailer."""
     version = version_of(state, options)
     written = [entry for entry in state.entries if not entry.is_removed]
     data = SIGNATURE + version.to_bytes(4, "big") + len(written).to_bytes(4, "big")
     data += entries_bytes(written, options)
-    end_of_entries, items = len(data), []
-    if state.tree is not None and options.with_tree:
-        items.append((extensions.TREE, trees.to_bytes(state.tree)))
-    if state.is_sparse:
-        items.append((extensions.SPARSE, b""))
+    end_of_entries = len(data)
+    items = kept_items(state, len(written)) if options.is_kept else chosen_items(state, options)
     for signature, content in items:
         data += item_bytes(signature, content)
-    if state.entries and items and options.with_end_marker:
+    is_behind_others = state.entries and items and options.with_end_marker
+    if state.had_end_marker if options.is_kept else is_behind_others:
         data += extensions.end_marker_bytes(state.kind, end_of_entries, items)
     return version, data
 

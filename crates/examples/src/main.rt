@@ -8,6 +8,7 @@ mod checkout;
 mod merge;
 mod repair;
 mod sample;
+mod stage;
 mod status;
 mod tree_builder;
 
@@ -22,10 +23,11 @@ fn main(rt: HostRuntime) -> anyhow::Result<()> {
         ["merge", rest @ ..] => merge::run(&rt, rest),
         ["repair", rest @ ..] => repair::run(&rt, rest),
         ["sample", rest @ ..] => sample::run(&rt, rest),
+        ["stage", rest @ ..] => stage::run(&rt, rest),
         ["status", rest @ ..] => status::run(&rt, rest),
         ["tree-builder", rest @ ..] => tree_builder::run(&rt, rest),
         _ => Err(anyhow::Error::msg(
-            "usage: examples NAME WORDS, with checkout, merge, repair, sample, status or tree-builder as NAME",
+            "usage: examples NAME WORDS, with checkout, merge, repair, sample, stage, status or tree-builder as NAME",
         )),
     }
 }

@@ -72,6 +72,7 @@ fn repair(alloc: Global, bytes: &[u8], kind: Kind, options: Options) -> Result<R
     ensures { IfOk result (IsRepaired kind options bytes.now) }
 {
     laws::written_reads_back();
+    laws::read_extensions_are_keepable();
     laws::one_answer();
     let reading = decode::Options::default();
     let state = match State::from_bytes(alloc, bytes, FileTime::EPOCH, kind, reading) {

@@ -77,6 +77,7 @@ fn has_null_trailer(word: &str) -> Result<bool, Fault> {
 fn choice_of(word: &str) -> Result<Extensions, Fault> {
     let (tree_cache, end_of_index_entry) = match word {
         "all" => return Ok(Extensions::All),
+        "kept" => return Ok(Extensions::Kept),
         "none" => return Ok(Extensions::None),
         "neither" => (false, false),
         "tree" => (true, false),

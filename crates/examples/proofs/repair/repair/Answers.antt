@@ -1,5 +1,6 @@
 -- The law of reading back gives the image one answer, and the law of one answer lets it have no second.
-use Rattle.std.proofs.Common.{rules, ◌≡◌, None, List, ℕ, sym, subst, ◌∙◌}
+use Rattle.std.proofs.Common.{rules, ◌≡◌, ◌<◌, None, List, ℕ, All, Fits, w8, get_or, sym, subst, ◌∙◌, arith}
+use Rattle.std.proofs.lemmas.List.Elements.{All-from_get_or}
 use Rattle.gix_index.specs.Answer.{Answer, IsAnswer}
 use Rattle.gix_index.specs.DecodeOptions.{Options}
 use Rattle.gix_index.specs.EndMarker.{IsMarker}
@@ -12,6 +13,9 @@ use Rattle.gix_index.specs.Storable.{IsStorable, IsWritable}
 use Rattle.examples.specs.Repaired.{ReadsAs}
 use Rattle.examples.proofs.repair.repair.Goals as goal
 use Rattle.examples.proofs.repair.repair.Goals.{In-None}
+
+are_bytes : (l : List ℕ) → ((i : ℕ) → Fits w8 (get_or l i 0)) → All (λ b. b < 256) l
+are_bytes l small = All-from_get_or (λ b. b < 256) l 0 (λ i lt. omega (arith, small i))
 
 only_answer : (kind : Kind) (time : FileTime) (reading : Options) (bytes image : List ℕ) (a b : Answer) → bytes ≡ image
     → ((x y : Answer) → IsAnswer kind time reading bytes x → IsAnswer kind time reading bytes y → x ≡ y)
@@ -33,6 +37,9 @@ reads c = λ time reading a takes is.
     (subst (λ l. IsMarker c.object_hash-own_kind.result l None) (c.deref.ensures.value ∙ bytes) unmarked) in
     let faithful : IsFaithful v options = record {
       storable = storable;
+      keepable = λ _.
+          c.read_extensions_are_keepable.ensures c.args.kind _ c.default-reading.result c.args.bytes.now v
+          c.in-Ok.field-0-1 (are_bytes c.args.bytes.now c.type_inv.bytes) c.in-Ok.ensures.answer;
       writable = writable;
       unmistakable = λ _ _. marker;
     } in

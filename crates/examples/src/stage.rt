@@ -1,0 +1,78 @@
+//! `examples stage INDEX ID PATH`: stages a file in an index in place, as `git update-index --cacheinfo` does.
+//!
+//! INDEX is an index of SHA-1, ID the id of the file's content, as `git hash-object -w` prints it, and PATH its path in
+//! the repository. The index is locked before it is read. Whatever stood at the path goes, and files where it needs a
+//! folder. All extensions stay that still fit. Nothing is printed.
+
+ghost use Rattle.std.specs.Prelude.{◌≡◌, OnErr, OnOk};
+ghost use Rattle.gix_index.specs.Edits.{IsUnchanged};
+ghost use Rattle.gix_index.specs.State.{PathsInStorage};
+
+use gix_index::change::{ApplyError, Change};
+use gix_index::decode::entry::Pathless;
+use gix_index::entry::{Flags, Mode, Stage, Stat};
+use gix_index::file::System;
+use gix_index::hash::{Kind, ObjectId};
+use gix_index::init::ComponentCheck;
+use gix_index::write::{Extensions, Options};
+use gix_index::{BitFlags as _, File, State, decode};
+use std::path::PathBuf;
+
+/// Names that a path of a repository may have.
+struct PlainNames;
+
+impl ComponentCheck for PlainNames {
+    ghost use Rattle.std.specs.Prelude.{codes, nat_eq, if◌then◌else◌, Some, None, ◌||◌};
+    ghost use Rattle.std.specs.Cmp.Lexicographic.{pointwise};
+
+    ghost refusal = { λ _ name _. if pointwise nat_eq name (codes ".") || (pointwise nat_eq name (codes "..")
+        || pointwise nat_eq name (codes ".git")) then Some 1 else None };
+
+    fn check(&self, name: &[u8], _symlink: bool) -> Result<(), u32> {
+        match name {
+            b"." | b".." | b".git" => Err(1),
+            _ => Ok(()),
+        }
+    }
+}
+
+/// Stages a file, in place of what stands at its path.
+fn stage(state: &mut State, id: ObjectId, path: &[u8]) -> Result<(), ApplyError>
+    requires { PathsInStorage state.old }
+    ensures placed { PathsInStorage state.new }
+    ensures err { OnErr result (IsUnchanged state.old state.new) }
+{
+    let (stat, mode) = (Stat::default(), Mode::FILE);
+    let flags = Flags::from_stage(Stage::Unconflicted);
+    let entry = Pathless {
+        stat,
+        id,
+        flags,
+        mode,
+    };
+    state.apply(&PlainNames, &[Change::Stage { entry, path }])
+}
+
+/// Runs the example.
+pub fn run(rt: &HostRuntime, words: &[&str]) -> anyhow::Result<()> {
+    let (alloc, mut folder) = (rt.alloc(), System { rt });
+    let &[index, id, path] = words else {
+        return Err(anyhow::Error::msg("usage: examples stage INDEX ID PATH"));
+    };
+    let id = ObjectId::from_bytes(&hex::decode(alloc, id)?);
+    let id = id.ok_or(anyhow::Error::msg("the id has another length"))?;
+    let place = PathBuf::from_str(alloc, index)?;
+    let reading = decode::Options::default();
+    let locked = File::lock(&mut folder, alloc, place, Kind::Sha1, false, reading, false)?;
+    let (mut file, lock) = locked.into_parts();
+    if let Err(e) = stage(&mut file, id, path.as_bytes()) {
+        lock.release(&mut folder);
+        return Err(e.into());
+    }
+    let options = Options {
+        extensions: Extensions::Kept,
+        ..Options::default()
+    };
+    file.commit(&mut folder, alloc, lock, options, true)?;
+    Ok(())
+}
