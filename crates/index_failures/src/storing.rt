@@ -47,8 +47,9 @@ pub fn lock_at<'a, D: Folder>(
     }
 }
 
-/// Writes an index in the place of the file that was locked, with all extensions that it has and that fit, and the digest
-/// at the end. All bytes are on the disk before it takes that place. [`Failure::Rewrite`] names that file, which is as it was.
+/// Writes an index in the place of the file that was locked, with all extensions that it has and that fit, and the
+/// digest at the end. All bytes are on the disk before it takes that place. [`Failure::Rewrite`] names that file, which
+/// is as it was.
 pub fn commit_at<'a, D: Folder>(
     folder: &mut D,
     alloc: Global,

@@ -18,7 +18,7 @@ impl State {
     /// both keep their order. Where they didn't strictly increase, the extensions aren't known to fit them then. The
     /// storage of paths and all else stay.
     ///
-    /// Where they are in order already, they are read once, nothing moves, and no memory is asked for. After a refusal
+    /// Where they are in order already, they are read twice, nothing moves, and no memory is asked for. After a refusal
     /// of memory the state is as it was.
     pub fn sort_entries(&mut self) -> Result<(), AllocError>
         requires { PathsInStorage self.old }
