@@ -315,6 +315,16 @@ def kept_images():
             image(*pieces, end="kept null 0")
             image(*pieces, end="kept digest 2")
             image(*pieces, end="all digest 0")
+        rows += ["", f"# {kind}: directories, of which git has those with shorter names first, by any options."]
+        for names in ("61,6161,62", "62,6161", "61*255,61*254,62", "61*256,62*257,61*258", "61*257,62*256,63"):
+            children = "".join(f",{name},002d3120300a" for name in names.split(","))
+            count = len(names.split(","))
+            content = f"002d3120{0x30 + count:02x}0a{children}"
+            for call in ("image", "image4"):
+                image(item_word("TREE", content), call=call)
+            image(item_word("TREE", content), end="all digest 0")
+        nested = "002d3120310a,6100,2d3120320a,626262002d3120300a,6363002d3120300a"
+        image(item_word("TREE", nested))
         rows += ["", f"# {kind}: beside no entry, and where an edit left all out: what speaks of entries goes then."]
         image(*ordered, marker, front=none)
         image(marker, front=none)

@@ -12,6 +12,8 @@ DEEPEST = 2048
 NODE_SIZE = 104
 # More digits than a number of 64 bits has.
 MOST_DIGITS = 20
+# Names of so many bytes and more are of one length where a tree is in git's order.
+LONG_NAME = 256
 
 
 @dataclass
@@ -96,6 +98,15 @@ def sort_children(node):
     node.children.sort(key=lambda child: child.name)
     if len({child.name for child in node.children}) < len(node.children):
         raise Unreadable
+
+
+def in_git_order(tree):
+    """The same tree with shorter names first among the children of each node, and those of one length as they stand.
+
+    Names of 256 bytes and more are of one length here.
+    """
+    children = sorted(tree.children, key=lambda child: min(len(child.name), LONG_NAME))
+    return Tree(tree.name, tree.id, tree.count, [in_git_order(child) for child in children])
 
 
 def to_bytes(tree):

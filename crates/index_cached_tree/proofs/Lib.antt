@@ -2,6 +2,8 @@ pub mod Agreements
 pub mod Children
 pub mod Decimals
 pub mod Excesses
+pub mod GitOrdered
+pub mod GitOrders
 pub mod KeptTrees
 pub mod NodeHeads
 pub mod Orders

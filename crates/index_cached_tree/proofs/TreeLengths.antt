@@ -57,7 +57,7 @@ listed [] = refl
 listed (t ∷ ts) = ap (λ (l : List ℕ). node_bytes (node_of t) ++ l) (listed ts)
     ∙ sym (flat_map-cons (λ (x : Tree). node_bytes (node_of x)) t ts)
 
-number : (ts : List Tree) → how_many_nodes (nodes_from (map node_of ts)) ≡ length ts
+pub number : (ts : List Tree) → how_many_nodes (nodes_from (map node_of ts)) ≡ length ts
 number [] = refl
 number (t ∷ ts) = omega (arith, number ts)
 

@@ -1,5 +1,6 @@
 pub mod Agreement
 pub mod Decimal
+pub mod GitOrder
 pub mod NodeSteps
 pub mod ObjectSteps
 pub mod Sound

@@ -102,7 +102,7 @@ fn two<'a>(a: &'a [u8], b: &'a [u8]) -> [&'a [u8]; 2]
 
 /// Writes a node without its children.
 #[tactic(auto, unfolding(crate::specs::TreeImage::node_head_bytes))]
-fn put_node_head<W: Out>(tree: &Tree, out: &mut W) -> io::Result<()>
+pub(super) fn put_node_head<W: Out>(tree: &Tree, out: &mut W) -> io::Result<()>
     requires { W.failed out.old ≡ false }
     ensures { Puts W.Out out.old out.new result
         (node_head_bytes (out-Tree tree.now).name.items (out-Tree tree.now).id
@@ -179,7 +179,7 @@ fn room_behind_all(trees: &[Tree], room: u64) -> Option<u64>
 }
 
 /// The eight bytes before the content of an extension.
-fn item_head(signature: [u8; 4], len: u32) -> [u8; 8]
+pub(super) fn item_head(signature: [u8; 4], len: u32) -> [u8; 8]
     ensures { result ≡ signature ++ be32 len }
 {
     let [a, b, c, d] = signature;

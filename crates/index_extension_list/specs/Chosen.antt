@@ -3,6 +3,7 @@
 use Rattle.std.specs.Prelude.{Bool, List, [], ◌∷◌, ◌++◌, map, Option, Some, None, if◌then◌else◌}
 use Rattle.std.specs.Option.{option_map}
 use Rattle.index_parts.specs.declared.hash.Kind.{Kind}
+use Rattle.index_cached_tree.specs.GitOrder.{ordered_if}
 use Rattle.index_cached_tree.specs.Tree.{Node, node_of}
 use Rattle.index_cached_tree.specs.TreeImage.{tree_item}
 use Rattle.index_extensions.specs.Encoding.{sparse_item}
@@ -26,7 +27,7 @@ pub record Extensions : Type 0 where
 -- what the code has of them, as plain data
 abbrev pub extensions_of : Chosen → Extensions
 extensions_of c = record {
-  tree = option_map (λ t. node_of t.now) c.tree;
+  tree = option_map (λ t. ordered_if c.in_git_order (node_of t.now)) c.tree;
   resolve_undo = option_map (λ paths. map path_stages paths.now) c.resolve_undo;
   untracked = option_map (λ cache. cache_of cache.now) c.untracked;
   fs_monitor = option_map (λ monitor. monitor_of monitor.now) c.fs_monitor;

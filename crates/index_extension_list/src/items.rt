@@ -6,6 +6,7 @@ ghost use Rattle.std.specs.Option.{option_map};
 ghost use Rattle.index_parts.specs.Puts.{Puts};
 ghost use Rattle.index_extensions.specs.EndMarker.{heads};
 ghost use Rattle.index_extensions.specs.Encoding.{heads_bytes, item_bytes, marker_item};
+ghost use Rattle.index_cached_tree.specs.GitOrder.{ordered_if};
 ghost use Rattle.index_cached_tree.specs.Tree.{node_of};
 ghost use Rattle.index_cached_tree.specs.TreeImage.{node_bytes, tree_item};
 ghost use Rattle.index_small_extensions.specs.FsMonitor.{monitor_of};
@@ -18,8 +19,8 @@ ghost use Rattle.index_extension_list.specs.Chosen.{extensions_of, item_if, item
 ghost use Rattle.index_extension_list.specs.Listing.{AreLens, head_if};
 
 use crate::{Chosen, Lens};
-use index_cached_tree::Tree;
 use index_cached_tree::write::put_item;
+use index_cached_tree::{Tree, git_order};
 use index_extension_writing::{fs_monitor, resolve_undo, untracked_cache};
 use index_extensions::{Signature, end_of_index_entry, sparse};
 use index_parts::hash::Kind;
@@ -29,15 +30,35 @@ use index_small_extensions::resolve_undo::ResolvePath;
 use index_untracked::UntrackedCache;
 use std::io;
 
-/// Writes a cached tree, where there is one, whose content has this length.
-fn put_tree<W: Out>(tree: Option<&Tree>, len: Option<u32>, out: &mut W) -> io::Result<()>
-    requires len { len ≡ option_map (λ t. length (node_bytes (node_of t.now))) tree }
+/// Writes a cached tree whose content has this length, in git's order or not.
+#[tactic(auto, using(index_cached_tree::proofs::GitOrders::same_length))]
+fn put_tree_item<W: Out>(tree: &Tree, in_git_order: bool, len: u32, out: &mut W) -> io::Result<()>
+    requires len { len ≡ length (node_bytes (ordered_if in_git_order (node_of tree.now))) }
     requires unfailed { W.failed out.old ≡ false }
     ensures { Puts W.Out out.old out.new result
-        (flat_map item_bytes (item_if tree_item (option_map (λ t. node_of t.now) tree.entry))) }
+        (item_bytes (tree_item (ordered_if in_git_order (node_of tree.now)))) }
+{
+    if in_git_order {
+        return git_order::put_item(tree, len, out);
+    }
+    put_item(tree, len, out)
+}
+
+/// Writes a cached tree, where there is one, whose content has this length, in git's order or not.
+fn put_tree<W: Out>(
+    tree: Option<&Tree>,
+    in_git_order: bool,
+    len: Option<u32>,
+    out: &mut W,
+) -> io::Result<()>
+    requires len { len ≡ option_map
+        (λ t. length (node_bytes (ordered_if in_git_order (node_of t.now)))) tree }
+    requires unfailed { W.failed out.old ≡ false }
+    ensures { Puts W.Out out.old out.new result (flat_map item_bytes
+        (item_if tree_item (option_map (λ t. ordered_if in_git_order (node_of t.now)) tree.entry))) }
 {
     match (tree, len) {
-        (Some(tree), Some(len)) => put_item(tree, len, out),
+        (Some(tree), Some(len)) => put_tree_item(tree, in_git_order, len, out),
         _ => Ok(()),
     }
 }
@@ -160,6 +181,6 @@ pub fn put_items<W: Out>(chosen: Chosen<'_>, kind: Kind, lens: Lens, out: &mut W
     ensures written { Puts W.Out out.old out.new result
         (flat_map item_bytes (items kind (extensions_of chosen.entry))) }
 {
-    put_tree(chosen.tree, lens.tree, out)?;
+    put_tree(chosen.tree, chosen.in_git_order, lens.tree, out)?;
     put_behind_tree(chosen, kind, lens, out)
 }

@@ -3,6 +3,7 @@
 ghost use Rattle.std.specs.Prelude.{◌≡◌, ◌≤◌, ◌<◌, ◌^◌, length, map, IfNone, IfSome};
 ghost use Rattle.std.specs.List.{flat_map};
 ghost use Rattle.std.specs.Option.{option_map};
+ghost use Rattle.index_cached_tree.specs.GitOrder.{ordered_if};
 ghost use Rattle.index_cached_tree.specs.Tree.{node_of};
 ghost use Rattle.index_cached_tree.specs.TreeImage.{node_bytes};
 ghost use Rattle.index_extensions.specs.Encoding.{item_bytes};
@@ -36,10 +37,11 @@ pub struct Lens {
     pub fs_monitor: Option<u32>,
 }
 
-/// The length of a cached tree, where there is one; None where 32 bits can't count it.
-fn tree_len(tree: Option<&Tree>) -> Option<Option<u32>>
+/// The length of a cached tree, where there is one, in git's order or not; None where 32 bits can't count it.
+#[tactic(auto, using(index_cached_tree::proofs::GitOrders::same_length_if))]
+fn tree_len(tree: Option<&Tree>, in_git_order: bool) -> Option<Option<u32>>
     ensures { result ≡ len_within_32
-        (option_map (λ t. length (node_bytes (node_of t.now))) tree.entry) }
+        (option_map (λ t. length (node_bytes (ordered_if in_git_order (node_of t.now)))) tree.entry) }
 {
     match tree {
         None => Some(None),
@@ -118,7 +120,7 @@ impl Lens {
         ensures none { IfNone result
             (2 ^ 32 ≤ length (flat_map item_bytes (items kind (extensions_of chosen.entry)))) }
     {
-        let Some(tree) = tree_len(chosen.tree) else {
+        let Some(tree) = tree_len(chosen.tree, chosen.in_git_order) else {
             return None;
         };
         let Some(resolve_undo) = resolve_undo_len(chosen.resolve_undo) else {

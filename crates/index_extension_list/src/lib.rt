@@ -18,6 +18,8 @@ pub use lens::Lens;
 pub struct Chosen<'a> {
     /// The cached tree.
     pub tree: Option<&'a Tree>,
+    /// Whether its directories are written as git orders them, and not as they stand in it.
+    pub in_git_order: bool,
     /// The stages of resolved conflicts.
     pub resolve_undo: Option<&'a [ResolvePath]>,
     /// The untracked cache.

@@ -7,6 +7,7 @@ pub mod KnownAgain
 pub mod Lengths
 pub mod MarkedDirectories
 pub mod MarkedWords
+mod MonitorPlaces
 mod OctalDigits
 pub mod WrittenBitmaps
 pub mod WrittenDirectories

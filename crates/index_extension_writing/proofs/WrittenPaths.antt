@@ -195,3 +195,9 @@ path_len p name stages size e f len = omega (
   length-append (name ++ 0 ∷ []) (flat_map mode_bytes stages ++ flat_map stage_id stages),
   length-append name (0 ∷ []),
 )
+
+-- what all of a list's images have, all of it have in their images
+pub all_unmapped : {A B : Type 0} (P : B → Type 0) (f : A → B) (xs : List A) → All P (map f xs) → All (λ x. P (f x)) xs
+all_unmapped P f [] h = All-nil (λ x. P (f x))
+all_unmapped P f (x ∷ xs) h = All-cons (λ y. P (f y)) x xs (All-head P (f x) (map f xs) h)
+    (all_unmapped P f xs (All-tail P (f x) (map f xs) h))

@@ -1,6 +1,8 @@
-//! Writing what a file system monitor said (gitformat-index, "File System Monitor cache").
+//! Writing what a file system monitor said, and whether it is of the entries (gitformat-index, "File System Monitor
+//! cache").
 
 ghost use Rattle.std.specs.Prelude.{◌≡◌, ◌++◌, ◌+◌, ◌<◌, ◌^◌, false, length};
+ghost use Rattle.index_bitmaps.specs.UnpackingSteps.{items_left};
 ghost use Rattle.index_cached_tree.specs.TreeWriting.{within_32};
 ghost use Rattle.index_extensions.specs.Encoding.{item_bytes};
 ghost use Rattle.index_parts.specs.Numbers.{be32};
@@ -9,10 +11,12 @@ ghost use Rattle.index_small_extensions.specs.FsMonitor.{monitor_of, token_value
 ghost use Rattle.index_extension_writing.specs.BitmapImage.{bitmap_bytes, lent_bitmap};
 ghost use Rattle.index_extension_writing.specs.MonitorImage.{lent_monitor, monitor_bytes, monitor_item};
 ghost use Rattle.index_extension_writing.specs.MonitorImage.{sized_bitmap_bytes, token_bytes, version_of};
+ghost use Rattle.index_extension_writing.specs.MonitorPlaces.{are_below, monitor_is_within};
 
 use crate::ewah;
 use crate::ewah::{LentVec, lent};
 use crate::pieces::{put_head, put_number, put_text, put_word};
+use index_bitmaps::ewah::{Positions, Run};
 use index_parts::hash::io::Out;
 use index_small_extensions::fs_monitor::{FsMonitor, SIGNATURE, Token};
 use std::io;
@@ -135,4 +139,36 @@ pub fn put_item<W: Out>(monitor: &FsMonitor, len: u32, out: &mut W) -> io::Resul
 {
     let token = monitor.token();
     put_parts(token, lent(monitor.entry_dirty()), len, out)
+}
+
+/// Whether positions are below a limit, to the last, and the words of the bitmap don't break off. A run of set bits is
+/// one step.
+fn are_below(limit: u64, mut positions: Positions<'_>) -> bool
+    ensures { result ≡ are_below limit (items_left positions.entry) }
+{
+    while let Some(position) = positions.next() {
+        let Ok(place) = position else {
+            return false;
+        };
+        if place >= limit {
+            return false;
+        }
+        let Run { first, end } = positions.pass_run();
+        if first < end && limit < end {
+            return false;
+        }
+    }
+    true
+}
+
+/// Whether what a file system monitor said is of no more than so many entries: its bitmap declares no more bits, sets
+/// none behind them, and its words don't break off. The n-th bit tells of the n-th entry (gitformat-index, "File System
+/// Monitor cache"), and git ends with a BUG where one stands behind the last.
+///
+/// It takes a step for each run of set bits, and for each set bit of a literal word. No memory is taken.
+pub fn is_within(monitor: &FsMonitor, count: u64) -> bool
+    ensures { result ≡ monitor_is_within count (monitor_of monitor.now) }
+{
+    let dirty = monitor.entry_dirty();
+    u64::from(dirty.num_bits()) <= count && are_below(count, dirty.positions())
 }

@@ -12,6 +12,7 @@ use Rattle.index_metadata.specs.declared.entry.stat.FileTime.{FileTime}
 use Rattle.index_extensions.specs.EndMarker.{heads}
 use Rattle.index_extensions.specs.Encoding.{item_bytes, marker_item}
 use Rattle.index_extensions.specs.Walk.{Item}
+use Rattle.index_cached_tree.specs.GitOrder.{in_git_order}
 use Rattle.index_cached_tree.specs.StoredTree.{stored_node}
 use Rattle.index_cached_tree.specs.Tree.{Node}
 use Rattle.index_entries.specs.EntryImage.{chosen_version, entries_in, header_bytes, stored_record, stored_records}
@@ -36,7 +37,7 @@ use Rattle.index_format.specs.Outcome.{Outcome}
 use Rattle.index_format.specs.Storable.{IsWritable, IsUnmistakable}
 use Rattle.index_format.specs.Stored.{expected, kept_value}
 use Rattle.index_format.proofs.KeptExtensions.{cache_again, count_again, monitor_again, same_cache, same_monitor}
-use Rattle.index_format.proofs.KeptExtensions.{tree_stays, where_twice}
+use Rattle.index_format.proofs.KeptExtensions.{ordered_whole, tree_stays, where_twice}
 use Rattle.index_format.proofs.OnceAnswers.{answer_one}
 use Rattle.index_format.proofs.ReadValues.{same_value, IsReadValue, answer_read}
 use Rattle.index_format.proofs.RoundTrip.{written_reads_back}
@@ -116,7 +117,8 @@ chosen_again : (all asked fit : Bool) (more count : ℕ) (kind : Kind) (o : Outc
     → chosen_by all asked true more (read_of kind (chosen_by all asked fit count o) sparse o)
     ≡ chosen_by all asked fit count o
 chosen_again true asked fit more count kind o sparse n s h =
-    same_parts _ _ o.resolve_undo _ _ _ _ _ _ (tree_stays kind fit o.tree h) (cache_again fit o.untracked)
+    same_parts _ _ o.resolve_undo _ _ _ _ _ _ (ap (option_map in_git_order) (ordered_whole kind fit o.tree h))
+    (cache_again fit o.untracked)
     (monitor_again fit more count o.fs_monitor n) s
 chosen_again false asked fit more count kind o sparse n s h =
     same_parts _ _ None _ _ _ _ _ _ (ap (where_fit asked) (tree_stays kind asked o.tree h) ∙ where_twice asked o.tree)
@@ -198,7 +200,8 @@ kept_is_whole kind bytes v options time h all well =
     subst (λ (k : Kind). IfSome o.tree (λ t. stored_node k t ≡ t)) (sym h.is_kind) h.tree in
     let mark : (o.sparse || has_directory (stored_records v.records)) ≡ o.sparse =
     ap (λ (xs : List Record). o.sparse || has_directory xs) rs ∙ h.sparse in
-    let e : chosen v options ≡ of_parts o.tree o.resolve_undo o.untracked o.fs_monitor o.sparse =
+    let ordered : Option Node = option_map in_git_order o.tree in
+    let e : chosen v options ≡ of_parts ordered o.resolve_undo o.untracked o.fs_monitor o.sparse =
     ap (λ (k : Bool). chosen_by k (asks_for options.extensions (codes "TREE")) v.fit n o) all
     ∙ ap (λ (fit : Bool). kept fit n o) h.fit
     ∙ same_parts _ _ o.resolve_undo _ _ _ _ _ _ refl (same_cache o.untracked well.names)
@@ -210,10 +213,10 @@ kept_is_whole kind bytes v options time h all well =
     ∙ ap (λ (x : Chosen). with_all v time version v.records (option_map (stored_node v.kind) x.tree) x o.sparse
     (has_marker v options)) e
     ∙ ap (λ (t : Option Node). with_all v time version v.records t
-    (of_parts o.tree o.resolve_undo o.untracked o.fs_monitor o.sparse) o.sparse (has_marker v options))
-    (tree_stays v.kind true o.tree tree)
+    (of_parts ordered o.resolve_undo o.untracked o.fs_monitor o.sparse) o.sparse (has_marker v options))
+    (ordered_whole v.kind true o.tree tree)
     ∙ ap (λ (b : Bool). with_all v time version v.records o.tree
-    (of_parts o.tree o.resolve_undo o.untracked o.fs_monitor o.sparse) o.sparse b)
+    (of_parts ordered o.resolve_undo o.untracked o.fs_monitor o.sparse) o.sparse b)
     (had_by (is_kept options.extensions) o.had_end_marker _ all)
 
 -- what a value that was read, written and read again is

@@ -5,9 +5,6 @@ use Rattle.std.specs.Prelude.{IfSome, codes}
 use Rattle.std.specs.List.{AllByRecursion}
 use Rattle.index_parts.specs.declared.hash.Kind.{Kind}
 use Rattle.index_parts.specs.Numbers.{be}
-use Rattle.index_cached_tree.specs.StoredTree.{IsStorableTree}
-use Rattle.index_cached_tree.specs.Tree.{IsTree}
-use Rattle.index_cached_tree.proofs.KeptTrees.{read_storable}
 use Rattle.index_entries.specs.Record.{AreBytes}
 use Rattle.index_extensions.specs.ExtensionValue.{IsValue, content_named, is_named, last_content, or_else}
 use Rattle.index_extensions.specs.Walk.{AreItems, Item, IsItem, IsWalk}
@@ -103,16 +100,19 @@ cache_unlimited kind limit c h = record {
 
 -- ---- all extensions
 
+pub undo_spellable : (kind : Kind) (limit : Option ℕ) (bytes : List ℕ) (items : List Item) (tail : List ℕ) (o : Outcome)
+    → AreBytes bytes → IsWalk bytes items tail → IsOutcome kind limit items o
+    → IfSome o.resolve_undo (AreSpellablePaths kind)
+undo_spellable kind limit bytes items tail o h walk is =
+    read_has (IsResolveUndo kind) (AreSpellablePaths kind) (λ b paths k r. paths_spellable kind b paths [] r)
+    (last_content (codes "REUC") items) o.resolve_undo
+    (last_is (codes "REUC") items (contents_of bytes items tail h walk.items_are)) is.resolve_undo
+
 pub keepable : (kind : Kind) (limit : Option ℕ) (bytes : List ℕ) (items : List Item) (tail : List ℕ) (o : Outcome)
     → AreBytes bytes → IsWalk bytes items tail → IsOutcome kind limit items o → AreKeepable kind o
 keepable kind limit bytes items tail o h walk is =
     let each = contents_of bytes items tail h walk.items_are in
     record {
-      tree = read_has (IsTree kind limit) (IsStorableTree kind) (λ b t k r. read_storable kind limit b t r)
-          (last_content (codes "TREE") items) o.tree (last_is (codes "TREE") items each) is.tree;
-      resolve_undo = read_has (IsResolveUndo kind) (AreSpellablePaths kind)
-          (λ b paths k r. paths_spellable kind b paths [] r) (last_content (codes "REUC") items) o.resolve_undo
-          (last_is (codes "REUC") items each) is.resolve_undo;
       untracked = read_has (IsCache kind limit) (λ c. names_are_some c ≡ true → IsSpellableCache kind None c)
           (λ b c k r names. cache_unlimited kind limit c (cache_spellable kind limit b c k.are k.small r names))
           (last_content (codes "UNTR") items) o.untracked (last_is (codes "UNTR") items each) is.untracked;

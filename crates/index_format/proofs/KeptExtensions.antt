@@ -1,20 +1,23 @@
 -- What is kept of extensions can be spelled, and is kept again.
-use Rattle.std.proofs.Common.{◌≡◌, ℕ, ◌^◌, ◌<◌, ◌≤◌, Bool, true, false, cond, leb, List, length, Option, Some, None}
-use Rattle.std.proofs.Common.{refl, ap, ◌∙◌}
+use Rattle.std.proofs.Common.{◌≡◌, ℕ, ◌^◌, ◌<◌, Bool, true, false, cond, List, length, Option, Some, None}
+use Rattle.std.proofs.Common.{refl, ap, sym, ◌∙◌}
 use Rattle.std.specs.Prelude.{IfSome}
 use Rattle.std.specs.List.{flat_map}
 use Rattle.std.specs.Option.{option_map}
-use Rattle.std.proofs.lemmas.Bool.{le-leb}
 use Rattle.std.proofs.lemmas.List.{length-map}
 use Rattle.index_parts.specs.declared.hash.Kind.{Kind}
+use Rattle.index_cached_tree.specs.GitOrder.{in_git_order}
 use Rattle.index_cached_tree.specs.StoredTree.{IsStorableTree, stored_node}
 use Rattle.index_cached_tree.specs.Tree.{Node}
+use Rattle.index_cached_tree.proofs.GitOrdered.{storable_in_git_order, stored_in_git_order}
 use Rattle.index_cached_tree.proofs.KeptTrees.{node_twice}
 use Rattle.index_entries.specs.EntryImage.{stored_record, stored_records, written}
 use Rattle.index_entries.specs.Record.{Record}
 use Rattle.index_entries.proofs.Kept.{written_stored}
 use Rattle.index_extensions.specs.Encoding.{item_bytes}
 use Rattle.index_extension_writing.specs.MonitorImage.{IsSpellableMonitor}
+use Rattle.index_extension_writing.specs.MonitorPlaces.{monitor_is_within}
+use Rattle.index_extension_writing.specs.ResolveUndoImage.{AreSpellablePaths}
 use Rattle.index_extension_writing.specs.SpellableCache.{IsSpellableCache, names_are_some}
 use Rattle.index_format.specs.Outcome.{Outcome}
 use Rattle.index_small_extensions.specs.FsMonitor.{Monitor}
@@ -28,6 +31,11 @@ pub fit_has : {A : Type 0} (P : A → Type 0) (fit : Bool) (o : Option A) → If
 fit_has P true o h = h
 fit_has P false o h = tt
 
+ordered_has : (kind : Kind) (tree : Option Node) → IfSome tree (IsStorableTree kind)
+    → IfSome (option_map in_git_order tree) (IsStorableTree kind)
+ordered_has kind None h = tt
+ordered_has kind (Some t) h = storable_in_git_order kind t h
+
 cache_has : (kind : Kind) (o : Option Cache)
     → IfSome o (λ c. names_are_some c ≡ true → IsSpellableCache kind None c)
     → IfSome (cache_with_names o) (IsSpellableCache kind None)
@@ -40,17 +48,18 @@ cache_has kind (Some c) h = by (names_are_some c) refl
 
 monitor_has : (P : Monitor → Type 0) (count : ℕ) (o : Option Monitor) → IfSome o P → IfSome (monitor_within count o) P
 monitor_has P count None h = tt
-monitor_has P count (Some m) h = by (leb m.dirty.num_bits count)
+monitor_has P count (Some m) h = by (monitor_is_within count m)
   where
     by : (b : Bool) → IfSome (cond b (Some m) None) P
     by true = h
     by false = tt
 
-pub kept_spellable : (kind : Kind) (fit : Bool) (count : ℕ) (o : Outcome) → AreKeepable kind o
+pub kept_spellable : (kind : Kind) (fit : Bool) (count : ℕ) (o : Outcome) → IfSome o.tree (IsStorableTree kind)
+    → IfSome o.resolve_undo (AreSpellablePaths kind) → AreKeepable kind o
     → length (flat_map item_bytes (items kind (kept fit count o))) < 2 ^ 32 → AreSpellable kind (kept fit count o)
-kept_spellable kind fit count o h small = record {
-  tree = fit_has (IsStorableTree kind) fit o.tree h.tree;
-  resolve_undo = h.resolve_undo;
+kept_spellable kind fit count o tree undo h small = record {
+  tree = ordered_has kind (where_fit fit o.tree) (fit_has (IsStorableTree kind) fit o.tree tree);
+  resolve_undo = undo;
   untracked = fit_has (IsSpellableCache kind None) fit (cache_with_names o.untracked)
       (cache_has kind o.untracked h.untracked);
   fs_monitor = fit_has IsSpellableMonitor fit (monitor_within count o.fs_monitor)
@@ -84,6 +93,27 @@ tree_stays kind true None h = refl
 tree_stays kind true (Some t) h = ap (λ (u : Node). Some u) h
 tree_stays kind false tree h = refl
 
+-- git's order is no part of what a file keeps of a tree
+pub ordered_stays : (kind : Kind) (tree : Option Node)
+    → option_map (stored_node kind) (option_map in_git_order tree) ≡ option_map (stored_node kind) tree
+ordered_stays kind None = refl
+ordered_stays kind (Some t) = ap (λ (u : Node). Some u) (stored_in_git_order kind t)
+
+pub ordered_again : (kind : Kind) (fit : Bool) (tree : Option Node) → option_map (stored_node kind) (option_map
+    in_git_order (where_fit fit (option_map (stored_node kind) (option_map in_git_order (where_fit fit tree)))))
+    ≡ option_map (stored_node kind) (option_map in_git_order (where_fit fit tree))
+ordered_again kind fit tree =
+    let kept : option_map (stored_node kind) (option_map in_git_order (where_fit fit tree))
+    ≡ option_map (stored_node kind) (where_fit fit tree) = ordered_stays kind (where_fit fit tree) in
+    ap (λ (o : Option Node). option_map (stored_node kind) (option_map in_git_order (where_fit fit o))) kept
+    ∙ ordered_stays kind (where_fit fit (option_map (stored_node kind) (where_fit fit tree)))
+    ∙ tree_again kind fit tree ∙ sym kept
+
+-- a tree of which a file keeps all, in git's order
+pub ordered_whole : (kind : Kind) (fit : Bool) (tree : Option Node) → IfSome tree (λ t. stored_node kind t ≡ t)
+    → option_map (stored_node kind) (option_map in_git_order (where_fit fit tree)) ≡ where_fit fit tree
+ordered_whole kind fit tree h = ordered_stays kind (where_fit fit tree) ∙ tree_stays kind fit tree h
+
 pub where_twice : {A : Type 0} (fit : Bool) (o : Option A) → where_fit fit (where_fit fit o) ≡ where_fit fit o
 where_twice true o = refl
 where_twice false o = refl
@@ -103,9 +133,9 @@ cache_again fit o = fit_twice fit cache_with_names names_twice refl o
 
 bits_twice : (count : ℕ) (o : Option Monitor) → monitor_within count (monitor_within count o) ≡ monitor_within count o
 bits_twice count None = refl
-bits_twice count (Some m) = by (leb m.dirty.num_bits count) refl
+bits_twice count (Some m) = by (monitor_is_within count m) refl
   where
-    by : (b : Bool) → leb m.dirty.num_bits count ≡ b
+    by : (b : Bool) → monitor_is_within count m ≡ b
         → monitor_within count (cond b (Some m) None) ≡ cond b (Some m) None
     by true e = ap (λ (x : Bool). cond x (Some m) None) e
     by false e = refl
@@ -126,7 +156,7 @@ pub same_cache : (o : Option Cache) → IfSome o (λ c. names_are_some c ≡ tru
 same_cache None h = refl
 same_cache (Some c) h = ap (λ b. cond b (Some c) None) h
 
-pub same_monitor : (count : ℕ) (o : Option Monitor) → IfSome o (λ m. m.dirty.num_bits ≤ count)
+pub same_monitor : (count : ℕ) (o : Option Monitor) → IfSome o (λ m. monitor_is_within count m ≡ true)
     → monitor_within count o ≡ o
 same_monitor count None h = refl
-same_monitor count (Some m) h = ap (λ b. cond b (Some m) None) (le-leb m.dirty.num_bits count h)
+same_monitor count (Some m) h = ap (λ b. cond b (Some m) None) h

@@ -15,7 +15,7 @@ use Rattle.index_format.specs.Contents.{Contents}
 use Rattle.index_format.specs.Image.{asks_for, is_kept}
 use Rattle.index_format.specs.Kept.{cache_with_names, kept, monitor_within, tree_and_mark}
 use Rattle.index_format.specs.Stored.{stored}
-use Rattle.index_format.proofs.KeptExtensions.{cache_again, count_again, fit_again, monitor_again, tree_again}
+use Rattle.index_format.proofs.KeptExtensions.{cache_again, count_again, fit_again, monitor_again, ordered_again, tree_again}
 
 or_twice : (a b : Bool) → ((a || b) || b) ≡ (a || b)
 or_twice true b = refl
@@ -69,7 +69,7 @@ twice_by all asked v =
         let n : ℕ = length (written v.records) in
         let more : ℕ = length (written (stored_records v.records)) in
         with_parts v (kept v.fit n v.extensions) _ _ _ _ _ _ _ _ _ _ again sparse
-        (tree_again v.kind v.fit v.extensions.tree)
+        (ordered_again v.kind v.fit v.extensions.tree)
         (fit_again v.fit cache_with_names cache_with_names v.extensions.untracked
         (cache_again v.fit v.extensions.untracked))
         (fit_again v.fit (monitor_within n) (monitor_within more) v.extensions.fs_monitor

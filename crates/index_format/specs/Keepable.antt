@@ -1,15 +1,12 @@
--- What is asked of extensions that are kept (gitformat-index, "Extensions").
+-- What is asked of an untracked cache that is kept, and of what a monitor said (gitformat-index, "Untracked cache",
+-- "File System Monitor cache"). An index has neither but by reading, and so they are always such.
 use Rattle.std.specs.Prelude.{◌≡◌, true, IfSome, None}
 use Rattle.index_parts.specs.declared.hash.Kind.{Kind}
-use Rattle.index_cached_tree.specs.StoredTree.{IsStorableTree}
 use Rattle.index_extension_writing.specs.MonitorImage.{IsSpellableMonitor}
-use Rattle.index_extension_writing.specs.ResolveUndoImage.{AreSpellablePaths}
 use Rattle.index_extension_writing.specs.SpellableCache.{IsSpellableCache, names_are_some}
 use Rattle.index_format.specs.Outcome.{Outcome}
 
--- Each extension that is there can be spelled, by the kind of ids; an untracked cache where no untracked name is empty.
+-- Each that is there can be spelled, by the kind of ids; an untracked cache where no untracked name is empty.
 pub record AreKeepable (kind : Kind) (o : Outcome) : Type 0 where
-  pub tree : IfSome o.tree (IsStorableTree kind)
-  pub resolve_undo : IfSome o.resolve_undo (AreSpellablePaths kind)
   pub untracked : IfSome o.untracked (λ c. names_are_some c ≡ true → IsSpellableCache kind None c)
   pub fs_monitor : IfSome o.fs_monitor IsSpellableMonitor

@@ -55,7 +55,8 @@ index_moved old new e h placed storable = record {
 
 mark_storable : (v : Contents) (sparse fit : Bool) → IsStorable v
     → IsStorable (refit (with_mark v sparse) v.records fit)
-mark_storable v sparse fit h = record { ids = h.ids; paths = h.paths; fits = h.fits; tree = h.tree }
+mark_storable v sparse fit h =
+    record { ids = h.ids; paths = h.paths; fits = h.fits; tree = h.tree; resolve_undo = h.resolve_undo }
 
 abbrev marked_as : State → Contents
 marked_as s = with_mark (with_records (empty_contents (contents s).kind (contents s).time) (records s))

@@ -50,6 +50,7 @@ index_saved old new h saved e placed = record {
         h.storable.paths saved;
     fits = saved_hold IsSized (records old) (records new) h.storable.fits saved;
     tree = tt;
+    resolve_undo = tt;
   });
 }
 

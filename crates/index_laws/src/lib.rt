@@ -103,7 +103,8 @@ pub fn version_change_loses_nothing()
 
 /// An index that was read, written with all extensions that fit, and read again, is what was read, but for its time, its
 /// version, a link, which is merged, and an offset table: where no name in its untracked cache is empty, and what a file
-/// system monitor said has no more bits than there are entries. The premises are those of [`rewrite_is_canonical`].
+/// system monitor said is of no more than the entries that are written. The premises are those of
+/// [`rewrite_is_canonical`].
 pub fn kept_loses_nothing()
     ensures { (v w : Contents) (options : WriteOptions) → (reread : IsReread v options w)
         → is_kept options.extensions ≡ true
@@ -111,8 +112,8 @@ pub fn kept_loses_nothing()
         → w ≡ kept_value v reread.time_again (image_version v options) }
 {}
 
-/// What was read of the extensions of an index can be spelled, as all that is kept of an index has to be: an untracked
-/// cache where none of its untracked names is empty.
+/// What was read of an untracked cache can be spelled, where none of its untracked names is empty, and so can what a file
+/// system monitor said, as both have to be where they are kept. All else is asked for where an index is storable.
 pub fn read_extensions_are_keepable()
     ensures { (kind : Kind) (time : FileTime) (options : Options) (bytes : List ℕ) (v : Contents)
         (id : Option ObjectId) → AreBytes bytes → IsAnswer kind time options bytes (Ok (v, id))

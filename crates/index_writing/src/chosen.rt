@@ -16,6 +16,7 @@ ghost use Rattle.index_untracked.specs.Untracked.{cache_of};
 use index_cached_tree as tree;
 use index_cached_tree::Tree;
 use index_extension_list::Chosen;
+use index_extension_writing::fs_monitor::is_within;
 use index_extension_writing::untracked_cache::is_spellable;
 use index_format::Parts;
 use index_format::extension::Outcome;
@@ -62,7 +63,7 @@ fn monitor_where(monitor: &Option<FsMonitor>, fit: bool, count: usize) -> Option
         ≡ where_fit fit (monitor_within count (option_map monitor_of monitor.now)) }
 {
     match monitor {
-        Some(monitor) if fit && monitor.entry_dirty().num_bits() as usize <= count => Some(monitor),
+        Some(monitor) if fit && is_within(monitor, count as u64) => Some(monitor),
         _ => None,
     }
 }
@@ -74,6 +75,7 @@ fn kept(outcome: &Outcome, fit: bool, count: usize) -> Chosen<'_>
 {
     Chosen {
         tree: tree_where(&outcome.tree, fit),
+        in_git_order: true,
         resolve_undo: paths_of(&outcome.resolve_undo),
         untracked: cache_where(&outcome.untracked, fit),
         fs_monitor: monitor_where(&outcome.fs_monitor, fit, count),
@@ -87,6 +89,7 @@ fn tree_and_mark(outcome: &Outcome, asked: bool) -> Chosen<'_>
 {
     Chosen {
         tree: tree_where(&outcome.tree, asked),
+        in_git_order: false,
         resolve_undo: None,
         untracked: None,
         fs_monitor: None,

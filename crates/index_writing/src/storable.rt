@@ -1,12 +1,21 @@
-//! Whether entries are read again as they were written (gitformat-index, "Index entry").
+//! Whether entries and resolve-undo are read again as they were written (gitformat-index, "Index entry", "Resolve undo").
 
-ghost use Rattle.std.specs.Prelude.{◌↔◌, All, IsTrue, length};
+ghost use Rattle.std.specs.Prelude.{◌≡◌, ◌↔◌, All, IfSome, IsTrue, length, map};
+ghost use Rattle.std.specs.Option.{option_map};
+ghost use Rattle.index_cached_tree.specs.StoredTree.{IsStorableTree};
+ghost use Rattle.index_cached_tree.specs.Tree.{node_of};
 ghost use Rattle.index_entries.specs.Record.{IsPlaced, records_in, with_path};
 ghost use Rattle.index_entries.specs.Storable.{IsPlain, IsStorableIn};
+ghost use Rattle.index_extension_writing.specs.ResolveUndoImage.{AreSpellablePaths, IsSpellablePath, IsSpellableStage};
+ghost use Rattle.index_format.specs.Outcome.{outcome_of};
+ghost use Rattle.index_small_extensions.specs.ResolveUndo.{path_stages};
 
+use index_cached_tree::Tree;
 use index_entries::paths::lacks_nul;
 use index_entries::{Entry, PathStorageRef, Pathless};
+use index_format::extension::Outcome;
 use index_parts::hash::Kind;
+use index_small_extensions::resolve_undo::{Paths, ResolvePath, Stage};
 
 /// What the length field of 12 bits has where a path is so long or longer. Such a path ends at the first NUL.
 const FULL_LENGTH_FIELD: usize = 0xfff;
@@ -46,4 +55,74 @@ pub fn are_storable(entries: &[Entry], storage: PathStorageRef<'_>, object_hash:
         }
     }
     true
+}
+
+/// Whether a stage can be spelled in a file with ids of this kind: its id is of the kind, and its mode isn't 0.
+fn is_spellable_stage(stage: Option<Stage>, kind: Kind) -> bool
+    ensures { IsTrue result ↔ IfSome stage (IsSpellableStage kind) }
+{
+    match stage {
+        Some(stage) => stage.mode() != 0 && stage.id().kind() == kind,
+        None => true,
+    }
+}
+
+/// Whether all stages can be spelled, where they are there.
+fn are_spellable_stages(stages: &[Option<Stage>; 3], kind: Kind) -> bool
+    ensures each { IsTrue result ↔ All (λ stage. IfSome stage (IsSpellableStage kind)) stages.now }
+    ensures three { length stages.now ≡ 3 }
+{
+    stages.iter().all(|stage| is_spellable_stage(*stage, kind))
+}
+
+/// Whether a path can be spelled: its name has no NUL, and its stages can be.
+fn is_spellable_path(path: &ResolvePath, kind: Kind) -> bool
+    ensures { IsTrue result ↔ IsSpellablePath kind (path_stages path.now) }
+{
+    lacks_nul(path.name()) && are_spellable_stages(path.stages(), kind)
+}
+
+/// Whether each path can be spelled.
+fn is_each_spellable(paths: &[ResolvePath], kind: Kind) -> bool
+    ensures { IsTrue result ↔ All (λ p. IsSpellablePath kind (path_stages p)) paths.now }
+{
+    paths.iter().all(|path| is_spellable_path(path, kind))
+}
+
+/// Whether all paths can be spelled in a file with ids of this kind, so that they are read as they were written: no name
+/// has a NUL, and each id is of the kind. No memory is taken.
+fn are_spellable(paths: &[ResolvePath], kind: Kind) -> bool
+    ensures { IsTrue result ↔ AreSpellablePaths kind (map path_stages paths.now) }
+{
+    is_each_spellable(paths, kind)
+}
+
+/// Whether bytes can hold a cached tree with ids of this kind; true where there is none.
+fn is_tree_storable(tree: &Option<Tree>, kind: Kind) -> bool
+    ensures { IsTrue result ↔ IfSome (option_map node_of tree.now) (IsStorableTree kind) }
+{
+    match tree {
+        Some(tree) => tree.is_storable(kind),
+        None => true,
+    }
+}
+
+/// The same of resolve-undo.
+fn is_undo_storable(paths: &Option<Paths>, kind: Kind) -> bool
+    ensures { IsTrue result
+        ↔ IfSome (option_map (λ it. map path_stages it.items) paths.now) (AreSpellablePaths kind) }
+{
+    let Some(paths) = paths else {
+        return true;
+    };
+    are_spellable(paths, kind)
+}
+
+/// Whether bytes can hold the cached tree and resolve-undo in a file with ids of this kind, where they are there. No
+/// memory is taken. Time goes with them, as [`Tree::is_storable`] says of the tree.
+pub fn are_extensions_storable(extensions: &Outcome, kind: Kind) -> bool
+    ensures { IsTrue result ↔ IfSome (outcome_of extensions.now).tree (IsStorableTree kind)
+        × IfSome (outcome_of extensions.now).resolve_undo (AreSpellablePaths kind) }
+{
+    is_tree_storable(&extensions.tree, kind) && is_undo_storable(&extensions.resolve_undo, kind)
 }

@@ -5,9 +5,10 @@ use Rattle.index_state.proofs.State.is_storable.Goals as goal
 pub returns-then-are_storable : goal.returns-then-are_storable
 returns-then-are_storable c =
     let entries = rw (c.deref.ensures.value, c.deref-2.ensures.value) at c.are_storable.ensures in
-    let v = contents c.args.self.now in (
-      λ t. parts_storable v (entries.0 c.if-are_storable.true) (c.is_tree_storable.ensures.0 t),
-      λ h. c.is_tree_storable.ensures.1 h.tree,
+    let v = contents c.args.self.now in
+    let rest = c.are_extensions_storable.ensures in (
+      λ t. let k = rest.0 t in parts_storable v (entries.0 c.if-are_storable.true) k.0 k.1,
+      λ h. rest.1 (h.tree, h.resolve_undo),
     )
 
 pub returns-else-are_storable : goal.returns-else-are_storable

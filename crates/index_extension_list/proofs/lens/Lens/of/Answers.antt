@@ -1,4 +1,5 @@
 use Rattle.std.proofs.Common.{length, map, ◌∙◌, ap}
+use Rattle.index_cached_tree.specs.GitOrder.{ordered_if}
 use Rattle.index_cached_tree.specs.Tree.{node_of}
 use Rattle.index_cached_tree.specs.TreeImage.{node_bytes}
 use Rattle.index_extension_writing.specs.MonitorImage.{monitor_bytes}
@@ -15,7 +16,8 @@ use Rattle.index_extension_list.proofs.lens.Lens.of.Goals as goal
 pub returns-in_default-clause-none : goal.returns-in_default-clause-none
 returns-in_default-clause-none c =
     tree_uncounted c.args.kind (extensions_of c.args.chosen) (c.in_default.ensures ∙ ap len_within_32
-    (map_after (λ t. node_of t.now) (λ t. length (node_bytes t)) c.args.chosen.tree))
+    (map_after (λ t. ordered_if c.args.chosen.in_git_order (node_of t.now)) (λ t. length (node_bytes t))
+    c.args.chosen.tree))
 
 pub returns-in_default-resolve_undo_len-clause-none : goal.returns-in_default-resolve_undo_len-clause-none
 returns-in_default-resolve_undo_len-clause-none c =
