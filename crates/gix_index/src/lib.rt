@@ -18,6 +18,7 @@ pub use file::File;
 pub use index_bitmaps::ewah;
 pub use index_edits::change;
 pub use index_edits::error::Error as ChangeError;
+pub use index_edits::stage::Displaced;
 pub use index_entries::{Entry, PathBacking, PathStorage, PathStorageRef, Version};
 pub use index_format::write;
 pub use index_laws as laws;

@@ -15,7 +15,7 @@ use index_objects::check::ComponentCheck;
 use index_parts::hash::Kind;
 
 /// The same entry at stage 0.
-fn merged(entry: Pathless) -> Pathless
+pub fn merged(entry: Pathless) -> Pathless
     ensures { result ≡ merged entry }
 {
     Pathless {

@@ -72,8 +72,8 @@ fn in_the_way(entries: &EntrySlice<'_>, entry: Pathless, path: &[u8], folder: &[
     InTheWay { sides, others }
 }
 
-/// Puts the entry at its place, and takes out what goes where it comes.
-pub(crate) fn settle(
+/// Stages an entry that [`check_stage`] lets pass, as [`stage`] does it. A want of memory leaves all as it was.
+pub fn settle(
     entries: &mut Vec<Entry>,
     storage: &mut PathStorage,
     entry: Pathless,
@@ -108,6 +108,26 @@ pub(crate) fn settle(
         count > 0
     };
     Ok(Displaced { count, conflict })
+}
+
+/// That an entry may be staged at a path in an index of the kind, whose storage of paths has so many bytes. An error is
+/// what is wrong with the path, the mode, the id or a name of the path, or else that the path has no place there.
+pub fn check_stage<C: ComponentCheck>(
+    check: &C,
+    kind: Kind,
+    len: usize,
+    entry: Pathless,
+    path: &[u8],
+) -> Result<(), Error>
+    ensures { MatchResult result
+        (λ _. fault_of (C.refusal check.now) kind entry path.now ≡ None)
+        (IsReason (fault_of (C.refusal check.now) kind entry path.now) len path.now) }
+{
+    check_entry(check, kind, entry, path)?;
+    if PathRange::new(len, path.len()).is_none() {
+        return Err(Error::PathTooLong { len: path.len() });
+    }
+    Ok(())
 }
 
 /// Stages an entry at a path, as git-update-index does with `--add` and `--replace`. `entries` and `storage` are those
@@ -149,10 +169,7 @@ pub fn stage<C: ComponentCheck>(
     ensures err_entries { OnErr result (entries.new.items ≡ entries.old.items) }
     ensures err_storage { OnErr result (storage.new.items ≡ storage.old.items) }
 {
-    check_entry(check, kind, entry, path)?;
-    if PathRange::new(storage.len(), path.len()).is_none() {
-        return Err(Error::PathTooLong { len: path.len() });
-    }
+    check_stage(check, kind, storage.len(), entry, path)?;
     let told = settle(entries, storage, entry, path)?;
     Ok(told)
 }

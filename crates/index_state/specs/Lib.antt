@@ -3,4 +3,3 @@ pub mod Edits
 pub mod Racy
 pub mod SoundState
 pub mod State
-pub mod Updates

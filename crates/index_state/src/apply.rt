@@ -5,12 +5,12 @@ ghost use Rattle.index_edits.specs.Changes.{IsAppliedTo, IsApplyReason, refusal_
 ghost use Rattle.index_entries.specs.Order.{IsStrictlyOrdered};
 ghost use Rattle.index_state.specs.Edits.{IsUnchanged};
 ghost use Rattle.index_state.specs.State.{PathsInStorage, contents, records, storage_of};
-ghost use Rattle.index_state.specs.Updates.{updated};
+ghost use Rattle.index_updates.specs.Updates.{updated};
 
 use crate::State;
 use index_edits::change::{ApplyError, Change};
 use index_objects::check::ComponentCheck;
-use index_updates::update::update;
+use index_updates::parts;
 
 impl State {
     /// Makes changes one after another, all or none, as git does by `git update-index --index-info`: an entry that is
@@ -18,9 +18,10 @@ impl State {
     /// needs a folder, or the other way round. Each name of a path that is staged goes through `check`.
     ///
     /// What speaks of the entries is kept with them. The cached tree loses the counts on the way to each path, so that
-    /// it tells nothing that isn't so. Sides of conflicts that go are recorded in resolve-undo, so that
-    /// `git checkout -m` gets them back. An untracked cache and what a file system monitor said are given up, where
-    /// there is a change: git makes them anew. Whether the extensions fit stays as it was.
+    /// it tells nothing that isn't so, and the untracked cache what it has of the directory of each path, or of all on
+    /// the way, as git does it. Sides of conflicts that go are recorded in resolve-undo, so that `git checkout -m` gets
+    /// them back. What a file system monitor said is given up, where there is a change: git makes it anew. Whether the
+    /// extensions fit stays as it was.
     ///
     /// [`ApplyError::Refused`]: the first change that is refused, by its place. [`ApplyError::Memory`] is want of it.
     /// After an error the state is as it was. It is promised over entries that strictly increase by path, then stage;
@@ -46,20 +47,6 @@ impl State {
         ensures placed { PathsInStorage self.new }
         ensures err { OnErr result (IsUnchanged self.old self.new) }
     {
-        let extensions = &mut self.parts.extensions;
-        update(
-            &mut self.parts.entries,
-            &mut self.parts.path_backing,
-            &mut extensions.tree,
-            &mut extensions.resolve_undo,
-            check,
-            self.parts.object_hash,
-            changes,
-        )?;
-        if !changes.is_empty() {
-            self.parts.extensions.untracked = None;
-            self.parts.extensions.fs_monitor = None;
-        }
-        Ok(())
+        parts::apply(&mut self.parts, check, changes)
     }
 }

@@ -13,6 +13,7 @@ use std::alloc::AllocError;
 
 mod access;
 mod apply;
+mod change;
 mod debug;
 mod decode;
 mod dissolve;

@@ -6,6 +6,7 @@ pub mod CacheReadings
 pub mod Caches
 pub mod Clones
 pub mod EqualPieces
+pub mod Invalidating
 pub mod Marking
 pub mod Nests
 pub mod TailReadings

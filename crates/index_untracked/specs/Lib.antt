@@ -4,3 +4,4 @@ pub mod CacheBitmaps
 pub mod CacheSteps
 pub mod CachedStat
 pub mod Untracked
+pub mod UntrackedEdits

@@ -20,6 +20,7 @@ use std::alloc::{AllocError, Global};
 
 mod bitmaps;
 mod blocks;
+pub mod invalidation;
 mod preamble;
 mod stat;
 

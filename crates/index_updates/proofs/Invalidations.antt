@@ -1,30 +1,95 @@
 -- Paths that are invalidated one after another.
-use Rattle.std.proofs.Common.{◌≡◌, ℕ, ◌+◌, ◌<◌, ◌≤◌, List, [], ◌∷◌, ◌++◌, get_or, length, take, refl, sym, ap, ◌∙◌}
+use Rattle.std.proofs.Common.{◌≡◌, ℕ, ◌+◌, ◌<◌, ◌≤◌, List, [], ◌∷◌, ◌++◌, get_or, length, take, refl, sym, subst, ap, ◌∙◌}
 use Rattle.std.proofs.lemmas.List.{take_all, take_more}
+use Rattle.index_cached_tree.specs.Sound.{CountsAtMost}
 use Rattle.index_cached_tree.specs.Tree.{Node}
+use Rattle.index_parts.specs.declared.hash.Kind.{Kind}
+use Rattle.index_untracked.specs.Untracked.{Cache, CacheIdsAreOf}
+use Rattle.index_untracked.specs.UntrackedEdits.{path_invalidated}
+use Rattle.index_untracked.proofs.Invalidating.{ids_stay}
 use Rattle.index_edits.specs.Changes.{path_of}
 use Rattle.index_edits.specs.declared.change.Change.{Change}
 use Rattle.index_invalidation.specs.Invalidation.{invalidated}
-use Rattle.index_updates.specs.Invalidated.{all_invalidated}
+use Rattle.index_invalidation.proofs.Below.{counts_stay}
+use Rattle.index_updates.specs.Invalidated.{all_invalidated, all_unlisted}
+
+-- a value after changes, by what comes of it by the path of one
+module _ {T : Type 0} (step : List ℕ → T → T) (all : List Change → T → T) (none : (t : T) → all [] t ≡ t)
+    (more : (c : Change) (cs : List Change) (t : T) → all (c ∷ cs) t ≡ all cs (step (path_of c) t)) where
+  pushed : (cs : List Change) (c : Change) (t : T) → all (cs ++ c ∷ []) t ≡ step (path_of c) (all cs t)
+  pushed [] c t = more c [] t ∙ none (step (path_of c) t) ∙ ap (step (path_of c)) (sym (none t))
+  pushed (d ∷ cs) c t =
+      more d (cs ++ c ∷ []) t ∙ pushed cs c (step (path_of d) t) ∙ ap (step (path_of c)) (sym (more d cs t))
+
+  one_more : (cs : List Change) (i : ℕ) (old : T) (d : Change) (path : List ℕ) (before now : T) → i < length cs
+      → path ≡ path_of (get_or cs i d) → before ≡ all (take i cs) old → now ≡ step path before
+      → now ≡ all (take (i + 1) cs) old
+  one_more cs i old d path before now within p b e =
+      e ∙ ap (step path) b ∙ ap (λ l. step l (all (take i cs) old)) p
+      ∙ sym (pushed (take i cs) (get_or cs i d) old) ∙ ap (λ l. all l old) (sym (take_more cs i d within))
+
+  whole : (cs : List Change) (i : ℕ) (old now : T) → length cs ≤ i → now ≡ all (take i cs) old → now ≡ all cs old
+  whole cs i old now l e = e ∙ ap (λ l. all l old) (take_all i cs l)
+
+  stays : (P : T → Type 0) → ((path : List ℕ) (t : T) → P t → P (step path t)) → (cs : List Change) (t : T) → P t
+      → P (all cs t)
+  stays P h [] t p = subst P (sym (none t)) p
+  stays P h (c ∷ cs) t p = subst P (sym (more c cs t)) (stays P h cs (step (path_of c) t) (h (path_of c) t p))
+
+-- ---- a cached tree
+
+tree_none : (t : Node) → all_invalidated [] t ≡ t
+unfolding all_invalidated
+tree_none t = refl
+
+tree_more : (c : Change) (cs : List Change) (t : Node)
+    → all_invalidated (c ∷ cs) t ≡ all_invalidated cs (invalidated (path_of c) t)
+unfolding all_invalidated
+tree_more c cs t = refl
 
 pub invalidated_none : (t : Node) → t ≡ all_invalidated [] t
-unfolding all_invalidated
-invalidated_none t = refl
-
-invalidated_push : (cs : List Change) (c : Change) (t : Node)
-    → all_invalidated (cs ++ c ∷ []) t ≡ invalidated (path_of c) (all_invalidated cs t)
-unfolding all_invalidated
-invalidated_push [] c t = refl
-invalidated_push (d ∷ cs) c t = invalidated_push cs c _
+invalidated_none t = sym (tree_none t)
 
 module _ (cs : List Change) (i : ℕ) (old : Node) where
   pub invalidated_more : (d : Change) (path : List ℕ) (before now : Node) → i < length cs → path ≡ path_of (get_or cs i d)
       → before ≡ all_invalidated (take i cs) old → now ≡ invalidated path before
       → now ≡ all_invalidated (take (i + 1) cs) old
-  invalidated_more d path before now within p b e =
-      e ∙ ap (λ t. invalidated path t) b ∙ ap (λ l. invalidated l (all_invalidated (take i cs) old)) p
-      ∙ sym (invalidated_push (take i cs) (get_or cs i d) old)
-      ∙ ap (λ l. all_invalidated l old) (sym (take_more cs i d within))
+  invalidated_more = one_more invalidated all_invalidated tree_none tree_more cs i old
 
   pub all_done : (now : Node) → length cs ≤ i → now ≡ all_invalidated (take i cs) old → now ≡ all_invalidated cs old
-  all_done now l e = e ∙ ap (λ l. all_invalidated l old) (take_all i cs l)
+  all_done = whole invalidated all_invalidated tree_none tree_more cs i old
+
+pub all_count_stay : (most : ℕ) (cs : List Change) (t : Node) → CountsAtMost most t
+    → CountsAtMost most (all_invalidated cs t)
+all_count_stay most = stays invalidated all_invalidated tree_none tree_more (CountsAtMost most) (counts_stay most)
+
+-- ---- an untracked cache
+
+cache_none : (c : Cache) → all_unlisted [] c ≡ c
+unfolding all_unlisted
+cache_none c = refl
+
+cache_more : (d : Change) (ds : List Change) (c : Cache)
+    → all_unlisted (d ∷ ds) c ≡ all_unlisted ds (path_invalidated (path_of d) c)
+unfolding all_unlisted
+cache_more d ds c = refl
+
+pub unlisted_none : (c : Cache) → c ≡ all_unlisted [] c
+unlisted_none c = sym (cache_none c)
+
+module _ (cs : List Change) (i : ℕ) (old : Cache) where
+  pub unlisted_more : (d : Change) (path : List ℕ) (before now : Cache) → i < length cs → path ≡ path_of (get_or cs i d)
+      → before ≡ all_unlisted (take i cs) old → now ≡ path_invalidated path before
+      → now ≡ all_unlisted (take (i + 1) cs) old
+  unlisted_more = one_more path_invalidated all_unlisted cache_none cache_more cs i old
+
+  pub all_listed_off : (now : Cache) → length cs ≤ i → now ≡ all_unlisted (take i cs) old → now ≡ all_unlisted cs old
+  all_listed_off = whole path_invalidated all_unlisted cache_none cache_more cs i old
+
+pub cache_stays : (P : Cache → Type 0) → ((path : List ℕ) (c : Cache) → P c → P (path_invalidated path c))
+    → (cs : List Change) (c : Cache) → P c → P (all_unlisted cs c)
+cache_stays = stays path_invalidated all_unlisted cache_none cache_more
+
+pub all_ids_stay : (kind : Kind) (cs : List Change) (c : Cache) → CacheIdsAreOf kind c
+    → CacheIdsAreOf kind (all_unlisted cs c)
+all_ids_stay kind = cache_stays (CacheIdsAreOf kind) (ids_stay kind)

@@ -82,7 +82,7 @@ unfolding undone applied
 undone-append [] ds rs undo = refl
 undone-append (c ∷ cs) ds rs undo = undone-append cs ds _ _
 
-undone_one : (c : Change) (rs : List Record) (undo : Option (List PathStages))
+pub undone_one : (c : Change) (rs : List Record) (undo : Option (List PathStages))
     → undone (c ∷ []) rs undo ≡ all_recorded (lost c rs) undo
 unfolding undone
 undone_one c rs undo = refl

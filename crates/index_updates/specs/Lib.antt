@@ -1,4 +1,7 @@
 pub mod Invalidated
+pub mod Kept
+pub mod Recordable
 pub mod Recorded
 pub mod Rising
 pub mod Undone
+pub mod Updates

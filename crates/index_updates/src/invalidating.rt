@@ -1,14 +1,16 @@
-//! Invalidating the paths of changes in a cached tree (gitformat-index, "Cache tree").
+//! Invalidating the paths of changes (gitformat-index, "Cache tree" and "Untracked cache").
 
 ghost use Rattle.std.specs.Prelude.{◌≡◌, ℕ, IfSome};
 ghost use Rattle.std.specs.Option.{option_map};
 ghost use Rattle.index_cached_tree.specs.Sound.{CountsAtMost};
 ghost use Rattle.index_cached_tree.specs.Tree.{node_of};
-ghost use Rattle.index_updates.specs.Invalidated.{all_invalidated};
+ghost use Rattle.index_untracked.specs.Untracked.{cache_of};
+ghost use Rattle.index_updates.specs.Invalidated.{all_invalidated, all_unlisted};
 
 use index_cached_tree::Tree;
 use index_edits::change::Change;
 use index_invalidation::invalidate;
+use index_untracked::{UntrackedCache, invalidation};
 
 /// Invalidates the path of each change, one after another.
 fn invalidate_each(tree: &mut Tree, changes: &[Change<'_>])
@@ -30,5 +32,24 @@ pub(crate) fn invalidate_all(tree: &mut Option<Tree>, changes: &[Change<'_>])
 {
     if let Some(tree) = tree {
         invalidate_each(tree, changes);
+    }
+}
+
+/// Invalidates the path of each change in an untracked cache, one after another.
+fn unlist_each(cache: &mut UntrackedCache, changes: &[Change<'_>])
+    ensures { cache_of cache.new ≡ all_unlisted changes.now (cache_of cache.old) }
+{
+    for change in changes {
+        invalidation::invalidate(cache, change.path());
+    }
+}
+
+/// Invalidates the path of each change in an untracked cache, one after another, where there is one.
+pub(crate) fn unlist_all(cache: &mut Option<UntrackedCache>, changes: &[Change<'_>])
+    ensures { option_map cache_of cache.new
+        ≡ option_map (λ c. all_unlisted changes.now (cache_of c)) cache.old }
+{
+    if let Some(cache) = cache {
+        unlist_each(cache, changes);
     }
 }

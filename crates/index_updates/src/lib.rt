@@ -1,7 +1,10 @@
-//! Changes of a git index that keep what speaks of its entries: the cached tree, and resolve-undo.
+//! Changes of a git index that keep what speaks of its entries: the cached tree, resolve-undo and the untracked cache.
 #![tactic(auto)]
 
 mod invalidating;
+pub mod kept;
 mod losing;
+pub mod parts;
 mod recording;
+pub mod single;
 pub mod update;

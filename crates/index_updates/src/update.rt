@@ -8,13 +8,15 @@ ghost use Rattle.index_entries.specs.Record.{IsPlaced, records_in};
 ghost use Rattle.index_cached_tree.specs.Sound.{CountsAtMost};
 ghost use Rattle.index_cached_tree.specs.Tree.{node_of};
 ghost use Rattle.index_edits.specs.Changes.{IsAppliedTo, IsApplyReason, refusal_of};
-ghost use Rattle.index_updates.specs.Invalidated.{all_invalidated};
-ghost use Rattle.index_updates.specs.Rising.{ArePathsRising};
+ghost use Rattle.index_untracked.specs.Untracked.{cache_of};
+ghost use Rattle.index_updates.specs.Invalidated.{all_invalidated, all_unlisted};
+ghost use Rattle.index_updates.specs.Kept.{IsKeptAfter, StaysSound};
+ghost use Rattle.index_updates.specs.Recordable.{StaysSpellable};
 ghost use Rattle.index_updates.specs.Undone.{all_recorded, lost, undo_paths, undone};
 
-use crate::invalidating::invalidate_all;
+use crate::invalidating::{invalidate_all, unlist_all};
+use crate::kept::Kept;
 use crate::losing::record_lost;
-use index_cached_tree::Tree;
 use index_edits::apply::{apply_one, pass};
 use index_edits::change::{ApplyError, Change, check_changes};
 use index_entries::slice::EntrySlice;
@@ -61,13 +63,28 @@ fn update_next(
 
 /// The same paths. An error is want of memory.
 #[tactic(auto, using(index_small_extensions::proofs::Clones::same_paths))]
-fn copy_of(undo: &Option<Paths>) -> Result<Option<Paths>, AllocError>
+pub(crate) fn copy_of(undo: &Option<Paths>) -> Result<Option<Paths>, AllocError>
     ensures { IfOk result (λ copy. undo_paths copy ≡ undo_paths undo.now) }
 {
     match undo {
         Some(paths) => Ok(Some(paths.clone()?)),
         None => Ok(None),
     }
+}
+
+/// Puts what resolve-undo has after the changes in its place, and invalidates their paths.
+pub(crate) fn renew(kept: &mut Kept, undo: Option<Paths>, changes: &[Change<'_>])
+    ensures tree { option_map node_of kept.new.tree
+        ≡ option_map (λ t. all_invalidated changes.now (node_of t)) kept.old.tree }
+    ensures counts { (most : ℕ) → IfSome kept.old.tree (λ t. CountsAtMost most (node_of t))
+        → IfSome kept.new.tree (λ t. CountsAtMost most (node_of t)) }
+    ensures undo { kept.new.undo ≡ undo }
+    ensures untracked { option_map cache_of kept.new.untracked
+        ≡ option_map (λ c. all_unlisted changes.now (cache_of c)) kept.old.untracked }
+{
+    kept.undo = undo;
+    invalidate_all(&mut kept.tree, changes);
+    unlist_all(&mut kept.untracked, changes);
 }
 
 /// The entries after all changes, one after another, and what resolve-undo has then.
@@ -112,16 +129,17 @@ fn update_each(
 
 /// Makes changes one after another, all or none, and keeps what speaks of the entries.
 ///
-/// The entries and the storage are then as [`apply`](index_edits::apply::apply) leaves them. In the cached tree the path
-/// of each change is invalidated, also where the change finds nothing to take out. Resolve-undo has each side of a
-/// conflict that a change took out, in the order of the changes: at its path, in the place of its stage, its mode and
-/// id, in place of what was recorded of that stage before. A path that isn't there yet is put in behind those below it
-/// by the order of bytes. A side with an entry of its path and its stage in its place isn't recorded. Where no side
-/// goes, resolve-undo stays as it is, and where it isn't there it comes with the first side.
+/// The entries and the storage are then as [`apply`](index_edits::apply::apply) leaves them. In the cached tree and in
+/// the untracked cache the path of each change is invalidated, also where the change finds nothing to take out.
+/// Resolve-undo has each side of a conflict that a change took out, in the order of the changes: at its path, in the
+/// place of its stage, its mode and id, in place of what was recorded of that stage before. A path that isn't there yet
+/// is put in behind those below it by the order of bytes. A side with an entry of its path and its stage in its place
+/// isn't recorded. Where no side goes, resolve-undo stays as it is, and where it isn't there it comes with the first
+/// side.
 ///
 /// `entries` and `storage` are those of an index whose ids are of the kind. An error is the same as that of `apply`, and
-/// leaves all four as they were. Over entries that don't strictly increase nothing more is said of the entries and of
-/// resolve-undo.
+/// leaves the entries, the storage and what is kept as they were. Over entries that don't strictly increase nothing more
+/// is said of the entries and of resolve-undo.
 ///
 /// Beside what `apply` costs, resolve-undo is copied once; each change makes a search for sides; and each side that goes
 /// is compared with the recorded paths in front of it. Where a side is staged as a file where others of its stage need a
@@ -129,8 +147,7 @@ fn update_each(
 pub fn update<C: ComponentCheck>(
     entries: &mut Vec<Entry>,
     storage: &mut PathStorage,
-    tree: &mut Option<Tree>,
-    undo: &mut Option<Paths>,
+    kept: &mut Kept,
     check: &C,
     kind: Kind,
     changes: &[Change<'_>],
@@ -146,26 +163,28 @@ pub fn update<C: ComponentCheck>(
         (records_in storage.new.items entries.new.items)) }
     ensures placed { All (IsPlaced (length storage.new.items)) entries.new.items }
     ensures storage { (more : List ℕ) × (storage.new.items ≡ storage.old.items ++ more) }
-    ensures tree { OnOk result (option_map node_of tree.new
-        ≡ option_map (λ t. all_invalidated changes.now (node_of t)) tree.old) }
-    ensures counts { (most : ℕ) → IfSome tree.old (λ t. CountsAtMost most (node_of t))
-        → IfSome tree.new (λ t. CountsAtMost most (node_of t)) }
-    ensures undone { OnOk result
+    ensures tree { OnOk result (option_map node_of kept.new.tree
+        ≡ option_map (λ t. all_invalidated changes.now (node_of t)) kept.old.tree) }
+    ensures untracked { OnOk result (option_map cache_of kept.new.untracked
+        ≡ option_map (λ c. all_unlisted changes.now (cache_of c)) kept.old.untracked) }
+    ensures kept { OnOk result
         (IsStrictlyOrdered (records_in storage.old.items entries.old.items)
-        → undo_paths undo.new
-        ≡ undone changes.now (records_in storage.old.items entries.old.items) (undo_paths undo.old)) }
-    ensures rising { OnOk result
+        → IsKeptAfter changes.now (records_in storage.old.items entries.old.items) kept.old kept.new) }
+    ensures sound { OnOk result (IsStrictlyOrdered (records_in storage.old.items entries.old.items)
+        → StaysSound kept.old kept.new) }
+    ensures counts { (most : ℕ) → IfSome kept.old.tree (λ t. CountsAtMost most (node_of t))
+        → IfSome kept.new.tree (λ t. CountsAtMost most (node_of t)) }
+    ensures spellable { OnOk result
         (IsStrictlyOrdered (records_in storage.old.items entries.old.items)
-        → IfSome (undo_paths undo.old) ArePathsRising
-        → IfSome (undo_paths undo.new) ArePathsRising) }
+        → StaysSpellable changes.now (records_in storage.old.items entries.old.items)
+        kept.old kept.new) }
     ensures err_entries { OnErr result (entries.new.items ≡ entries.old.items) }
     ensures err_storage { OnErr result (storage.new.items ≡ storage.old.items) }
-    ensures err_tree { OnErr result (tree.new ≡ tree.old) }
-    ensures err_undo { OnErr result (undo.new ≡ undo.old) }
+    ensures err_kept { OnErr result (kept.new ≡ kept.old) }
 {
     let len = storage.len();
     check_changes(check, kind, len, changes)?;
-    match update_each(entries, storage, undo, changes) {
+    match update_each(entries, storage, &kept.undo, changes) {
         Ok(
             Updated {
                 entries: edited,
@@ -173,8 +192,7 @@ pub fn update<C: ComponentCheck>(
             },
         ) => {
             *entries = edited;
-            *undo = recorded;
-            invalidate_all(tree, changes);
+            renew(kept, recorded, changes);
             Ok(())
         }
         Err(e) => {

@@ -1,0 +1,105 @@
+//! Making one change of an index.
+
+ghost use Rattle.std.specs.Prelude.{◌≡◌, ◌∷◌, [], IfOk, MatchResult, None, OnErr, OnOk, count_by, length};
+ghost use Rattle.index_edits.specs.Edits.{IsResolvedInto, IsStagedInto, IsToldOf, IsUnstagedFrom, merged};
+ghost use Rattle.index_edits.specs.Refusals.{IsReason, fault_of};
+ghost use Rattle.index_edits.specs.declared.change.Change.TheVariants.{Stage, Unstage};
+ghost use Rattle.index_entries.specs.Order.{IsStrictlyOrdered};
+ghost use Rattle.index_entries.specs.Record.{with_path};
+ghost use Rattle.index_lookups.specs.Range.{is_at};
+ghost use Rattle.index_state.specs.Edits.{IsUnchanged};
+ghost use Rattle.index_state.specs.State.{PathsInStorage, contents, records, storage_of};
+ghost use Rattle.index_updates.specs.Updates.{updated};
+
+use crate::State;
+use index_edits::error::Error;
+use index_edits::stage::Displaced;
+use index_entries::Pathless;
+use index_objects::check::ComponentCheck;
+use index_updates::parts;
+use std::alloc::AllocError;
+
+impl State {
+    /// Stages an entry at a path, as `git update-index --add --replace` does, and tells what went where it came.
+    ///
+    /// The entry takes the place of what has its path, at its stage or, where it is merged, at any; and of what is of
+    /// the same stage where one is a file and the other needs a folder. Each name of the path goes through `check`. What
+    /// speaks of the entries is kept, as [`apply`](State::apply) keeps it for this one change.
+    ///
+    /// An error is what is wrong with the path, the mode, the id or a name of the path, or a want of room or memory, and
+    /// leaves the state as it was. It is promised over entries that strictly increase by path, then stage; over others
+    /// the changed list is in no order that is told. It makes a few searches, moves what lies behind, and copies
+    /// resolve-undo.
+    pub fn stage<C: ComponentCheck>(
+        &mut self,
+        check: &C,
+        entry: Pathless,
+        path: &[u8],
+    ) -> Result<Displaced, Error>
+        requires { PathsInStorage self.old }
+        ensures reason { MatchResult result
+            (λ _. fault_of (C.refusal check.now) (contents self.old).kind entry path.now ≡ None)
+            (IsReason (fault_of (C.refusal check.now) (contents self.old).kind entry path.now)
+            (length (storage_of self.old)) path.now) }
+        ensures updated { OnOk result (IsStrictlyOrdered (records self.old)
+            → contents self.new
+            ≡ updated (Stage entry path.entry ∷ []) (contents self.old)) }
+        ensures staged { OnOk result (IsStrictlyOrdered (records self.old)
+            → IsStagedInto (with_path path.now entry) (records self.old) (records self.new)) }
+        ensures told { IfOk result (λ told. IsStrictlyOrdered (records self.old)
+            → IsToldOf (with_path path.now entry) (records self.old) told) }
+        ensures placed { PathsInStorage self.new }
+        ensures err { OnErr result (IsUnchanged self.old self.new) }
+    {
+        parts::stage(&mut self.parts, check, entry, path)
+    }
+
+    /// Puts one entry that is merged, whatever stage its flags have, in place of all stages of its path, as git-add does
+    /// once a conflict is solved. All else is as [`stage`](State::stage) does it.
+    pub fn resolve<C: ComponentCheck>(
+        &mut self,
+        check: &C,
+        entry: Pathless,
+        path: &[u8],
+    ) -> Result<Displaced, Error>
+        requires { PathsInStorage self.old }
+        ensures reason { MatchResult result
+            (λ _. fault_of (C.refusal check.now) (contents self.old).kind (merged entry) path.now
+            ≡ None)
+            (IsReason (fault_of (C.refusal check.now) (contents self.old).kind (merged entry) path.now)
+            (length (storage_of self.old)) path.now) }
+        ensures updated { OnOk result (IsStrictlyOrdered (records self.old)
+            → contents self.new
+            ≡ updated (Stage (merged entry) path.entry ∷ []) (contents self.old)) }
+        ensures resolved { OnOk result (IsStrictlyOrdered (records self.old)
+            → IsResolvedInto (with_path path.now (merged entry)) (records self.old)
+            (records self.new)) }
+        ensures told { IfOk result (λ told. IsStrictlyOrdered (records self.old)
+            → IsToldOf (with_path path.now (merged entry)) (records self.old) told) }
+        ensures placed { PathsInStorage self.new }
+        ensures err { OnErr result (IsUnchanged self.old self.new) }
+    {
+        parts::resolve(&mut self.parts, check, entry, path)
+    }
+
+    /// Takes the entries at a path out, whatever their stage, as `git update-index --force-remove` does, and tells how
+    /// many went. The storage of paths stays.
+    ///
+    /// What speaks of the entries is kept, as [`apply`](State::apply) keeps it for this one change, also where no entry
+    /// has the path. An error is want of memory, and leaves the state as it was. It is promised over entries that
+    /// strictly increase by path, then stage; over others nothing is said of which go.
+    pub fn unstage(&mut self, path: &[u8]) -> Result<usize, AllocError>
+        requires { PathsInStorage self.old }
+        ensures updated { OnOk result (IsStrictlyOrdered (records self.old)
+            → contents self.new ≡ updated (Unstage path.entry ∷ []) (contents self.old)) }
+        ensures unstaged { OnOk result (IsStrictlyOrdered (records self.old)
+            → IsUnstagedFrom path.now (records self.old) (records self.new)) }
+        ensures count { IfOk result (λ count. IsStrictlyOrdered (records self.old)
+            → count ≡ count_by (is_at path.now) (records self.old)) }
+        ensures storage { storage_of self.new ≡ storage_of self.old }
+        ensures placed { PathsInStorage self.new }
+        ensures err { OnErr result (IsUnchanged self.old self.new) }
+    {
+        parts::unstage(&mut self.parts, path)
+    }
+}

@@ -1,0 +1,35 @@
+-- What an index is after changes of its entries, and what speaks of them (git-update-index, "--index-info";
+-- gitformat-index, "Cache tree", "Resolve undo", "Untracked cache").
+use Rattle.std.specs.Prelude.{◌≡◌, List, [], ◌∷◌, Option, None}
+use Rattle.std.specs.Option.{option_map}
+use Rattle.index_edits.specs.Changes.{applied}
+use Rattle.index_edits.specs.declared.change.Change.{Change}
+use Rattle.index_format.specs.Contents.{Contents, parts_contents, parts_entries, parts_storage}
+use Rattle.index_format.specs.declared.Parts.{Parts}
+use Rattle.index_updates.specs.Invalidated.{all_invalidated, all_unlisted}
+use Rattle.index_updates.specs.Undone.{undone}
+
+-- a value where there is no change
+abbrev pub where_unchanged : {A : Type 0} → List Change → Option A → Option A
+where_unchanged [] x = x
+where_unchanged (c ∷ cs) x = None
+
+-- The records are those that the changes make, one after another. The cached tree and the untracked cache lack what they
+-- make untrue, and resolve-undo has the sides of conflicts that they take out. What a file system monitor said goes
+-- where there is a change; all else stays.
+abbrev pub updated : List Change → Contents → Contents
+updated cs v = record v {
+  records = applied cs v.records;
+  extensions = record v.extensions {
+    tree = option_map (all_invalidated cs) v.extensions.tree;
+    resolve_undo = undone cs v.records v.extensions.resolve_undo;
+    untracked = option_map (all_unlisted cs) v.extensions.untracked;
+    fs_monitor = where_unchanged cs v.extensions.fs_monitor;
+  };
+}
+
+-- as values the same entries, the same storage, and all else the same
+pub record AreUnchanged (old new : Parts) : Type 0 where
+  pub same_entries : parts_entries new ≡ parts_entries old
+  pub same_storage : parts_storage new ≡ parts_storage old
+  pub same_contents : parts_contents new ≡ parts_contents old

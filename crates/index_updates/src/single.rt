@@ -1,0 +1,193 @@
+//! Making one change of an index, with what speaks of its entries.
+
+ghost use Rattle.std.specs.Prelude.{◌⊎◌, ◌≡◌, ◌++◌, ◌∷◌, [], All, IfOk, MatchResult, None, OnErr, OnOk, count_by};
+ghost use Rattle.std.specs.Prelude.{length};
+ghost use Rattle.index_entries.specs.Order.{IsStrictlyOrdered};
+ghost use Rattle.index_entries.specs.Record.{IsPlaced, records_in, with_path};
+ghost use Rattle.index_lookups.specs.Range.{is_at};
+ghost use Rattle.index_edits.specs.Changes.{IsAppliedTo};
+ghost use Rattle.index_edits.specs.Edits.{IsResolvedInto, IsStagedInto, IsToldOf, IsUnstagedFrom, merged};
+ghost use Rattle.index_edits.specs.Refusals.{IsReason, fault_of};
+ghost use Rattle.index_edits.specs.declared.change.Change.TheVariants.{Stage, Unstage};
+ghost use Rattle.index_updates.specs.Kept.{IsKeptAfter, StaysSound};
+ghost use Rattle.index_updates.specs.Recordable.{StaysSpellable};
+ghost use Rattle.index_updates.specs.Undone.{undo_paths, undone};
+
+use crate::kept::Kept;
+use crate::losing::record_lost;
+use crate::update::{copy_of, renew};
+use index_edits::change::Change;
+use index_edits::error::Error;
+use index_edits::resolve::merged;
+use index_edits::stage::{Displaced, check_stage, settle};
+use index_entries::slice::EntrySlice;
+use index_entries::{Entry, PathStorage, Pathless};
+use index_objects::check::ComponentCheck;
+use index_parts::hash::Kind;
+use index_small_extensions::resolve_undo::Paths;
+use std::alloc::AllocError;
+
+/// What resolve-undo has after a change of these entries. An error is want of memory.
+fn undo_after(
+    entries: &[Entry],
+    storage: &PathStorage,
+    undo: &Option<Paths>,
+    change: &Change<'_>,
+) -> Result<Option<Paths>, AllocError>
+    requires { All (IsPlaced (length storage.now.items)) entries.now }
+    ensures { IfOk result (λ made. IsStrictlyOrdered (records_in storage.now.items entries.now)
+        → undo_paths made ≡ undone (change.now ∷ []) (records_in storage.now.items entries.now)
+        (undo_paths undo.now)) }
+{
+    let mut undo = copy_of(undo)?;
+    let alloc = *storage.allocator();
+    record_lost(&mut undo, alloc, &EntrySlice::new(entries, storage), change)?;
+    Ok(undo)
+}
+
+/// Stages an entry at a path, and keeps what speaks of the entries.
+///
+/// The entries, the storage, what is told and what is refused are as [`stage`](index_edits::stage::stage) has them, and
+/// what is kept is as [`update`](crate::update::update) leaves it after this one change. An error leaves all as it was.
+/// Over entries that don't strictly increase nothing more is said. Resolve-undo is copied once.
+pub fn stage<C: ComponentCheck>(
+    entries: &mut Vec<Entry>,
+    storage: &mut PathStorage,
+    kept: &mut Kept,
+    check: &C,
+    kind: Kind,
+    entry: Pathless,
+    path: &[u8],
+) -> Result<Displaced, Error>
+    requires placed { All (IsPlaced (length storage.old.items)) entries.old.items }
+    ensures reason { MatchResult result
+        (λ _. fault_of (C.refusal check.now) kind entry path.now ≡ None)
+        (IsReason (fault_of (C.refusal check.now) kind entry path.now)
+        (length storage.old.items) path.now) }
+    ensures applied { OnOk result
+        (IsStrictlyOrdered (records_in storage.old.items entries.old.items)
+        → IsAppliedTo (Stage entry path.entry ∷ [])
+        (records_in storage.old.items entries.old.items)
+        (records_in storage.new.items entries.new.items)) }
+    ensures staged { OnOk result (IsStrictlyOrdered (records_in storage.old.items entries.old.items)
+        → IsStagedInto (with_path path.now entry)
+        (records_in storage.old.items entries.old.items)
+        (records_in storage.new.items entries.new.items)) }
+    ensures told { IfOk result (λ told.
+        IsStrictlyOrdered (records_in storage.old.items entries.old.items)
+        → IsToldOf (with_path path.now entry)
+        (records_in storage.old.items entries.old.items) told) }
+    ensures kept { OnOk result (IsStrictlyOrdered (records_in storage.old.items entries.old.items)
+        → IsKeptAfter (Stage entry path.entry ∷ []) (records_in storage.old.items entries.old.items)
+        kept.old kept.new) }
+    ensures sound { OnOk result (IsStrictlyOrdered (records_in storage.old.items entries.old.items)
+        → StaysSound kept.old kept.new) }
+    ensures spellable { OnOk result
+        (IsStrictlyOrdered (records_in storage.old.items entries.old.items)
+        → StaysSpellable (Stage entry path.entry ∷ []) (records_in storage.old.items entries.old.items)
+        kept.old kept.new) }
+    ensures placed { All (IsPlaced (length storage.new.items)) entries.new.items }
+    ensures storage { (storage.new.items ≡ storage.old.items)
+        ⊎ (storage.new.items ≡ storage.old.items ++ path.now) }
+    ensures err_entries { OnErr result (entries.new.items ≡ entries.old.items) }
+    ensures err_storage { OnErr result (storage.new.items ≡ storage.old.items) }
+    ensures err_kept { OnErr result (kept.new ≡ kept.old) }
+{
+    check_stage(check, kind, storage.len(), entry, path)?;
+    let change = Change::Stage { entry, path };
+    let undo = undo_after(entries, storage, &kept.undo, &change)?;
+    let told = settle(entries, storage, entry, path)?;
+    renew(kept, undo, &[change]);
+    Ok(told)
+}
+
+/// Puts one entry that is merged, whatever stage its flags have, in place of all stages of its path, and keeps what
+/// speaks of the entries. All else is as [`stage`] does it.
+pub fn resolve<C: ComponentCheck>(
+    entries: &mut Vec<Entry>,
+    storage: &mut PathStorage,
+    kept: &mut Kept,
+    check: &C,
+    kind: Kind,
+    entry: Pathless,
+    path: &[u8],
+) -> Result<Displaced, Error>
+    requires placed { All (IsPlaced (length storage.old.items)) entries.old.items }
+    ensures reason { MatchResult result
+        (λ _. fault_of (C.refusal check.now) kind (merged entry) path.now ≡ None)
+        (IsReason (fault_of (C.refusal check.now) kind (merged entry) path.now)
+        (length storage.old.items) path.now) }
+    ensures applied { OnOk result
+        (IsStrictlyOrdered (records_in storage.old.items entries.old.items)
+        → IsAppliedTo (Stage (merged entry) path.entry ∷ [])
+        (records_in storage.old.items entries.old.items)
+        (records_in storage.new.items entries.new.items)) }
+    ensures resolved { OnOk result (IsStrictlyOrdered (records_in storage.old.items entries.old.items)
+        → IsResolvedInto (with_path path.now (merged entry))
+        (records_in storage.old.items entries.old.items)
+        (records_in storage.new.items entries.new.items)) }
+    ensures told { IfOk result (λ told.
+        IsStrictlyOrdered (records_in storage.old.items entries.old.items)
+        → IsToldOf (with_path path.now (merged entry))
+        (records_in storage.old.items entries.old.items) told) }
+    ensures kept { OnOk result (IsStrictlyOrdered (records_in storage.old.items entries.old.items)
+        → IsKeptAfter (Stage (merged entry) path.entry ∷ [])
+        (records_in storage.old.items entries.old.items) kept.old kept.new) }
+    ensures sound { OnOk result (IsStrictlyOrdered (records_in storage.old.items entries.old.items)
+        → StaysSound kept.old kept.new) }
+    ensures spellable { OnOk result
+        (IsStrictlyOrdered (records_in storage.old.items entries.old.items)
+        → StaysSpellable (Stage (merged entry) path.entry ∷ []) (records_in storage.old.items entries.old.items)
+        kept.old kept.new) }
+    ensures placed { All (IsPlaced (length storage.new.items)) entries.new.items }
+    ensures storage { (storage.new.items ≡ storage.old.items)
+        ⊎ (storage.new.items ≡ storage.old.items ++ path.now) }
+    ensures err_entries { OnErr result (entries.new.items ≡ entries.old.items) }
+    ensures err_storage { OnErr result (storage.new.items ≡ storage.old.items) }
+    ensures err_kept { OnErr result (kept.new ≡ kept.old) }
+{
+    stage(entries, storage, kept, check, kind, merged(entry), path)
+}
+
+/// Takes the entries at a path out, whatever their stage, and keeps what speaks of the entries. It says how many went.
+///
+/// The entries are then as [`unstage`](index_edits::unstage::unstage) leaves them, and what is kept is as
+/// [`update`](crate::update::update) leaves it after this one change. An error is want of memory, and leaves all as it
+/// was. Over entries that don't strictly increase nothing more is said. Resolve-undo is copied once.
+pub fn unstage(
+    entries: &mut Vec<Entry>,
+    storage: &PathStorage,
+    kept: &mut Kept,
+    path: &[u8],
+) -> Result<usize, AllocError>
+    requires placed { All (IsPlaced (length storage.now.items)) entries.old.items }
+    ensures applied { OnOk result
+        (IsStrictlyOrdered (records_in storage.now.items entries.old.items)
+        → IsAppliedTo (Unstage path.entry ∷ [])
+        (records_in storage.now.items entries.old.items)
+        (records_in storage.now.items entries.new.items)) }
+    ensures unstaged { OnOk result (IsStrictlyOrdered (records_in storage.now.items entries.old.items)
+        → IsUnstagedFrom path.now (records_in storage.now.items entries.old.items)
+        (records_in storage.now.items entries.new.items)) }
+    ensures count { IfOk result (λ count.
+        IsStrictlyOrdered (records_in storage.now.items entries.old.items)
+        → count ≡ count_by (is_at path.now) (records_in storage.now.items entries.old.items)) }
+    ensures kept { OnOk result (IsStrictlyOrdered (records_in storage.now.items entries.old.items)
+        → IsKeptAfter (Unstage path.entry ∷ []) (records_in storage.now.items entries.old.items)
+        kept.old kept.new) }
+    ensures sound { OnOk result (IsStrictlyOrdered (records_in storage.now.items entries.old.items)
+        → StaysSound kept.old kept.new) }
+    ensures spellable { OnOk result
+        (IsStrictlyOrdered (records_in storage.now.items entries.old.items)
+        → StaysSpellable (Unstage path.entry ∷ []) (records_in storage.now.items entries.old.items)
+        kept.old kept.new) }
+    ensures placed { All (IsPlaced (length storage.now.items)) entries.new.items }
+    ensures err_entries { OnErr result (entries.new.items ≡ entries.old.items) }
+    ensures err_kept { OnErr result (kept.new ≡ kept.old) }
+{
+    let change = Change::Unstage { path };
+    let undo = undo_after(entries, storage, &kept.undo, &change)?;
+    let count = index_edits::unstage::unstage(entries, storage, path);
+    renew(kept, undo, &[change]);
+    Ok(count)
+}
