@@ -10,12 +10,16 @@ KINDS = ("sha1", "sha256")
 Option = collections.namedtuple("Option", "name letter help does")
 NUL = Option("", "z", "End each line with a NUL byte in place of a newline", "ends each line with a NUL byte")
 QUOTE = Option("quote", "", "Quote paths with unusual bytes, as git does", "quotes paths with unusual bytes, as git does")
+NUL_LINES = Option(
+    "", "z", "Lines of changes end with a NUL byte, and no path is quoted",
+    "reads lines that end with a NUL byte, in which no path is quoted",
+)
 MISSING = Option(
     "missing-ok", "", "Give each tree its id, also where no object store has it",
     "each directory has them, also where `git write-tree` has still to make its tree",
 )
-# A command: whether it takes OUT behind FILE, what it does, its line in the help, and its options.
-Command = collections.namedtuple("Command", "name writes does about options", defaults=((),))
+# A command: whether it writes, what it does, its line in the help, its options, and whether one that writes takes OUT.
+Command = collections.namedtuple("Command", "name writes does about options has_out", defaults=((), True))
 LINES = (NUL, QUOTE)
 COMMANDS = (
     Command(
@@ -51,6 +55,10 @@ COMMANDS = (
         "Write the index with a cached tree made anew", (MISSING,),
     ),
     Command(
+        "update", True, "changes FILE by the lines of the standard input, as `git update-index --index-info` does",
+        "Change the index, as `git update-index --index-info` does", (NUL_LINES,), False,
+    ),
+    Command(
         "salvage", True, "writes to OUT the entries before the first fault of a damaged FILE, and says how many",
         "Write what can be saved of a damaged index",
     ),
@@ -62,6 +70,7 @@ HELP = ("help", "Print this help, or that of a command")
 KIND = ("[KIND]", "How ids are made: `sha1` or `sha256` [default: as the file's own digest tells]")
 FILE = ("[FILE]", "The index, or `-` for the standard input [default: that of the work tree]")
 FILE_TO_WRITE = ("<FILE>", "The index that is read, or `-` for the standard input")
+FILE_TO_CHANGE = ("<FILE>", "The index that is changed")
 OUT = ("<OUT>", "The path that is written to")
 HELP_OPTION, VERSION_OPTION = ("-h, --help", "Print help"), ("-V, --version", "Print version")
 
@@ -73,7 +82,9 @@ def spelled(option):
 
 def operands(command):
     """What stands behind a command's name and its options, with the help of each."""
-    return (KIND, FILE_TO_WRITE, OUT) if command.writes else (KIND, FILE)
+    if not command.writes:
+        return KIND, FILE
+    return (KIND, FILE_TO_WRITE, OUT) if command.has_out else (KIND, FILE_TO_CHANGE)
 
 
 # ---- The help that the program prints

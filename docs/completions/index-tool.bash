@@ -10,13 +10,13 @@ _index_tool() {
   done
   case ${COMP_WORDS[1]} in
     rewrite | rewrite4 | rewrite-trees | salvage) last=2 ;;
-    help) last=0 words="list check check-trees map map-svg show show-json trees rewrite rewrite4 rewrite-trees salvage" ;;
+    help) last=0 words="list check check-trees map map-svg show show-json trees rewrite rewrite4 rewrite-trees update salvage" ;;
   esac
   if [ "$COMP_CWORD" -eq 1 ]; then
-    words="list check check-trees map map-svg show show-json trees rewrite rewrite4 rewrite-trees salvage help --help --version"
+    words="list check check-trees map map-svg show show-json trees rewrite rewrite4 rewrite-trees update salvage help --help --version"
   elif [[ $word == -* ]]; then
     words=--help
-    case ${COMP_WORDS[1]} in list) words+=' -z --quote' ;; map) words+=' -z --quote' ;; trees) words+=' -z --quote' ;; rewrite-trees) words+=' --missing-ok' ;; esac
+    case ${COMP_WORDS[1]} in list) words+=' -z --quote' ;; map) words+=' -z --quote' ;; trees) words+=' -z --quote' ;; rewrite-trees) words+=' --missing-ok' ;; update) words+=' -z' ;; esac
   elif [ "$before" -lt "$last" ]; then
     compopt -o default
   fi

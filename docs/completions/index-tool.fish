@@ -21,10 +21,11 @@ complete -c index-tool -n __fish_use_subcommand -a trees -d 'prints id, entry co
 complete -c index-tool -n __fish_use_subcommand -a rewrite -d 'writes OUT anew: in version 4 if FILE is in that, else 2, or 3 where flags ask for it'
 complete -c index-tool -n __fish_use_subcommand -a rewrite4 -d 'writes OUT in version 4'
 complete -c index-tool -n __fish_use_subcommand -a rewrite-trees -d 'writes OUT with a cached tree made anew: counts and ids are those that FILE’s has too'
+complete -c index-tool -n __fish_use_subcommand -a update -d 'changes FILE by the lines of the standard input, as git update-index --index-info does'
 complete -c index-tool -n __fish_use_subcommand -a salvage -d 'writes to OUT the entries before the first fault of a damaged FILE, and says how many'
 complete -c index-tool -n __fish_use_subcommand -a help -d 'Print the help, or that of a command'
 complete -c index-tool -n '__index_tool_first; and not __fish_seen_subcommand_from help' -a 'sha1 sha256'
-complete -c index-tool -n '__fish_seen_subcommand_from help' -a 'list check check-trees map map-svg show show-json trees rewrite rewrite4 rewrite-trees salvage'
+complete -c index-tool -n '__fish_seen_subcommand_from help' -a 'list check check-trees map map-svg show show-json trees rewrite rewrite4 rewrite-trees update salvage'
 complete -c index-tool -n '__fish_seen_subcommand_from list' -s z -d 'ends each line with a NUL byte'
 complete -c index-tool -n '__fish_seen_subcommand_from list' -l quote -d 'quotes paths with unusual bytes, as git does'
 complete -c index-tool -n '__fish_seen_subcommand_from map' -s z -d 'ends each line with a NUL byte'
@@ -32,5 +33,6 @@ complete -c index-tool -n '__fish_seen_subcommand_from map' -l quote -d 'quotes 
 complete -c index-tool -n '__fish_seen_subcommand_from trees' -s z -d 'ends each line with a NUL byte'
 complete -c index-tool -n '__fish_seen_subcommand_from trees' -l quote -d 'quotes paths with unusual bytes, as git does'
 complete -c index-tool -n '__fish_seen_subcommand_from rewrite-trees' -l missing-ok -d 'each directory has them, also where git write-tree has still to make its tree'
+complete -c index-tool -n '__fish_seen_subcommand_from update' -s z -d 'reads lines that end with a NUL byte, in which no path is quoted'
 complete -c index-tool -n '__index_tool_before 0; and not __fish_seen_subcommand_from help' -F
 complete -c index-tool -n '__index_tool_before 1; and __fish_seen_subcommand_from rewrite rewrite4 rewrite-trees salvage' -F

@@ -1,2 +1,3 @@
 mod Endings
 mod Trailers
+mod Updated

@@ -2,3 +2,4 @@ pub mod Checking
 pub mod Listing
 pub mod Rewriting
 pub mod Trees
+pub mod Updating

@@ -6,3 +6,4 @@ pub mod list;
 pub mod rewrite;
 pub mod rewrite_trees;
 pub mod trees;
+pub mod update;

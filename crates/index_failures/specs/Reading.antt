@@ -3,7 +3,7 @@ use Rattle.std.specs.Prelude.{◌≡◌, ℕ, Bool, false, List, Option}
 use Rattle.std.specs.Borrow.{Bor}
 use Rattle.gix_index.specs.Disk.{Disk, disk_at}
 use Rattle.gix_index.specs.Disk.World.{World}
-use Rattle.gix_index.specs.FileFaults.{SaysOfFiles}
+use Rattle.gix_index.specs.FileFaults.{IsOfFile, SaysOfFiles}
 use Rattle.gix_index.specs.FileFaults.ReadError.{Error as ReadFault}
 use Rattle.gix_index.specs.FileFaults.ReadError.TheVariants as reads
 use Rattle.gix_index.specs.FileTime.{FileTime}
@@ -32,6 +32,12 @@ abbrev pub SaysOfIndex : Bool → World → Kind → List ℕ → ReadFault → 
 SaysOfIndex works world kind path reads.Memory = Unit {0}
 SaysOfIndex works world kind path e =
     (time : FileTime) × SaysOfFiles path works (disk_at world path) false kind time unlimited_options e
+
+-- the fault is why the bytes of the file at a path can't be had: one of the disk that names it, or want of memory
+abbrev pub SaysOfBytes : Bool → World → List ℕ → ReadFault → Type 0
+SaysOfBytes works world path (reads.Io fault) = IsOfFile path works (world path) fault
+SaysOfBytes works world path reads.Memory = Unit {0}
+SaysOfBytes works world path e = ⊥
 
 -- as which failure a fault of reading a file comes: one of the disk names its file
 abbrev pub failure_of : Bor (List ℕ) → ReadFault → Failure

@@ -1,18 +1,24 @@
 //! The index in a file that a command's words name.
 
-ghost use Rattle.std.specs.Prelude.{◌≡◌, IfErr, IfOk};
-ghost use Rattle.gix_index.specs.Disk.{disk_at};
+ghost use Rattle.std.specs.Prelude.{◌≡◌, Bool, IfErr, IfOk, true};
+ghost use Rattle.std.specs.Path.{path_buf_bytes};
+ghost use Rattle.gix_index.specs.Disk.{MayHave, disk_at};
+ghost use Rattle.gix_index.specs.Disk.World.{IsFaultOf, MayBe, World};
 ghost use Rattle.gix_index.specs.File.{checksum_of, path_of, state_of};
 ghost use Rattle.gix_index.specs.State.{PathsInStorage, contents};
 ghost use Rattle.gix_index.specs.FileFaults.ReadError.TheVariants.{Memory};
-ghost use Rattle.index_failures.specs.Reading.{FailsReading, IsInFile, IsInFileSince, SaysOfIndex, failure_of};
+ghost use Rattle.index_failures.specs.Reading.{FailsReading, IsInFile, IsInFileSince, SaysOfBytes, SaysOfIndex};
+ghost use Rattle.index_failures.specs.Reading.{failure_of};
 
 use crate::failure::Failure;
 use gix_index::entry::FileTime;
+use gix_index::file::PathError;
 use gix_index::file::folder::Folder;
 use gix_index::hash::Kind;
 use gix_index::{File, decode, file};
 use std::alloc::Global;
+use std::io;
+use std::io::ErrorKind;
 use std::path::PathBuf;
 
 /// Why there is no index to be had of a file.
@@ -31,6 +37,40 @@ pub fn out_of_memory(path: &str) -> Failure<'_>
 {
     let fault = file::init::Error::Memory;
     Failure::Index { path, fault }
+}
+
+/// Why the bytes of the file at a path can't be had, by what opening or reading it answered.
+fn fault_of(path: PathBuf, error: io::Error) -> file::init::Error
+    ensures { (works : Bool) (world : World)
+        → (works ≡ true → IsFaultOf (world (path_buf_bytes path)) error)
+        → SaysOfBytes works world (path_buf_bytes path) result }
+{
+    if error.kind() == ErrorKind::OutOfMemory {
+        return file::init::Error::Memory;
+    }
+    file::init::Error::Io(PathError { path, error })
+}
+
+/// All bytes of the file at a path, and when it was changed last. [`Failure::Read`] names the file that can't be opened
+/// or read.
+pub fn bytes_at<'a, D: Folder>(
+    folder: &D,
+    alloc: Global,
+    path: &'a str,
+) -> Result<(Vec<u8>, FileTime), Failure<'a>>
+    ensures held { IfOk result (λ read. MayHave (D.known folder.now path.now) read.0.items) }
+    ensures since { IfOk result
+        (λ read. MayBe (D.known folder.now path.now) (λ file. read.1 ≡ file.time)) }
+    ensures fault { IfErr result
+        (FailsReading (SaysOfBytes (D.works folder.now) (D.known folder.now) path.now) path.now) }
+{
+    let Ok(file) = PathBuf::from_str(alloc, path) else {
+        return Err(out_of_memory(path));
+    };
+    match file::bytes_at(folder, alloc, file.as_path()) {
+        Ok(read) => Ok(read),
+        Err(error) => Err(failure_of(path, fault_of(file, error))),
+    }
 }
 
 /// The index in a file, with the shared index that it links to.

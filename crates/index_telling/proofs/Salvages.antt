@@ -4,9 +4,8 @@ use Rattle.gix_index.specs.Disk.World.{World}
 use Rattle.gix_index.specs.FileFaults.ReadError.{Error as ReadFault}
 use Rattle.gix_index.specs.FileFaults.ReadError.TheVariants as reads
 use Rattle.gix_index.specs.Kind.{Kind}
-use Rattle.index_failures.specs.Reading.{FailsReading}
+use Rattle.index_failures.specs.Reading.{FailsReading, SaysOfBytes}
 use Rattle.index_failures.specs.declared.failure.Failure.{Failure}
-use Rattle.index_telling.specs.Mapping.{SaysOfBytes}
 use Rattle.index_telling.specs.Salvaging.{SaysOfSaving}
 
 says_of_saving : (works : Bool) (world : World) (kind : Kind) (path : List ℕ) (e : ReadFault)

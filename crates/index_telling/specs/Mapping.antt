@@ -43,9 +43,3 @@ IsDamagedMap style known kind offset e text = IsOfDamaged (map_lines style) know
 
 abbrev pub IsDamagedPicture : Known → Kind → ℕ → Error → List ℕ → Type 0
 IsDamagedPicture known kind offset e text = IsOfDamaged picture_text known kind offset e text
-
--- the fault is why the bytes of the file at a path can't be had: one of the disk that names it, or want of memory
-abbrev pub SaysOfBytes : Bool → World → List ℕ → ReadFault → Type 0
-SaysOfBytes works world path (reads.Io fault) = IsOfFile path works (world path) fault
-SaysOfBytes works world path reads.Memory = Unit {0}
-SaysOfBytes works world path e = ⊥

@@ -1,63 +1,20 @@
 //! The command `map`.
 
-ghost use Rattle.std.specs.Prelude.{◌≡◌, Bool, false, true, IfErr, IfOk, None, OnOk};
-ghost use Rattle.gix_index.specs.Disk.{MayHave};
-ghost use Rattle.std.specs.Path.{path_buf_bytes};
-ghost use Rattle.gix_index.specs.Disk.World.{IsFaultOf, MayBe, World};
+ghost use Rattle.std.specs.Prelude.{◌≡◌, false, IfErr, None, OnOk};
 ghost use Rattle.index_inspect.specs.Remains.{last_begin};
-ghost use Rattle.index_failures.specs.Reading.{FailsReading};
+ghost use Rattle.index_failures.specs.Reading.{FailsReading, SaysOfBytes};
 ghost use Rattle.index_failures.specs.Telling.{FailsTelling, Tells};
-ghost use Rattle.index_telling.specs.Mapping.{IsDamagedMap, IsMap, SaysOfBytes};
+ghost use Rattle.index_telling.specs.Mapping.{IsDamagedMap, IsMap};
 
-use gix_index::entry::FileTime;
-use gix_index::file;
-use gix_index::file::PathError;
 use gix_index::file::folder::Folder;
 use gix_index::hash::Kind;
 use gix_index::hash::io::Out;
 use index_failures::failure::Failure;
-use index_failures::index::{failure_of, out_of_memory};
+use index_failures::index::{bytes_at, out_of_memory};
 use index_inspect::divide;
 use index_map::{Part, write_map};
 use index_text::lines::Lines;
 use std::alloc::Global;
-use std::io;
-use std::io::ErrorKind;
-use std::path::PathBuf;
-
-/// Why the bytes of the file at a path can't be had, by what opening or reading it answered.
-fn fault_of(path: PathBuf, error: io::Error) -> file::init::Error
-    ensures { (works : Bool) (world : World)
-        → (works ≡ true → IsFaultOf (world (path_buf_bytes path)) error)
-        → SaysOfBytes works world (path_buf_bytes path) result }
-{
-    if error.kind() == ErrorKind::OutOfMemory {
-        return file::init::Error::Memory;
-    }
-    file::init::Error::Io(PathError { path, error })
-}
-
-/// All bytes of the file at a path, and when it was changed last. [`Failure::Read`] names the file that can't be opened
-/// or read.
-pub fn bytes_at<'a, D: Folder>(
-    folder: &D,
-    alloc: Global,
-    path: &'a str,
-) -> Result<(Vec<u8>, FileTime), Failure<'a>>
-    ensures held { IfOk result (λ read. MayHave (D.known folder.now path.now) read.0.items) }
-    ensures since { IfOk result
-        (λ read. MayBe (D.known folder.now path.now) (λ file. read.1 ≡ file.time)) }
-    ensures fault { IfErr result
-        (FailsReading (SaysOfBytes (D.works folder.now) (D.known folder.now) path.now) path.now) }
-{
-    let Ok(file) = PathBuf::from_str(alloc, path) else {
-        return Err(out_of_memory(path));
-    };
-    match file::bytes_at(folder, alloc, file.as_path()) {
-        Ok(read) => Ok(read),
-        Err(error) => Err(failure_of(path, fault_of(file, error))),
-    }
-}
 
 /// Where the last part begins, or 0 where there is none.
 pub fn last_offset(parts: &[Part]) -> usize

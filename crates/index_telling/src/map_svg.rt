@@ -1,16 +1,16 @@
 //! The command `map-svg`.
 
 ghost use Rattle.std.specs.Prelude.{◌≡◌, IfErr, None, OnOk, false};
-ghost use Rattle.index_failures.specs.Reading.{FailsReading};
+ghost use Rattle.index_failures.specs.Reading.{FailsReading, SaysOfBytes};
 ghost use Rattle.index_failures.specs.Telling.{FailsTelling, Tells};
-ghost use Rattle.index_telling.specs.Mapping.{IsDamagedPicture, IsPicture, SaysOfBytes};
+ghost use Rattle.index_telling.specs.Mapping.{IsDamagedPicture, IsPicture};
 
-use crate::map::{bytes_at, last_offset};
+use crate::map::last_offset;
 use gix_index::file::folder::Folder;
 use gix_index::hash::Kind;
 use gix_index::hash::io::Out;
 use index_failures::failure::Failure;
-use index_failures::index::out_of_memory;
+use index_failures::index::{bytes_at, out_of_memory};
 use index_inspect::divide;
 use index_picture::write_svg;
 use std::alloc::Global;

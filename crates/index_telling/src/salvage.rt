@@ -10,7 +10,6 @@ ghost use Rattle.index_failures.specs.Reading.{FailsReading};
 ghost use Rattle.index_telling.specs.Report.{counts_text, fate_text, fault_place_text};
 ghost use Rattle.index_telling.specs.Salvaging.{FailsToSalvage, IsOfBytes, Salvages, SaysOfSaving};
 
-use crate::map::bytes_at;
 use crate::shared::shared_beside;
 use gix_index::entry::FileTime;
 use gix_index::file::OneLine;
@@ -19,7 +18,7 @@ use gix_index::hash::Kind;
 use gix_index::write::VersionChoice;
 use gix_index::{File, decode, file};
 use index_failures::failure::Failure;
-use index_failures::index::out_of_memory;
+use index_failures::index::{bytes_at, out_of_memory};
 use index_failures::storing::{commit_at, lock_at};
 use index_inspect::remains::{Error, FirstFault};
 use index_inspect::{Remains, Salvaged, SharedEntries, remains_of};

@@ -50,5 +50,7 @@ told_of_saved (words.Writes writings.Rewrite4 given place to) k p report alone g
     absurd cc
 told_of_saved (words.Writes (writings.RewriteTrees missing_ok) given place to) k p report alone guards before behind old
     new does e = absurd cc
+told_of_saved (words.Writes (writings.Update nul) given place to) k p report alone guards before behind old new does e =
+    absurd cc
 told_of_saved (words.Writes writings.Salvage given place to) k p report alone guards before behind old new does e =
     absurd cc

@@ -18,6 +18,7 @@ pub data CommandValue : Type 0 where
 abbrev pub IsPlace : World → Surroundings → Option words.Place → List ℕ → Type 0
 IsPlace world around (Some words.standard_input) path = path ≡ codes "/dev/stdin"
 IsPlace world around (Some (words.file text)) path = path ≡ text
+IsPlace world around (Some (words.changed text)) path = path ≡ text
 IsPlace world around None path = IsIndexPath world around path
 
 -- the kind that a word names; without a word the one that the file at a path has

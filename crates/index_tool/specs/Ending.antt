@@ -37,6 +37,7 @@ SaysOfInput errors.NoRepository = ⊥
 abbrev pub HasNoPlace : Bool → World → Surroundings → Option words.Place → Error → Type 0
 HasNoPlace works world around (Some words.standard_input) e = SaysOfInput e
 HasNoPlace works world around (Some (words.file text)) e = e ≡ errors.Memory
+HasNoPlace works world around (Some (words.changed text)) e = SaysOfInput e
 HasNoPlace works world around None e = SaysOfPlace works world around e
 
 -- why there is no path, or no kind of the file at it where no word names one

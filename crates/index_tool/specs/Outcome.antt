@@ -1,5 +1,5 @@
 -- What a command leaves on the output and in files (the program's own).
-use Rattle.std.specs.Prelude.{◌≡◌, ℕ, Bool, true, false, List, Option, None, IsSomeAnd}
+use Rattle.std.specs.Prelude.{◌≡◌, ℕ, Bool, true, false, codes, List, Option, None, IsSomeAnd}
 use Rattle.std.specs.Io.KnownBytes.{Keeps}
 use Rattle.gix_index.specs.Kind.{Kind}
 use Rattle.gix_index.specs.Disk.{disk_at}
@@ -12,6 +12,7 @@ use Rattle.index_commands.specs.Trees.{AreTrees, FailsToRetree, Retrees}
 use Rattle.index_commands.specs.Checking.{IsPassed}
 use Rattle.index_commands.specs.Listing.{IsListing}
 use Rattle.index_commands.specs.Rewriting.{FailsToRewrite, Rewrites}
+use Rattle.index_commands.specs.Updating.{FailsToStoreUpdate, Updates}
 use Rattle.index_telling.specs.declared.salvage.Report.{Report}
 use Rattle.index_telling.specs.Mapping.{IsDamagedMap, IsDamagedPicture, IsMap, IsPicture}
 use Rattle.index_telling.specs.Salvaging.{FailsToSalvage, Salvages}
@@ -48,8 +49,8 @@ abbrev pub counts_of : Bool → Counts
 counts_of true = counting.All
 counts_of false = counting.Known
 
--- An index was written to a path: the one in a file, that one with a cached tree made anew, or what is saved of a file,
--- of which alone there is a report.
+-- An index was written to a path: the one in a file, that one with a cached tree made anew or with the changes that the
+-- standard input says, or what is saved of a file, of which alone there is a report.
 abbrev pub StoresIndex : Writing → Bool → Bool → Kind → World → World → List ℕ → List ℕ → Option Report → Type 0
 StoresIndex writings.Rewrite alone guards kind before behind file to report =
     Rewrites alone guards forms.AsRead kind before behind file to × (report ≡ None)
@@ -57,6 +58,8 @@ StoresIndex writings.Rewrite4 alone guards kind before behind file to report =
     Rewrites alone guards forms.V4 kind before behind file to × (report ≡ None)
 StoresIndex (writings.RewriteTrees missing_ok) alone guards kind before behind file to report =
     Retrees alone guards (counts_of missing_ok) kind before behind file to × (report ≡ None)
+StoresIndex (writings.Update nul) alone guards kind before behind file to report =
+    Updates alone guards nul kind before behind (codes "/dev/stdin") file to × (report ≡ None)
 StoresIndex writings.Salvage alone guards kind before behind file to report =
     IsSomeAnd report (Salvages alone guards kind before behind file to)
 
@@ -68,6 +71,8 @@ FailsToStore writings.Rewrite4 works guards kind before file to failure =
     FailsToRewrite works guards kind before file to failure
 FailsToStore (writings.RewriteTrees missing_ok) works guards kind before file to failure =
     FailsToRetree works guards kind before file to failure
+FailsToStore (writings.Update nul) works guards kind before file to failure =
+    FailsToStoreUpdate nul works guards kind before (codes "/dev/stdin") file to failure
 FailsToStore writings.Salvage works guards kind before file to failure =
     FailsToSalvage works guards kind before file to failure
 

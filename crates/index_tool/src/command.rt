@@ -9,7 +9,8 @@ ghost use Rattle.index_words.specs.Answers.{is_asked_for};
 ghost use Rattle.index_words.specs.Commands.{command_value, place_of};
 ghost use Rattle.index_words.specs.Meaning.{meaning};
 ghost use Rattle.index_tool.specs.Command.{IsFound, IsPlace, Reads, given_of, input_of, on_file};
-ghost use Rattle.index_tool.specs.Ending.{AreWrong, HasNoPlace, IsDone, IsRefused, IsUnfound, IsWrong, reports, reports_of};
+ghost use Rattle.index_tool.specs.Ending.{AreWrong, HasNoPlace, IsDone, IsRefused, IsUnfound, IsWrong, SaysOfInput};
+ghost use Rattle.index_tool.specs.Ending.{reports, reports_of};
 ghost use Rattle.index_tool.specs.Outcome.{Does, FailsToStore, GivesUp, IsTold, Spares, StoresIndex, Succeeds};
 
 use crate::terminal::{Console, STANDARD_INPUT};
@@ -22,6 +23,7 @@ use index_commands::list::list;
 use index_commands::rewrite::{Form, rewrite};
 use index_commands::rewrite_trees::{Counts, rewrite_trees};
 use index_commands::trees::trees;
+use index_commands::update::update;
 use index_failures::failure::Failure;
 use index_input::{Surroundings, index_path, kind_at};
 use index_telling::map::map;
@@ -51,6 +53,24 @@ struct Found {
     kind: Kind,
 }
 
+/// Takes the standard input, which counts as the file [`STANDARD_INPUT`] from here on.
+fn hold<D: Console>(folder: &mut D, alloc: Global) -> Result<(), index_input::Error>
+    ensures fault { IfErr result SaysOfInput }
+    ensures known { D.known folder.new ≡ D.known folder.old }
+    ensures alone { D.alone folder.new ≡ D.alone folder.old }
+    ensures guards { D.guards folder.new ≡ D.guards folder.old }
+    ensures works { D.works folder.new ≡ D.works folder.old }
+{
+    if let Err(error) = folder.hold_input(alloc) {
+        if error.kind() == ErrorKind::OutOfMemory {
+            return Err(index_input::Error::Memory);
+        }
+        let path = PathBuf::from_str(alloc, STANDARD_INPUT)?;
+        return Err(index_input::Error::Io(PathError { path, error }));
+    }
+    Ok(())
+}
+
 /// The path of the file that a word names, or that of the work tree's index where no word does.
 fn path_of<D: Console>(
     folder: &mut D,
@@ -69,14 +89,12 @@ fn path_of<D: Console>(
 {
     match input {
         Some(Input::File(path)) => Ok(String::from_str(alloc, path)?),
+        Some(Input::Changed(path)) => {
+            hold(folder, alloc)?;
+            Ok(String::from_str(alloc, path)?)
+        }
         Some(Input::Stdin) => {
-            if let Err(error) = folder.hold_input(alloc) {
-                if error.kind() == ErrorKind::OutOfMemory {
-                    return Err(index_input::Error::Memory);
-                }
-                let path = PathBuf::from_str(alloc, STANDARD_INPUT)?;
-                return Err(index_input::Error::Io(PathError { path, error }));
-            }
+            hold(folder, alloc)?;
             Ok(String::from_str(alloc, STANDARD_INPUT)?)
         }
         None => index_path(folder, alloc, around),
@@ -161,6 +179,7 @@ fn write<'a, D: Folder>(
         Writing::RewriteTrees { missing_ok: false } => {
             rewrite_trees(folder, alloc, Counts::Known, kind, path, to)?
         }
+        Writing::Update { nul } => update(folder, alloc, nul, kind, STANDARD_INPUT, path, to)?,
         Writing::Salvage => return Ok(Some(salvage(folder, alloc, kind, path, to)?)),
     };
     Ok(None)
@@ -326,7 +345,8 @@ fn named<'a>(command: &Command<'a>) -> (Option<Kind>, Option<Input<'a>>)
 /// to the path OUT, and nothing to `out`: OUT is locked, as git locks an index, before FILE is opened, and gets the
 /// time of FILE. `rewrite4` does so in version 4, and `rewrite-trees` with a cached tree made anew, in which a
 /// directory has a count and an id where that of FILE has the same; with `--missing-ok` each has them, also those of
-/// trees that no object store has yet. `salvage` writes what can be saved of FILE there, with the entries of its shared
+/// trees that no object store has yet. `update` holds the standard input, and writes to FILE, under its lock, what the
+/// changes make of it that are said there; where there is no file, an index is begun. `salvage` writes what can be saved of FILE there, with the entries of its shared
 /// index where that can be read, and says on one line on `faults` how many entries were declared, read and kept, where
 /// the first fault is, and whether the entries of a shared index are there or missing.
 ///

@@ -7,7 +7,7 @@ use Rattle.clap.specs.Lexer.{long_of, short_of}
 use Rattle.clap.specs.Walk.{Text}
 use Rattle.clap.specs.declared.error.kind.ErrorKind.TheVariants as kind
 use Rattle.clap.proofs.OnLiterals.{clap_on_literals}
-use Rattle.index_words.specs.Commands.{Reads, Writes, file, place_named}
+use Rattle.index_words.specs.Commands.{Reads, Writes, changed, file, place_named}
 use Rattle.index_words.specs.Meaning.{Runs, Says, meaning, write_meant}
 use Rattle.index_text.specs.declared.lines.Lines.{Lines}
 use Rattle.index_words.specs.declared.command.Reading.{Reading}
@@ -74,6 +74,15 @@ each_writes : map (λ front. meaning (front ++ codes "sha1" ∷ codes "a" ∷ co
     ∷ [])
 unfolding clap_on_literals
 each_writes = refl
+
+changes_a_file : meaning (codes "update" ∷ codes "-z" ∷ codes "sha1" ∷ codes "a" ∷ [])
+    ≡ Runs (Writes (writings.Update true) (Some Sha1) (changed (codes "a")) (codes "a"))
+unfolding clap_on_literals
+changes_a_file = refl
+
+changes_no_input : meaning (codes "update" ∷ codes "-" ∷ []) ≡ Says (kind.InvalidValue ∷ [])
+unfolding clap_on_literals
+changes_no_input = refl
 
 in_the_work_tree : meaning (codes "list" ∷ []) ≡ Runs (Reads (readings.List plain) None None)
 unfolding clap_on_literals

@@ -17,10 +17,11 @@ use Rattle.index_words.specs.declared.command.Reading.TheVariants as readings
 use Rattle.index_words.specs.declared.command.Writing.{Writing}
 use Rattle.index_words.specs.declared.command.Writing.TheVariants as writings
 
--- where an index is read
+-- where an index is read: in a file, for which the standard input may have changes, or on the standard input
 pub data Place : Type 0 where
   standard_input : Place
   file : Text → Place
+  changed : Text → Place
 
 -- a command with its values: the kind and the place where they are given
 pub data CommandValue : Type 0 where
@@ -30,6 +31,7 @@ pub data CommandValue : Type 0 where
 abbrev pub place_of : Input → Place
 place_of inputs.Stdin = standard_input
 place_of (inputs.File path) = file path.now
+place_of (inputs.Changed path) = changed path.now
 
 abbrev pub command_value : Command → CommandValue
 command_value (commands.Read what kind input) = Reads what kind (option_map place_of input)

@@ -1,5 +1,5 @@
 -- What words mean: a command with its values, or what is said in its place (the program's own).
-use Rattle.std.specs.Prelude.{◌∷◌, ◌++◌, codes, List, [], Option, Some, None, if◌then◌else◌}
+use Rattle.std.specs.Prelude.{Bool, ◌∷◌, ◌++◌, codes, List, [], Option, Some, None, if◌then◌else◌}
 use Rattle.std.specs.Str.{bytes_eq}
 use Rattle.index_parts.specs.declared.hash.Kind.{Kind}
 use Rattle.clap.specs.Kinds.{Kinds}
@@ -9,11 +9,12 @@ use Rattle.clap.specs.Walk.{Row, Text, first_of}
 use Rattle.clap.specs.declared.error.kind.ErrorKind.TheVariants.{InvalidSubcommand, InvalidValue}
 use Rattle.clap.specs.declared.error.kind.ErrorKind.TheVariants.{MissingRequiredArgument}
 use Rattle.clap.specs.declared.error.kind.ErrorKind.TheVariants.{MissingSubcommand}
-use Rattle.index_words.specs.Commands.{CommandValue, Reads, Writes, kind_named, place_named}
+use Rattle.index_words.specs.Commands.{CommandValue, Reads, Writes, changed, is_set, kind_named, place_named}
 use Rattle.index_words.specs.Commands.{reading_named, writing_named}
 use Rattle.index_words.specs.Table.{program}
 use Rattle.index_words.specs.declared.command.Reading.{Reading}
 use Rattle.index_words.specs.declared.command.Writing.{Writing}
+use Rattle.index_words.specs.declared.command.Writing.TheVariants.{Update}
 
 -- what words come to: a command, or what is said in its place, of one of these kinds
 pub data Meaning : Type 0 where
@@ -55,18 +56,32 @@ write_meant what kind (word ∷ to ∷ []) =
     if bytes_eq to (codes "-") then Says (InvalidValue ∷ []) else Runs (Writes what kind (place_named word) to)
 write_meant what kind (word ∷ to ∷ next ∷ rest) = Says (InvalidValue ∷ [])
 
+-- [KIND] FILE, which is changed: it is no standard input
+abbrev pub change_meant : Bool → Option Kind → List Text → Meaning
+change_meant nul kind [] = Says (MissingRequiredArgument ∷ [])
+change_meant nul kind (word ∷ []) =
+    if bytes_eq word (codes "-") then Says (InvalidValue ∷ [])
+    else Runs (Writes (Update nul) kind (changed word) word)
+change_meant nul kind (word ∷ next ∷ rest) = Says (InvalidValue ∷ [])
+
 abbrev pub on_taken : (Option Kind → List Text → Meaning) → List Text → Meaning
 on_taken meant words = meant (kind_taken words).0 (kind_taken words).1
 
-abbrev pub meant_so : Option Reading → Option Writing → List Row → Meaning
-meant_so (Some what) other rows =
+abbrev pub meant_else : Text → List Row → Meaning
+meant_else name rows =
+    if bytes_eq name (codes "update")
+    then on_taken (change_meant (is_set (codes "z") rows)) (words_at (codes "KIND" ∷ codes "FILE" ∷ []) rows)
+    else Says (InvalidSubcommand ∷ [])
+
+abbrev pub meant_so : Text → Option Reading → Option Writing → List Row → Meaning
+meant_so name (Some what) other rows =
     on_taken (read_meant what) (words_at (codes "KIND" ∷ codes "FILE" ∷ []) rows)
-meant_so None (Some what) rows =
+meant_so name None (Some what) rows =
     on_taken (write_meant what) (words_at (codes "KIND" ∷ codes "FILE" ∷ codes "OUT" ∷ []) rows)
-meant_so None None rows = Says (InvalidSubcommand ∷ [])
+meant_so name None None rows = meant_else name rows
 
 abbrev pub meant : Text → List Row → Meaning
-meant name rows = meant_so (reading_named name rows) (writing_named name rows) rows
+meant name rows = meant_so name (reading_named name rows) (writing_named name rows) rows
 
 -- ---- all words
 

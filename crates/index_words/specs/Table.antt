@@ -10,7 +10,7 @@ abbrev pub names : List Text
 names =
     codes "list" ∷ codes "check" ∷ codes "check-trees" ∷ codes "map" ∷ codes "map-svg"
     ∷ codes "show" ∷ codes "show-json" ∷ codes "trees" ∷ codes "rewrite" ∷ codes "rewrite4"
-    ∷ codes "rewrite-trees" ∷ codes "salvage" ∷ []
+    ∷ codes "rewrite-trees" ∷ codes "update" ∷ codes "salvage" ∷ []
 
 -- the commands that write an index, and those that write lines with paths
 abbrev pub is_writing : Text → Bool
@@ -31,9 +31,13 @@ short_flag id letter = record (flag id) { short = Some letter }
 abbrev pub long_flag : Text → Rule
 long_flag id = record (flag id) { long = Some id }
 
+-- `-z`
+abbrev pub with_nul : App → App
+with_nul a = with_rule a (short_flag (codes "z") 122)
+
 -- `-z` and `--quote`
 abbrev pub with_lines : App → App
-with_lines a = with_rule (with_rule a (short_flag (codes "z") 122)) (long_flag (codes "quote"))
+with_lines a = with_rule (with_nul a) (long_flag (codes "quote"))
 
 abbrev pub with_missing : App → App
 with_missing a = with_rule a (long_flag (codes "missing-ok"))
@@ -54,8 +58,9 @@ written_app name a =
 abbrev pub command_app : Text → App
 command_app name =
     if is_writing name then written_app name (with_inputs (new_app name))
+    else (if bytes_eq name (codes "update") then with_nul (with_inputs (new_app name))
     else (if has_lines name then with_lines (with_inputs (new_app name))
-    else with_inputs (new_app name))
+    else with_inputs (new_app name)))
 
 abbrev pub with_command : App → Text → App
 with_command a name = with_subcommand a (command_app name).top

@@ -35,6 +35,8 @@ pub enum Input<'a> {
     Stdin,
     /// The file at this path.
     File(&'a str),
+    /// The same, for which the standard input has changes.
+    Changed(&'a str),
 }
 
 /// What is told of an index.
@@ -69,6 +71,11 @@ pub enum Writing {
     RewriteTrees {
         /// `--missing-ok`: each directory has its count and id, also where no object store has the tree yet.
         missing_ok: bool,
+    },
+    /// `update`: the index with changes, in its own place.
+    Update {
+        /// `-z`: lines of changes end in a NUL, and no path is quoted.
+        nul: bool,
     },
     /// `salvage`: what can be saved of a damaged index.
     Salvage,

@@ -57,6 +57,14 @@ pub fn no_out(alloc: Global, name: &str) -> Answer
     refusal(alloc, name, ErrorKind::InvalidValue, text)
 }
 
+/// The answer to `-` where a file is changed: the standard input has the changes.
+pub fn no_file(alloc: Global, name: &str) -> Answer
+    ensures { Answers (Says (ErrorKind.InvalidValue ∷ [])) result }
+{
+    let text = "invalid value '-' for '<FILE>': the standard input has the changes";
+    refusal(alloc, name, ErrorKind::InvalidValue, text)
+}
+
 /// The answer where words are missing.
 pub fn missing(alloc: Global, name: &str, words: &str) -> Answer
     ensures { Answers (Says (ErrorKind.MissingRequiredArgument ∷ [])) result }

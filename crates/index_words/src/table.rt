@@ -5,7 +5,7 @@ ghost use Rattle.clap.specs.Simple.{app_of};
 ghost use Rattle.clap.specs.Walk.{rule_of};
 ghost use Rattle.clap.specs.declared.builder.command.Command.TheViews.{out-Command};
 ghost use Rattle.index_words.specs.Table.{command_app, flag, has_lines, help_app, is_writing, names, no_commands};
-ghost use Rattle.index_words.specs.Table.{program, with_command, with_inputs, with_lines, with_missing, with_out};
+ghost use Rattle.index_words.specs.Table.{program, with_command, with_inputs, with_lines, with_missing, with_nul, with_out};
 ghost use Rattle.index_words.specs.Table.{written_app};
 
 use clap::{Arg, ArgAction, Command};
@@ -16,6 +16,9 @@ pub const PROGRAM: &str = "index-tool";
 
 /// The name of the command that prints help.
 pub const HELP: &str = "help";
+
+/// The name of the command that changes an index by the standard input.
+pub const UPDATE: &str = "update";
 
 /// What the program does, on one line.
 const ABOUT: &str = "List, check, repair and rewrite git's index files";
@@ -45,6 +48,7 @@ fn about(name: &str) -> &'static str {
         "rewrite" => "Write the index again",
         "rewrite4" => "Write the index again in version 4",
         "rewrite-trees" => "Write the index with a cached tree made anew",
+        "update" => "Change the index, as `git update-index --index-info` does",
         _ => "Write what can be saved of a damaged index",
     }
 }
@@ -81,25 +85,34 @@ fn flag<'a>(alloc: Global, id: &'a str, help: &'a str) -> Arg<'a>
     Arg::new(alloc, id).action(ArgAction::SetTrue).help(help)
 }
 
+/// With `-z`.
+fn with_nul<'a>(
+    alloc: Global,
+    command: Command<'a>,
+    help: &'a str,
+) -> Result<Command<'a>, AllocError>
+    ensures app { IfOk result (λ c. app_of c ≡ with_nul (app_of command.entry)) }
+    ensures local { IfOk result (λ c. (out-Command command.entry).has_globals ≡ false
+        → (out-Command c).has_globals ≡ false) }
+{
+    command.arg(flag(alloc, "z", help).short('z'))
+}
+
 /// With `-z` and `--quote`.
 fn with_lines<'a>(alloc: Global, command: Command<'a>) -> Result<Command<'a>, AllocError>
     ensures app { IfOk result (λ c. app_of c ≡ with_lines (app_of command.entry)) }
     ensures local { IfOk result (λ c. (out-Command command.entry).has_globals ≡ false
         → (out-Command c).has_globals ≡ false) }
 {
-    let nul = flag(
-        alloc,
-        "z",
-        "End each line with a NUL byte in place of a newline",
-    )
-    .short('z');
+    let help = "End each line with a NUL byte in place of a newline";
+    let command = with_nul(alloc, command, help)?;
     let quote = flag(
         alloc,
         "quote",
         "Quote paths with unusual bytes, as git does",
     )
     .long("quote");
-    command.arg(nul)?.arg(quote)
+    command.arg(quote)
 }
 
 /// With `--missing-ok`.
@@ -114,6 +127,17 @@ fn with_missing<'a>(alloc: Global, command: Command<'a>) -> Result<Command<'a>, 
         "Give each tree its id, also where no object store has it",
     );
     command.arg(missing.long("missing-ok"))
+}
+
+/// The command that changes an index, behind the words KIND and FILE.
+fn with_changes<'a>(alloc: Global, command: Command<'a>) -> Result<Command<'a>, AllocError>
+    ensures app { IfOk result (λ c. app_of c ≡ with_nul (app_of command.entry)) }
+    ensures local { IfOk result (λ c. (out-Command command.entry).has_globals ≡ false
+        → (out-Command c).has_globals ≡ false) }
+{
+    let command = command.override_usage("index-tool update [OPTIONS] [KIND] <FILE>");
+    let help = "Lines of changes end with a NUL byte, and no path is quoted";
+    with_nul(alloc, command, help)
 }
 
 /// With the word OUT, and the usage that it makes.
@@ -180,6 +204,12 @@ pub fn command<'a>(alloc: Global, name: &'a str) -> Result<Command<'a>, AllocErr
             )?,
         );
     }
+    if name == UPDATE {
+        return with_changes(
+            alloc,
+            with_inputs(alloc, command, "The index that is changed")?,
+        );
+    }
     let command = with_inputs(
         alloc,
         command,
@@ -228,6 +258,7 @@ fn commands<'a>(alloc: Global) -> Result<Command<'a>, AllocError>
     let program = with(alloc, program, "rewrite")?;
     let program = with(alloc, program, "rewrite4")?;
     let program = with(alloc, program, "rewrite-trees")?;
+    let program = with(alloc, program, UPDATE)?;
     with(alloc, program, "salvage")
 }
 

@@ -8,7 +8,7 @@ use std::test::Fail;
 /// Words that end with this status, and a text that the answer has.
 type Row<'a> = (&'a [&'a str], u8, &'a str);
 
-const ANSWERS: [Row; 25] = [
+const ANSWERS: [Row; 28] = [
     (&["--help"], DONE, "Usage: index-tool <COMMAND>"),
     (&["-h"], DONE, "\n  rewrite-trees  Write the index with"),
     (&["help"], DONE, "Usage: index-tool <COMMAND>"),
@@ -102,6 +102,21 @@ const ANSWERS: [Row; 25] = [
         "invalid value '-' for '<OUT>'",
     ),
     (
+        &["update", "sha1"],
+        WRONG_WORDS,
+        "not provided:\n  <FILE>\n\nUsage: index-tool update [OPTIONS] [KIND] <FILE>",
+    ),
+    (
+        &["update", "x", "y"],
+        WRONG_WORDS,
+        "invalid value 'x' for '[KIND]'",
+    ),
+    (
+        &["update", "sha1", "-"],
+        WRONG_WORDS,
+        "invalid value '-' for '<FILE>'",
+    ),
+    (
         &["rewrite", "sha1", "x", "y", "z"],
         WRONG_WORDS,
         "unexpected argument 'z' found",
@@ -109,7 +124,7 @@ const ANSWERS: [Row; 25] = [
 ];
 
 /// Words that are a command.
-const COMMANDS: [(&[&str], &str); 13] = [
+const COMMANDS: [(&[&str], &str); 14] = [
     (
         &["list", "sha1", "x"],
         "Some(Read { what: List(Lines { nul: false, quote: false }), kind: Some(Sha1), input: Some(File(\"x\")) })",
@@ -157,6 +172,10 @@ const COMMANDS: [(&[&str], &str); 13] = [
     (
         &["rewrite-trees", "--missing-ok", "sha256", "x", "y"],
         "Some(Write { what: RewriteTrees { missing_ok: true }, kind: Some(Sha256), input: File(\"x\"), to: \"y\" })",
+    ),
+    (
+        &["update", "-z", "sha1", "x"],
+        "Some(Write { what: Update { nul: true }, kind: Some(Sha1), input: Changed(\"x\"), to: \"x\" })",
     ),
     (
         &["salvage", "sha256", "-", "y"],

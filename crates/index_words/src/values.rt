@@ -7,11 +7,12 @@ ghost use Rattle.clap.specs.declared.error.kind.ErrorKind.{ErrorKind};
 ghost use Rattle.index_words.specs.Answers.{Answers, IsMeant};
 ghost use Rattle.index_words.specs.Commands.{is_set, kind_named, lines_of, place_named, place_of, reading_named};
 ghost use Rattle.index_words.specs.Commands.{text_of, writing_named};
-ghost use Rattle.index_words.specs.Meaning.{listed, meant, on_taken, read_meant, write_meant};
+ghost use Rattle.index_words.specs.Meaning.{change_meant, listed, meant, on_taken, read_meant, write_meant};
 
 use crate::answer::Answer;
 use crate::command::{Command, Input, Reading, Writing};
-use crate::refusal::{NO_COMMAND, missing, no_kind, no_out, refusal};
+use crate::refusal::{NO_COMMAND, missing, no_file, no_kind, no_out, refusal};
+use crate::table::UPDATE;
 use clap::ArgMatches;
 use clap::error::ErrorKind;
 use index_parts::hash::Kind;
@@ -165,6 +166,38 @@ fn write_of<'a>(
     })
 }
 
+/// The command of the words [KIND] FILE behind this name.
+fn update_of<'a>(
+    alloc: Global,
+    name: &str,
+    nul: bool,
+    first: Option<&'a str>,
+    second: Option<&'a str>,
+) -> Result<Command<'a>, Answer>
+    ensures { IsMeant (on_taken (change_meant nul) (listed (text_of first.entry)
+        (listed (text_of second.entry) []))) result }
+{
+    let Some(first) = first else {
+        return Err(missing(alloc, name, "<FILE>"));
+    };
+    let kind = kind_of(first);
+    let word = match (kind, second) {
+        (Some(_), None) => return Err(missing(alloc, name, "<FILE>")),
+        (Some(_), Some(word)) => word,
+        (None, None) => first,
+        _ => return Err(no_kind(alloc, name, first)),
+    };
+    if word == "-" {
+        return Err(no_file(alloc, name));
+    }
+    Ok(Command::Write {
+        what: Writing::Update { nul },
+        kind,
+        input: Input::Changed(word),
+        to: word,
+    })
+}
+
 /// The command of this name with what is given behind it.
 pub fn command_of<'a>(
     alloc: Global,
@@ -179,6 +212,7 @@ pub fn command_of<'a>(
     }
     match writing_of(name, given) {
         Some(what) => write_of(alloc, name, what, first, second, word_of(given, "OUT")),
+        None if name == UPDATE => update_of(alloc, name, is_set(given, "z"), first, second),
         None => Err(refusal(alloc, name, ErrorKind::InvalidSubcommand, NO_COMMAND)),
     }
 }

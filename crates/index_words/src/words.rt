@@ -53,7 +53,7 @@ fn help(alloc: Global, given: &ArgMatches<'_>) -> Answer
 /// The command that the words behind the program's name are, or what is said in its place.
 ///
 /// The words are those of `index-tool --help`: a command's name and, in any order with its options, [KIND] [FILE]
-/// where it tells something, and [KIND] FILE OUT where it writes. A first word that is `sha1` or `sha256` is the KIND,
+/// where it tells something, [KIND] FILE OUT where it writes, and [KIND] FILE where it changes FILE. A first word that is `sha1` or `sha256` is the KIND,
 /// and FILE may be `-` for the standard input; `./sha1` and `./-` are files of these names. Nothing is opened or printed.
 pub fn parse<'a, S: AsStr>(alloc: Global, words: &'a [S]) -> Result<Command<'a>, Answer>
     ensures command { IfOk result

@@ -1,7 +1,6 @@
 use Rattle.index_commands.specs.Checking.{FailsToPass}
 use Rattle.index_commands.specs.Trees.{FailsToTree}
-use Rattle.index_failures.specs.Reading.{FailsReading, SaysOfIndex}
-use Rattle.index_telling.specs.Mapping.{SaysOfBytes}
+use Rattle.index_failures.specs.Reading.{FailsReading, SaysOfBytes, SaysOfIndex}
 use Rattle.index_telling.specs.Showing.{SaysOfFileAlone}
 use Rattle.index_words.specs.declared.command.Reading.TheVariants as readings
 use Rattle.index_tool.proofs.Endings.{telling_refused}

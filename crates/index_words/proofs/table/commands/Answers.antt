@@ -16,4 +16,5 @@ returns c =
     let e9 = command_with _ _ _ (codes "rewrite") c.in_ok-program-9.ensures e8 in
     let e10 = command_with _ _ _ (codes "rewrite4") c.in_ok-program-10.ensures e9 in
     let e11 = command_with _ _ _ (codes "rewrite-trees") c.in_ok-program-11.ensures e10 in
-    IfOk-weaker c.with-12.result _ _ (λ r h. command_with _ _ _ (codes "salvage") h e11) c.with-12.ensures
+    let e12 = command_with _ _ _ (codes "update") c.in_ok-program-12.ensures e11 in
+    IfOk-weaker c.with-13.result _ _ (λ r h. command_with _ _ _ (codes "salvage") h e12) c.with-13.ensures

@@ -5,4 +5,5 @@ use Rattle.index_words.proofs.table.with_lines.Goals as goal
 
 pub returns-clause-local : goal.returns-clause-local
 returns-clause-local c =
-    IfOk-weaker c.arg-2.result _ _ (λ r h before. local_with _ r _ h (search rules) (local_with _ _ _ c.in_ok-arg.ensures (search rules) before)) c.arg-2.ensures
+    IfOk-weaker c.arg.result _ _ (λ r h before. local_with _ r _ h (search rules) (c.in_ok-command.ensures.local before))
+    c.arg.ensures

@@ -1,7 +1,7 @@
 use Rattle.std.proofs.Common.{ℕ, List, refl, subst}
 use Rattle.gix_index.specs.FileFaults.ReadError.TheVariants.{Memory}
-use Rattle.index_telling.specs.Mapping.{SaysOfBytes}
-use Rattle.index_telling.proofs.map.bytes_at.Goals as goal
+use Rattle.index_failures.specs.Reading.{SaysOfBytes}
+use Rattle.index_failures.proofs.index.bytes_at.Goals as goal
 
 pub returns-in_default-clause-fault : goal.returns-in_default-clause-fault
 returns-in_default-clause-fault g c = record {

@@ -1,0 +1,17 @@
+use Rattle.std.proofs.Common.{◌∙◌, ap, subst, sym}
+use Rattle.gix_index.specs.File.{state_of}
+use Rattle.gix_index.specs.State.{contents}
+use Rattle.gix_index.specs.StateType.{State}
+use Rattle.index_commands.specs.Updating.{IsUpdatedBy}
+use Rattle.index_commands.proofs.update.updated.Goals as goal
+
+pub returns-clause-updated : goal.returns-clause-updated
+returns-clause-updated g c = record {
+  before = contents (state_of c.in_ok-index.index);
+  begun = c.in_ok-index.ensures.begun;
+  text = c.in_ok-text.text.items;
+  held = c.in_ok-text.ensures.held;
+  updated = subst (λ (s : State). IsUpdatedBy c.args.nul c.args.kind c.in_ok-text.text.items
+      (contents (state_of c.in_ok-index.index)) (contents s)) (sym c.from_state.ensures.state)
+      (rw (c.deref-2.ensures.value, c.into_parts-state.ensures.state) at c.in_ok-change.ensures.updated);
+}

@@ -1,0 +1,98 @@
+-- What the program makes of an index by the changes that a text says (the program's own).
+use Rattle.std.specs.Prelude.{◌≡◌, ◌⊎◌, ℕ, Bool, List, Option, Some, None, map}
+use Rattle.gix_index.specs.Changing.Changes.{IsAppliedTo, refusal_of}
+use Rattle.gix_index.specs.Changing.Updates.{updated}
+use Rattle.gix_index.specs.Changing.Change.{Change}
+use Rattle.gix_index.specs.Changing.ApplyError.TheVariants.{Refused}
+use Rattle.gix_index.specs.Changing.Error.{Error as Refusal}
+use Rattle.gix_index.specs.Contents.{Contents}
+use Rattle.gix_index.specs.Disk.{MayHave, disk_at}
+use Rattle.gix_index.specs.Disk.World.{MayBeMissing, World}
+use Rattle.gix_index.specs.Edits.{empty_contents}
+use Rattle.gix_index.specs.File.{state_of}
+use Rattle.gix_index.specs.FileTime.{FileTime}
+use Rattle.gix_index.specs.Kind.{Kind}
+use Rattle.gix_index.specs.ObjectId.{ObjectId}
+use Rattle.gix_index.specs.Order.{IsStrictlyOrdered}
+use Rattle.gix_index.specs.State.{contents}
+use Rattle.index_info.specs.Names as names
+use Rattle.index_info.specs.Text.{AreSaid, SaysOfText, change_value}
+use Rattle.index_info.specs.declared.error.Error.{Error}
+use Rattle.index_failures.specs.declared.failure.Failure.{Failure}
+use Rattle.index_failures.specs.declared.failure.Failure.TheVariants as failures
+use Rattle.index_failures.specs.Options.{IsBeginOf1970}
+use Rattle.index_failures.specs.Reading.{FailsReading, IsInFileSince, SaysOfBytes, SaysOfIndex}
+use Rattle.index_failures.specs.Storing.{FailsStoring, IsReplaced}
+use Rattle.index_commands.specs.Rewriting.{chosen_options}
+use Rattle.index_commands.specs.declared.rewrite.Form.TheVariants.{AsRead}
+
+-- the index in a file; or, where there may be none, one that is begun: empty, and without a time
+pub data IsBegun (world : World) (path : List ℕ) (kind : Kind) (value : Contents) : Type 0 where
+  there : (checksum : Option ObjectId) → IsInFileSince (disk_at world path) kind value checksum
+      → IsBegun world path kind value
+  empty : (time : FileTime) → IsBeginOf1970 time → MayBeMissing (world path) → value ≡ empty_contents kind time
+      → IsBegun world path kind value
+
+-- The text says these changes, and none is refused, by the names that git lets stand in a path: the value is what they
+-- make of the one before, whose entries are in order.
+pub record IsUpdatedBy (nul : Bool) (kind : Kind) (text : List ℕ) (before value : Contents) : Type 0 where
+  pub ordered : IsStrictlyOrdered before.records
+  pub changes : List Change
+  pub said : AreSaid nul kind text (map change_value changes)
+  pub room : ℕ
+  pub granted : refusal_of names.refusal_of before.kind room changes ≡ None
+  pub is : value ≡ updated changes before
+  pub applied : IsAppliedTo changes before.records value.records
+
+-- the index at a path, or a begun one, and what the text in a file makes of it
+pub record IsUpdatedIn (nul : Bool) (world : World) (from path : List ℕ) (kind : Kind) (value : Contents) : Type 0 where
+  pub before : Contents
+  pub begun : IsBegun world path kind before
+  pub text : List ℕ
+  pub held : MayHave (world from) text
+  pub updated : IsUpdatedBy nul kind text before value
+
+-- the change of the line at a place, counted from 0, is the first that is refused, for this
+pub record IsRefusedAt (nul : Bool) (kind : Kind) (text : List ℕ) (at : ℕ) (cause : Refusal) : Type 0 where
+  pub changes : List Change
+  pub said : AreSaid nul kind text (map change_value changes)
+  pub of : Kind
+  pub room : ℕ
+  pub is : refusal_of names.refusal_of of room changes ≡ Some (Refused at cause)
+
+-- a failure of a text says what is wrong with it, or which of its changes is refused
+abbrev pub IsOfText : Bool → Kind → List ℕ → List ℕ → Failure → Type 0
+IsOfText nul kind text from (failures.Lines file fault) = (file.now ≡ from) × SaysOfText nul kind text fault
+IsOfText nul kind text from (failures.Change file at cause) = (file.now ≡ from) × IsRefusedAt nul kind text at cause
+IsOfText nul kind text from failure = ⊥
+
+-- the same of the text in a file
+pub record IsOfTextIn (nul : Bool) (world : World) (kind : Kind) (from : List ℕ) (failure : Failure) : Type 0 where
+  pub text : List ℕ
+  pub held : MayHave (world from) text
+  pub is : IsOfText nul kind text from failure
+
+-- the entries of the index aren't in order
+abbrev pub IsOfEntries : List ℕ → Failure → Type 0
+IsOfEntries path (failures.Entries file e) = file.now ≡ path
+IsOfEntries path failure = ⊥
+
+-- Nothing is changed: the index can't be read, or its entries aren't in order; or the text can't be read, or is of such
+-- lines.
+pub data FailsToUpdate (nul works : Bool) (world : World) (kind : Kind) (from path : List ℕ) (failure : Failure) : Type 0 where
+  unread : FailsReading (SaysOfIndex works world kind path) path failure
+      → FailsToUpdate nul works world kind from path failure
+  unordered : IsOfEntries path failure → FailsToUpdate nul works world kind from path failure
+  unsaid : FailsReading (SaysOfBytes works world from) from failure
+      → FailsToUpdate nul works world kind from path failure
+  refused : IsOfTextIn nul world kind from failure → FailsToUpdate nul works world kind from path failure
+
+-- the index was read under its lock, and what the text makes of it was written in its place
+abbrev pub Updates : Bool → Bool → Bool → Kind → World → World → List ℕ → List ℕ → List ℕ → Type 0
+Updates alone guards nul kind old new from path to = IsReplaced alone guards old new to
+    (λ world index. IsUpdatedIn nul world from path kind (contents (state_of index))) (chosen_options AsRead)
+
+-- it isn't written, or not made
+abbrev pub FailsToStoreUpdate : Bool → Bool → Bool → Kind → World → List ℕ → List ℕ → List ℕ → Failure → Type 0
+FailsToStoreUpdate nul works guards kind old from path to failure =
+    FailsStoring works guards old to (λ world. FailsToUpdate nul works world kind from path) failure

@@ -1,0 +1,153 @@
+//! The command `update`.
+
+ghost use Rattle.std.specs.Prelude.{◌≡◌, true, IfErr, IfOk, OnErr, OnOk};
+ghost use Rattle.gix_index.specs.File.{state_of};
+ghost use Rattle.gix_index.specs.InPlace.Locks.{Restores};
+ghost use Rattle.gix_index.specs.Order.{IsStrictlyOrdered};
+ghost use Rattle.gix_index.specs.State.{PathsInStorage, contents};
+ghost use Rattle.index_failures.specs.Reading.{FailsReading, SaysOfIndex};
+ghost use Rattle.index_commands.specs.Updating.{FailsToStoreUpdate, FailsToUpdate, IsBegun, IsOfText, IsUpdatedBy};
+ghost use Rattle.index_commands.specs.Updating.{IsUpdatedIn, Updates};
+
+use crate::rewrite::{Form, choice};
+use gix_index::change::ApplyError;
+use gix_index::entry::FileTime;
+use gix_index::file::folder::Folder;
+use gix_index::hash::Kind;
+use gix_index::{File, State};
+use index_failures::failure::Failure;
+use index_failures::index::{bytes_at, opened_at, out_of_memory};
+use index_failures::storing::{commit_at, lock_at};
+use index_info::error::Error;
+use index_info::names::PathNames;
+use index_info::read::{changes, read};
+use std::alloc::Global;
+use std::io::ErrorKind;
+use std::path::{Path, PathBuf};
+
+/// The index in a file, or an empty one where there is no file at the path.
+fn begun_at<'a, D: Folder>(
+    folder: &D,
+    alloc: Global,
+    kind: Kind,
+    path: &'a str,
+) -> Result<File, Failure<'a>>
+    ensures begun { IfOk result
+        (λ index. IsBegun (D.known folder.now) path.now kind (contents (state_of index))) }
+    ensures placed { IfOk result (λ index. PathsInStorage (state_of index)) }
+    ensures fault { IfErr result (FailsReading (SaysOfIndex (D.works folder.now)
+        (D.known folder.now) kind path.now) path.now) }
+{
+    match folder.open(Path::new(path)) {
+        Err(e) if e.kind() == ErrorKind::NotFound => {
+            let Ok(file) = PathBuf::from_str(alloc, path) else {
+                return Err(out_of_memory(path));
+            };
+            let state = State::new(alloc, kind, FileTime::EPOCH);
+            Ok(File::from_state(state, file))
+        }
+        _ => opened_at(folder, alloc, kind, path),
+    }
+}
+
+/// Makes the changes that a text says of an index, all or none.
+fn change<'a>(
+    alloc: Global,
+    nul: bool,
+    kind: Kind,
+    text: &[u8],
+    state: &mut State,
+    from: &'a str,
+) -> Result<(), Failure<'a>>
+    requires placed { PathsInStorage state.old }
+    requires ordered { IsStrictlyOrdered (contents state.old).records }
+    ensures updated { OnOk result
+        (IsUpdatedBy nul kind text.now (contents state.old) (contents state.new)) }
+    ensures placed { PathsInStorage state.new }
+    ensures fault { IfErr result (IsOfText nul kind text.now from.now) }
+{
+    let lines = match read(alloc, nul, kind, text) {
+        Ok(lines) => lines,
+        Err(fault) => return Err(Failure::Lines { path: from, fault }),
+    };
+    let Ok(changes) = changes(alloc, &lines) else {
+        let fault = Error::Memory;
+        return Err(Failure::Lines { path: from, fault });
+    };
+    match state.apply(&PathNames, &changes) {
+        Ok(()) => Ok(()),
+        Err(ApplyError::Refused { at, cause }) => Err(Failure::Change {
+            path: from,
+            at,
+            cause,
+        }),
+        Err(ApplyError::Memory) => {
+            let fault = Error::Memory;
+            Err(Failure::Lines { path: from, fault })
+        }
+    }
+}
+
+/// The index in a file, or a begun one, with the changes that the text in another file says.
+fn updated<'a, D: Folder>(
+    folder: &D,
+    alloc: Global,
+    nul: bool,
+    kind: Kind,
+    from: &'a str,
+    path: &'a str,
+) -> Result<File, Failure<'a>>
+    ensures updated { IfOk result (λ index. IsUpdatedIn nul (D.known folder.now) from.now path.now
+        kind (contents (state_of index))) }
+    ensures placed { IfOk result (λ index. PathsInStorage (state_of index)) }
+    ensures fault { IfErr result (FailsToUpdate nul (D.works folder.now) (D.known folder.now) kind
+        from.now path.now) }
+{
+    let index = begun_at(folder, alloc, kind, path)?;
+    if let Err(fault) = index.verify_entries() {
+        return Err(Failure::Entries { path, fault });
+    }
+    let (text, _) = bytes_at(folder, alloc, from)?;
+    let (mut state, file) = index.into_parts();
+    change(alloc, nul, kind, &text, &mut state, from)?;
+    Ok(File::from_state(state, file))
+}
+
+/// Makes the changes that the text in a file says of the index in another one, and writes it in its place.
+///
+/// The text is what [`read`] reads, and the changes are made as `State::apply` makes them, with the names that git lets
+/// stand in a path. The file at `to`, which is that at `path`, is locked, as git locks an index, before the index is
+/// read; where there is none, an index is begun. What is written gets the time at which the index was changed last, so
+/// that each file which git would have looked at, it still looks at; and else what [`commit_at`] says. Nothing is
+/// written before all changes are made.
+///
+/// [`Failure::Lines`], [`Failure::Change`]: a line of the text is wrong, or its change is refused. [`Failure::Read`]
+/// names the file that can't be read. After a failure what was at the path is there as before.
+pub fn update<'a, D: Folder>(
+    folder: &mut D,
+    alloc: Global,
+    nul: bool,
+    kind: Kind,
+    from: &'a str,
+    path: &'a str,
+    to: &'a str,
+) -> Result<(), Failure<'a>>
+    ensures written { OnOk result (Updates (D.alone folder.old) (D.guards folder.old) nul kind
+        (D.known folder.old) (D.known folder.new) from.now path.now to.now) }
+    ensures restored { OnErr result (D.alone folder.old ≡ true → Restores (D.works folder.old)
+        (D.known folder.old) (D.known folder.new) to.now) }
+    ensures fault { IfErr result (FailsToStoreUpdate nul (D.works folder.old) (D.guards folder.old)
+        kind (D.known folder.old) from.now path.now to.now) }
+{
+    let lock = lock_at(folder, alloc, to)?;
+    match updated(folder, alloc, nul, kind, from, path) {
+        Ok(index) => {
+            let version = choice(Form::AsRead, index.version());
+            commit_at(folder, alloc, index, lock, version, to)
+        }
+        Err(failure) => {
+            lock.release(folder);
+            Err(failure)
+        }
+    }
+}

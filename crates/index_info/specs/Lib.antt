@@ -1,0 +1,5 @@
+pub mod Line
+pub mod Mode
+pub mod Names
+pub mod Quoting
+pub mod Text

@@ -1,0 +1,64 @@
+-- Paths in double quotes, spelled as a string of C (git-config, `core.quotePath`; git-update-index, "USING
+-- --INDEX-INFO").
+use Rattle.std.specs.Prelude.{ℕ, zero, suc, ◌+◌, ◌-◌, ◌*◌, ◌==◌, ◌&&◌, nat_le, List, [], ◌∷◌, length, Option, Some, None}
+use Rattle.std.specs.Prelude.{codes, option_map, if◌then◌else◌}
+use Rattle.std.specs.Option.{option_or}
+use Rattle.std.specs.Str.{byte, bytes_eq}
+use Rattle.index_info.specs.Mode.{is_octal}
+
+-- a byte that a text begins with, and what stands behind it
+abbrev pub Front : Type 0
+Front = Option (ℕ × List ℕ)
+
+-- what a character stands for behind a backslash: a bell, a backspace, a tab, a newline, a vertical tab, a form feed, a
+-- carriage return, or itself
+abbrev pub value_of_letter : ℕ → Option ℕ
+value_of_letter c =
+    if c == byte "a" then Some 7
+    else (if c == byte "b" then Some 8
+    else (if c == byte "t" then Some 9
+    else (if c == byte "n" then Some 10
+    else (if c == byte "v" then Some 11
+    else (if c == byte "f" then Some 12
+    else (if c == byte "r" then Some 13
+    else (if c == byte "\"" then Some 34
+    else (if c == byte "\\" then Some 92
+    else None))))))))
+
+-- three octal digits stand for a byte, so that the first is at most 3
+abbrev pub octal_front : List ℕ → Front
+octal_front [] = None
+octal_front (a ∷ []) = None
+octal_front (a ∷ b ∷ []) = None
+octal_front (a ∷ b ∷ c ∷ rest) =
+    if (is_octal a && nat_le a 51) && (is_octal b && is_octal c)
+    then Some ((a - 48) * 64 + (b - 48) * 8 + (c - 48), rest) else None
+
+-- behind a backslash
+abbrev pub escaped_front : List ℕ → Front
+escaped_front [] = None
+escaped_front (c ∷ rest) = option_or (option_map (λ b. (b, rest)) (value_of_letter c)) (octal_front (c ∷ rest))
+
+-- any byte but a backslash and a double quote stands for itself
+abbrev pub front_of : List ℕ → Front
+front_of [] = None
+front_of (b ∷ rest) =
+    if b == byte "\\" then escaped_front rest else (if b == byte "\"" then None else Some (b, rest))
+
+-- a double quote ends the text, and nothing stands behind it
+abbrev pub ended : List ℕ → Option (List ℕ)
+ended text = if bytes_eq text (codes "\"") then Some [] else None
+
+-- a byte at the front, before the path of the rest
+abbrev pub onto : (List ℕ → Option (List ℕ)) → List ℕ → Front → Option (List ℕ)
+onto path_of text None = ended text
+onto path_of text (Some p) = option_map (λ path. p.0 ∷ path) (path_of p.1)
+
+-- the path whose bytes stand in a text of at most so many, up to the double quote at its end
+unfoldable pub unquoted_in : ℕ → List ℕ → Option (List ℕ)
+unquoted_in zero text = ended text
+unquoted_in (suc n) text = onto (λ rest. unquoted_in n rest) text (front_of text)
+
+-- the path of what stands behind the first double quote
+abbrev pub unquoted : List ℕ → Option (List ℕ)
+unquoted text = unquoted_in (length text) text

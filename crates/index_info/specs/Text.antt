@@ -1,0 +1,60 @@
+-- A whole text of lines: all changes that it says, or the first line that is wrong (git-update-index, "USING
+-- --INDEX-INFO" and "-z").
+use Rattle.std.specs.Prelude.{◌≡◌, ℕ, ◌+◌, ◌-◌, ◌==◌, nat_eq, Bool, List, [], ◌∷◌, ◌++◌, length, take, map, Some, None}
+use Rattle.std.specs.Prelude.{Ok, Err, if◌then◌else◌}
+use Rattle.std.specs.List.{ends_with, slice_split}
+use Rattle.std.specs.Cow.{cow_slice_items}
+use Rattle.index_parts.specs.declared.hash.Kind.{Kind}
+use Rattle.index_edits.specs.declared.change.Change.{Change}
+use Rattle.index_edits.specs.declared.change.Change.TheVariants as changes
+use Rattle.index_info.specs.Line.{ChangeValue, Read, change_of}
+use Rattle.index_info.specs.declared.error.Error.{Error}
+use Rattle.index_info.specs.declared.error.Error.TheVariants as errors
+use Rattle.index_info.specs.declared.error.Fault.{Fault}
+use Rattle.index_info.specs.declared.line.Line.{Line}
+
+-- the byte that ends a line: a NUL, or a newline
+abbrev pub end_of : Bool → ℕ
+end_of nul = if nul then 0 else 10
+
+-- a text without the end of its last line
+abbrev pub body_of : ℕ → List ℕ → List ℕ
+body_of end text = if ends_with nat_eq text (end ∷ []) then take (length text - 1) text else text
+
+-- the lines of a text, of which the last needs no end; none of an empty one
+abbrev pub lines_of : ℕ → List ℕ → List (List ℕ)
+lines_of end text = if length text == 0 then [] else slice_split (λ b. b == end) (body_of end text)
+
+-- what each line says
+abbrev pub said : Bool → Kind → List ℕ → List (Read ChangeValue)
+said nul kind text = map (λ line. change_of nul kind line) (lines_of (end_of nul) text)
+
+abbrev pub right : List ChangeValue → List (Read ChangeValue)
+right cs = map (λ c. Ok c) cs
+
+-- the text says these changes, and nothing else
+abbrev pub AreSaid : Bool → Kind → List ℕ → List ChangeValue → Type 0
+AreSaid nul kind text cs = said nul kind text ≡ right cs
+
+-- the line of this number, counted from 1, is the first that is wrong
+pub record IsFirstWrong (nul : Bool) (kind : Kind) (text : List ℕ) (number : ℕ) (fault : Fault) : Type 0 where
+  pub before : List ChangeValue
+  pub behind : List (Read ChangeValue)
+  pub is : said nul kind text ≡ right before ++ Err fault ∷ behind
+  pub counted : number ≡ length before + 1
+
+-- why a text isn't read; want of memory says nothing
+abbrev pub SaysOfText : Bool → Kind → List ℕ → Error → Type 0
+SaysOfText nul kind text (errors.Line number fault) = IsFirstWrong nul kind text number fault
+SaysOfText nul kind text errors.Memory = Unit {0}
+
+-- ---- in memory
+
+-- what a line that was read says
+abbrev pub line_value : Line → ChangeValue
+line_value line = record { entry = line.entry; path = cow_slice_items line.path }
+
+-- a change of an index, as a value
+abbrev pub change_value : Change → ChangeValue
+change_value (changes.Stage entry path) = record { entry = Some entry; path = path.now }
+change_value (changes.Unstage path) = record { entry = None; path = path.now }
