@@ -1,4 +1,5 @@
-/* The git index for C: tables of its entries, read from the bytes of an index file and written as such.
+/* The git index for C: tables of its entries, read from the bytes of an index file and written as such or as trees, and
+ * changes of an index, as rows of such a table.
  *
  * Link libindex_c.a, and behind it liblibc_c.a (malloc, realloc and free), as gix_index.pc says.
  *
@@ -65,7 +66,8 @@ extern "C" {
 #define GIX_INDEX_STAGE_MASK 0x3000u
 #define GIX_INDEX_EXTENDED 0x4000u     /* the file has a second word of flags of the entry */
 #define GIX_INDEX_ASSUME_VALID 0x8000u
-#define GIX_INDEX_REMOVE 0x20000u /* in memory alone: calls that write pass over the row */
+#define GIX_INDEX_REMOVE 0x20000u /* in memory alone: calls that write pass over the row, gix_index_update takes its
+                                   * path out */
 #define GIX_INDEX_INTENT_TO_ADD 0x20000000u
 #define GIX_INDEX_SKIP_WORKTREE 0x40000000u
 
@@ -86,15 +88,22 @@ extern "C" {
 #define GIX_INDEX_FAULT_TRAILER 7u   /* the bytes behind all entries and extensions aren't as many as the trailer has */
 #define GIX_INDEX_FAULT_DIGEST 8u    /* the digest isn't the trailer: damaged, of the other kind, or no index */
 /* (9 is a fault of files, which no call of these opens) */
-#define GIX_INDEX_FAULT_ORDER 10u       /* calls that check or write: the entry at the place isn't above the one before
-                                         * it */
+#define GIX_INDEX_FAULT_ORDER 10u       /* calls that check, write, update or give trees: the entry at the place isn't
+                                         * above the one before it */
 #define GIX_INDEX_FAULT_CACHED_TREE 11u /* calls that check alone: the cached tree doesn't hold together, or counts more
                                          * entries than there are */
-#define GIX_INDEX_FAULT_ROW 12u         /* calls that write alone: the row at the place can't stand in a file, and its
-                                         * mode is one of git's */
-#define GIX_INDEX_FAULT_COUNT 13u       /* calls that write alone: there are more rows than 4294967295 */
-#define GIX_INDEX_FAULT_LENGTH 14u      /* calls that write alone: the file would have more bytes than 4294967295 */
-#define GIX_INDEX_FAULT_MODE 15u        /* calls that write alone: the mode of the row at the place is none of git's */
+#define GIX_INDEX_FAULT_ROW 12u         /* calls that write, update or give trees: the row at the place can't stand in a
+                                         * file, or in a tree, and its mode is one of git's */
+#define GIX_INDEX_FAULT_COUNT 13u       /* calls that write or update: there are more entries than 4294967295; and
+                                         * gix_index_trees: than 2147483647 */
+#define GIX_INDEX_FAULT_LENGTH 14u      /* calls that write or update: the file would have more bytes than 4294967295 */
+#define GIX_INDEX_FAULT_MODE 15u        /* calls that write, update or give trees: the mode of the row at the place is
+                                         * none of git's */
+#define GIX_INDEX_FAULT_NAME 16u        /* gix_index_update and gix_index_trees alone: a name of the path of the row at
+                                         * the place is none that git lets stand in one */
+#define GIX_INDEX_FAULT_UNMERGED 17u    /* gix_index_trees alone: the row at the place is in conflict */
+#define GIX_INDEX_FAULT_BELOW 18u       /* gix_index_trees alone: the path of the row at the place lies below that of
+                                         * another, which is a file's or stands for a whole directory */
 
 /* ---- Tables */
 
@@ -150,12 +159,28 @@ typedef struct {
 typedef struct {
     size_t bytes;       /* DONE, NO_ROOM: how many bytes the index has */
     size_t fault_place; /* REFUSED: the place that the fault names, or 0 */
-    uint32_t fault;     /* REFUSED: ORDER, ROW, MODE, COUNT, LENGTH; or one of the bytes of the index that is written
-                         * over */
+    uint32_t fault;     /* REFUSED: ORDER, ROW, MODE, NAME, COUNT, LENGTH; or one of the bytes of the index that is
+                         * written over or updated */
     uint32_t version;   /* DONE, NO_ROOM: 2, 3 or 4 */
     uint32_t tree;      /* gix_index_write_over, where the bytes of that index and the rows are let through: NO_TREE,
                          * TREE_KEPT or TREE_LEFT_OUT */
+    uint32_t of_shared; /* gix_index_update, REFUSED, MEMORY: 1 where that is of the shared index's bytes; else 0 */
 } gix_index_written;
+
+/* A tree: its id, and where its bytes stand among those of all. */
+typedef struct {
+    uint8_t id[32]; /* zeros behind the 20 bytes of SHA-1 */
+    size_t start;
+    size_t len;
+} gix_index_tree;
+
+/* What gix_index_trees says beside its status. It is written with each status; what isn't named there is 0. */
+typedef struct {
+    size_t trees;       /* DONE, NO_ROOM: how many trees there are */
+    size_t bytes;       /* DONE, NO_ROOM: how many bytes they have together */
+    size_t fault_place; /* REFUSED: the row that the fault names, or 0 */
+    uint32_t fault;     /* REFUSED: ROW, MODE, ORDER, UNMERGED, NAME, BELOW, COUNT */
+} gix_index_given;
 
 /* What of a stat is compared, as git has it (git-config, "core.trustctime" and "core.checkStat"). */
 typedef struct {
@@ -282,6 +307,14 @@ uint32_t gix_index_find_prefix(const gix_index_row *rows, size_t rows_len, const
 size_t gix_index_closest(const gix_index_row *rows, size_t rows_len, const uint8_t *paths, size_t paths_len,
                          const uint8_t *directory, size_t directory_len);
 
+/* The place of the first row that is a directory or stands below it, counted from 0, or rows_len where there is none,
+ * with the case of ASCII letters ignored: one whose path is the directory's and that is a directory by its mode, or one
+ * whose path goes on behind the directory and a slash.
+ *
+ * It takes rows in any order, and looks at each up to that one. Paths are cut as there, and no memory is taken. */
+size_t gix_index_closest_icase(const gix_index_row *rows, size_t rows_len, const uint8_t *paths, size_t paths_len,
+                               const uint8_t *directory, size_t directory_len);
+
 /* Whether two rows have the stat of the same unchanged file: mostly one of an index, and one that gix_index_set_stat of
  * gix_index_file.h has put what is seen of the file into. The time of the last change and the size are compared always,
  * the rest where the comparison has it. Where they match, the file may have changed all the same if the row is racy. */
@@ -340,6 +373,62 @@ uint32_t gix_index_write(const gix_index_row *rows, size_t rows_len, const uint8
 uint32_t gix_index_write_over(const gix_index_row *rows, size_t rows_len, const uint8_t *paths, size_t paths_len,
                               const uint8_t *index, size_t index_len, const gix_index_form *form, uint8_t *bytes,
                               size_t bytes_len, gix_index_written *told);
+
+/* Makes changes of an index, given as all bytes of its file, and writes what comes of it as all bytes of the index that
+ * takes its place. The bytes, and those of the shared index that they link to, are read as gix_index_read_split reads
+ * them, without skip_hash; where there is no link, shared isn't looked at, and its length may be 0.
+ *
+ * The rows are the changes, in their order, as git makes them by `git update-index --add --replace`. A row stages its
+ * entry: in the place of what has its path, at its stage or, where the row isn't in conflict, at any, as a conflict is
+ * resolved; and of what is of its stage and a file where the path needs a directory, or the other way round. A row with
+ * GIX_INDEX_REMOVE takes its path out, at each stage and without what is below it, as `git update-index --force-remove`
+ * does; of such a row the path alone counts, and is cut where it passes the end of paths. A directory of a sparse index
+ * isn't opened: a path in it is staged beside it, which git refuses to read, so that the caller has to look for one.
+ *
+ * What speaks of the entries is kept as git keeps it. The cached tree loses the counts on the way to each path, and the
+ * untracked cache what it has of its directories; sides of conflicts that go are recorded, so that `git checkout -m`
+ * gets them back; what a file system monitor said moves along with the entries. What is written is of version 4 where
+ * the index is, and else of 3 where an entry has GIX_INDEX_EXTENDED, and of 2 where none has; it has its digest, no
+ * link, and an end marker where the index has one.
+ *
+ * DONE: the first told->bytes of bytes are the index. NO_ROOM: the same call with as many bytes as are told has room;
+ * so a call with NULL and the length 0 asks for it. REFUSED, of these the first: a fault that gix_index_read_split
+ * tells, with of_shared one of shared; ORDER, and the place is the index's first entry that isn't above the one before
+ * it; MODE or ROW, and the place is the first row without GIX_INDEX_REMOVE that gix_index_write refuses so, or, of a
+ * sparse index, gix_index_write_over; NAME or ROW, and the place is the first row whose change is refused: NAME where
+ * a name of its path is empty, or is one that git refuses, as `..` and `.git`; ROW where its id is zeros, where that of
+ * a directory has no slash behind it, or where there is no room for its path; COUNT or LENGTH; or ROW with the place 0,
+ * where a path of the shared index has a NUL, which version 4 can't hold. MEMORY: malloc or realloc gave nothing.
+ * WRONG_NUMBER: kind is none. With each status but DONE bytes is as it was; with DONE, what lies behind the index is.
+ *
+ * gix_index_file.h does so of the index at a path, under its lock. */
+uint32_t gix_index_update(const gix_index_row *rows, size_t rows_len, const uint8_t *paths, size_t paths_len,
+                          const uint8_t *index, size_t index_len, const uint8_t *shared, size_t shared_len,
+                          uint32_t kind, uint8_t *bytes, size_t bytes_len, gix_index_written *told);
+
+/* Gives the trees of a table, as `git write-tree` makes them: a tree for each directory that something stands in, by
+ * its id, and its bytes, as `git cat-file tree` prints them. Each stands behind those that it names, so that the root's
+ * is the last; its bytes begin where those of the one before it end. A store takes them in this order.
+ *
+ * It takes the rows that gix_index_write takes; a row may have the mode GIX_INDEX_DIRECTORY too, as of a sparse index,
+ * and then it stands for a tree that is there already. Rows with GIX_INDEX_REMOVE are passed over. One with
+ * GIX_INDEX_INTENT_TO_ADD has to be such as the others, but stands in no tree, nor does a directory of such alone.
+ * Whether the objects that rows name are there isn't looked at.
+ *
+ * DONE: the first told->trees of trees are the trees, and the first told->bytes of bytes are theirs; the root has a
+ * tree always, even without bytes. NO_ROOM: the same call with as many of both as are told has room; so a call with
+ * NULL and the length 0 for both asks for the sizes. REFUSED: ROW, MODE or ORDER, as gix_index_write tells them of the
+ * first row that isn't such; or, where all are such and in order, the fault is that of the first row that can't stand
+ * in a tree: UNMERGED where it is in conflict; NAME where a name of its path is empty or is one that git refuses, as
+ * `..` and `.git`; BELOW where another row's path is in the way; ROW where its id is zeros, where it lies below more
+ * than 2048 directories, or where it stands for a directory and its path has no slash at its end; or it is COUNT, and
+ * the place is 0. MEMORY: malloc or realloc gave nothing, and the rows are such and in order. WRONG_NUMBER: kind is
+ * none. With each status but DONE trees and bytes are as they were; with DONE, what lies behind the trees is.
+ *
+ * gix_index_table.h hands each tree to a function. */
+uint32_t gix_index_trees(const gix_index_row *rows, size_t rows_len, const uint8_t *paths, size_t paths_len,
+                         uint32_t kind, gix_index_tree *trees, size_t trees_len, uint8_t *bytes, size_t bytes_len,
+                         gix_index_given *told);
 
 #ifdef __cplusplus
 }

@@ -1,9 +1,10 @@
-/* Reading and checking the index at a path, with its link followed, and writing a table to a path by way of a lock, for
- * POSIX systems. gix_index_table.h has what reads and checks, without the rest.
+/* Reading and checking the index at a path, with its link followed, and changing it or writing a table in its place by
+ * way of a lock, for POSIX systems. gix_index_table.h has what reads and checks, without the rest.
  *
- * Safe beside git, which may write the same index, is a call of gix_index_lock_file, then gix_index_read_file, then
- * gix_index_commit: what is read is what is replaced. gix_index_write_file and gix_index_write_file_over lock only when
- * they write, so what another wrote between the reading and them is lost.
+ * Safe beside git, which may write the same index, is a call of gix_index_lock_file, then gix_index_read_file where the
+ * entries are looked at, then gix_index_commit_changes or gix_index_commit: what is read is what is replaced. The first
+ * makes changes as git makes them, and the second writes a table. gix_index_write_file and gix_index_write_file_over
+ * lock only when they write, so what another wrote between the reading and them is lost.
  *
  * The library itself opens no files, so this stands in C beside it, and isn't proved. With -std=c99 and the like,
  * _POSIX_C_SOURCE has to be 200809L before the first header is included. */
@@ -116,7 +117,7 @@ static inline uint32_t gix_index_make_lock(gix_index_lock *lock) {
 
 /* Locks the index at a path, as git locks it: symbolic links are followed first, GIX_INDEX_MOST_LINKS at most, and
  * what the last one names has to be there; then the lock file is made, which mustn't be there. What is read of
- * lock->path from then on stays until gix_index_commit or gix_index_rollback ends the lock.
+ * lock->path from then on stays until gix_index_commit_changes, gix_index_commit or gix_index_rollback ends the lock.
  *
  * DONE: the lock is held. NOT_REGULAR: what stands at lock->path is no regular file, and lock->mode says what it is.
  * MEMORY: malloc gives nothing. SYSTEM: a call of the system failed. With each but DONE no lock is held, and all files
@@ -184,17 +185,28 @@ static inline size_t gix_index_most(const gix_index_row *rows, size_t rows_len, 
     return most;
 }
 
-/* The bytes of the table as an index, over another where its bytes are given; which the caller frees, or NULL where the
- * status isn't DONE. */
+/* The bytes of a shared index, of which there may be none. */
+typedef struct {
+    uint8_t *bytes;
+    size_t len;
+} gix_index_shared;
+
+/* The bytes of the table as an index, over another where its bytes are given; or, where shared is, what the rows make
+ * of that one as changes. The caller frees them; they are NULL where the status isn't DONE. */
 static inline uint8_t *gix_index_image(const gix_index_row *rows, size_t rows_len, const uint8_t *paths,
                                        size_t paths_len, const uint8_t *index, size_t index_len,
-                                       const gix_index_form *form, gix_index_written *told, uint32_t *status) {
+                                       const gix_index_shared *shared, const gix_index_form *form,
+                                       gix_index_written *told, uint32_t *status) {
+    size_t most = gix_index_most(rows, rows_len, paths_len) + index_len + (shared ? shared->len : 0);
     memset(told, 0, sizeof *told);
-    for (size_t len = gix_index_most(rows, rows_len, paths_len) + index_len;; len = told->bytes) {
+    for (size_t len = most;; len = told->bytes) {
         uint8_t *bytes = (uint8_t *)malloc(len);
         *status = GIX_INDEX_MEMORY;
         if (!bytes) return NULL;
-        if (index)
+        if (shared)
+            *status = gix_index_update(rows, rows_len, paths, paths_len, index, index_len, shared->bytes, shared->len,
+                                       form->kind, bytes, len, told);
+        else if (index)
             *status = gix_index_write_over(rows, rows_len, paths, paths_len, index, index_len, form, bytes, len, told);
         else
             *status = gix_index_write(rows, rows_len, paths, paths_len, form, bytes, len, told);
@@ -221,10 +233,66 @@ GIX_INDEX_API uint32_t gix_index_commit(gix_index_lock *lock, const gix_index_ta
                                         bool is_synced, gix_index_written *told) {
     uint32_t status;
     uint8_t *bytes = gix_index_image(t->rows, t->said.entries, t->paths, t->said.path_bytes, t->bytes, t->bytes_len,
-                                     form, told, &status);
+                                     NULL, form, told, &status);
     if (bytes && !gix_index_replace(lock, bytes, told->bytes, t->mtime, is_synced)) status = GIX_INDEX_SYSTEM;
     gix_index_rollback(lock);
     int error = errno;
+    free(bytes);
+    errno = error;
+    return status;
+}
+
+/* The bytes of the index that is locked, and of the shared one that it links to, which the caller frees. Where there is
+ * no index yet, they are those of one without entries. told is of the last call. */
+static inline uint8_t *gix_index_locked_bytes(const gix_index_lock *lock, const gix_index_form *form, size_t *len,
+                                              gix_index_shared *shared, gix_index_written *told, uint32_t *status) {
+    gix_index_summary said;
+    uint8_t *bytes;
+    if (!lock->mode) {
+        bytes = gix_index_image(NULL, 0, NULL, 0, NULL, 0, NULL, form, told, status);
+        *len = told->bytes;
+        return bytes;
+    }
+    *status = GIX_INDEX_SYSTEM;
+    bytes = gix_index_bytes_of(lock->path, len);
+    if (!bytes) return NULL;
+    *status = gix_index_shared_of(lock->path, bytes, *len, form->kind, NULL, 0, &said, &shared->bytes, &shared->len);
+    /* (what is refused, gix_index_update tells) */
+    if (*status == GIX_INDEX_DONE || *status == GIX_INDEX_REFUSED) return bytes;
+    told->of_shared = said.of_shared;
+    int error = errno;
+    free(bytes);
+    errno = error;
+    return NULL;
+}
+
+/* Makes changes of the index that is locked, as gix_index_update makes them of its bytes, writes what comes of them in
+ * its place, and ends the lock. A link to a shared index is followed, as gix_index_read_file follows it. Where there is
+ * no index yet, they are made of one without entries, in version 2, or 3 where a row has GIX_INDEX_EXTENDED.
+ *
+ * Permissions and is_synced are as gix_index_commit has them, and the time is that of the old index, so that git looks
+ * at each file that it would have looked at.
+ *
+ * DONE: the index is written. REFUSED, MEMORY, WRONG_NUMBER: as gix_index_update answers; MEMORY also where malloc
+ * gives nothing for the bytes. SYSTEM: a call of the system failed, with told->of_shared one that reads the shared
+ * index. NO_ROOM isn't answered. With each but DONE the index is as it was; with each the lock file is gone, if that
+ * can be done, and gix_index_rollback was called. told is written with each status. */
+GIX_INDEX_API uint32_t gix_index_commit_changes(gix_index_lock *lock, uint32_t kind, const gix_index_row *rows,
+                                                size_t rows_len, const uint8_t *paths, size_t paths_len,
+                                                bool is_synced, gix_index_written *told) {
+    const gix_index_form form = {kind, 2, false};
+    gix_index_shared shared = {NULL, 0};
+    size_t len = 0;
+    uint32_t status;
+    memset(told, 0, sizeof *told);
+    uint8_t *bytes = NULL, *index = gix_index_locked_bytes(lock, &form, &len, &shared, told, &status);
+    if (index)
+        bytes = gix_index_image(rows, rows_len, paths, paths_len, index, len, &shared, &form, told, &status);
+    if (bytes && !gix_index_replace(lock, bytes, told->bytes, lock->mtime, is_synced)) status = GIX_INDEX_SYSTEM;
+    gix_index_rollback(lock);
+    int error = errno;
+    free(index);
+    free(shared.bytes);
     free(bytes);
     errno = error;
     return status;
@@ -259,7 +327,7 @@ GIX_INDEX_API uint32_t gix_index_write_file(const char *path, const gix_index_ro
                                             const uint8_t *paths, size_t paths_len, const gix_index_form *form,
                                             gix_index_written *told) {
     uint32_t status;
-    uint8_t *bytes = gix_index_image(rows, rows_len, paths, paths_len, NULL, 0, form, told, &status);
+    uint8_t *bytes = gix_index_image(rows, rows_len, paths, paths_len, NULL, 0, NULL, form, told, &status);
     return bytes ? gix_index_put_file(path, bytes, told->bytes) : status;
 }
 
@@ -270,7 +338,8 @@ GIX_INDEX_API uint32_t gix_index_write_file_over(const char *path, const gix_ind
                                                  size_t index_len, const gix_index_form *form,
                                                  gix_index_written *told) {
     uint32_t status;
-    uint8_t *bytes = gix_index_image(rows, rows_len, paths, paths_len, index, index_len, form, told, &status);
+    uint8_t *bytes = gix_index_image(rows, rows_len, paths, paths_len, index, index_len, NULL, form, told,
+                                     &status);
     return bytes ? gix_index_put_file(path, bytes, told->bytes) : status;
 }
 

@@ -1,5 +1,5 @@
-/* Reading and checking the index at a path, with its link followed, for POSIX systems. gix_index_file.h has all of it,
- * and writes an index too.
+/* Reading and checking the index at a path, with its link followed, and handing on the trees of a table, for POSIX
+ * systems. gix_index_file.h has all of it, and writes an index too.
  *
  * The library itself opens no files, so this stands in C beside it, and isn't proved. With -std=c99 and the like,
  * _POSIX_C_SOURCE has to be 200809L before the first header is included. */
@@ -31,6 +31,9 @@
  * Among others EFBIG is a file with more than GIX_INDEX_MOST_BYTES, or without an end; EISDIR a directory that was to
  * be read. */
 #define GIX_INDEX_SYSTEM 6u
+
+/* What gix_index_write_trees answers beside: the function that takes trees answered something else than 0. */
+#define GIX_INDEX_STOPPED 8u
 
 /* The most bytes that a file of an index may have: 2 to the 32nd, and the longest trailer. */
 #define GIX_INDEX_MOST_BYTES (((uint64_t)1 << 32) + 32)
@@ -275,6 +278,41 @@ GIX_INDEX_API uint32_t gix_index_check_file(const char *path, uint32_t kind, uin
     int error = errno;
     free(bytes);
     free(shared);
+    errno = error;
+    return status;
+}
+
+/* What takes a tree: its id, of 20 bytes or 32, and its bytes. An answer other than 0 ends the call. */
+typedef int gix_index_put_tree(void *context, const uint8_t *id, size_t id_len, const uint8_t *bytes, size_t bytes_len);
+
+/* Hands the trees of a table to a function, one by one, with what the context points to: those that gix_index_trees
+ * gives, each behind those that it names, the root's last. So the last id is that of `git write-tree`.
+ *
+ * DONE: the function took all. STOPPED: it answered something else than 0, and wasn't called again. REFUSED,
+ * WRONG_NUMBER: as gix_index_trees answers them, and the function wasn't called. MEMORY: malloc or realloc gave
+ * nothing, nor was it. NO_ROOM isn't answered. told is written with each status, with STOPPED as with DONE. */
+GIX_INDEX_API uint32_t gix_index_write_trees(const gix_index_row *rows, size_t rows_len, const uint8_t *paths,
+                                             size_t paths_len, uint32_t kind, gix_index_put_tree *put, void *context,
+                                             gix_index_given *told) {
+    gix_index_tree *trees = NULL;
+    uint8_t *bytes = NULL;
+    uint32_t status = gix_index_trees(rows, rows_len, paths, paths_len, kind, NULL, 0, NULL, 0, told);
+    if (status == GIX_INDEX_NO_ROOM) {
+        const gix_index_given wanted = *told;
+        trees = (gix_index_tree *)malloc(wanted.trees * sizeof *trees);
+        bytes = (uint8_t *)malloc(wanted.bytes + 1);
+        status = GIX_INDEX_MEMORY;
+        memset(told, 0, sizeof *told);
+        if (trees && bytes)
+            status = gix_index_trees(rows, rows_len, paths, paths_len, kind, trees, wanted.trees, bytes, wanted.bytes,
+                                     told);
+    }
+    const size_t id_len = kind == GIX_INDEX_SHA1 ? 20 : 32;
+    for (size_t i = 0; i < told->trees && status == GIX_INDEX_DONE; i++)
+        if (put(context, trees[i].id, id_len, bytes + trees[i].start, trees[i].len) != 0) status = GIX_INDEX_STOPPED;
+    int error = errno;
+    free(trees);
+    free(bytes);
     errno = error;
     return status;
 }

@@ -208,6 +208,46 @@ static void rewrite(const table *t, const input *over, gix_index_form form) {
     expect(memcmp(bytes, again, len) == 0, "what is read is written as the same bytes");
 }
 
+/* Asks for the trees of the rows, which may have none, in rooms of just the sizes that are told. */
+static void ask_for_trees(const table *t, uint32_t kind) {
+    gix_index_given told = {0};
+    gix_index_tree *trees = NULL;
+    uint32_t status = GIX_INDEX_NO_ROOM;
+    for (int turn = 0; turn < 2 && status == GIX_INDEX_NO_ROOM; turn++) {
+        size_t trees_len = told.trees, len = told.bytes;
+        trees = trees_len <= MOST / sizeof *trees ? room(OTHER_ROWS, trees_len * sizeof *trees) : NULL;
+        uint8_t *bytes = room(OTHER_OUT, len);
+        if (!trees || !bytes) return;
+        status = gix_index_trees(t->rows, t->said.entries, t->paths, t->said.path_bytes, kind, trees, trees_len, bytes,
+                                 len, &told);
+        note(15, status * 64 + told.fault * 2);
+    }
+    expect(status <= GIX_INDEX_MEMORY, "a status of trees");
+    if (status != GIX_INDEX_DONE) return;
+    const gix_index_tree *last = trees + told.trees - 1;
+    expect(last->start + last->len == told.bytes, "the last tree ends where the bytes do");
+}
+
+/* Takes a third of the rows as paths that go, and the others as entries that are staged, and reads what that makes. */
+static void change(const table *t, const input *in) {
+    gix_index_written told = {0};
+    uint32_t status = GIX_INDEX_NO_ROOM;
+    uint8_t *bytes = NULL;
+    for (size_t i = 0; i < t->said.entries; i += 3) t->rows[i].flags |= GIX_INDEX_REMOVE;
+    for (int turn = 0; turn < 2 && status == GIX_INDEX_NO_ROOM; turn++) {
+        size_t len = told.bytes;
+        bytes = room(OUT, len);
+        if (!bytes) return;
+        status = gix_index_update(t->rows, t->said.entries, t->paths, t->said.path_bytes, in->bytes, in->len,
+                                  in->shared, in->shared_len, in->kind, bytes, len, &told);
+        note(14, status * 64 + told.fault * 2 + told.of_shared);
+    }
+    expect(status <= GIX_INDEX_MEMORY, "a status of changes");
+    table other;
+    input made = {.bytes = bytes, .len = told.bytes, .kind = in->kind};
+    expect(status || read_table(&made, &other, OTHER_ROWS, OTHER_PATHS), "what changes make is read");
+}
+
 /* The bytes in a room of their own, mostly with zeros in place of the digest, so that others aren't refused. */
 static const uint8_t *copied(int which, const uint8_t *data, size_t len, bool is_kept, uint32_t kind) {
     size_t trailer = kind == GIX_INDEX_SHA1 ? 20 : 32;
@@ -240,5 +280,7 @@ int LLVMFuzzerTestOneInput(const uint8_t *data, size_t size) {
     gix_index_form form = {in.kind, set & IS_VERSION_4 ? 4 : 2, false};
     rewrite(&t, NULL, form);
     rewrite(&t, &in, form);
+    ask_for_trees(&t, in.kind);
+    change(&t, &in);
     return 0;
 }

@@ -115,6 +115,37 @@ static void try_directory(const table *t, const uint8_t *path, size_t len) {
     expect(told == (is_there ? itself : below), "another closest row", told, len);
 }
 
+/* Whether a row's path begins with these bytes, with the case of ASCII letters ignored. */
+static bool begins_folded(const table *t, size_t place, const uint8_t *front, size_t len) {
+    const gix_index_row *row = t->rows + place;
+    bool is_same = row->path_len >= len;
+    for (size_t i = 0; is_same && i < len; i++) {
+        uint8_t a = t->paths[row->path_start + i], b = front[i];
+        is_same = a == b || ((a ^ b) == 0x20 && (a | 0x20) >= 'a' && (a | 0x20) <= 'z');
+    }
+    return is_same;
+}
+
+/* The path is looked for with each letter in the other case. */
+static void try_folded(const table *t, const uint8_t *path, size_t len) {
+    size_t count = t->said.entries, wanted = count;
+    uint8_t *other = malloc(len + 1);
+    if (!other) exit(3);
+    for (size_t i = 0; i < len; i++) {
+        bool is_letter = (path[i] | 0x20) >= 'a' && (path[i] | 0x20) <= 'z';
+        other[i] = is_letter ? path[i] ^ 0x20 : path[i];
+    }
+    for (size_t i = count; i-- > 0;) {
+        const gix_index_row *row = t->rows + i;
+        if (!begins_folded(t, i, other, len)) continue;
+        bool is_directory = row->mode == GIX_INDEX_DIRECTORY || row->mode == GIX_INDEX_COMMIT;
+        if (row->path_len == len ? is_directory : t->paths[row->path_start + len] == '/') wanted = i;
+    }
+    size_t told = gix_index_closest_icase(t->rows, count, t->paths, t->said.path_bytes, other, len);
+    expect(told == wanted, "another closest row in another case", told, len);
+    free(other);
+}
+
 /* Each front of each path, as it is and with another byte behind it. */
 static void searches(void) {
     table whole;
@@ -127,10 +158,12 @@ static void searches(void) {
             memcpy(front, whole.paths + row->path_start, len);
             try_prefix(&whole, front, len);
             try_directory(&whole, front, len);
+            try_folded(&whole, front, len);
             for (const char *byte = "/!z\377"; *byte; byte++) {
                 front[len] = *byte;
                 try_prefix(&whole, front, len + 1);
                 try_directory(&whole, front, len + 1);
+                try_folded(&whole, front, len + 1);
             }
             free(front);
         }

@@ -89,6 +89,8 @@ static void search(void) {
     expect(gix_index_closest(NULL, 0, NULL, 0, &letter, 1) == 0, "no rows have a directory");
     expect(gix_index_closest(whole.rows, count, path, path_bytes, NULL, 0) == count, "rows have no directory");
     expect(gix_index_closest(whole.rows, count, NULL, 0, &letter, 1) == count, "cut paths have a directory");
+    expect(gix_index_closest_icase(NULL, 0, NULL, 0, NULL, 0) == 0, "no rows have no directory in any case");
+    expect(gix_index_closest_icase(whole.rows, count, NULL, 0, &letter, 1) == count, "cut paths have one in any case");
 }
 
 /* A file without bytes has an id, and a number that is no kind gives none. */
@@ -127,6 +129,31 @@ static void write_them(const gix_index_form *form) {
     expect(lacks_room(status, &told), "no rows have no size over others");
     status = gix_index_write_over(whole.rows, count, whole.paths, path_bytes, NULL, 0, form, NULL, 0, &told);
     expect(status == GIX_INDEX_REFUSED && told.fault == GIX_INDEX_FAULT_HEADER, "no bytes are written over");
+    status = gix_index_update(NULL, 0, NULL, 0, whole.bytes, whole.bytes_len, NULL, 0, kind, NULL, 0, &told);
+    expect(lacks_room(status, &told), "no changes have no size");
+    status = gix_index_update(NULL, 0, NULL, 0, NULL, 0, NULL, 0, kind, NULL, 0, &told);
+    expect(status == GIX_INDEX_REFUSED && told.fault == GIX_INDEX_FAULT_HEADER, "no bytes are changed");
+}
+
+static int take_tree(void *context, const uint8_t *id, size_t id_len, const uint8_t *bytes, size_t len) {
+    bool is_empty = id && bytes && id_len == digest_len && len == 0;
+    *(size_t *)context += is_empty ? 1 : 2;
+    return 0;
+}
+
+/* No rows have one tree, without bytes. */
+static void give_trees(void) {
+    gix_index_given told;
+    gix_index_tree tree;
+    size_t taken = 0;
+    uint32_t status = gix_index_trees(NULL, 0, NULL, 0, kind, NULL, 0, NULL, 0, &told);
+    expect(status == GIX_INDEX_NO_ROOM && told.trees == 1 && told.bytes == 0, "no rows have no tree");
+    status = gix_index_trees(NULL, 0, NULL, 0, kind, &tree, 1, NULL, 0, &told);
+    expect(status == GIX_INDEX_DONE && tree.start == 0 && tree.len == 0, "the tree of no rows isn't given");
+    status = gix_index_trees(whole.rows, whole.said.entries, NULL, 0, kind, NULL, 0, NULL, 0, &told);
+    expect(status == GIX_INDEX_REFUSED && told.fault == GIX_INDEX_FAULT_ROW, "rows have trees by paths at NULL");
+    status = gix_index_write_trees(NULL, 0, NULL, 0, kind, take_tree, &taken, &told);
+    expect(status == GIX_INDEX_DONE && taken == 1, "the tree of no rows isn't handed on");
 }
 
 /* The calls for files, which hand on what they get; the index that is written is one without entries in the end. */
@@ -147,6 +174,9 @@ static void use_files(const char *path, const gix_index_form *form) {
     expect(t.said.entries == whole.said.entries && gix_index_is_time(t.mtime), "another file is read");
     expect(gix_index_commit(&lock, &t, form, true, &told) == GIX_INDEX_DONE, "a file isn't committed");
     gix_index_drop_table(&t);
+    expect(gix_index_lock_file(out, &lock) == GIX_INDEX_DONE, "a file isn't locked again");
+    status = gix_index_commit_changes(&lock, kind, NULL, 0, NULL, 0, true, &told);
+    expect(status == GIX_INDEX_DONE && told.bytes != 0, "no changes aren't committed");
     expect(gix_index_write_file(out, NULL, 0, NULL, 0, form, &told) == GIX_INDEX_DONE, "no rows aren't put to a file");
     expect(gix_index_read_file(out, kind, NULL, 0, &t) == GIX_INDEX_DONE && t.said.entries == 0, "a file has rows");
     gix_index_drop_table(&t);
@@ -168,6 +198,7 @@ int main(int argc, char **argv) {
     search();
     hash();
     write_them(&form);
+    give_trees();
     use_files(argv[2], &form);
     gix_index_drop_table(&whole);
     if (faults == 0) puts("ok");

@@ -69,7 +69,7 @@ static void threads(void) {
 
 static void try_room(const table *whole, const gix_index_form *form, const uint8_t *image, size_t len,
                      size_t room_len) {
-    gix_index_written told = {7, 7, 7, 7, 7};
+    gix_index_written told = {7, 7, 7, 7, 7, 7};
     uint8_t *room = malloc(room_len);
     if (!room) exit(3);
     memset(room, FILL, room_len);
@@ -121,7 +121,7 @@ static void rooms(void) {
 static void try_unfit(const table *t, uint32_t fault, size_t place, const char *what) {
     static uint8_t room[MOST];
     gix_index_form form = form_of(2, false);
-    gix_index_written told = {7, 7, 7, 7, 7};
+    gix_index_written told = {7, 7, 7, 7, 7, 7};
     memset(room, FILL, sizeof room);
     uint32_t status = write_into(t, &form, room, sizeof room, &told);
     expect(status == GIX_INDEX_REFUSED && told.fault == fault && told.fault_place == place, what, told.fault, place);
@@ -208,7 +208,7 @@ static void try_marks(table *t) {
 static void try_form(const table *t, uint32_t of_kind, uint32_t version) {
     uint8_t room = FILL;
     gix_index_form form = {.kind = of_kind, .version = version};
-    gix_index_written told = {7, 7, 7, 7, 7};
+    gix_index_written told = {7, 7, 7, 7, 7, 7};
     uint32_t status = write_into(t, &form, &room, 1, &told);
     expect(status == GIX_INDEX_WRONG_NUMBER && room == FILL, "a wrong number is let through", of_kind, version);
     bool is_nothing = told.bytes == 0 && told.fault == 0 && told.fault_place == 0;

@@ -15,7 +15,7 @@ static const char *const sides[] = {"", "base", "ours", "theirs"}; /* by their s
 static bool is_asked(const gix_index_table *t, const gix_index_row *row, char **paths) {
     if (!*paths) return true;
     for (; *paths; paths++)
-        if (strlen(*paths) == row->path_len && !memcmp(*paths, t->paths + row->path_start, row->path_len)) return true;
+        if (is_at(t, row, *paths, strlen(*paths))) return true;
     return false;
 }
 
@@ -27,18 +27,19 @@ int main(int argc, char **argv) {
     gix_index_lock lock;
     gix_index_table t;
     bool is_done = read_locked("resolve", argv[2], kind, &lock, &t);
-    const gix_index_row *last = NULL;
-    for (gix_index_row *row = t.rows; is_done && row < t.rows + t.said.entries; row++) {
-        const char *path = (const char *)t.paths + row->path_start;
-        if (!row->stage || !is_asked(&t, row, argc > 3 ? argv + 4 : argv + argc)) continue;
-        if (!last || last->path_len != row->path_len || memcmp(path, t.paths + last->path_start, row->path_len) != 0)
-            printf("%.*s\n", (int)row->path_len, path);
-        last = row;
-        row->flags = row->stage == side ? row->flags & ~GIX_INDEX_STAGE_MASK : row->flags | GIX_INDEX_REMOVE;
-        row->stage = (row->flags & GIX_INDEX_STAGE_MASK) >> 12;
+    size_t count = 0; /* of the changes, one for each path, which are put in front of the rows */
+    for (size_t i = 0; is_done && i < t.said.entries; i++) {
+        gix_index_row row = t.rows[i];
+        if (!row.stage || !is_asked(&t, &row, argc > 3 ? argv + 4 : argv + argc)) continue;
+        bool is_next = count == 0 || !is_at(&t, t.rows + count - 1, t.paths + row.path_start, row.path_len);
+        if (is_next) printf("%.*s\n", (int)row.path_len, (const char *)t.paths + row.path_start);
+        if (is_next) count++;
+        if (!is_next && row.stage != side) continue;
+        row.flags = row.stage == side ? row.flags & ~GIX_INDEX_STAGE_MASK : GIX_INDEX_REMOVE;
+        row.stage = 0;
+        t.rows[count - 1] = row;
     }
-    is_done = is_done && (!side || commit_table("resolve", argv[2], &lock, &t, kind, 2));
-    gix_index_rollback(&lock);
-    gix_index_drop_table(&t);
-    return is_done && fflush(stdout) == 0 ? 0 : 1;
+    if (is_done && side)
+        is_done = commit_changes("resolve", argv[2], &lock, kind, t.rows, count, t.paths, t.said.path_bytes);
+    return release(&lock, &t), is_done && fflush(stdout) == 0 ? 0 : 1;
 }

@@ -57,6 +57,38 @@ static inline bool read_locked(const char *name, const char *path, uint32_t kind
     return lock_file(name, path, lock) && read_table(name, lock->path, kind, t);
 }
 
+/* Whether a row has this path. */
+static inline bool is_at(const gix_index_table *t, const gix_index_row *row, const void *path, size_t len) {
+    return row->path_len == len && memcmp(t->paths + row->path_start, path, len) == 0;
+}
+
+/* Gives a lock and a table up. */
+static inline void release(gix_index_lock *lock, gix_index_table *t) {
+    gix_index_rollback(lock);
+    gix_index_drop_table(t);
+}
+
+/* Says why a file isn't written, and whether it is. */
+static inline bool is_written(const char *name, const char *path, uint32_t status, const gix_index_written *told) {
+    if (status == GIX_INDEX_REFUSED)
+        fprintf(stderr, "%s: %s: %s (%zu)\n", name, path,
+                told->fault == GIX_INDEX_FAULT_ORDER  ? "an entry isn't above the one before it"
+                : told->fault == GIX_INDEX_FAULT_NAME ? "git lets no such name stand in a path"
+                : told->fault == GIX_INDEX_FAULT_ROW  ? "an entry can't be written"
+                                                      : "there is too much for a file", told->fault_place);
+    else if (status != GIX_INDEX_DONE)
+        fprintf(stderr, "%s: %s: %s\n", name, path, status == GIX_INDEX_MEMORY ? "out of memory" : strerror(errno));
+    return status == GIX_INDEX_DONE;
+}
+
+/* Makes changes of the index that is locked, and writes it. Where that can't be done, it tells why. */
+static inline bool commit_changes(const char *name, const char *path, gix_index_lock *lock, uint32_t kind,
+                                  const gix_index_row *rows, size_t count, const void *paths, size_t paths_len) {
+    gix_index_written told;
+    uint32_t status = gix_index_commit_changes(lock, kind, rows, count, (const uint8_t *)paths, paths_len, true, &told);
+    return is_written(name, path, status, &told);
+}
+
 /* Writes a table in place of the file that is locked, in the version that it was read from, or in a larger one. Where
  * it isn't written, it tells why. */
 static inline bool commit_table(const char *name, const char *path, gix_index_lock *lock, const gix_index_table *t,
@@ -64,14 +96,7 @@ static inline bool commit_table(const char *name, const char *path, gix_index_lo
     gix_index_form form = {kind, t->said.version > version ? t->said.version : version, false};
     gix_index_written told;
     uint32_t status = gix_index_commit(lock, t, &form, true, &told);
-    if (status == GIX_INDEX_REFUSED)
-        fprintf(stderr, "%s: %s: %s (%zu)\n", name, path,
-                told.fault == GIX_INDEX_FAULT_ORDER ? "an entry isn't above the one before it"
-                : told.fault == GIX_INDEX_FAULT_ROW ? "an entry can't be written"
-                                                    : "there is too much for a file", told.fault_place);
-    else if (status != GIX_INDEX_DONE)
-        fprintf(stderr, "%s: %s: %s\n", name, path, status == GIX_INDEX_MEMORY ? "out of memory" : strerror(errno));
-    return status == GIX_INDEX_DONE;
+    return is_written(name, path, status, &told);
 }
 
 #endif

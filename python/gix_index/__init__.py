@@ -9,9 +9,10 @@
         index.unstage("README")
         index.commit()
 
-What is read under the lock is what is replaced, so that nothing that git writes is lost. Version 4, the mark of a
-sparse index and a cached tree that is still right are kept; other extensions are dropped, and a split index becomes
-whole.
+`Index.write_trees` gives the objects that `git write-tree` makes of the entries, the root's last.
+
+What is read under the lock is what is replaced, so that nothing that git writes is lost. Version 4 and all extensions
+are kept as git keeps them, and a split index becomes whole.
 
 Paths of entries are bytes, from the work tree's top on and with slashes. Where a call takes one, it takes a str too, as
 `os.fsencode` encodes it.

@@ -5,9 +5,9 @@ import ctypes
 import enum
 import errno
 import os
-from typing import Any, Callable, Optional, TypeVar
+from typing import Any, Callable, Dict, Optional, TypeVar, Union
 
-from ._library import NUMBERS, Summary, Written
+from ._library import NUMBERS, Given, Summary, Written
 from ._values import FilePath, Kind, Refused
 
 _T = TypeVar("_T")
@@ -62,14 +62,25 @@ _WHY_UNWRITTEN = {
     "GIX_INDEX_FAULT_ORDER": "entry {} isn't above the one before it, by path and stage",
     "GIX_INDEX_FAULT_ROW": "entry {} can't be written: its path, its id or its stage is at fault",
     "GIX_INDEX_FAULT_MODE": "entry {} can't be written: its mode is none that git has",
+    "GIX_INDEX_FAULT_NAME": "change {} is refused: git lets no such name stand in its path",
     "GIX_INDEX_FAULT_COUNT": "the index has more entries than the 4294967295 that a file can count",
     "GIX_INDEX_FAULT_LENGTH": "the index would take more bytes than the 4294967295 that a file can have",
 }
 
+_WHY_NO_TREES = {
+    "GIX_INDEX_FAULT_ORDER": "entry {} isn't above the one before it, by path and stage",
+    "GIX_INDEX_FAULT_ROW": "entry {} can't stand in a tree: its path or its id is at fault",
+    "GIX_INDEX_FAULT_MODE": "entry {} can't stand in a tree: its mode is none that git has",
+    "GIX_INDEX_FAULT_NAME": "entry {} can't stand in a tree: git lets no such name stand in its path",
+    "GIX_INDEX_FAULT_UNMERGED": "entry {} is in conflict",
+    "GIX_INDEX_FAULT_BELOW": "entry {} lies below another entry's path, which is no directory",
+    "GIX_INDEX_FAULT_COUNT": "the index has more entries than the 2147483647 of which trees are made",
+}
 
-def _why_unwritten(told: Written) -> str:
-    texts = (text for name, text in _WHY_UNWRITTEN.items() if NUMBERS[name] == told.fault)
-    return next(texts, "the index that is written over is refused").format(told.fault_place)
+
+def _why(texts: Dict[str, str], told: Union[Given, Written]) -> str:
+    found = (text for name, text in texts.items() if NUMBERS[name] == told.fault)
+    return next(found, "the index that is changed is refused").format(told.fault_place)
 
 
 def raise_unwritten(status: int, told: Written, path: Optional[FilePath] = None) -> None:
@@ -77,7 +88,13 @@ def raise_unwritten(status: int, told: Written, path: Optional[FilePath] = None)
     if status == Status.WRONG_NUMBER:
         raise ValueError("the version of an index is 2, 3 or 4")
     if status != Status.DONE:
-        raise fault_of(status, path, told, _why_unwritten(told))
+        raise fault_of(status, path, told, _why(_WHY_UNWRITTEN, told))
+
+
+def raise_ungiven(status: int, told: Given) -> None:
+    """Raises why no trees were given, unless they were."""
+    if status != Status.DONE:
+        raise fault_of(status, None, told, _why(_WHY_NO_TREES, told))
 
 
 def by_kind(kind: Optional[Kind], call: Callable[[Kind], _T]) -> _T:

@@ -5,8 +5,9 @@ import ctypes
 import os
 from typing import Any, Iterator, List, Optional, Sequence, Tuple, Union, overload
 
-from ._faults import Status, Text, by_kind, fault_of, file_path, raise_unwritten
-from ._library import ROW, Bytes, Form, Lock, Places, Summary, Table, Time, Written, at, bytes_at, library
+from ._faults import Status, Text, by_kind, fault_of, file_path, raise_ungiven, raise_unwritten
+from ._library import MARKS, NUMBERS, ROW, STAT, Bytes, Form, Given, Lock, Places, Summary, Table, Time, Tree, Written
+from ._library import at, bytes_at, library
 from ._values import NANOSECONDS, Entry, FilePath, Flags, Kind, Mode, Path, Stat
 
 
@@ -160,10 +161,14 @@ class Index(Sequence[Entry]):
         status = library().gix_index_find_prefix(*self._table(), name, len(name), ctypes.byref(places))
         return self[places.start : places.end] if status == Status.DONE else []
 
-    def closest(self, directory: Path) -> Optional[Entry]:
-        """The first entry that stands for the directory, a sparse one or a submodule; else the first one below it."""
+    def closest(self, directory: Path, ignore_case: bool = False) -> Optional[Entry]:
+        """The first entry that stands for the directory, a sparse one or a submodule; else the first one below it.
+
+        With ignore_case the case of ASCII letters is, and it is the first entry of either sort.
+        """
         name = os.fsencode(directory)
-        place = library().gix_index_closest(*self._table(), name, len(name))
+        call = library().gix_index_closest_icase if ignore_case else library().gix_index_closest
+        place = call(*self._table(), name, len(name))
         return self[place] if place < len(self) else None
 
     # ---- Changes
@@ -172,11 +177,18 @@ class Index(Sequence[Entry]):
         """The place before which all entries come that are less than this path and stage."""
         return library().gix_index_lower_bound(*self._table(), path, len(path), stage)
 
-    def _cut(self, path: bytes) -> int:
-        """Takes out the entries at a path, at each stage, and says how many."""
-        start, end = self._place(path), self._place(path, 4)
+    def _take_out(self, start: int, end: int) -> int:
+        """Takes out the entries from a place up to another, which are all that have their paths, and says how many."""
         del self._rows[start * ROW.size : end * ROW.size]
         return end - start
+
+    def _put(self, start: int, end: int, row: bytes) -> None:
+        """Puts an entry in the place of those from a place up to another."""
+        self._rows[start * ROW.size : end * ROW.size] = row
+
+    def _cut(self, path: bytes) -> int:
+        """Takes out the entries at a path, at each stage, and says how many."""
+        return self._take_out(self._place(path), self._place(path, 4))
 
     def _directories(self, path: bytes) -> List[bytes]:
         """The directories above a path, where none of them is one of a sparse index."""
@@ -195,9 +207,7 @@ class Index(Sequence[Entry]):
         name = os.fsencode(path)
         self._directories(name)
         # (0 is the byte behind the slash)
-        start, end = self._place(name + b"/"), self._place(name + b"0")
-        del self._rows[start * ROW.size : end * ROW.size]
-        return end - start + self._cut(name)
+        return self._take_out(self._place(name + b"/"), self._place(name + b"0")) + self._cut(name)
 
     def stage(self, *entries: Entry) -> None:
         """Puts entries in, each in place of those that are in its way.
@@ -219,14 +229,17 @@ class Index(Sequence[Entry]):
                 self.unstage(path)
                 start = end = self._place(path)
             row = ROW.pack(*seen, mode, flags, stage, self.kind.number, id, len(self._paths), len(path))
-            self._rows[start * ROW.size : end * ROW.size] = row
+            self._put(start, end, row)
             self._paths += path
 
     # ---- Writing
 
-    def _form(self, version: Optional[int], skip_hash: bool) -> Form:
+    def _ask_whole(self) -> None:
         if self._is_part:
             raise ValueError("the index is split, and its link to a shared index isn't followed")
+
+    def _form(self, version: Optional[int], skip_hash: bool) -> Form:
+        self._ask_whole()
         return Form(self.kind.number, (4 if self.version == 4 else 2) if version is None else version, skip_hash)
 
     def to_bytes(self, version: Optional[int] = None, skip_hash: bool = False) -> bytes:
@@ -246,6 +259,24 @@ class Index(Sequence[Entry]):
             status = call(*self._table(), *over, ctypes.byref(form), at(room), len(room), ctypes.byref(told))
         raise_unwritten(status, told)
         return bytes(room[: told.bytes])
+
+    def write_trees(self) -> List[Tuple[bytes, bytes]]:
+        """The trees that `git write-tree` makes of the entries, each by its id and with its bytes.
+
+        Each stands behind those that it names, so that the last is the root's, and a store can take them in this order.
+        The bytes are those that `git cat-file tree` prints. An entry with Flags.INTENT_TO_ADD stands in no tree.
+        Whether the objects that entries name are there isn't looked at. Entries out of order, or that can't stand in a
+        tree, as those in conflict, are `Refused`.
+        """
+        self._ask_whole()
+        told, trees, room, status = Given(), (Tree * 0)(), bytearray(), Status.NO_ROOM
+        while status == Status.NO_ROOM:
+            trees, room = (Tree * told.trees)(), bytearray(told.bytes)
+            words = (self.kind.number, trees, len(trees), at(room), len(room), ctypes.byref(told))
+            status = library().gix_index_trees(*self._table(), *words)
+        raise_ungiven(status, told)
+        size = self.kind.len_in_bytes
+        return [(bytes(it.id)[:size], bytes(room[it.start : it.start + it.len])) for it in trees]
 
 
 class _Held:
@@ -280,7 +311,7 @@ class Locked(Index):
         # (where nothing is at the path, its mode is 0)
         if lock.at.mode or not missing_ok:
             self._fill_from(lock.path)
-        self._lock = lock
+        self._lock, self._changes = lock, bytearray()
 
     def __enter__(self) -> Locked:
         return self
@@ -296,16 +327,44 @@ class Locked(Index):
         """Gives the lock up: where it is held still, the index stays as it was, and the lock file is removed."""
         self._lock.give_up()
 
+    def _take_out(self, start: int, end: int) -> int:
+        marked = MARKS.index("flags") + len(STAT)
+        for row in ROW.iter_unpack(bytes(self._rows[start * ROW.size : end * ROW.size])):
+            fields = list(row)
+            fields[marked] |= NUMBERS["GIX_INDEX_REMOVE"]
+            self._changes += ROW.pack(*fields)
+        return super()._take_out(start, end)
+
+    def _put(self, start: int, end: int, row: bytes) -> None:
+        self._changes += row
+        super()._put(start, end, row)
+
     def commit(self, version: Optional[int] = None, skip_hash: bool = False, sync: bool = False) -> None:
         """Writes this in place of the index that is locked, and ends the lock.
 
-        What is written is what `Index.to_bytes` gives. The file keeps its permissions, and the time of the index that
-        was read, so that git looks at each file that it would have looked at before. With sync it is on the disk before
-        it takes its place. After an exception the index is as it was, and the lock is ended too.
+        What speaks of the entries is kept as git keeps it where it makes the same changes: the cached tree and the
+        untracked cache lose what isn't so any more, and sides of conflicts that went are recorded, so that `git
+        checkout -m` gets them back. A change that git refuses is `Refused`. With a version, or with skip_hash, what is
+        written is what `Index.to_bytes` gives.
+
+        The file keeps its permissions, and the time of the index that was read, so that git looks at each file that it
+        would have looked at before. With sync it is on the disk before it takes its place. After an exception the index
+        is as it was, and the lock is ended too.
         """
-        form, told, table = self._form(version, skip_hash), Written(), Table()
+        form, told = self._form(version, skip_hash), Written()
         if not self._lock.at.is_held:
             raise ValueError("the index isn't locked any more")
+        if version is None and not skip_hash:
+            count = len(self._changes) // ROW.size
+            words = (self.kind.number, at(self._changes), count, at(self._paths), len(self._paths), sync)
+            status = library().gix_index_commit_changes(ctypes.byref(self._lock.at), *words, ctypes.byref(told))
+            raise_unwritten(status, told, self.path)
+        else:
+            self._commit_table(form, told, sync)
+
+    def _commit_table(self, form: Form, told: Written, sync: bool) -> None:
+        """Writes the entries over the index that was read, without a look at how they came."""
+        table = Table()
         # (these names keep the memory that the table points to)
         rows, paths, base = at(self._rows), at(self._paths), ctypes.c_char_p(self._base)
         table.rows, table.paths = (ctypes.addressof(room) if room else None for room in (rows, paths))

@@ -20,6 +20,7 @@ NUMBERS = {
     "GIX_INDEX_NONE": 5,
     "GIX_INDEX_SYSTEM": 6,
     "GIX_INDEX_NOT_REGULAR": 7,
+    "GIX_INDEX_STOPPED": 8,
     "GIX_INDEX_SHA1": 1,
     "GIX_INDEX_SHA256": 2,
     "GIX_INDEX_UNCONFLICTED": 0,
@@ -34,6 +35,7 @@ NUMBERS = {
     "GIX_INDEX_STAGE_MASK": 0x3000,
     "GIX_INDEX_EXTENDED": 0x4000,
     "GIX_INDEX_ASSUME_VALID": 0x8000,
+    "GIX_INDEX_REMOVE": 0x20000,
     "GIX_INDEX_INTENT_TO_ADD": 0x20000000,
     "GIX_INDEX_SKIP_WORKTREE": 0x40000000,
     "GIX_INDEX_FAULT_HEADER": 1,
@@ -50,6 +52,9 @@ NUMBERS = {
     "GIX_INDEX_FAULT_COUNT": 13,
     "GIX_INDEX_FAULT_LENGTH": 14,
     "GIX_INDEX_FAULT_MODE": 15,
+    "GIX_INDEX_FAULT_NAME": 16,
+    "GIX_INDEX_FAULT_UNMERGED": 17,
+    "GIX_INDEX_FAULT_BELOW": 18,
 }
 
 Bytes = Union[bytes, bytearray, memoryview]
@@ -98,7 +103,22 @@ class Written(ctypes.Structure):
 
     _fields_ = [
         *((name, ctypes.c_size_t) for name in ("bytes", "fault_place")),
-        *((name, ctypes.c_uint32) for name in ("fault", "version", "tree")),
+        *((name, ctypes.c_uint32) for name in ("fault", "version", "tree", "of_shared")),
+    ]
+
+
+class Tree(ctypes.Structure):
+    """gix_index_tree."""
+
+    _fields_ = [("id", ctypes.c_uint8 * 32), ("start", ctypes.c_size_t), ("len", ctypes.c_size_t)]
+
+
+class Given(ctypes.Structure):
+    """gix_index_given."""
+
+    _fields_ = [
+        *((name, ctypes.c_size_t) for name in ("trees", "bytes", "fault_place")),
+        ("fault", ctypes.c_uint32),
     ]
 
 
@@ -168,14 +188,18 @@ CALLS = {
     "gix_index_blob_id": (_U32, _U32, _AT, _LEN, _AT),
     "gix_index_find_prefix": (_U32, *_ROWS, _AT, _LEN, _AT),
     "gix_index_closest": (_LEN, *_ROWS, _AT, _LEN),
+    "gix_index_closest_icase": (_LEN, *_ROWS, _AT, _LEN),
     "gix_index_write": (_U32, *_ROWS, _AT, _AT, _LEN, _AT),
     "gix_index_write_over": (_U32, *_ROWS, _AT, _LEN, _AT, _AT, _LEN, _AT),
+    "gix_index_update": (_U32, *_ROWS, _AT, _LEN, _AT, _LEN, _U32, _AT, _LEN, _AT),
+    "gix_index_trees": (_U32, *_ROWS, _U32, _AT, _LEN, _AT, _LEN, _AT),
     "gix_index_read_file": (_U32, _AT, _U32, _AT, _LEN, _AT),
     "gix_index_check_file": (_U32, _AT, _U32, _AT, _LEN, _AT),
     "gix_index_drop_table": (None, _AT),
     "gix_index_lock_file": (_U32, _AT, _AT),
     "gix_index_rollback": (None, _AT),
     "gix_index_commit": (_U32, _AT, _AT, _AT, _BOOL, _AT),
+    "gix_index_commit_changes": (_U32, _AT, _U32, *_ROWS, _BOOL, _AT),
 }
 
 

@@ -7,8 +7,7 @@
 //! was settled. The status is 1 where INDEX can't be locked, read or written, with a line on standard error, and 2 for
 //! wrong words.
 
-use gix_index_proved::write::Options;
-use gix_index_proved::{Index, flags};
+use gix_index_proved::{Change, Index};
 use std::io::Write;
 
 /// The sides by their stages.
@@ -21,18 +20,16 @@ fn main() -> Result<(), Box<dyn std::error::Error>> {
         eprintln!("usage: resolve sha1|sha256 INDEX [base|ours|theirs [PATH..]]");
         std::process::exit(2);
     };
-    let (mut locked, stage, asked) = (Index::lock(file)?, stage as u32, words.get(3..).unwrap_or_default());
-    let mut index = locked.open(kind.parse()?)?;
+    let (mut locked, kind, stage) = (Index::lock(file)?, kind.parse()?, stage as u32);
+    let (index, asked) = (locked.open(kind)?, words.get(3..).unwrap_or_default());
     let is_asked = |path: &[u8]| asked.is_empty() || asked.iter().any(|it| it.as_bytes() == path);
-    let conflicts = index.entries().filter(|entry| entry.stage() != 0 && is_asked(entry.path()));
-    let mut lines: Vec<_> = conflicts.map(|entry| [entry.path(), b"\n"].concat()).collect();
-    lines.dedup();
+    let conflicts = || index.entries().filter(|entry| entry.stage() != 0 && is_asked(entry.path()));
+    let mut paths: Vec<_> = conflicts().map(|entry| entry.path()).collect();
+    paths.dedup();
     if stage != 0 {
-        index.remove_entries(|_, path, entry| ![0, stage].contains(&entry.stage()) && is_asked(path));
-        for mut entry in index.entries_mut().filter(|entry| is_asked(entry.entry().path())) {
-            entry.set_flags(entry.entry().flags() & !flags::STAGE_MASK);
-        }
-        locked.commit(&index, Options::default())?;
+        let gone = paths.iter().map(|path| Change::Unstage { path });
+        let sides = conflicts().filter(|entry| entry.stage() == stage).map(Change::resolve);
+        locked.commit_changes(kind, &gone.chain(sides).collect::<Vec<_>>(), false)?;
     }
-    Ok(std::io::stdout().write_all(&lines.concat())?)
+    Ok(std::io::stdout().write_all(&paths.iter().flat_map(|path| [path, &b"\n"[..]].concat()).collect::<Vec<_>>())?)
 }

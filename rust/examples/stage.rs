@@ -9,13 +9,7 @@
 //!
 //! The status is 1 where that can't be done, with a line on standard error, and 2 for too few words or too many.
 
-use gix_index_proved::write::Options;
-use gix_index_proved::{Index, Stat, mode};
-
-/// Whether one path lies below the other.
-fn is_below(path: &[u8], other: &[u8]) -> bool {
-    path.strip_prefix(other).is_some_and(|rest| rest.starts_with(b"/"))
-}
+use gix_index_proved::{Change, Index, Stat, mode};
 
 fn main() -> Result<(), Box<dyn std::error::Error>> {
     let words: Vec<_> = std::env::args().skip(1).collect();
@@ -23,20 +17,21 @@ fn main() -> Result<(), Box<dyn std::error::Error>> {
         eprintln!("usage: stage sha1|sha256 INDEX PATH [ID]");
         std::process::exit(2);
     };
-    let (mut locked, path) = (Index::lock(file)?, name.as_bytes());
-    let mut index = locked.open_or_default(kind.parse()?)?;
+    let (mut locked, kind, path) = (Index::lock(file)?, kind.parse()?, name.as_bytes());
+    let index = locked.open_or_default(kind)?;
     if index.entries().any(|entry| entry.mode() == mode::DIR && path.starts_with(entry.path())) {
         return Err("the path lies in a directory of a sparse index".into());
     }
-    index.remove_entries(|_, it, _| it == path || is_below(it, path) || !id.is_empty() && is_below(path, it));
-    if let [id] = id {
-        let seen = std::fs::symlink_metadata(name)?;
-        let mode = mode::from_fs(&seen).ok_or("no file, link or submodule is there")?;
-        let digits = (0..id.len()).step_by(2).map(|at| u8::from_str_radix(id.get(at..at + 2).unwrap_or(""), 16));
-        let id = digits.collect::<Result<Vec<_>, _>>()?;
-        index.dangerously_push_entry(Stat::from(&seen), &id, 0, mode, path)?;
-        index.sort_entries();
-    }
-    locked.commit(&index, Options::default())?;
-    Ok(())
+    let Some(id) = id.first() else {
+        let is_there = |it: &[u8]| it.strip_prefix(path).is_some_and(|rest| matches!(rest, [] | [b'/', ..]));
+        let gone = index.entries().map(|entry| entry.path()).filter(|it| is_there(it));
+        let changes: Vec<_> = gone.map(|path| Change::Unstage { path }).collect();
+        return Ok(locked.commit_changes(kind, &changes, false)?);
+    };
+    let seen = std::fs::symlink_metadata(name)?;
+    let mode = mode::from_fs(&seen).ok_or("no file, link or submodule is there")?;
+    let digits = (0..id.len()).step_by(2).map(|at| u8::from_str_radix(id.get(at..at + 2).unwrap_or(""), 16));
+    let id = &digits.collect::<Result<Vec<_>, _>>()?;
+    let change = Change::Stage { stat: Stat::from(&seen), id, flags: 0, mode, path };
+    Ok(locked.commit_changes(kind, &[change], false)?)
 }

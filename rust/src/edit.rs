@@ -84,7 +84,7 @@ impl Index {
     #[must_use]
     pub fn new(kind: Kind) -> Index {
         let (rows, paths) = (Vec::new(), Vec::new());
-        Index { rows, paths, kind, version: 2, has_link: false, shared_id: [0; 32], timestamp: None }
+        Index { rows, paths, kind, version: 2, has_link: false, shared_id: [0; 32], checksum: [0; 32], timestamp: None }
     }
 
     /// Puts an entry at the end, and its path behind the others. The stage is that of the flags.

@@ -1,6 +1,6 @@
 //! Why an index isn't read or written.
 
-use crate::raw::{self, Summary, Written};
+use crate::raw::{self, Summary, Given, Written};
 use std::fmt;
 use std::fs::FileType;
 use std::io;
@@ -26,19 +26,29 @@ pub enum Fault {
     /// The digest isn't the trailer.
     Digest,
     /// The entry at this place, counted from 0, isn't above the one before it, by path, then stage.
-    /// Calls that check or write alone tell so.
+    /// Calls that check, write, update or give trees alone tell so.
     Order(usize),
     /// The cached tree doesn't hold together, or counts more entries than there are. Calls that check alone tell so.
     CachedTree,
     /// The entry at this place, counted from 0, can't be written: its path is empty or has a NUL, or it is a directory
-    /// of a sparse index where no such index is written over.
+    /// of a sparse index where no such index is written over. Or it can't stand in a tree: its id is zeros, more than
+    /// 2048 directories lie above it, or it is a directory of a sparse index whose path has no slash at its end.
     Row(usize),
-    /// There are more entries than the 4294967295 that a file can count.
+    /// There are more entries than the 4294967295 that a file can count, or the 2147483647 of which trees are made.
     Count,
     /// The file would have more than the 4294967295 bytes that its offsets can reach.
     Length,
     /// The entry at this place, counted from 0, has a mode that is none of the five that git has.
     Mode(usize),
+    /// The path of the change or the entry at this place, counted from 0, has a name that is empty, or that git lets
+    /// stand in none. [`update`](crate::update) and [`write_trees`](crate::Index::write_trees) alone tell so.
+    Name(usize),
+    /// The entry at this place, counted from 0, is in conflict. [`write_trees`](crate::Index::write_trees) alone tells
+    /// so.
+    Unmerged(usize),
+    /// The path of the entry at this place, counted from 0, lies below that of another entry, which is no directory, or
+    /// in a directory of a sparse index. [`write_trees`](crate::Index::write_trees) alone tells so.
+    Below(usize),
     /// A fault of another number.
     Other(u32),
 }
@@ -128,6 +138,9 @@ impl Fault {
             raw::FAULT_COUNT => Fault::Count,
             raw::FAULT_LENGTH => Fault::Length,
             raw::FAULT_MODE => Fault::Mode(place),
+            raw::FAULT_NAME => Fault::Name(place),
+            raw::FAULT_UNMERGED => Fault::Unmerged(place),
+            raw::FAULT_BELOW => Fault::Below(place),
             number => Fault::Other(number),
         }
     }
@@ -151,6 +164,9 @@ impl fmt::Display for Fault {
             Fault::Count => f.write_str("the index has more entries than the 4294967295 that a file can count"),
             Fault::Length => f.write_str("the index would take more bytes than the 4294967295 that a file can have"),
             Fault::Mode(place) => write!(f, "entry {place} can't be written: its mode is none that git has"),
+            Fault::Name(place) => write!(f, "entry {place} can't be staged: git lets no such name stand in its path"),
+            Fault::Unmerged(place) => write!(f, "entry {place} is in conflict"),
+            Fault::Below(place) => write!(f, "entry {place} lies below another entry's path, which is no directory"),
             Fault::Other(number) => write!(f, "fault {number}"),
         }
     }
@@ -163,6 +179,33 @@ impl Error {
         let text = match fault {
             Fault::Row(_) | Fault::Mode(_) | Fault::Order(_) | Fault::Count | Fault::Length => fault.to_string(),
             fault => format!("the index that is written over is refused: {fault}"),
+        };
+        Error::Refused { fault, text }
+    }
+
+    /// What a call that refused changes said.
+    pub(crate) fn of_updated(told: &Written) -> Error {
+        let fault = Fault::of(told.fault, told.fault_place);
+        let text = match fault {
+            Fault::Row(place) => format!("change {place} is refused: its path, its id or its stage is at fault"),
+            Fault::Mode(place) => format!("change {place} is refused: its mode is none that git has"),
+            Fault::Name(place) => format!("change {place} is refused: git lets no such name stand in its path"),
+            fault => fault.to_string(),
+        };
+        if told.of_shared == 0 { Error::Refused { fault, text } } else { Error::RefusedShared { fault, text } }
+    }
+
+    /// What a call that refused to give trees said.
+    pub(crate) fn of_trees(told: &Given) -> Error {
+        let fault = Fault::of(told.fault, told.fault_place);
+        let text = match fault {
+            Fault::Row(place) => format!("entry {place} can't stand in a tree: its path or its id is at fault"),
+            Fault::Mode(place) => format!("entry {place} can't stand in a tree: its mode is none that git has"),
+            Fault::Name(place) => {
+                format!("entry {place} can't stand in a tree: git lets no such name stand in its path")
+            }
+            Fault::Count => "the index has more entries than the 2147483647 of which trees are made".to_owned(),
+            fault => fault.to_string(),
         };
         Error::Refused { fault, text }
     }

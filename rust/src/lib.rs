@@ -5,31 +5,29 @@
 //! `crates/index_c/README.md`; this crate isn't proved: it hands slices to the library's calls and takes their answers.
 //! It has no dependencies, so its errors implement [`std::error::Error`] by hand.
 //!
-//! Safe beside git, which may write the same index, is [`Index::lock`], then [`Locked::open`], then
-//! [`Locked::commit`]: what is read is what is replaced, and what a change leaves right stays. [`Index::write`] locks
-//! only when it writes, so what another process wrote between the reading and it is lost.
+//! Safe beside git, which may write the same index, is [`Index::lock`], then [`Locked::open`] where entries are looked
+//! at, then [`Locked::commit_changes`] or [`Locked::commit`]: what is read is what is replaced. The first makes changes
+//! as git makes them, the second writes an index whose entries were edited. [`Index::write`] locks only when it writes,
+//! so what another process wrote between the reading and it is lost.
 //!
 //! ```no_run
-//! use gix_index_proved::write::Options;
-//! use gix_index_proved::{Error, Index, Kind};
+//! use gix_index_proved::{Change, Error, Index, Kind};
 //!
 //! /// Takes a path out of an index, at each stage, and tells whether it was there.
 //! fn unstage(index: &str, path: &[u8]) -> Result<bool, Error> {
 //!     let mut locked = Index::lock(index)?;
-//!     let mut index = locked.open(Kind::Sha1)?;
-//!     let before = index.entries().len();
-//!     index.remove_entries(|_, there, _| there == path);
-//!     let is_changed = index.entries().len() < before;
-//!     if is_changed {
-//!         locked.commit(&index, Options::default())?;
+//!     let is_there = locked.open(Kind::Sha1)?.entry_index_by_path(path).is_ok();
+//!     if is_there {
+//!         locked.commit_changes(Kind::Sha1, &[Change::Unstage { path }], false)?;
 //!     }
-//!     Ok(is_changed)
+//!     Ok(is_there)
 //! }
 //! # let _ = unstage;
 //! ```
 
 #![deny(missing_docs, missing_debug_implementations)]
 
+mod change;
 mod check;
 mod edit;
 mod entry;
@@ -37,8 +35,10 @@ mod error;
 mod lock;
 mod raw;
 mod read;
+mod trees;
 pub mod write;
 
+pub use change::{Change, update};
 pub use check::{verify, verify_file, verify_split};
 pub use edit::EntryMut;
 use entry::Hex;
@@ -122,6 +122,7 @@ pub struct Index {
     version: u32,
     has_link: bool,
     shared_id: [u8; 32],
+    checksum: [u8; 32],
     timestamp: Option<SystemTime>,
 }
 
@@ -165,6 +166,14 @@ impl Index {
     pub fn shared_id(&self) -> Option<&[u8]> {
         let id = &self.shared_id[..self.kind.len_in_bytes()];
         (self.has_link && id.iter().any(|byte| *byte != 0)).then_some(id)
+    }
+
+    /// The digest that the file which was read ends with, of all bytes before it. None where it is null, as no digest
+    /// was taken then, and of a new index. It stays when entries change.
+    #[must_use]
+    pub fn checksum(&self) -> Option<&[u8]> {
+        let id = &self.checksum[..self.kind.len_in_bytes()];
+        id.iter().any(|byte| *byte != 0).then_some(id)
     }
 
     fn lend<'a>(&'a self, row: &'a Row) -> Entry<'a> {
@@ -295,6 +304,24 @@ impl Index {
         self.entry(place)
     }
 
+    /// The first entry that stands for the directory itself, a sparse one or a submodule, or below it, with the case of
+    /// ASCII letters ignored; or None. The entries may be in any order, and each is looked at up to that one.
+    #[must_use]
+    pub fn entry_closest_to_directory_or_directory_icase(&self, directory: &[u8]) -> Option<Entry<'_>> {
+        // SAFETY: each pointer goes with the length of its slice, and nothing is written.
+        let place = unsafe {
+            raw::gix_index_closest_icase(
+                self.rows.as_ptr(),
+                self.rows.len(),
+                self.paths.as_ptr(),
+                self.paths.len(),
+                directory.as_ptr(),
+                directory.len(),
+            )
+        };
+        self.entry(place)
+    }
+
     /// The entry at the path: that at stage 0, or else that at stage 2, our side of a merge, or else None; as
     /// [`entry_by_path_and_stage`](Index::entry_by_path_and_stage) finds them.
     #[must_use]
@@ -305,7 +332,9 @@ impl Index {
 
 impl PartialEq for Index {
     fn eq(&self, other: &Index) -> bool {
-        let told = |index: &Index| (index.kind, index.version, index.has_link, index.shared_id, index.timestamp);
+        let told = |index: &Index| {
+            (index.kind, index.version, index.has_link, index.shared_id, index.checksum, index.timestamp)
+        };
         told(self) == told(other) && self.entries().eq(other.entries())
     }
 }

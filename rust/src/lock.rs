@@ -142,6 +142,11 @@ impl Locked {
         &self.path
     }
 
+    /// Whether there is an index to be replaced.
+    pub(crate) fn is_there(&self) -> bool {
+        self.old.is_some()
+    }
+
     /// Reads the index that is locked, as [`Index::open`] does, and keeps its bytes: [`commit`](Locked::commit) then
     /// keeps what they have and a change leaves right.
     pub fn open(&mut self, kind: Kind) -> Result<Index, Error> {

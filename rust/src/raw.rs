@@ -25,6 +25,9 @@ pub const FAULT_ROW: u32 = 12;
 pub const FAULT_COUNT: u32 = 13;
 pub const FAULT_LENGTH: u32 = 14;
 pub const FAULT_MODE: u32 = 15;
+pub const FAULT_NAME: u32 = 16;
+pub const FAULT_UNMERGED: u32 = 17;
+pub const FAULT_BELOW: u32 = 18;
 
 #[repr(C)]
 #[derive(Clone, Copy, Default)]
@@ -84,6 +87,24 @@ pub struct Written {
     pub fault: u32,
     pub version: u32,
     pub tree: u32,
+    pub of_shared: u32,
+}
+
+#[repr(C)]
+#[derive(Clone, Copy, Default)]
+pub struct Tree {
+    pub id: [u8; 32],
+    pub start: usize,
+    pub len: usize,
+}
+
+#[repr(C)]
+#[derive(Clone, Copy, Default)]
+pub struct Given {
+    pub trees: usize,
+    pub bytes: usize,
+    pub fault_place: usize,
+    pub fault: u32,
 }
 
 #[repr(C)]
@@ -206,6 +227,15 @@ unsafe extern "C" {
         directory_len: usize,
     ) -> usize;
 
+    pub fn gix_index_closest_icase(
+        rows: *const Row,
+        rows_len: usize,
+        paths: *const u8,
+        paths_len: usize,
+        directory: *const u8,
+        directory_len: usize,
+    ) -> usize;
+
     pub fn gix_index_write(
         rows: *const Row,
         rows_len: usize,
@@ -228,5 +258,33 @@ unsafe extern "C" {
         bytes: *mut u8,
         bytes_len: usize,
         told: *mut Written,
+    ) -> u32;
+
+    pub fn gix_index_update(
+        rows: *const Row,
+        rows_len: usize,
+        paths: *const u8,
+        paths_len: usize,
+        index: *const u8,
+        index_len: usize,
+        shared: *const u8,
+        shared_len: usize,
+        kind: u32,
+        bytes: *mut u8,
+        bytes_len: usize,
+        told: *mut Written,
+    ) -> u32;
+
+    pub fn gix_index_trees(
+        rows: *const Row,
+        rows_len: usize,
+        paths: *const u8,
+        paths_len: usize,
+        kind: u32,
+        trees: *mut Tree,
+        trees_len: usize,
+        bytes: *mut u8,
+        bytes_len: usize,
+        told: *mut Given,
     ) -> u32;
 }

@@ -65,6 +65,15 @@ impl Files<'_> {
         }
     }
 
+    /// The last bytes of the index, as many as an id of its kind has.
+    fn trailer(self) -> [u8; 32] {
+        let (mut id, len) = ([0; 32], self.kind.len_in_bytes());
+        if let Some(last) = self.bytes.len().checked_sub(len) {
+            id[..len].copy_from_slice(&self.bytes[last..]);
+        }
+        id
+    }
+
     /// The index of these bytes. The sizes come first, without digests, unless there is a fault: a wrong digest is told
     /// before all others.
     fn index(self) -> Result<Index, Error> {
@@ -75,8 +84,8 @@ impl Files<'_> {
             paths = room(0, said.1.path_bytes)?;
             said = self.read(false, &mut rows, &mut paths)?;
             if let (true, Summary { version, has_link, shared_id, .. }) = said {
-                let has_link = has_link != 0;
-                return Ok(Index { rows, paths, kind: self.kind, version, has_link, shared_id, timestamp: None });
+                let (kind, has_link, checksum) = (self.kind, has_link != 0, self.trailer());
+                return Ok(Index { rows, paths, kind, version, has_link, shared_id, checksum, timestamp: None });
             }
         }
     }

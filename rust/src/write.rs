@@ -8,6 +8,12 @@ use std::path::Path;
 const PER_ENTRY: usize = 96;
 const BESIDE_ENTRIES: usize = 44;
 
+/// How many bytes these entries have at most as an index without extensions.
+pub(crate) fn most_bytes(index: &Index) -> usize {
+    let paths: usize = index.rows.iter().map(|row| row.path_len).sum();
+    BESIDE_ENTRIES + PER_ENTRY * index.rows.len() + paths
+}
+
 /// Which version is written.
 #[derive(Clone, Copy, Debug, Default, PartialEq, Eq, Hash)]
 pub enum VersionChoice {
@@ -105,9 +111,7 @@ impl Index {
         if self.has_link {
             return Err(Error::Split);
         }
-        let paths: usize = self.rows.iter().map(|row| row.path_len).sum();
-        let most = BESIDE_ENTRIES + PER_ENTRY * self.rows.len() + paths;
-        let mut bytes = room(0, most + over.map_or(0, <[u8]>::len))?;
+        let mut bytes = room(0, most_bytes(self) + over.map_or(0, <[u8]>::len))?;
         loop {
             match self.put(over, options, &mut bytes)? {
                 Ok(told) => {

@@ -65,7 +65,10 @@ fn getters_read_what_is_spelled() {
         assert_eq!((stat.mtime.secs, stat.mtime.nsecs), (0x0304_0304, 405));
         assert_eq!((stat.dev, stat.ino, stat.uid, stat.gid, stat.size), (506, 607, 708, 809, 910));
         assert_eq!((entry.mode(), entry.flags(), entry.stage()), (0o100755, FLAGS, 2));
-        assert!(index.entry(1).is_none());
+        assert!(index.entry(1).is_none() && index.checksum().is_none());
+        let hashed = index.write_to(Options::default()).expect("it can be written");
+        let read = Index::from_bytes(&hashed, kind).expect("it can be read");
+        assert_eq!(read.checksum(), Some(&hashed[hashed.len() - kind.len_in_bytes()..]));
     }
 }
 

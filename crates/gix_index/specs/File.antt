@@ -8,7 +8,9 @@ use Rattle.index_state.specs.contracts.State as state
 use Rattle.index_metadata.specs.declared.entry.stat.FileTime.{FileTime}
 use Rattle.index_parts.specs.declared.hash.Kind.{Kind}
 use Rattle.index_state.specs.Edits.{IsUnchanged, empty_contents}
-use Rattle.index_state.specs.State.{contents}
+use Rattle.index_entries.specs.Record.{IdsAreOf}
+use Rattle.index_format.specs.Storable.{IsStorable}
+use Rattle.index_state.specs.State.{PathsInStorage, contents, entries_of}
 use Rattle.gix_index.specs.declared.file.File.{File}
 use Rattle.gix_index.specs.contracts.file.File as file
 
@@ -26,6 +28,21 @@ pub record IsSameFile (old new : File) : Type 0 where
   pub same_state : IsUnchanged (state_of old) (state_of new)
   pub same_path : path_of new ≡ path_of old
   pub same_checksum : checksum_of new ≡ checksum_of old
+
+-- the file has this path, and a state such as reading for ids of this kind gives it
+pub record IsFileOf (at : List ℕ) (kind : Kind) (f : File) : Type 0 where
+  pub path : path_of f ≡ at
+  pub placed : PathsInStorage (state_of f)
+  pub ids : IdsAreOf kind (entries_of (state_of f))
+  pub storable : IsStorable (contents (state_of f))
+
+-- the same, and it links to no shared index
+pub record IsWholeFile (at : List ℕ) (kind : Kind) (f : File) : Type 0 where
+  pub path : path_of f ≡ at
+  pub placed : PathsInStorage (state_of f)
+  pub ids : IdsAreOf kind (entries_of (state_of f))
+  pub storable : IsStorable (contents (state_of f))
+  pub unlinked : (contents (state_of f)).extensions.link ≡ None
 
 -- an empty index of this kind with this time, which no file holds
 abbrev pub IsEmptyFile : Kind → FileTime → File → Type 0

@@ -10,6 +10,7 @@ pub mod InPlace
 pub mod Keeping
 pub mod Linked
 pub mod Outlined
+pub mod ReadFile
 pub mod Searching
 pub mod Trees
 pub mod VerifiedFile

@@ -4,6 +4,7 @@ pub use Rattle.index_search.specs.Digits
 pub use Rattle.index_lookups.specs.FilterMap
 pub use Rattle.index_lookups.specs.Folded
 pub use Rattle.index_lookups.specs.Tables
+pub use Rattle.index_state.specs.StateSearches
 pub use Rattle.index_lookups.specs.declared.folded.AccelerateLookup
 pub use Rattle.index_lookups.specs.declared.paths.FilterMapPaths
 pub use Rattle.index_lookups.specs.declared.tables.DirectoryTable

@@ -5,6 +5,7 @@ pub use Rattle.index_objects.specs.TreeObject
 pub use Rattle.index_tree_reader.specs.Leaves
 pub use Rattle.index_tree_writer.specs.Kept
 pub use Rattle.index_tree_writer.specs.Objects
+pub use Rattle.index_state.specs.StateTrees
 pub use Rattle.index_laws.specs.TreesAnswer
 pub use Rattle.index_objects.specs.declared.check.ComponentCheck
 pub use Rattle.index_objects.specs.declared.object.find.Error as FindError

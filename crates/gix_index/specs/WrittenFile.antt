@@ -1,13 +1,22 @@
 -- What becomes of a writer (`std::io::Write`), and of the answer, where an index is written with its digest
 -- (gitformat-index, "Hash checksum").
-use Rattle.std.specs.Prelude.{◌≡◌, ◌↔◌, ℕ, Bool, List, Option, Some, None, Result, Err, IfOk, if◌then◌else◌}
+use Rattle.std.specs.Prelude.{◌≡◌, ◌↔◌, ◌++◌, ℕ, Bool, true, List, Option, Some, None, Result, Err, IfOk, OnOk, codes}
+use Rattle.std.specs.Prelude.{if◌then◌else◌}
+use Rattle.index_parts.specs.Taking.{Hashes}
+use Rattle.index_parts.specs.declared.hash.Kind.{Kind}
+use Rattle.index_folder.specs.World.{World}
+use Rattle.index_folder.specs.declared.lock.Place.{Place}
+use Rattle.index_file_faults.specs.WriteFaults.{SaysOfCommitting, SaysOfWrite}
+use Rattle.index_file_faults.specs.declared.write.Error.{Error as WriteFault}
+use Rattle.index_format.specs.Storable.{IsWritable}
+use Rattle.gix_index.specs.InPlace.{IsPut}
 use Rattle.index_parts.specs.Id.{make_id}
 use Rattle.index_parts.specs.declared.hash.ObjectId.{ObjectId}
 use Rattle.index_entries.specs.declared.Version.{Version}
 use Rattle.index_format.specs.declared.write.Error.{Error}
 use Rattle.index_format.specs.declared.write.Error.TheVariants.{TooManyEntries, NulInPath, TooLarge}
 use Rattle.index_format.specs.declared.write.Options.{Options}
-use Rattle.index_format.specs.Image.{image_version, trailer}
+use Rattle.index_format.specs.Image.{body, image, image_version, trailer}
 use Rattle.index_state.specs.Edits.{with_version}
 use Rattle.index_format.specs.Contents.{Contents}
 use Rattle.index_state.specs.State.{contents, entries_of, storage_of}
@@ -25,6 +34,46 @@ pub record WritesIndex {S : Type 0} (taken : S → Option (List ℕ)) (failed : 
   pub too_many : (r ≡ Err TooManyEntries) ↔ RefusedWith v options TooManyEntries
   pub nul_in_path : (r ≡ Err NulInPath) ↔ RefusedWith v options NulInPath
   pub too_large : (r ≡ Err TooLarge) ↔ RefusedWith v options TooLarge
+
+-- the same of all but the trailer, by a writer with loans that stay and hashers that take the bytes in
+pub record PutsBody {S : Type 0} (taken : S → Option (List ℕ)) (failed : S → Bool)
+    (takes_in : S → ℕ → Kind → List ℕ → Type 0) (loan_of : S → List ℕ) (old new : S) (r : Result (Version × ObjectId) Error)
+    (v : Contents) (options : Options) : Type 0 where
+  pub answer : WritesIndex taken failed old new r v options (body v options)
+  pub hashed : OnOk r (Hashes takes_in old new (body v options))
+  pub loan : loan_of new ≡ loan_of old
+  pub writable : OnOk r (IsWritable v options)
+
+-- the same of all bytes of a file
+pub record PutsFile {S : Type 0} (taken : S → Option (List ℕ)) (failed : S → Bool)
+    (takes_in : S → ℕ → Kind → List ℕ → Type 0) (loan_of : S → List ℕ) (old new : S) (r : Result (Version × ObjectId) Error)
+    (f : File) (options : Options) : Type 0 where
+  pub answer : WritesIndex taken failed old new r (contents (state_of f)) options (image (contents (state_of f)) options)
+  pub hashed : OnOk r (Hashes takes_in old new (image (contents (state_of f)) options))
+  pub loan : loan_of new ≡ loan_of old
+  pub writable : OnOk r (IsWritable (contents (state_of f)) options)
+
+-- the version, the id and all bytes that are written of a file
+abbrev pub version_of : File → Options → Version
+version_of f options = image_version (contents (state_of f)) options
+
+abbrev pub id_of : File → Options → ObjectId
+id_of f options = make_id (contents (state_of f)).kind (trailer (contents (state_of f)) options)
+
+abbrev pub image_of : File → Options → List ℕ
+image_of f options = image (contents (state_of f)) options
+
+-- where nothing else writes there, the file stands at its path, and the lock beside it is gone
+abbrev pub Stores : Bool → World → World → File → Options → Type 0
+Stores alone old new f options =
+    alone ≡ true → IsPut old new (path_of f ++ codes ".lock") (path_of f) (contents (state_of f)) options
+
+-- why a file isn't written to its path, or by a lock that was made before
+abbrev pub SaysOfWritingFile : Bool → World → File → Options → WriteFault → Type 0
+SaysOfWritingFile works world f options e = SaysOfWrite works world (path_of f) (contents (state_of f)) options e
+
+abbrev pub SaysOfCommittingFile : Bool → Place → File → Options → WriteFault → Type 0
+SaysOfCommittingFile works place f options e = SaysOfCommitting works place (contents (state_of f)) options e
 
 -- A file that was written to a path, which is its own then: version and checksum are those of what was written, the
 -- checksum None where that is zeros. All else stays.

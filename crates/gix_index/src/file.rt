@@ -23,6 +23,7 @@ pub use index_folder::system::System;
 pub use index_folder::whole::bytes_at;
 use index_parts::hash::ObjectId;
 use index_state::State;
+pub use index_window::ReadOptions;
 pub use outline::Outline;
 pub use split::take_followed_link;
 use std::alloc::AllocError;

@@ -1,7 +1,9 @@
 mod Checks
 mod Directories
 mod Finds
+mod FoldedPlaces
+mod Giving
 mod Prefixes
-mod Refusals
 mod Tellings
+mod Updates
 mod Writings

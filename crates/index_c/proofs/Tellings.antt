@@ -5,17 +5,17 @@ use Rattle.gix_index.specs.Contents.{Contents}
 use Rattle.gix_index.specs.Kind.{Kind}
 use Rattle.index_c.specs.Checking.{HasCheckFault, IsFound, IsFoundSound, IsFoundUnsound, IsJudged, TellsCheck}
 use Rattle.index_c.specs.Checking.{TellsFound, checked_sizes, flaw_number, flaw_place, unsound_told}
-use Rattle.index_c.specs.Numbers.{kind_numbered}
-use Rattle.index_c.specs.Summaries.{IsToldWith, Tells, TellsFailure, TellsOfMemory, summary_told}
+use Rattle.index_numbers.specs.Numbers.{kind_numbered}
+use Rattle.index_numbers.specs.Summaries.{IsToldWith, Tells, TellsFailure, TellsOfMemory, summary_told}
 use Rattle.index_c.specs.declared.check.Flaw.{Flaw}
 use Rattle.index_c.specs.declared.check.Found.{Found}
-use Rattle.index_c.specs.declared.summary.Summary.{Summary}
+use Rattle.index_numbers.specs.declared.summary.Summary.{Summary}
 use Rattle.index_table.specs.Reading.{HasSizes, IfFailed, IfNoRoom}
 use Rattle.index_table.specs.declared.fault.Failure.{Failure}
 use Rattle.index_table.specs.declared.read.Sizes.{Sizes}
 use Rattle.index_table.specs.declared.read.Unread.{Unread}
 use Rattle.index_table.specs.declared.read.Unread.TheVariants.{NoRoom, Failed}
-use Rattle.index_c.proofs.Refusals.{never_done, never_no_room}
+use Rattle.index_numbers.proofs.Refusals.{never_done, never_no_room}
 
 -- what a number asks for
 pub with_kind : (n : ℕ) (P : Kind → Type 0) (kind : Kind) → Some kind ≡ kind_numbered n → P kind

@@ -18,7 +18,7 @@ use Rattle.index_table.specs.declared.write.Format.{Format}
 use Rattle.index_table.specs.declared.write.Image.{Image}
 use Rattle.index_table.specs.declared.write.Unwritten.{Unwritten}
 use Rattle.index_table.specs.declared.write.Unwritten.TheVariants.{NoRoom, Refused, Memory}
-use Rattle.index_c.proofs.Refusals.{by_error, memory_from, never_done, never_no_room}
+use Rattle.index_numbers.proofs.Refusals.{by_error, memory_from, never_done, never_no_room}
 
 -- what a form asks for
 pub asked : (f : Form) (P : Format → Type 0) (format : Format) → Asks f format → P format → IsAsked f P
@@ -89,6 +89,7 @@ module _ (status : ℕ) (told : Written) where
         number = r.has.number_is;
         place = r.has.place_is;
         tree = ap (λ (x : Written). x.tree) t.told_is;
+        whose = ap (λ (x : Written). x.of_shared) t.told_is;
       }
 
   pub refused_over : (format : Format) (bytes paths : List ℕ) (rows : List Row) (r : Result Replacement ReadError)

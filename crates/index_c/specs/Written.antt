@@ -4,10 +4,10 @@ use Rattle.gix_index.specs.Answer.{Fault}
 use Rattle.gix_index.specs.EntryImage.{version_code}
 use Rattle.gix_index.specs.FileFaults.ReadError.{Error as ReadError}
 use Rattle.gix_index.specs.Kind.{Kind}
-use Rattle.index_c.specs.Numbers.{IsNumbered, choice_numbered, fault_number, fault_place, kind_numbered, read_status}
-use Rattle.index_c.specs.Numbers.{table_number, table_place, tree_number}
-use Rattle.index_c.specs.declared.number.TheConstants.{NO_TREE}
-use Rattle.index_c.specs.declared.status.TheConstants.{DONE, MEMORY, NO_ROOM, REFUSED, WRONG_NUMBER}
+use Rattle.index_numbers.specs.Numbers.{IsNumbered, choice_numbered, fault_number, fault_place, kind_numbered, read_status}
+use Rattle.index_numbers.specs.Numbers.{table_number, table_place, tree_number}
+use Rattle.index_numbers.specs.declared.number.TheConstants.{NO_TREE, OWN}
+use Rattle.index_numbers.specs.declared.status.TheConstants.{DONE, MEMORY, NO_ROOM, REFUSED, WRONG_NUMBER}
 use Rattle.index_c.specs.declared.write.Form.{Form}
 use Rattle.index_c.specs.declared.write.Written.{Written}
 use Rattle.index_table.specs.Overwriting.{IsUnwrittenOver}
@@ -50,6 +50,7 @@ image_told image tree = record {
   fault = 0;
   version = version_code image.version;
   tree = tree_number tree;
+  of_shared = OWN;
 }
 
 -- the image that is told of, of which this holds
@@ -67,7 +68,14 @@ IsImageToldOver told P = (tree : CachedTree) × IsImageTold told tree (P tree)
 -- what is told of a fault at a place, and of the cached tree
 abbrev pub fault_told : (number place : ℕ) → CachedTree → Written
 fault_told number place tree =
-    record { bytes = 0; fault_place = place; fault = number; version = 0; tree = tree_number tree }
+    record {
+      bytes = 0;
+      fault_place = place;
+      fault = number;
+      version = 0;
+      tree = tree_number tree;
+      of_shared = OWN;
+    }
 
 -- the table's fault that is told, of which this holds
 pub record IsFaultTold (told : Written) (tree : CachedTree) (P : TableFault → Type 0) : Type 0 where
@@ -82,6 +90,7 @@ pub record IsRefusedBefore (kind : Kind) (bytes : List ℕ) (told : Written) : T
   pub number : told.fault ≡ fault_number fault
   pub place : told.fault_place ≡ fault_place fault
   pub tree : told.tree ≡ NO_TREE
+  pub whose : told.of_shared ≡ OWN
 
 -- the first fault of the bytes of the index, or of the table that isn't written over it, and what became of the tree
 abbrev pub IsRefusedOver : Format → List ℕ → List ℕ → List Row → Written → Type 0
@@ -90,11 +99,12 @@ IsRefusedOver f bytes paths rows told =
     ⊎ ((tree : CachedTree) × IsFaultTold told tree (IsUnwrittenOver f bytes paths rows tree))
 
 -- What a status leaves at 0 beside it: the fault with all but REFUSED, the image's bytes and version with all but DONE
--- and NO_ROOM, and the cached tree with WRONG_NUMBER.
+-- and NO_ROOM, the cached tree with WRONG_NUMBER, and whether it is the shared index's with all but REFUSED and MEMORY.
 pub record LeavesBlank (status : ℕ) (told : Written) : Type 0 where
   pub fault : status ≢ REFUSED → (told.fault ≡ 0) × (told.fault_place ≡ 0)
   pub image : status ≢ DONE → status ≢ NO_ROOM → (told.bytes ≡ 0) × (told.version ≡ 0)
   pub tree : status ≡ WRONG_NUMBER → told.tree ≡ NO_TREE
+  pub whose : status ≢ REFUSED → status ≢ MEMORY → told.of_shared ≡ OWN
 
 -- ---- what calls tell
 

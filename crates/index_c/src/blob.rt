@@ -3,12 +3,12 @@
 ghost use Rattle.std.specs.Prelude.{◌≡◌, ◌↔◌, IfSome, None};
 ghost use Rattle.gix_index.specs.Kind.{Kind};
 ghost use Rattle.index_c.specs.BlobIds.{blob_id};
-ghost use Rattle.index_c.specs.Numbers.{kind_numbered};
+ghost use Rattle.index_numbers.specs.Numbers.{kind_numbered};
 ghost use Rattle.index_table.specs.Table.{padded_id};
 
-use crate::number::kind_of;
-use crate::status::{DONE, WRONG_NUMBER};
 use gix_index::hash::{Hasher, Kind, ObjectId};
+use index_numbers::number::kind_of;
+use index_numbers::status::{DONE, WRONG_NUMBER};
 use index_table::row::padded;
 use itoa::Buffer;
 

@@ -9,7 +9,7 @@ ghost use Rattle.index_lookups.specs.SearchSteps.{prefix_answers};
 ghost use Rattle.index_search.specs.Prefix.{prefix_cmp};
 ghost use Rattle.index_table.specs.Table.{records_of};
 
-use crate::status::{DONE, NONE};
+use index_numbers::status::{DONE, NONE};
 use index_search::ordered::{Ordered, part, part_within};
 use index_search::prefix::compare_pieces;
 use index_table::row::{Row, path_of};

@@ -1,16 +1,16 @@
 //! Reading an index into a caller's table.
 
 ghost use Rattle.std.specs.Prelude.{◌≡◌, ◌≢◌, ◌≤◌, ◌↔◌, IsSomeAnd, None};
-ghost use Rattle.index_c.specs.Joined.{AreRefusedBoth, LackMemory};
-ghost use Rattle.index_c.specs.Numbers.{kind_numbered};
-ghost use Rattle.index_c.specs.Summaries.{HasText, IsFilled, IsRefusedIndex, IsToldWith, IsUnread, LacksRoom, Tells, blank};
-ghost use Rattle.index_c.specs.declared.status.TheConstants.{MEMORY, REFUSED, WRONG_NUMBER};
+ghost use Rattle.index_numbers.specs.Joined.{AreRefusedBoth, LackMemory};
+ghost use Rattle.index_numbers.specs.Numbers.{kind_numbered};
+ghost use Rattle.index_numbers.specs.Summaries.{HasText, IsFilled, IsRefusedIndex, IsToldWith, IsUnread, LacksRoom, Tells, blank};
+ghost use Rattle.index_numbers.specs.declared.status.TheConstants.{MEMORY, REFUSED, WRONG_NUMBER};
 ghost use Rattle.index_table.specs.Joining.{AreReadSo};
 ghost use Rattle.index_table.specs.Reading.{Fills, IsTooSmall};
 
-use crate::number::kind_of;
-use crate::status::{DONE, NO_ROOM};
-use crate::summary::{Summary, summary_of, tell_failure, tell_wrong_number};
+use index_numbers::number::kind_of;
+use index_numbers::status::{DONE, NO_ROOM};
+use index_numbers::summary::{Summary, summary_of, tell_failure, tell_wrong_number};
 use index_table::read::{Sizes, Unread, read_table};
 use index_table::row::Row;
 use index_table::split::read_split;

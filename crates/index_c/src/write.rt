@@ -1,7 +1,7 @@
 //! Writing a caller's table as an index.
 
 ghost use Rattle.std.specs.Prelude.{◌≡◌, ◌≢◌, ◌≤◌, ◌↔◌, IfSome, None, false};
-ghost use Rattle.index_c.specs.Numbers.{tree_number};
+ghost use Rattle.index_numbers.specs.Numbers.{tree_number};
 ghost use Rattle.index_c.specs.Written.{Asks, HasWrongNumber, IsAsked, IsFaultTold, IsImageTold, IsImageToldOver, IsRefusedOver, LeavesBlank, Tells, TellsOver, TellsUnread, fault_told, image_told};
 ghost use Rattle.index_table.specs.Fitting.{IsFitTable};
 ghost use Rattle.index_table.specs.Overwriting.{WritesOver, full_options};
@@ -9,10 +9,10 @@ ghost use Rattle.index_table.specs.Reading.{LacksMemory};
 ghost use Rattle.index_table.specs.Writing.{HasImage, IsUnwritten, PassesRoom, Spells, plain_options};
 ghost use Rattle.index_table.specs.declared.over.CachedTree.TheVariants.{Absent};
 
-use crate::fault::{number_of_error, number_of_table, status_of_error};
-use crate::number::{NO_TREE, choice_of, kind_of, number_of_tree, number_of_version};
-use crate::status::{DONE, MEMORY, NO_ROOM, REFUSED, WRONG_NUMBER};
 use gix_index::file;
+use index_numbers::fault::{number_of_error, number_of_table, status_of_error};
+use index_numbers::number::{NO_TREE, OWN, choice_of, kind_of, number_of_tree, number_of_version};
+use index_numbers::status::{DONE, MEMORY, NO_ROOM, REFUSED, WRONG_NUMBER};
 use index_table::over::{CachedTree, Replacement, write_over};
 use index_table::row::Row;
 use index_table::write::{Format, Image, Unwritten, write_table};
@@ -44,6 +44,8 @@ pub struct Written {
     pub version: u32,
     /// What became of the cached tree of an index that was written over.
     pub tree: u32,
+    /// 1 where the fault, or the want of memory, is of the shared index of one that is updated; else 0.
+    pub of_shared: u32,
 }
 
 /// The format that a form asks for, where its numbers are some.
@@ -68,11 +70,12 @@ fn told_of_image(image: &Image, tree: CachedTree) -> Written
         fault: 0,
         version: number_of_version(image.version),
         tree: number_of_tree(tree),
+        of_shared: OWN,
     }
 }
 
 /// What is told of a fault at a place, and of a cached tree.
-fn told_of_fault(fault: u32, fault_place: usize, tree: CachedTree) -> Written
+pub(crate) fn told_of_fault(fault: u32, fault_place: usize, tree: CachedTree) -> Written
     ensures { result ≡ fault_told fault fault_place tree }
 {
     Written {
@@ -81,11 +84,12 @@ fn told_of_fault(fault: u32, fault_place: usize, tree: CachedTree) -> Written
         fault,
         version: 0,
         tree: number_of_tree(tree),
+        of_shared: OWN,
     }
 }
 
 /// Tells what comes of writing a table, and of a cached tree.
-fn tell(written: &Result<Image, Unwritten>, tree: CachedTree, told: &mut Written) -> u32
+pub(crate) fn tell(written: &Result<Image, Unwritten>, tree: CachedTree, told: &mut Written) -> u32
     ensures status { result ≤ NO_ROOM }
     ensures told { Tells written.now tree result told.new }
     ensures blank { LeavesBlank result told.new }
@@ -127,7 +131,7 @@ fn tell_over(over: &Result<Replacement, file::init::Error>, told: &mut Written) 
 }
 
 /// Tells that a number of the form is none.
-fn tell_wrong_number(told: &mut Written) -> u32
+pub(crate) fn tell_wrong_number(told: &mut Written) -> u32
     ensures status { result ≡ WRONG_NUMBER }
     ensures tree { told.new.tree ≡ NO_TREE }
     ensures blank { LeavesBlank result told.new }
@@ -165,6 +169,7 @@ pub extern "C" fn gix_index_write(
         (PassesRoom (plain_options format) image bytes.old))) }
     ensures wrong_number { (result ≡ WRONG_NUMBER) ↔ HasWrongNumber form.now }
     ensures tree { told.new.tree ≡ NO_TREE }
+    ensures whose { told.new.of_shared ≡ OWN }
     ensures blank { LeavesBlank result told.new }
     ensures bytes { result ≢ DONE → bytes.new ≡ bytes.old }
 {
@@ -207,6 +212,7 @@ pub extern "C" fn gix_index_write_over(
         (λ tree image. WritesOver format.kind index.now paths.now rows.now tree
         (PassesRoom (full_options format) image bytes.old))) }
     ensures wrong_number { (result ≡ WRONG_NUMBER) ↔ HasWrongNumber form.now }
+    ensures whose { told.new.of_shared ≡ OWN }
     ensures blank { LeavesBlank result told.new }
     ensures bytes { result ≢ DONE → bytes.new ≡ bytes.old }
 {

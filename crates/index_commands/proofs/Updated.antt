@@ -2,7 +2,7 @@
 use Rattle.std.proofs.Common.{◌≡◌, ℕ, Option, None, Some, ap, sym}
 use Rattle.gix_index.specs.Changing.Changes.{IsApplyReason}
 use Rattle.gix_index.specs.Changing.ApplyError.{ApplyError}
-use Rattle.gix_index.specs.Changing.ApplyError.TheVariants.{Memory, Refused}
+use Rattle.gix_index.specs.Changing.ApplyError.TheVariants.{Refused}
 use Rattle.gix_index.specs.Changing.Error.{Error}
 
 -- a refusal is the first, as want of memory is none

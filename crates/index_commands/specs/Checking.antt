@@ -1,13 +1,15 @@
 -- What the program checks of an index, and what it prints then (the program's own).
-use Rattle.std.specs.Prelude.{◌≡◌, ◌⊎◌, ℕ, Bool, true, List, length, Option, IfSome, codes}
-use Rattle.gix_index.specs.Disk.{Disk}
+use Rattle.std.specs.Prelude.{◌≡◌, ◌⊎◌, ℕ, Bool, true, List, length, MatchOption, None, Option, IfSome, codes}
+use Rattle.gix_index.specs.Disk.{Disk, disk_at}
 use Rattle.gix_index.specs.Disk.World.{World}
 use Rattle.gix_index.specs.Kind.{Kind}
 use Rattle.gix_index.specs.ObjectId.{ObjectId}
 use Rattle.gix_index.specs.Order.{IsStrictlyOrdered}
 use Rattle.gix_index.specs.Contents.{Contents}
-use Rattle.gix_index.specs.SoundState.{AreSoundExtensions}
-use Rattle.gix_index.specs.TreeIds.{AreRight}
+use Rattle.gix_index.specs.Record.{Record}
+use Rattle.gix_index.specs.SoundState.{AreSoundExtensions, SaysFall, extensions_fault}
+use Rattle.gix_index.specs.TreeFaults.{SaysTree}
+use Rattle.gix_index.specs.TreeIds.{AreRight, SaysTreeIds}
 use Rattle.gix_index.specs.VerifiedFile.{FitsFile}
 use Rattle.index_failures.specs.declared.failure.Failure.{Failure}
 use Rattle.index_failures.specs.declared.failure.Failure.TheVariants as failures
@@ -37,14 +39,32 @@ pub record IsPassed (ids : Bool) (disk : Disk) (kind : Kind) (text : List ℕ) :
   pub sound : IsSoundInFile ids disk kind value checksum
   pub is : text ≡ ok_line
 
--- a failure of an index that doesn't pass the checks names its file
-abbrev pub IsOfCheck : List ℕ → Failure → Type 0
-IsOfCheck path (failures.Entries file e) = file.now ≡ path
-IsOfCheck path (failures.CachedTree file e) = file.now ≡ path
-IsOfCheck path (failures.TreeIds file e) = file.now ≡ path
-IsOfCheck path failure = ⊥
+-- a failure of entries that aren't in order names the first that isn't above the one before it; or memory was short to
+-- name it
+abbrev pub IsOfEntries : List Record → List ℕ → Failure → Type 0
+IsOfEntries rs path (failures.Entries file fault) = (file.now ≡ path) × SaysFall rs fault
+IsOfEntries rs path failure = ⊥
+
+-- A failure of an index that doesn't pass the checks names its file, and says what is wrong with it: its entries aren't
+-- in order; or the cached tree's first fault; or, where that is compared, what else the entries give.
+abbrev pub IsOfCheck : Bool → Contents → List ℕ → Failure → Type 0
+IsOfCheck ids value path (failures.Entries file fault) = (file.now ≡ path) × SaysFall value.records fault
+IsOfCheck ids value path (failures.CachedTree file fault) =
+    (file.now ≡ path) × SaysTree fault (extensions_fault (length value.records) None value.extensions.tree)
+IsOfCheck ids value path (failures.TreeIds file fault) =
+    (file.now ≡ path) × (ids ≡ true)
+    × MatchOption value.extensions.tree ⊥ (λ tree. SaysTreeIds value.kind value.records tree fault)
+IsOfCheck ids value path failure = ⊥
+
+-- the same of the index in a file
+pub record IsOfCheckIn (ids : Bool) (disk : Disk) (kind : Kind) (path : List ℕ) (failure : Failure) : Type 0 where
+  pub value : Contents
+  pub checksum : Option ObjectId
+  pub read : IsInFile disk kind value checksum
+  pub is : IsOfCheck ids value path failure
 
 -- it can't be read, or doesn't pass them
-abbrev pub FailsToPass : Bool → World → Kind → List ℕ → Failure → Type 0
-FailsToPass works world kind path failure =
-    FailsReading (SaysOfIndex works world kind path) path failure ⊎ IsOfCheck path failure
+abbrev pub FailsToPass : Bool → Bool → World → Kind → List ℕ → Failure → Type 0
+FailsToPass ids works world kind path failure =
+    FailsReading (SaysOfIndex works world kind path) path failure
+    ⊎ IsOfCheckIn ids (disk_at world path) kind path failure

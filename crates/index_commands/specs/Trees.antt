@@ -1,23 +1,29 @@
 -- The trees of an index in a file: their lines, and the index that is written with them (the program's own).
-use Rattle.std.specs.Prelude.{◌≡◌, ◌⊎◌, ℕ, Bool, List, [], Option}
+use Rattle.std.specs.Prelude.{◌≡◌, ◌⊎◌, ℕ, Bool, false, List, [], Option}
 use Rattle.gix_index.specs.Cached.{IsCached}
 use Rattle.gix_index.specs.Contents.{Contents}
 use Rattle.gix_index.specs.Disk.{Disk, disk_at}
 use Rattle.gix_index.specs.Edits.{with_cached_tree}
 use Rattle.gix_index.specs.File.{state_of}
+use Rattle.gix_index.specs.FileTime.{FileTime}
 use Rattle.gix_index.specs.Kind.{Kind}
+use Rattle.gix_index.specs.Linked.{IsOnDisk}
 use Rattle.gix_index.specs.ObjectId.{ObjectId}
 use Rattle.gix_index.specs.Order.{IsStrictlyOrdered}
+use Rattle.gix_index.specs.Refusals.{AreRefused, SaysTreesFault}
+use Rattle.gix_index.specs.SoundState.{SaysFall}
 use Rattle.gix_index.specs.Staged.{staged_in}
 use Rattle.gix_index.specs.State.{contents}
 use Rattle.gix_index.specs.Tree.{Node}
 use Rattle.gix_index.specs.TreeDirectory.{Items, IsTreeOf}
+use Rattle.gix_index.specs.TreeIds.{any_name}
 use Rattle.gix_index.specs.Trees.Kept.{KeepsCounts}
 use Rattle.gix_index.specs.Disk.World.{World}
 use Rattle.index_lines.specs.Directories.{subtree_lines}
 use Rattle.index_text.specs.declared.lines.Lines.{Lines}
 use Rattle.index_failures.specs.declared.failure.Failure.{Failure}
 use Rattle.index_failures.specs.declared.failure.Failure.TheVariants as failures
+use Rattle.index_failures.specs.Options.{unlimited_options}
 use Rattle.index_failures.specs.Reading.{FailsReading, IsInFile, IsInFileSince, SaysOfIndex}
 use Rattle.index_failures.specs.Storing.{FailsStoring, IsReplaced}
 use Rattle.index_commands.specs.Rewriting.{chosen_options}
@@ -45,16 +51,26 @@ pub record AreTrees (style : Lines) (disk : Disk) (kind : Kind) (text : List ℕ
   pub is_tree : IsTreeInFile disk kind value tree
   pub is : text ≡ subtree_lines style [] tree
 
--- a failure of an index that has no trees names its file
-abbrev pub IsOfTrees : List ℕ → Failure → Type 0
-IsOfTrees path (failures.Entries file e) = file.now ≡ path
-IsOfTrees path (failures.Trees file e) = file.now ≡ path
-IsOfTrees path failure = ⊥
+-- A failure of an index that has no trees names its file, and says why: its entries aren't in order; or there are too
+-- many, or the first that no tree may name has this fault, where every name may stand in one.
+abbrev pub IsOfTrees : Contents → List ℕ → Failure → Type 0
+IsOfTrees value path (failures.Entries file fault) = (file.now ≡ path) × SaysFall value.records fault
+IsOfTrees value path (failures.Trees file fault) =
+    (file.now ≡ path) × SaysTreesFault fault (λ number. ⊥) (AreRefused any_name value.kind value.records)
+IsOfTrees value path failure = ⊥
+
+-- the same of the index in a file, at whatever time that was changed
+pub record IsOfTreesIn (disk : Disk) (kind : Kind) (path : List ℕ) (failure : Failure) : Type 0 where
+  pub value : Contents
+  pub checksum : Option ObjectId
+  pub time : FileTime
+  pub read : IsOnDisk disk false kind time unlimited_options value checksum
+  pub is : IsOfTrees value path failure
 
 -- it can't be read, or has no trees
 abbrev pub FailsToTree : Bool → World → Kind → List ℕ → Failure → Type 0
 FailsToTree works world kind path failure =
-    FailsReading (SaysOfIndex works world kind path) path failure ⊎ IsOfTrees path failure
+    FailsReading (SaysOfIndex works world kind path) path failure ⊎ IsOfTreesIn (disk_at world path) kind path failure
 
 -- an index with a cached tree that was made: with all its counts, or with those that the one before has too
 abbrev pub IsTreePut : Counts → Contents → Node → Contents → Type 0

@@ -1,5 +1,5 @@
 -- What the program makes of an index by the changes that a text says (the program's own).
-use Rattle.std.specs.Prelude.{◌≡◌, ◌⊎◌, ℕ, Bool, List, Option, Some, None, map}
+use Rattle.std.specs.Prelude.{◌≡◌, ℕ, Bool, List, Option, Some, None, map}
 use Rattle.gix_index.specs.Changing.Changes.{IsAppliedTo, refusal_of}
 use Rattle.gix_index.specs.Changing.Updates.{updated}
 use Rattle.gix_index.specs.Changing.Change.{Change}
@@ -17,12 +17,12 @@ use Rattle.gix_index.specs.Order.{IsStrictlyOrdered}
 use Rattle.gix_index.specs.State.{contents}
 use Rattle.index_info.specs.Names as names
 use Rattle.index_info.specs.Text.{AreSaid, SaysOfText, change_value}
-use Rattle.index_info.specs.declared.error.Error.{Error}
 use Rattle.index_failures.specs.declared.failure.Failure.{Failure}
 use Rattle.index_failures.specs.declared.failure.Failure.TheVariants as failures
 use Rattle.index_failures.specs.Options.{IsBeginOf1970}
 use Rattle.index_failures.specs.Reading.{FailsReading, IsInFileSince, SaysOfBytes, SaysOfIndex}
 use Rattle.index_failures.specs.Storing.{FailsStoring, IsReplaced}
+use Rattle.index_commands.specs.Checking.{IsOfEntries}
 use Rattle.index_commands.specs.Rewriting.{chosen_options}
 use Rattle.index_commands.specs.declared.rewrite.Form.TheVariants.{AsRead}
 
@@ -72,17 +72,18 @@ pub record IsOfTextIn (nul : Bool) (world : World) (kind : Kind) (from : List �
   pub held : MayHave (world from) text
   pub is : IsOfText nul kind text from failure
 
--- the entries of the index aren't in order
-abbrev pub IsOfEntries : List ℕ → Failure → Type 0
-IsOfEntries path (failures.Entries file e) = file.now ≡ path
-IsOfEntries path failure = ⊥
+-- a failure of the order of the entries of the index in a file; one that is begun has none
+pub record IsOfEntriesIn (world : World) (kind : Kind) (path : List ℕ) (failure : Failure) : Type 0 where
+  pub value : Contents
+  pub begun : IsBegun world path kind value
+  pub is : IsOfEntries value.records path failure
 
 -- Nothing is changed: the index can't be read, or its entries aren't in order; or the text can't be read, or is of such
 -- lines.
 pub data FailsToUpdate (nul works : Bool) (world : World) (kind : Kind) (from path : List ℕ) (failure : Failure) : Type 0 where
   unread : FailsReading (SaysOfIndex works world kind path) path failure
       → FailsToUpdate nul works world kind from path failure
-  unordered : IsOfEntries path failure → FailsToUpdate nul works world kind from path failure
+  unordered : IsOfEntriesIn world kind path failure → FailsToUpdate nul works world kind from path failure
   unsaid : FailsReading (SaysOfBytes works world from) from failure
       → FailsToUpdate nul works world kind from path failure
   refused : IsOfTextIn nul world kind from failure → FailsToUpdate nul works world kind from path failure

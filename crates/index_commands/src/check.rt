@@ -32,7 +32,7 @@ fn compare_trees<'a>(
     requires placed { PathsInStorage (state_of index.now) }
     requires ordered { IsStrictlyOrdered (contents (state_of index.now)).records }
     ensures right { OnOk result (ids ≡ true → HasRightTrees (contents (state_of index.now))) }
-    ensures fault { IfErr result (IsOfCheck path.now) }
+    ensures fault { IfErr result (IsOfCheck ids (contents (state_of index.now)) path.now) }
 {
     if !ids {
         return Ok(());
@@ -56,7 +56,7 @@ fn verify_contents<'a>(
     ensures tree { OnOk result (AreSoundExtensions (length (contents (state_of index.now)).records)
         (contents (state_of index.now)).extensions.tree) }
     ensures right { OnOk result (ids ≡ true → HasRightTrees (contents (state_of index.now))) }
-    ensures fault { IfErr result (IsOfCheck path.now) }
+    ensures fault { IfErr result (IsOfCheck ids (contents (state_of index.now)) path.now) }
 {
     if let Err(fault) = index.verify_entries() {
         return Err(Failure::Entries { path, fault });
@@ -88,7 +88,7 @@ pub fn check<'a, D: Folder, W: Out>(
         (W.taken out.old) (W.taken out.new)) }
     ensures refused { IfErr result (λ failure.
         FailsTelling (IsPassed ids (disk_at (D.known folder.now) path.now) kind) NoText
-        (FailsToPass (D.works folder.now) (D.known folder.now) kind path.now)
+        (FailsToPass ids (D.works folder.now) (D.known folder.now) kind path.now)
         path.now failure (W.failed out.new) (W.taken out.old) (W.taken out.new)) }
 {
     let index = index_at(folder, alloc, kind, path)?;

@@ -38,7 +38,7 @@ pub fn tree_of<'a>(alloc: Global, index: &File, path: &'a str) -> Result<Tree, F
     requires { PathsInStorage (state_of index.now) }
     ensures made { IfOk result
         (λ tree. IsTreeOfIndex (contents (state_of index.now)) (node_of tree)) }
-    ensures fault { IfErr result (IsOfTrees path.now) }
+    ensures fault { IfErr result (IsOfTrees (contents (state_of index.now)) path.now) }
 {
     if let Err(fault) = index.verify_entries() {
         return Err(Failure::Entries { path, fault });

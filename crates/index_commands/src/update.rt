@@ -122,7 +122,8 @@ fn updated<'a, D: Folder>(
 /// written before all changes are made.
 ///
 /// [`Failure::Lines`], [`Failure::Change`]: a line of the text is wrong, or its change is refused. [`Failure::Read`]
-/// names the file that can't be read. After a failure what was at the path is there as before.
+/// names the file that can't be read. [`Failure::Entries`]: the entries of the index don't strictly increase. After a
+/// failure what was at the path is there as before.
 pub fn update<'a, D: Folder>(
     folder: &mut D,
     alloc: Global,

@@ -2,12 +2,15 @@ pub mod Anys
 pub mod Applied
 pub mod Checks
 pub mod Displacings
+pub mod Members
 pub mod Names
+pub mod Orderings
 pub mod Passes
 pub mod Puts
 pub mod Resolvings
 pub mod Splits
 pub mod Stages
 pub mod Stagings
+pub mod Swaps
 pub mod Unstagings
 pub mod Ways

@@ -2,3 +2,4 @@ pub mod Changes
 pub mod EditSteps
 pub mod Edits
 pub mod Refusals
+pub mod Reorders

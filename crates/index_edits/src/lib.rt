@@ -8,6 +8,7 @@ pub mod apply;
 pub mod change;
 pub mod error;
 pub mod odds;
+pub mod order;
 pub mod others;
 mod put;
 mod refusals;

@@ -1,11 +1,17 @@
 -- Events that are told behind others.
-use Rattle.std.proofs.Common.{◌≡◌, ℕ, List, [], ◌++◌, Option, ap, append_assoc, subst, sym, ◌∙◌}
+use Rattle.std.proofs.Common.{◌≡◌, ℕ, List, ◌++◌, Result, Ok, Err, ap, append_assoc, false, refl, sym, subst, ◌∙◌}
 use Rattle.std.proofs.lemmas.Grind.{flat_map-append}
-use Rattle.index_parts.proofs.Taking.{prefix_before}
+use Rattle.std.specs.Prelude.{OnErr, OnOk, is_err}
+use Rattle.std.specs.IoError.{error_kind}
+use Rattle.std.specs.declared.io.Error.{Error}
+use Rattle.std.specs.declared.io.ErrorKind.TheVariants.{OutOfMemory}
 use Rattle.index_parts.specs.Taking.{AppendsPrefix}
-use Rattle.index_text.specs.Blocks.{Passes}
-use Rattle.index_events.proofs.Told.{front_of_more, front_out, more_out, more_waits}
+use Rattle.index_parts.specs.declared.hash.io.Out.{Ghosts}
+use Rattle.index_text.proofs.Blocks.{blocks_broken, blocks_then, more_waits, no_memory, none_out}
+use Rattle.index_text.specs.Blocks.{Passes, PutsBlocks}
 use Rattle.index_events.specs.Event.{Event, print}
+
+-- ---- texts
 
 module _ (spell : Event → List ℕ) (old : List ℕ) (es fs : List Event) where
   pub printed_more : (old ++ print spell es) ++ print spell fs ≡ old ++ print spell (es ++ fs)
@@ -17,48 +23,85 @@ module _ (spell : Event → List ℕ) (old : List ℕ) (es fs : List Event) wher
       → new ≡ old ++ print spell (es ++ fs)
   appended_more mid new a b = b ∙ ap (λ (l : List ℕ). l ++ print spell fs) a ∙ printed_more
 
-  -- some of it went out, then and now
-  pub told_more : (u v w : Option (List ℕ)) (mid new : List ℕ) → Passes u v mid (old ++ print spell es)
-      → Passes v w new (mid ++ print spell fs) → Passes u w new (old ++ print spell (es ++ fs))
-  told_more u v w mid new p q = subst (λ (l : List ℕ). Passes u w new l) printed_more
-      (more_out u v w mid (old ++ print spell es) new (print spell fs) p q)
+-- ---- calls
 
-  -- more waits
-  pub waits_more : (u v : Option (List ℕ)) (mid new : List ℕ) → Passes u v mid (old ++ print spell es)
-      → new ≡ mid ++ print spell fs → Passes u v new (old ++ print spell (es ++ fs))
-  waits_more u v mid new p e = subst (λ (l : List ℕ). Passes u v new l) printed_more
-      (more_waits u v mid (old ++ print spell es) new (print spell fs) p e)
+-- the value of an Ok says nothing
+pub done_as : {S T U : Type 0} {w : Ghosts S} {a b : S} {x : U} {y : T} {waiting text : List ℕ}
+    → PutsBlocks w a b (Ok x) waiting text → PutsBlocks w a b (Ok y) waiting text
+done_as p = record { ok = p.ok; err = tt; going = p.going; cause = tt; loan = p.loan }
 
-  -- a prefix of the first ones went out
-  pub broken_first : (u w : Option (List ℕ)) → AppendsPrefix u w (old ++ print spell es)
-      → AppendsPrefix u w (old ++ print spell (es ++ fs))
-  broken_first u w p = subst (λ (l : List ℕ). AppendsPrefix u w l) printed_more (prefix_before p (print spell fs))
+-- a block of what waits goes out
+pub block_put : {S T : Type 0} {w : Ghosts S} {a b : S} (r : Result T Error) {waiting held text : List ℕ}
+    → held ≡ text → OnOk r (Passes (w.taken a) (w.taken b) waiting held)
+    → OnErr r (AppendsPrefix (w.taken a) (w.taken b) held) → w.failed b ≡ is_err r → w.loan b ≡ w.loan a
+    → PutsBlocks w a b r waiting text
+block_put {w = w} {a = a} {b = b} (Ok y) {waiting = waiting} e ok err failed loan = record {
+  ok = subst (λ (l : List ℕ). Passes (w.taken a) (w.taken b) waiting l) e ok;
+  err = tt;
+  going = failed;
+  cause = tt;
+  loan = loan;
+}
+block_put {w = w} {a = a} {b = b} (Err y) e ok err failed loan = record {
+  ok = tt;
+  err = subst (λ (l : List ℕ). AppendsPrefix (w.taken a) (w.taken b) l) e err;
+  going = tt;
+  cause = λ n. failed;
+  loan = loan;
+}
 
-  -- the others were not told
-  pub cut_first : (u v : Option (List ℕ)) (mid : List ℕ) → Passes u v mid (old ++ print spell es)
-      → AppendsPrefix u v (old ++ print spell (es ++ fs))
-  cut_first u v mid p = broken_first u v (front_out u v mid (old ++ print spell es) p)
+-- the first events wait
+pub first_sent : {S : Type 0} {w : Ghosts S} {a : S} (spell : Event → List ℕ) (old : List ℕ) (es : List Event)
+    {new : List ℕ} → w.failed a ≡ false → new ≡ old ++ print spell es
+    → PutsBlocks {T = Unit {0}} w a a (Ok tt) new (old ++ print spell es)
+first_sent spell old es going e = none_out going e
 
-  -- a prefix of the others went out
-  pub broken_more : (u v w : Option (List ℕ)) (mid : List ℕ) → Passes u v mid (old ++ print spell es)
-      → AppendsPrefix v w (mid ++ print spell fs) → AppendsPrefix u w (old ++ print spell (es ++ fs))
-  broken_more u v w mid p q = subst (λ (l : List ℕ). AppendsPrefix u w l) printed_more
-      (front_of_more u v w mid (old ++ print spell es) (print spell fs) p q)
+-- more events wait
+pub told_then : {S U : Type 0} {w : Ghosts S} {a b : S} {x : U} (spell : Event → List ℕ) (old : List ℕ)
+    (es fs : List Event) {mid new : List ℕ} → PutsBlocks w a b (Ok x) mid (old ++ print spell es)
+    → new ≡ mid ++ print spell fs → PutsBlocks w a b (Ok x) new (old ++ print spell (es ++ fs))
+told_then {w = w} {a = a} {b = b} {x = x} spell old es fs {new = new} p e =
+    subst (λ (l : List ℕ). PutsBlocks w a b (Ok x) new l) (printed_more spell old es fs)
+    (more_waits (print spell fs) p e)
+
+-- a call tells more
+pub sent_then : {S T U : Type 0} {w : Ghosts S} {a b c : S} {x : U} (spell : Event → List ℕ) (old : List ℕ)
+    (es fs : List Event) (r : Result T Error) {mid later : List ℕ}
+    → PutsBlocks w a b (Ok x) mid (old ++ print spell es) → PutsBlocks w b c r later (mid ++ print spell fs)
+    → PutsBlocks w a c r later (old ++ print spell (es ++ fs))
+sent_then {w = w} {a = a} {c = c} spell old es fs r {later = later} p q =
+    subst (λ (l : List ℕ). PutsBlocks w a c r later l) (printed_more spell old es fs)
+    (blocks_then r (print spell fs) p q)
+
+-- behind a failure no more is told
+pub rest_untold : {S T U : Type 0} {w : Ghosts S} {a b : S} (spell : Event → List ℕ) (old : List ℕ)
+    (es fs : List Event) (e : Error) {waiting later : List ℕ}
+    → PutsBlocks {T = U} w a b (Err e) waiting (old ++ print spell es)
+    → PutsBlocks {T = T} w a b (Err e) later (old ++ print spell (es ++ fs))
+rest_untold spell old es fs e p = blocks_broken (Err e) (print spell fs) refl p (printed_more spell old es fs)
+
+-- nor where memory is short
+pub rest_unheld : {S T U : Type 0} {w : Ghosts S} {a b : S} {x : U} (spell : Event → List ℕ) (old : List ℕ)
+    (es fs : List Event) (r : Result T Error) {e : Error} {waiting later : List ℕ} → r ≡ Err e
+    → error_kind e ≡ OutOfMemory → PutsBlocks w a b (Ok x) waiting (old ++ print spell es)
+    → PutsBlocks w a b r later (old ++ print spell (es ++ fs))
+rest_unheld spell old es fs r is kind p = no_memory r (print spell fs) is kind p (printed_more spell old es fs)
 
 -- what breaks off in the first ones of six lists of events
-module _ (spell : Event → List ℕ) (old : List ℕ) (e1 e2 e3 e4 e5 e6 : List Event) (u w : Option (List ℕ)) where
-  pub in_five : AppendsPrefix u w (old ++ print spell ((((e1 ++ e2) ++ e3) ++ e4) ++ e5))
-      → AppendsPrefix u w (old ++ print spell (((((e1 ++ e2) ++ e3) ++ e4) ++ e5) ++ e6))
-  in_five p = broken_first spell old ((((e1 ++ e2) ++ e3) ++ e4) ++ e5) e6 u w p
+module _ {S : Type 0} (w : Ghosts S) (a b : S) (spell : Event → List ℕ) (old waiting later : List ℕ) (e : Error)
+    (e1 e2 e3 e4 e5 e6 : List Event) where
+  pub in_five : PutsBlocks {T = Unit {0}} w a b (Err e) waiting (old ++ print spell ((((e1 ++ e2) ++ e3) ++ e4) ++ e5))
+      → PutsBlocks {T = Unit {0}} w a b (Err e) later (old ++ print spell (((((e1 ++ e2) ++ e3) ++ e4) ++ e5) ++ e6))
+  in_five p = rest_untold spell old ((((e1 ++ e2) ++ e3) ++ e4) ++ e5) e6 e p
 
-  pub in_four : AppendsPrefix u w (old ++ print spell (((e1 ++ e2) ++ e3) ++ e4))
-      → AppendsPrefix u w (old ++ print spell (((((e1 ++ e2) ++ e3) ++ e4) ++ e5) ++ e6))
-  in_four p = in_five (broken_first spell old (((e1 ++ e2) ++ e3) ++ e4) e5 u w p)
+  pub in_four : PutsBlocks {T = Unit {0}} w a b (Err e) waiting (old ++ print spell (((e1 ++ e2) ++ e3) ++ e4))
+      → PutsBlocks {T = Unit {0}} w a b (Err e) later (old ++ print spell (((((e1 ++ e2) ++ e3) ++ e4) ++ e5) ++ e6))
+  in_four p = in_five (rest_untold spell old (((e1 ++ e2) ++ e3) ++ e4) e5 e p)
 
-  pub in_three : AppendsPrefix u w (old ++ print spell ((e1 ++ e2) ++ e3))
-      → AppendsPrefix u w (old ++ print spell (((((e1 ++ e2) ++ e3) ++ e4) ++ e5) ++ e6))
-  in_three p = in_four (broken_first spell old ((e1 ++ e2) ++ e3) e4 u w p)
+  pub in_three : PutsBlocks {T = Unit {0}} w a b (Err e) waiting (old ++ print spell ((e1 ++ e2) ++ e3))
+      → PutsBlocks {T = Unit {0}} w a b (Err e) later (old ++ print spell (((((e1 ++ e2) ++ e3) ++ e4) ++ e5) ++ e6))
+  in_three p = in_four (rest_untold spell old ((e1 ++ e2) ++ e3) e4 e p)
 
-  pub in_two : AppendsPrefix u w (old ++ print spell (e1 ++ e2))
-      → AppendsPrefix u w (old ++ print spell (((((e1 ++ e2) ++ e3) ++ e4) ++ e5) ++ e6))
-  in_two p = in_three (broken_first spell old (e1 ++ e2) e3 u w p)
+  pub in_two : PutsBlocks {T = Unit {0}} w a b (Err e) waiting (old ++ print spell (e1 ++ e2))
+      → PutsBlocks {T = Unit {0}} w a b (Err e) later (old ++ print spell (((((e1 ++ e2) ++ e3) ++ e4) ++ e5) ++ e6))
+  in_two p = in_three (rest_untold spell old (e1 ++ e2) e3 e p)

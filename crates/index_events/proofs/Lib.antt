@@ -2,5 +2,4 @@ mod Chain
 mod Listed
 mod Marked
 mod Steps
-mod Told
 mod TreeEvents

@@ -7,7 +7,7 @@ use Rattle.index_cached_tree.specs.declared.Tree.{Tree}
 use Rattle.index_cached_tree.specs.declared.Tree.TheFolds.{fold_out-Tree}
 use Rattle.index_cached_tree.specs.declared.Tree.TheViews.{out-Tree}
 use Rattle.index_events.specs.Event.{Event, Position, element, end_array, end_object, listed}
-use Rattle.index_events.specs.Trees.{all_tree_events, below, opened_events, tree_events}
+use Rattle.index_events.specs.Trees.{all_tree_events, below, tree_events, tree_opened}
 
 -- the events of a directory at a place
 abbrev pub placed_tree : ℕ → ℕ → Tree → List Event
@@ -20,20 +20,15 @@ all_placed depth place (t ∷ ts) =
     ap (λ (l : List Event). placed_tree depth place t ++ l) (all_placed depth (place + 1) ts)
     ∙ sym (flat_map-cons (λ (p : ℕ × Tree). placed_tree depth p.0 p.1) (place, t) (enumerate_from (place + 1) ts))
 
--- a directory up to those in it
-abbrev pub opened : Position → ℕ → Tree → List Event
-opened position depth t =
-    opened_events position depth (out-Tree t).name.items (out-Tree t).id (out-Tree t).num_entries
-
 pub tree_is : (position : Position) (depth deeper : ℕ) (t : Tree) (ts : List Tree) → deeper ≡ below depth
     → ts ≡ (out-Tree t).children.items
-    → (opened position depth t ++ listed (placed_tree deeper) ts) ++ (end_array ∷ end_object ∷ [])
+    → (tree_opened position depth t ++ listed (placed_tree deeper) ts) ++ (end_array ∷ end_object ∷ [])
     ≡ tree_events position depth (node_of t)
 tree_is position depth deeper t ts d e =
     let es = out-Tree t in
-    ap (λ (n : ℕ). (opened position depth t ++ listed (placed_tree n) ts) ++ (end_array ∷ end_object ∷ [])) d
-    ∙ ap (λ (us : List Tree). (opened position depth t ++ listed (placed_tree (below depth)) us)
+    ap (λ (n : ℕ). (tree_opened position depth t ++ listed (placed_tree n) ts) ++ (end_array ∷ end_object ∷ [])) d
+    ∙ ap (λ (us : List Tree). (tree_opened position depth t ++ listed (placed_tree (below depth)) us)
     ++ (end_array ∷ end_object ∷ [])) e
-    ∙ ap (λ (l : List Event). (opened position depth t ++ l) ++ (end_array ∷ end_object ∷ []))
+    ∙ ap (λ (l : List Event). (tree_opened position depth t ++ l) ++ (end_array ∷ end_object ∷ []))
     (sym (all_placed (below depth) 0 es.children.items))
     ∙ sym (ap (tree_events position depth) (fold_out-Tree Node node_step t))

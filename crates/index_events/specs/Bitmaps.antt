@@ -4,8 +4,11 @@ use Rattle.std.specs.Prelude.{ℕ, Bool, List, [], ◌∷◌, ◌++◌, codes, O
 use Rattle.index_bitmaps.specs.Bitmap.{Bitmap}
 use Rattle.index_bitmaps.specs.Ranges.{breaks_below, set_places, set_ranges}
 use Rattle.index_bitmaps.specs.declared.ranges.Range.{Range}
+use Rattle.index_bitmaps.specs.declared.ranges.SetBits.{SetBits}
 use Rattle.index_small_extensions.specs.FsMonitor.{Monitor, TokenValue, nanoseconds, opaque}
 use Rattle.index_split.specs.Link.{BitmapPair, LinkValue}
+use Rattle.index_state.specs.State.{contents}
+use Rattle.index_state.specs.declared.State.{State}
 use Rattle.index_events.specs.Event.{Event, Position, answer_field, begin_object, empty_field, end_object, first}
 use Rattle.index_events.specs.Event.{first_field, heading, id_field, next, next_field, number_field, ranges_field}
 use Rattle.index_events.specs.Event.{text_field}
@@ -16,6 +19,10 @@ bits_events num_bits ranges is_malformed =
     number_field (first_field (codes "    ") (codes "bits") (codes "num_bits")) num_bits
     ∷ ranges_field (next_field (codes "    ") (codes "set") (codes "set")) ranges
     ∷ answer_field (next_field (codes "    ") (codes "malformed") (codes "is_malformed")) is_malformed ∷ []
+
+-- the same of bits that were found
+abbrev pub set_events : ℕ → SetBits → List Event
+set_events num_bits bits = bits_events num_bits bits.ranges.items bits.is_malformed
 
 abbrev pub bitmap_events : List ℕ → Position → Bitmap → List Event
 bitmap_events words position b =
@@ -53,3 +60,10 @@ abbrev pub monitor_events : Option Monitor → List Event
 monitor_events None =
     empty_field (next_field [] (codes "file system monitor") (codes "fs_monitor")) (codes "none") ∷ []
 monitor_events (Some monitor) = watch_events monitor.token monitor.dirty
+
+-- those of a state
+abbrev pub state_link : State → List Event
+state_link s = link_events (contents s).extensions.link
+
+abbrev pub state_monitor : State → List Event
+state_monitor s = monitor_events (contents s).extensions.fs_monitor

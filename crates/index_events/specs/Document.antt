@@ -6,10 +6,12 @@ use Rattle.index_format.specs.Contents.{Contents}
 use Rattle.index_format.specs.Outcome.{Outcome}
 use Rattle.index_marks.specs.declared.Marks.{Marks}
 use Rattle.index_parts.specs.declared.hash.ObjectId.{ObjectId}
+use Rattle.index_state.specs.State.{contents}
+use Rattle.index_state.specs.declared.State.{State}
 use Rattle.index_events.specs.Bitmaps.{link_events, monitor_events}
 use Rattle.index_events.specs.Event.{Event, alone, answer_field, begin_array, begin_object, count_line, end_array}
 use Rattle.index_events.specs.Event.{end_object, end_text, entry_item, first_field, id_field, listed, next, next_field}
-use Rattle.index_events.specs.Event.{number_field}
+use Rattle.index_events.specs.Event.{number_field, print}
 use Rattle.index_events.specs.Marks.{marks_events}
 use Rattle.index_events.specs.Trees.{cached_tree_events}
 use Rattle.index_events.specs.Undo.{undo_events}
@@ -43,3 +45,15 @@ behind_events backwards o marks =
 unfoldable pub document_events : Bool → Contents → Option ObjectId → Marks → List Event
 document_events backwards c checksum marks =
     head_events c checksum ++ listed entry_events c.records ++ behind_events backwards c.extensions marks
+
+-- ---- those of a state
+
+abbrev pub state_entries : State → List Event
+state_entries s = listed entry_events (contents s).records
+
+abbrev pub state_behind : Bool → State → Marks → List Event
+state_behind backwards s marks = behind_events backwards (contents s).extensions marks
+
+-- all of it, as a printer spells it
+abbrev pub shown_text : (Event → List ℕ) → Bool → State → Option ObjectId → Marks → List ℕ
+shown_text spell backwards s checksum marks = print spell (document_events backwards (contents s) checksum marks)

@@ -1,13 +1,16 @@
 -- What is told of an index, as a list of events: what a printer for people and one for programs both print (the
 -- library's own). Each field is told once, with what each of them calls it.
-use Rattle.std.specs.Prelude.{ℕ, Bool, List, ◌++◌, Option, if◌then◌else◌}
+use Rattle.std.specs.Prelude.{◌≡◌, ℕ, Bool, List, ◌++◌, OnOk, Option, Result, if◌then◌else◌}
+use Rattle.std.specs.declared.io.Error.{Error}
 use Rattle.std.specs.List.{enumerate_from, flat_map}
 use Rattle.index_bitmaps.specs.declared.ranges.Range.{Range}
 use Rattle.index_entries.specs.Record.{Record}
 use Rattle.index_metadata.specs.declared.entry.stat.Stat.{Stat}
 use Rattle.index_parts.specs.declared.hash.ObjectId.{ObjectId}
+use Rattle.index_parts.specs.declared.hash.io.Out.{Ghosts}
 use Rattle.index_small_extensions.specs.declared.index_entry_offset_table.Offset.{Offset}
 use Rattle.index_small_extensions.specs.declared.resolve_undo.Stage.{Stage}
+use Rattle.index_text.specs.Blocks.{PutsBlocks}
 use Rattle.index_events.specs.declared.event.Field.{Field}
 use Rattle.index_events.specs.declared.event.Member.{Member}
 use Rattle.index_events.specs.declared.event.Member.TheVariants as members
@@ -84,3 +87,19 @@ listed events xs = flat_map (λ p. events p.0 p.1) (enumerate_from 0 xs)
 -- what belongs together, in the order of the printer
 abbrev pub in_order : Bool → List Event → List Event → List Event
 in_order backwards a b = if backwards then b ++ a else a ++ b
+
+-- ---- what a call leaves that tells events, each as a printer spells it
+
+-- an Ok has one more behind what waits
+abbrev pub Spells : {T E : Type 0} → (Event → List ℕ) → Result T E → Text → Text → Event → Type 0
+Spells spell answer old new event = OnOk answer (bytes_of new ≡ bytes_of old ++ spell event)
+
+-- an Ok has these behind what waits
+abbrev pub Tells : {T E : Type 0} → (Event → List ℕ) → Result T E → Text → Text → List Event → Type 0
+Tells spell answer old new events = OnOk answer (bytes_of new ≡ bytes_of old ++ print spell events)
+
+-- these came behind what waits, and what fills a block went out
+abbrev pub Sends : {S T : Type 0} → (Event → List ℕ) → Ghosts S → S → S → Result T Error → Text → Text → List Event
+    → Type 0
+Sends spell writer before behind answer old new events =
+    PutsBlocks writer before behind answer (bytes_of new) (bytes_of old ++ print spell events)

@@ -1,11 +1,18 @@
 -- The events of a cached tree (the library's own; the parts of a directory are those of gitformat-index, "Cache tree").
 use Rattle.std.specs.Prelude.{ℕ, ◌+◌, ◌*◌, min, nat_lt, List, [], ◌∷◌, ◌++◌, codes, replicate, Option, Some, None}
 use Rattle.std.specs.Prelude.{if◌then◌else◌}
-use Rattle.index_cached_tree.specs.Tree.{Node, Nodes, node, none, more}
+use Rattle.std.specs.Borrow.{Bor}
+use Rattle.std.specs.Option.{option_map}
+use Rattle.index_cached_tree.specs.Tree.{Node, Nodes, node, node_of, none, more}
+use Rattle.index_cached_tree.specs.declared.Tree.{Tree}
+use Rattle.index_cached_tree.specs.declared.Tree.TheViews.{out-Tree}
 use Rattle.index_parts.specs.declared.hash.ObjectId.{ObjectId}
+use Rattle.index_state.specs.State.{contents}
+use Rattle.index_state.specs.declared.State.{State}
+use Rattle.index_events.specs.declared.event.Member.{Member}
 use Rattle.index_events.specs.Event.{Event, FieldValue, Position, begin_array, begin_object, count_line, element}
 use Rattle.index_events.specs.Event.{empty_field, end_array, end_object, first_field, heading, id_field, next}
-use Rattle.index_events.specs.Event.{next_field, number_field, text_field}
+use Rattle.index_events.specs.Event.{listed, next_field, number_field, position_of, text_field}
 
 -- two spaces for each level of indent
 unfoldable pub indent : ℕ → List ℕ
@@ -62,3 +69,30 @@ abbrev mutual
 abbrev pub cached_tree_events : Option Node → List Event
 cached_tree_events None = empty_field (next_field [] (codes "cached tree") (codes "tree")) (codes "none") ∷ []
 cached_tree_events (Some t) = heading [] (codes "cached tree") ∷ tree_events (next (codes "tree")) 0 t
+
+-- ---- the same of a tree in memory
+
+abbrev pub tree_node : List ℕ → Tree → List Event
+tree_node indent t = node_events indent (out-Tree t).id (out-Tree t).num_entries
+
+abbrev pub tree_known : ℕ → Tree → List Event
+tree_known depth t = known_events depth (out-Tree t).name.items (out-Tree t).id (out-Tree t).num_entries
+
+abbrev pub tree_opened : Position → ℕ → Tree → List Event
+tree_opened position depth t =
+    opened_events position depth (out-Tree t).name.items (out-Tree t).id (out-Tree t).num_entries
+
+abbrev pub subtree : Member → ℕ → Tree → List Event
+subtree member depth t = tree_events (position_of member) depth (node_of t)
+
+-- those that lie in a directory
+abbrev pub subtrees : ℕ → List Tree → List Event
+subtrees depth ts = listed (λ i t. tree_events (element i) depth (node_of t)) ts
+
+-- from its root on, where there is one
+abbrev pub root_tree : Option (Bor Tree) → List Event
+root_tree t = cached_tree_events (option_map (λ t. node_of t.now) t)
+
+-- that of a state
+abbrev pub state_tree : State → List Event
+state_tree s = cached_tree_events (contents s).extensions.tree

@@ -1,8 +1,11 @@
 -- The events of conflicts that were resolved (the library's own; the parts are those of gitformat-index,
 -- "Resolve undo").
-use Rattle.std.specs.Prelude.{ℕ, List, [], ◌∷◌, ◌++◌, codes, length, Option, Some, None, slice_index_or}
-use Rattle.index_small_extensions.specs.ResolveUndo.{PathStages}
+use Rattle.std.specs.Prelude.{ℕ, List, [], ◌∷◌, ◌++◌, codes, length, map, Option, Some, None, slice_index_or}
+use Rattle.index_small_extensions.specs.ResolveUndo.{PathStages, path_stages}
+use Rattle.index_small_extensions.specs.declared.resolve_undo.ResolvePath.{ResolvePath}
 use Rattle.index_small_extensions.specs.declared.resolve_undo.Stage.{Stage}
+use Rattle.index_state.specs.State.{contents}
+use Rattle.index_state.specs.declared.State.{State}
 use Rattle.index_events.specs.Event.{Event, begin_array, begin_object, count_line, element, element_field}
 use Rattle.index_events.specs.Event.{empty_field, end_array, end_object, first_field, listed, next, next_field}
 use Rattle.index_events.specs.Event.{side_field, text_field}
@@ -27,3 +30,14 @@ undo_begin n = count_line [] (codes "resolve undo") n ∷ begin_array (next (cod
 abbrev pub undo_events : Option (List PathStages) → List Event
 undo_events None = empty_field (next_field [] (codes "resolve undo") (codes "resolve_undo")) (codes "none") ∷ []
 undo_events (Some paths) = undo_begin (length paths) ++ listed path_events paths ++ end_array ∷ []
+
+-- the same of paths in memory, and each of them
+abbrev pub each_path : List ResolvePath → List Event
+each_path paths = listed path_events (map path_stages paths)
+
+abbrev pub undo_of : List ResolvePath → List Event
+undo_of paths = undo_events (Some (map path_stages paths))
+
+-- those of a state
+abbrev pub state_undo : State → List Event
+state_undo s = undo_events (contents s).extensions.resolve_undo

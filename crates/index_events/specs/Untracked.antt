@@ -1,11 +1,15 @@
 -- The events of an untracked cache (the library's own; the parts are those of gitformat-index, "Untracked cache").
-use Rattle.std.specs.Prelude.{ℕ, Bool, List, [], ◌∷◌, ◌++◌, codes, length, Option, Some, None}
+use Rattle.std.specs.Prelude.{ℕ, Bool, List, [], ◌∷◌, ◌++◌, codes, length, map, Option, Some, None}
 use Rattle.index_metadata.specs.declared.entry.stat.Stat.{Stat}
-use Rattle.index_untracked.specs.Blocks.{DirectoryValue}
+use Rattle.index_untracked.specs.Blocks.{DirectoryValue, directory_value}
 use Rattle.index_untracked.specs.Untracked.{Cache, Preamble}
+use Rattle.index_untracked.specs.declared.Directory.{Directory}
 use Rattle.index_untracked.specs.declared.OidStat.{OidStat}
+use Rattle.index_state.specs.State.{contents}
+use Rattle.index_state.specs.declared.State.{State}
 use Rattle.index_events.specs.Event.{Event, answer_field, begin_array, begin_object, count_line, element}
-use Rattle.index_events.specs.Event.{element_field, empty_field, end_array, end_object, first, first_field, heading, id_field}
+use Rattle.index_events.specs.Event.{element_field, empty_field, end_array, end_object, first, first_field, heading}
+use Rattle.index_events.specs.Event.{id_field}
 use Rattle.index_events.specs.Event.{in_order, listed, next, next_field, number_field, stat_field, text_field}
 
 -- the id of a file of exclude patterns, and its stat
@@ -15,11 +19,13 @@ file_id words file = id_field (next_field (codes "  ") words (codes "id")) (Some
 abbrev pub file_stat : OidStat → List Event
 file_stat file = stat_field (codes "    ") (first (codes "stat")) file.stat ∷ []
 
+abbrev pub file_events : Bool → List ℕ → OidStat → List Event
+file_events backwards words file = in_order backwards (file_id words file) (file_stat file)
+
 unfoldable pub exclude_events : Bool → List ℕ → List ℕ → Option OidStat → List Event
 exclude_events backwards words name None = empty_field (next_field (codes "  ") words name) (codes "none") ∷ []
 exclude_events backwards words name (Some file) =
-    begin_object (next name)
-    ∷ in_order backwards (file_id words file) (file_stat file) ++ end_object ∷ []
+    begin_object (next name) ∷ file_events backwards words file ++ end_object ∷ []
 
 -- where the cache is for, how directories were read, and the name of a directory's own file of exclude patterns
 unfoldable pub naming_events : List ℕ → ℕ → List ℕ → List Event
@@ -80,11 +86,22 @@ cache_begin backwards n p =
     count_line [] (codes "untracked cache") n ∷ begin_object (next (codes "untracked")) ∷ preamble_events backwards p
     ++ begin_array (next (codes "directories")) ∷ []
 
+abbrev pub begin_of : Bool → Cache → List Event
+begin_of backwards c = cache_begin backwards (length c.directories) c.preamble
+
 abbrev pub cache_events : Bool → Cache → List Event
-cache_events backwards c = cache_begin backwards (length c.directories) c.preamble
+cache_events backwards c = begin_of backwards c
     ++ listed (cached_events backwards) c.directories ++ end_array ∷ end_object ∷ []
 
 abbrev pub untracked_events : Bool → Option Cache → List Event
 untracked_events backwards None =
     empty_field (next_field [] (codes "untracked cache") (codes "untracked")) (codes "none") ∷ []
 untracked_events backwards (Some c) = cache_events backwards c
+
+-- those of directories in memory
+abbrev pub cached_in : Bool → List Directory → List Event
+cached_in backwards directories = listed (cached_events backwards) (map directory_value directories)
+
+-- those of a state
+abbrev pub state_cache : Bool → State → List Event
+state_cache backwards s = untracked_events backwards (contents s).extensions.untracked

@@ -1,13 +1,11 @@
 //! The events of a bitmap, and of what has one: a link and a file system monitor.
 
-ghost use Rattle.std.specs.Prelude.{◌≡◌, ◌++◌, OnOk, codes};
 ghost use Rattle.std.specs.Option.{option_map};
 ghost use Rattle.index_bitmaps.specs.Bitmap.{bitmap};
 ghost use Rattle.index_small_extensions.specs.FsMonitor.{monitor_of, token_value};
 ghost use Rattle.index_split.specs.Link.{link_of, pair_of};
-ghost use Rattle.index_state.specs.State.{contents};
-ghost use Rattle.index_events.specs.Bitmaps.{bitmap_events, bits_events, link_events, monitor_events, pair_events, token_event, watch_events};
-ghost use Rattle.index_events.specs.Event.{bytes_of, position_of, print};
+ghost use Rattle.index_events.specs.Bitmaps.{bitmap_events, link_events, monitor_events, pair_events, set_events, state_link, state_monitor, token_event, watch_events};
+ghost use Rattle.index_events.specs.Event.{Spells, Tells, position_of};
 
 use crate::event::Member::{self, First, Next};
 use crate::event::{first, next};
@@ -23,8 +21,7 @@ use index_text::append::Appended;
 /// Tells how many bits there are, and which of them are set.
 #[tactic(auto, unfolding(crate::specs::Bitmaps::bits_events))]
 fn append_bits<P: Printer>(text: &mut Text, num_bits: u32, bits: &SetBits) -> Appended
-    ensures { OnOk result (bytes_of text.new ≡ bytes_of text.old
-        ++ print P.spell (bits_events num_bits bits.now.ranges.items bits.now.is_malformed)) }
+    ensures { Tells P.spell result text.old text.new (set_events num_bits bits.now) }
 {
     P::number(
         text,
@@ -46,8 +43,8 @@ fn append_bitmap<P: Printer>(
     member: Member<'_>,
     map: &ewah::Vec,
 ) -> Appended
-    ensures { OnOk result (bytes_of text.new ≡ bytes_of text.old
-        ++ print P.spell (bitmap_events words.now (position_of member.entry) (bitmap map.now))) }
+    ensures { Tells P.spell result text.old text.new
+        (bitmap_events words.now (position_of member.entry) (bitmap map.now)) }
 {
     let bits = set_bits(text.alloc, map)?;
     P::heading(text, b"  ", words)?;
@@ -59,8 +56,7 @@ fn append_bitmap<P: Printer>(
 /// Tells which entries of a shared index are deleted and replaced.
 #[tactic(auto, unfolding(crate::specs::Bitmaps::pair_events))]
 fn append_pair<P: Printer>(text: &mut Text, pair: &Option<Bitmaps>) -> Appended
-    ensures { OnOk result (bytes_of text.new
-        ≡ bytes_of text.old ++ print P.spell (pair_events (option_map pair_of pair.now))) }
+    ensures { Tells P.spell result text.old text.new (pair_events (option_map pair_of pair.now)) }
 {
     let Some(pair) = pair else {
         return P::empty(text, next(b"  ", b"bitmaps", b"bitmaps"), b"none");
@@ -74,8 +70,8 @@ fn append_pair<P: Printer>(text: &mut Text, pair: &Option<Bitmaps>) -> Appended
 /// Tells the link to a shared index: its id and the bitmaps.
 #[tactic(auto, unfolding(crate::specs::Bitmaps::link_events))]
 fn append_shared<P: Printer>(text: &mut Text, link: Option<&Link>) -> Appended
-    ensures { OnOk result (bytes_of text.new ≡ bytes_of text.old
-        ++ print P.spell (link_events (option_map (λ l. link_of l.now) link.entry))) }
+    ensures { Tells P.spell result text.old text.new
+        (link_events (option_map (λ l. link_of l.now) link.entry)) }
 {
     let Some(link) = link else {
         return P::empty(text, next(b"", b"link", b"link"), b"none");
@@ -89,8 +85,7 @@ fn append_shared<P: Printer>(text: &mut Text, link: Option<&Link>) -> Appended
 
 /// Tells the link of a state.
 pub fn append_link<P: Printer>(text: &mut Text, state: &State) -> Appended
-    ensures { OnOk result (bytes_of text.new ≡ bytes_of text.old
-        ++ print P.spell (link_events (contents state.now).extensions.link)) }
+    ensures { Tells P.spell result text.old text.new (state_link state.now) }
 {
     append_shared::<P>(text, state.link())
 }
@@ -98,8 +93,7 @@ pub fn append_link<P: Printer>(text: &mut Text, state: &State) -> Appended
 /// Tells when the monitor was asked.
 #[tactic(auto, unfolding(crate::specs::Bitmaps::token_event))]
 fn append_token<P: Printer>(text: &mut Text, token: &Token) -> Appended
-    ensures { OnOk result
-        (bytes_of text.new ≡ bytes_of text.old ++ P.spell (token_event (token_value token.now))) }
+    ensures { Spells P.spell result text.old text.new (token_event (token_value token.now)) }
 {
     match token {
         Token::V1 { nanos_since_1970 } => {
@@ -118,8 +112,8 @@ fn append_token<P: Printer>(text: &mut Text, token: &Token) -> Appended
 /// Tells a token, and which entries may have changed.
 #[tactic(auto, unfolding(crate::specs::Bitmaps::watch_events))]
 fn append_watch<P: Printer>(text: &mut Text, token: &Token, dirty: &ewah::Vec) -> Appended
-    ensures { OnOk result (bytes_of text.new ≡ bytes_of text.old
-        ++ print P.spell (watch_events (token_value token.now) (bitmap dirty.now))) }
+    ensures { Tells P.spell result text.old text.new
+        (watch_events (token_value token.now) (bitmap dirty.now)) }
 {
     P::heading(text, b"", b"file system monitor")?;
     P::begin_object(text, Next(b"fs_monitor"))?;
@@ -130,8 +124,8 @@ fn append_watch<P: Printer>(text: &mut Text, token: &Token, dirty: &ewah::Vec) -
 
 /// Tells what a file system monitor said.
 fn append_said<P: Printer>(text: &mut Text, monitor: Option<&FsMonitor>) -> Appended
-    ensures { OnOk result (bytes_of text.new ≡ bytes_of text.old
-        ++ print P.spell (monitor_events (option_map (λ m. monitor_of m.now) monitor.entry))) }
+    ensures { Tells P.spell result text.old text.new
+        (monitor_events (option_map (λ m. monitor_of m.now) monitor.entry)) }
 {
     match monitor {
         Some(monitor) => append_watch::<P>(text, monitor.token(), monitor.entry_dirty()),
@@ -145,8 +139,7 @@ fn append_said<P: Printer>(text: &mut Text, monitor: Option<&FsMonitor>) -> Appe
 
 /// Tells the file system monitor of a state.
 pub fn append_monitor<P: Printer>(text: &mut Text, state: &State) -> Appended
-    ensures { OnOk result (bytes_of text.new ≡ bytes_of text.old
-        ++ print P.spell (monitor_events (contents state.now).extensions.fs_monitor)) }
+    ensures { Tells P.spell result text.old text.new (state_monitor state.now) }
 {
     append_said::<P>(text, state.fs_monitor())
 }

@@ -1,15 +1,12 @@
 //! All of an index file.
 
-ghost use Rattle.std.specs.Prelude.{◌≡◌, ◌≢◌, ◌++◌, IfErr, OnErr, OnOk, codes, false, true};
-ghost use Rattle.std.specs.IoError.{error_kind};
-ghost use Rattle.std.specs.Io.KnownBytes.{Appends};
+ghost use Rattle.std.specs.Prelude.{◌≡◌, false};
 ghost use Rattle.index_entries.specs.EntryImage.{version_code};
-ghost use Rattle.index_parts.specs.Taking.{AppendsPrefix};
 ghost use Rattle.index_state.specs.State.{PathsInStorage, contents};
-ghost use Rattle.index_text.specs.Blocks.{Passes};
-ghost use Rattle.index_events.specs.Bitmaps.{link_events};
-ghost use Rattle.index_events.specs.Document.{behind_events, document_events, entry_events, head_events, last_events};
-ghost use Rattle.index_events.specs.Event.{bytes_of, listed, print};
+ghost use Rattle.index_text.specs.Blocks.{PutsText};
+ghost use Rattle.index_events.specs.Bitmaps.{state_link};
+ghost use Rattle.index_events.specs.Document.{head_events, last_events, shown_text, state_behind, state_entries};
+ghost use Rattle.index_events.specs.Event.{Sends, Tells};
 
 use crate::bitmaps::{append_link, append_monitor};
 use crate::event::Member::{Alone, Next};
@@ -27,7 +24,7 @@ use index_state::State;
 use index_text::append::Appended;
 use index_text::block::{put_block, put_text};
 use std::alloc::Global;
-use std::io::{self, ErrorKind};
+use std::io;
 
 /// The number of a version.
 fn number_of_version(version: Version) -> u64
@@ -43,8 +40,7 @@ fn number_of_version(version: Version) -> u64
 /// Tells what stands before the entries.
 #[tactic(auto, unfolding(crate::specs::Document::head_events))]
 fn append_head<P: Printer>(text: &mut Text, state: &State, checksum: Option<ObjectId>) -> Appended
-    ensures { OnOk result (bytes_of text.new
-        ≡ bytes_of text.old ++ print P.spell (head_events (contents state.now) checksum)) }
+    ensures { Tells P.spell result text.old text.new (head_events (contents state.now) checksum) }
 {
     let version = number_of_version(state.version());
     P::begin_object(text, Alone)?;
@@ -59,13 +55,8 @@ fn append_head<P: Printer>(text: &mut Text, state: &State, checksum: Option<Obje
 fn write_entries<P: Printer, W: Out>(text: &mut Text, state: &State, out: &mut W) -> io::Result<()>
     requires placed { PathsInStorage state.now }
     requires going { W.failed out.old ≡ false }
-    ensures ok { OnOk result (Passes (W.taken out.old) (W.taken out.new) (bytes_of text.new)
-        (bytes_of text.old ++ print P.spell (listed entry_events (contents state.now).records))) }
-    ensures err { OnErr result (AppendsPrefix (W.taken out.old) (W.taken out.new)
-        (bytes_of text.old ++ print P.spell (listed entry_events (contents state.now).records))) }
-    ensures going { OnOk result (W.failed out.new ≡ false) }
-    ensures cause { IfErr result
-        (λ e. error_kind e ≢ ErrorKind.OutOfMemory → W.failed out.new ≡ true) }
+    ensures { Sends P.spell W.Out out.old out.new result text.old text.new
+        (state_entries state.now) }
 {
     for (place, entry) in state.entries().iter().enumerate() {
         P::entry(text, state, place, entry)?;
@@ -77,13 +68,7 @@ fn write_entries<P: Printer, W: Out>(text: &mut Text, state: &State, out: &mut W
 /// Tells the link; what fills a block goes out.
 fn write_link<P: Printer, W: Out>(text: &mut Text, state: &State, out: &mut W) -> io::Result<()>
     requires { W.failed out.old ≡ false }
-    ensures ok { OnOk result (Passes (W.taken out.old) (W.taken out.new) (bytes_of text.new)
-        (bytes_of text.old ++ print P.spell (link_events (contents state.now).extensions.link))) }
-    ensures err { OnErr result (AppendsPrefix (W.taken out.old) (W.taken out.new)
-        (bytes_of text.old ++ print P.spell (link_events (contents state.now).extensions.link))) }
-    ensures going { OnOk result (W.failed out.new ≡ false) }
-    ensures cause { IfErr result
-        (λ e. error_kind e ≢ ErrorKind.OutOfMemory → W.failed out.new ≡ true) }
+    ensures { Sends P.spell W.Out out.old out.new result text.old text.new (state_link state.now) }
 {
     append_link::<P>(text, state)?;
     put_block(&mut text.bytes, out)
@@ -92,8 +77,8 @@ fn write_link<P: Printer, W: Out>(text: &mut Text, state: &State, out: &mut W) -
 /// Tells the file system monitor, the offset table and the end marker, and the end.
 #[tactic(auto, unfolding(crate::specs::Document::last_events))]
 fn append_last<P: Printer>(text: &mut Text, state: &State, marks: &Marks) -> Appended
-    ensures { OnOk result (bytes_of text.new ≡ bytes_of text.old
-        ++ print P.spell (last_events (contents state.now).extensions marks.now)) }
+    ensures { Tells P.spell result text.old text.new
+        (last_events (contents state.now).extensions marks.now) }
 {
     let (table, marker) = (state.had_offset_table(), state.had_end_of_index_marker());
     append_monitor::<P>(text, state)?;
@@ -110,15 +95,8 @@ fn write_behind<P: Printer, W: Out>(
     out: &mut W,
 ) -> io::Result<()>
     requires { W.failed out.old ≡ false }
-    ensures ok { OnOk result (Passes (W.taken out.old) (W.taken out.new) (bytes_of text.new)
-        (bytes_of text.old ++ print P.spell
-        (behind_events P.BACKWARDS (contents state.now).extensions marks.now))) }
-    ensures err { OnErr result (AppendsPrefix (W.taken out.old) (W.taken out.new)
-        (bytes_of text.old ++ print P.spell
-        (behind_events P.BACKWARDS (contents state.now).extensions marks.now))) }
-    ensures going { OnOk result (W.failed out.new ≡ false) }
-    ensures cause { IfErr result
-        (λ e. error_kind e ≢ ErrorKind.OutOfMemory → W.failed out.new ≡ true) }
+    ensures { Sends P.spell W.Out out.old out.new result text.old text.new
+        (state_behind P.BACKWARDS state.now marks.now) }
 {
     P::end_array(text)?;
     write_tree::<P, W>(text, state, out)?;
@@ -143,13 +121,8 @@ pub fn write_document<P: Printer, W: Out>(
 ) -> io::Result<()>
     requires placed { PathsInStorage state.now }
     requires going { W.failed out.old ≡ false }
-    ensures ok { OnOk result (Appends (W.taken out.old) (W.taken out.new) (print P.spell
-        (document_events P.BACKWARDS (contents state.now) checksum marks.now))) }
-    ensures err { OnErr result (AppendsPrefix (W.taken out.old) (W.taken out.new) (print P.spell
-        (document_events P.BACKWARDS (contents state.now) checksum marks.now))) }
-    ensures going { OnOk result (W.failed out.new ≡ false) }
-    ensures cause { IfErr result
-        (λ e. error_kind e ≢ ErrorKind.OutOfMemory → W.failed out.new ≡ true) }
+    ensures { PutsText W.Out out.old out.new result
+        (shown_text P.spell P.BACKWARDS state.now checksum marks.now) }
 {
     let mut text = Text {
         bytes: Vec::new(alloc),

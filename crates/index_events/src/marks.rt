@@ -1,8 +1,7 @@
 //! The events of an offset table and of an end marker.
 
-ghost use Rattle.std.specs.Prelude.{◌≡◌, ◌++◌, OnOk, Some, codes};
 ghost use Rattle.std.specs.Option.{option_map};
-ghost use Rattle.index_events.specs.Event.{bytes_of, listed, print};
+ghost use Rattle.index_events.specs.Event.{Tells, listed};
 ghost use Rattle.index_events.specs.Marks.{block_events, blocks_events, end_events, marker_events, marks_events, table_events};
 
 use crate::event::Member::Next;
@@ -14,8 +13,7 @@ use index_text::append::Appended;
 
 /// Tells blocks.
 fn append_each<P: Printer>(text: &mut Text, blocks: &[Offset]) -> Appended
-    ensures { OnOk result
-        (bytes_of text.new ≡ bytes_of text.old ++ print P.spell (listed block_events blocks.now)) }
+    ensures { Tells P.spell result text.old text.new (listed block_events blocks.now) }
 {
     for (place, block) in blocks.iter().enumerate() {
         P::block(text, element(b"  ", b"block", place), *block)?;
@@ -26,8 +24,7 @@ fn append_each<P: Printer>(text: &mut Text, blocks: &[Offset]) -> Appended
 /// Tells how many blocks there are, and each.
 #[tactic(auto, unfolding(crate::specs::Marks::blocks_events))]
 fn append_blocks<P: Printer>(text: &mut Text, blocks: &[Offset]) -> Appended
-    ensures { OnOk result
-        (bytes_of text.new ≡ bytes_of text.old ++ print P.spell (blocks_events blocks.now)) }
+    ensures { Tells P.spell result text.old text.new (blocks_events blocks.now) }
 {
     P::count(text, b"", b"offset table", blocks.len() as u64)?;
     P::begin_array(text, Next(b"offset_table"))?;
@@ -38,8 +35,8 @@ fn append_blocks<P: Printer>(text: &mut Text, blocks: &[Offset]) -> Appended
 /// Tells whether there was an offset table, and what it says.
 #[tactic(auto, unfolding(crate::specs::Marks::table_events))]
 fn append_table<P: Printer>(text: &mut Text, had: bool, table: &Option<Vec<Offset>>) -> Appended
-    ensures { OnOk result (bytes_of text.new ≡ bytes_of text.old
-        ++ print P.spell (table_events had (option_map (λ v. v.items) table.now))) }
+    ensures { Tells P.spell result text.old text.new
+        (table_events had (option_map (λ v. v.items) table.now)) }
 {
     let field = next(b"", b"offset table", b"offset_table");
     P::presence(text, Next(b"had_offset_table"), had)?;
@@ -55,8 +52,7 @@ fn append_table<P: Printer>(text: &mut Text, had: bool, table: &Option<Vec<Offse
 /// Tells an offset and a digest.
 #[tactic(auto, unfolding(crate::specs::Marks::marker_events))]
 fn append_marker<P: Printer>(text: &mut Text, mark: EndMark) -> Appended
-    ensures { OnOk result
-        (bytes_of text.new ≡ bytes_of text.old ++ print P.spell (marker_events mark)) }
+    ensures { Tells P.spell result text.old text.new (marker_events mark) }
 {
     let offset = u64::from(mark.offset);
     P::heading(text, b"", b"end marker")?;
@@ -73,8 +69,7 @@ fn append_marker<P: Printer>(text: &mut Text, mark: EndMark) -> Appended
 /// Tells whether there was an end marker, and what it says.
 #[tactic(auto, unfolding(crate::specs::Marks::end_events))]
 fn append_end<P: Printer>(text: &mut Text, had: bool, mark: Option<EndMark>) -> Appended
-    ensures { OnOk result
-        (bytes_of text.new ≡ bytes_of text.old ++ print P.spell (end_events had mark)) }
+    ensures { Tells P.spell result text.old text.new (end_events had mark) }
 {
     let field = next(b"", b"end marker", b"end_of_index_marker");
     P::presence(text, Next(b"had_end_of_index_marker"), had)?;
@@ -94,8 +89,7 @@ pub fn append_marks<P: Printer>(
     marker: bool,
     marks: &Marks,
 ) -> Appended
-    ensures { OnOk result (bytes_of text.new
-        ≡ bytes_of text.old ++ print P.spell (marks_events table marker marks.now)) }
+    ensures { Tells P.spell result text.old text.new (marks_events table marker marks.now) }
 {
     append_table::<P>(text, table, &marks.table)?;
     append_end::<P>(text, marker, marks.end)

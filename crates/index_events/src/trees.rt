@@ -1,15 +1,8 @@
 //! The events of a cached tree.
 
-ghost use Rattle.std.specs.Prelude.{◌≡◌, ◌≢◌, ◌≤◌, ◌++◌, IfErr, OnErr, OnOk, codes, false, true};
-ghost use Rattle.std.specs.IoError.{error_kind};
-ghost use Rattle.std.specs.Option.{option_map};
-ghost use Rattle.index_parts.specs.Taking.{AppendsPrefix};
-ghost use Rattle.index_cached_tree.specs.Tree.{node_of};
-ghost use Rattle.index_cached_tree.specs.declared.Tree.TheViews.{out-Tree};
-ghost use Rattle.index_state.specs.State.{contents};
-ghost use Rattle.index_text.specs.Blocks.{Passes};
-ghost use Rattle.index_events.specs.Event.{bytes_of, element, field_of, listed, position_of, print};
-ghost use Rattle.index_events.specs.Trees.{cached_tree_events, count_event, depth_events, indent, known_events, node_events, opened_events, tree_events};
+ghost use Rattle.std.specs.Prelude.{◌≡◌, ◌≤◌, false};
+ghost use Rattle.index_events.specs.Event.{Sends, Spells, Tells, field_of, position_of};
+ghost use Rattle.index_events.specs.Trees.{count_event, depth_events, indent, root_tree, state_tree, subtree, subtrees, tree_known, tree_node, tree_opened};
 
 use crate::event::Member::{self, Element, Next};
 use crate::event::{Field, first, next};
@@ -19,7 +12,7 @@ use index_parts::hash::io::Out;
 use index_state::State;
 use index_text::append::Appended;
 use index_text::block::put_block;
-use std::io::{self, ErrorKind};
+use std::io;
 
 /// How deep the directories lie that stand furthest in. Those below them stand as far in, and tell their depth.
 const DEEPEST_INDENT: u32 = 32;
@@ -39,8 +32,7 @@ fn indent_of<'a>(levels: u32) -> &'a [u8]
 /// Tells a directory's depth, where its indent doesn't say it.
 #[tactic(auto, unfolding(crate::specs::Trees::depth_events))]
 fn append_depth<P: Printer>(text: &mut Text, depth: u32) -> Appended
-    ensures { OnOk result
-        (bytes_of text.new ≡ bytes_of text.old ++ print P.spell (depth_events depth)) }
+    ensures { Tells P.spell result text.old text.new (depth_events depth) }
 {
     if depth <= DEEPEST_INDENT {
         return Ok(());
@@ -55,8 +47,7 @@ fn append_depth<P: Printer>(text: &mut Text, depth: u32) -> Appended
 
 /// Tells a number of entries, or that it isn't known.
 fn append_count<P: Printer>(text: &mut Text, field: Field<'_>, count: Option<u32>) -> Appended
-    ensures { OnOk result
-        (bytes_of text.new ≡ bytes_of text.old ++ P.spell (count_event (field_of field.entry) count)) }
+    ensures { Spells P.spell result text.old text.new (count_event (field_of field.entry) count) }
 {
     match count {
         Some(n) => P::number(text, field, u64::from(n)),
@@ -67,8 +58,7 @@ fn append_count<P: Printer>(text: &mut Text, field: Field<'_>, count: Option<u32
 /// Tells the id of a directory, and how many entries are below it.
 #[tactic(auto, unfolding(crate::specs::Trees::node_events))]
 fn append_node<P: Printer>(text: &mut Text, indent: &[u8], tree: &Tree) -> Appended
-    ensures { OnOk result (bytes_of text.new ≡ bytes_of text.old ++ print P.spell
-        (node_events indent.now (out-Tree tree.now).id (out-Tree tree.now).num_entries)) }
+    ensures { Tells P.spell result text.old text.new (tree_node indent.now tree.now) }
 {
     P::id(text, next(indent, b"id", b"id"), Some(tree.id))?;
     append_count::<P>(
@@ -81,9 +71,7 @@ fn append_node<P: Printer>(text: &mut Text, indent: &[u8], tree: &Tree) -> Appen
 /// Tells what is known of a directory.
 #[tactic(auto, unfolding(crate::specs::Trees::known_events))]
 fn append_known<P: Printer>(text: &mut Text, depth: u32, tree: &Tree) -> Appended
-    ensures { OnOk result (bytes_of text.new ≡ bytes_of text.old ++ print P.spell
-        (known_events depth (out-Tree tree.now).name.items (out-Tree tree.now).id
-        (out-Tree tree.now).num_entries)) }
+    ensures { Tells P.spell result text.old text.new (tree_known depth tree.now) }
 {
     let level = depth.min(DEEPEST_INDENT);
     let field = first(indent_of(level + 1), b"directory", b"name");
@@ -99,9 +87,8 @@ fn append_opened<P: Printer>(
     depth: u32,
     tree: &Tree,
 ) -> Appended
-    ensures { OnOk result (bytes_of text.new ≡ bytes_of text.old ++ print P.spell
-        (opened_events (position_of member.entry) depth (out-Tree tree.now).name.items
-        (out-Tree tree.now).id (out-Tree tree.now).num_entries)) }
+    ensures { Tells P.spell result text.old text.new
+        (tree_opened (position_of member.entry) depth tree.now) }
 {
     P::begin_object(text, member)?;
     append_known::<P>(text, depth, tree)?;
@@ -118,15 +105,8 @@ fn write_directory<P: Printer, W: Out>(
     out: &mut W,
 ) -> io::Result<()>
     requires { W.failed out.old ≡ false }
-    ensures ok { OnOk result (Passes (W.taken out.old) (W.taken out.new) (bytes_of text.new)
-        (bytes_of text.old
-        ++ print P.spell (tree_events (position_of member.entry) depth (node_of tree.now)))) }
-    ensures err { OnErr result (AppendsPrefix (W.taken out.old) (W.taken out.new)
-        (bytes_of text.old
-        ++ print P.spell (tree_events (position_of member.entry) depth (node_of tree.now)))) }
-    ensures going { OnOk result (W.failed out.new ≡ false) }
-    ensures cause { IfErr result
-        (λ e. error_kind e ≢ ErrorKind.OutOfMemory → W.failed out.new ≡ true) }
+    ensures { Sends P.spell W.Out out.old out.new result text.old text.new
+        (subtree member.entry depth tree.now) }
 {
     append_opened::<P>(text, member, depth, tree)?;
     put_block(&mut text.bytes, out)?;
@@ -143,15 +123,8 @@ fn write_directories<P: Printer, W: Out>(
     out: &mut W,
 ) -> io::Result<()>
     requires { W.failed out.old ≡ false }
-    ensures ok { OnOk result (Passes (W.taken out.old) (W.taken out.new) (bytes_of text.new)
-        (bytes_of text.old ++ print P.spell
-        (listed (λ i t. tree_events (element i) depth (node_of t)) trees.now))) }
-    ensures err { OnErr result (AppendsPrefix (W.taken out.old) (W.taken out.new)
-        (bytes_of text.old ++ print P.spell
-        (listed (λ i t. tree_events (element i) depth (node_of t)) trees.now))) }
-    ensures going { OnOk result (W.failed out.new ≡ false) }
-    ensures cause { IfErr result
-        (λ e. error_kind e ≢ ErrorKind.OutOfMemory → W.failed out.new ≡ true) }
+    ensures { Sends P.spell W.Out out.old out.new result text.old text.new
+        (subtrees depth trees.now) }
 {
     for (place, tree) in trees.iter().enumerate() {
         write_directory::<P, W>(text, Element(place), depth, tree, out)?;
@@ -166,15 +139,7 @@ fn write_root<P: Printer, W: Out>(
     out: &mut W,
 ) -> io::Result<()>
     requires { W.failed out.old ≡ false }
-    ensures ok { OnOk result (Passes (W.taken out.old) (W.taken out.new) (bytes_of text.new)
-        (bytes_of text.old
-        ++ print P.spell (cached_tree_events (option_map (λ t. node_of t.now) tree.entry)))) }
-    ensures err { OnErr result (AppendsPrefix (W.taken out.old) (W.taken out.new)
-        (bytes_of text.old
-        ++ print P.spell (cached_tree_events (option_map (λ t. node_of t.now) tree.entry)))) }
-    ensures going { OnOk result (W.failed out.new ≡ false) }
-    ensures cause { IfErr result
-        (λ e. error_kind e ≢ ErrorKind.OutOfMemory → W.failed out.new ≡ true) }
+    ensures { Sends P.spell W.Out out.old out.new result text.old text.new (root_tree tree.entry) }
 {
     match tree {
         Some(tree) => {
@@ -188,15 +153,7 @@ fn write_root<P: Printer, W: Out>(
 /// Tells the cached tree of a state.
 pub fn write_tree<P: Printer, W: Out>(text: &mut Text, state: &State, out: &mut W) -> io::Result<()>
     requires { W.failed out.old ≡ false }
-    ensures ok { OnOk result (Passes (W.taken out.old) (W.taken out.new) (bytes_of text.new)
-        (bytes_of text.old
-        ++ print P.spell (cached_tree_events (contents state.now).extensions.tree))) }
-    ensures err { OnErr result (AppendsPrefix (W.taken out.old) (W.taken out.new)
-        (bytes_of text.old
-        ++ print P.spell (cached_tree_events (contents state.now).extensions.tree))) }
-    ensures going { OnOk result (W.failed out.new ≡ false) }
-    ensures cause { IfErr result
-        (λ e. error_kind e ≢ ErrorKind.OutOfMemory → W.failed out.new ≡ true) }
+    ensures { Sends P.spell W.Out out.old out.new result text.old text.new (state_tree state.now) }
 {
     write_root::<P, W>(text, state.tree(), out)
 }

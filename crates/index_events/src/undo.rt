@@ -1,13 +1,9 @@
 //! The events of conflicts that were resolved.
 
-ghost use Rattle.std.specs.Prelude.{◌≡◌, ◌≢◌, ◌++◌, IfErr, OnErr, OnOk, Some, codes, false, map, true};
-ghost use Rattle.std.specs.IoError.{error_kind};
-ghost use Rattle.index_parts.specs.Taking.{AppendsPrefix};
+ghost use Rattle.std.specs.Prelude.{◌≡◌, false};
 ghost use Rattle.index_small_extensions.specs.ResolveUndo.{path_stages};
-ghost use Rattle.index_state.specs.State.{contents};
-ghost use Rattle.index_text.specs.Blocks.{Passes};
-ghost use Rattle.index_events.specs.Event.{bytes_of, listed, print};
-ghost use Rattle.index_events.specs.Undo.{path_events, sides_events, undo_begin, undo_events};
+ghost use Rattle.index_events.specs.Event.{Sends, Tells};
+ghost use Rattle.index_events.specs.Undo.{each_path, path_events, sides_events, state_undo, undo_begin, undo_of};
 
 use crate::event::Member::{Element, Next};
 use crate::event::{element, first, next};
@@ -17,13 +13,12 @@ use index_small_extensions::resolve_undo::{ResolvePath, Stage};
 use index_state::State;
 use index_text::append::Appended;
 use index_text::block::put_block;
-use std::io::{self, ErrorKind};
+use std::io;
 
 /// Tells the three sides.
 #[tactic(auto, unfolding(crate::specs::Undo::sides_events))]
 fn append_sides<P: Printer>(text: &mut Text, sides: &[Option<Stage>; 3]) -> Appended
-    ensures { OnOk result
-        (bytes_of text.new ≡ bytes_of text.old ++ print P.spell (sides_events sides.now)) }
+    ensures { Tells P.spell result text.old text.new (sides_events sides.now) }
 {
     P::side(text, element(b"    ", b"base", 0), sides[0])?;
     P::side(text, element(b"    ", b"ours", 1), sides[1])?;
@@ -33,8 +28,7 @@ fn append_sides<P: Printer>(text: &mut Text, sides: &[Option<Stage>; 3]) -> Appe
 /// Tells a path.
 #[tactic(auto, unfolding(crate::specs::Undo::path_events))]
 fn append_path<P: Printer>(text: &mut Text, place: usize, path: &ResolvePath) -> Appended
-    ensures { OnOk result (bytes_of text.new
-        ≡ bytes_of text.old ++ print P.spell (path_events place (path_stages path.now))) }
+    ensures { Tells P.spell result text.old text.new (path_events place (path_stages path.now)) }
 {
     P::begin_object(text, Element(place))?;
     P::string(text, first(b"  ", b"path", b"name"), path.name())?;
@@ -50,13 +44,7 @@ fn write_each<P: Printer, W: Out>(
     out: &mut W,
 ) -> io::Result<()>
     requires { W.failed out.old ≡ false }
-    ensures ok { OnOk result (Passes (W.taken out.old) (W.taken out.new) (bytes_of text.new)
-        (bytes_of text.old ++ print P.spell (listed path_events (map path_stages paths.now)))) }
-    ensures err { OnErr result (AppendsPrefix (W.taken out.old) (W.taken out.new)
-        (bytes_of text.old ++ print P.spell (listed path_events (map path_stages paths.now)))) }
-    ensures going { OnOk result (W.failed out.new ≡ false) }
-    ensures cause { IfErr result
-        (λ e. error_kind e ≢ ErrorKind.OutOfMemory → W.failed out.new ≡ true) }
+    ensures { Sends P.spell W.Out out.old out.new result text.old text.new (each_path paths.now) }
 {
     for (place, path) in paths.iter().enumerate() {
         append_path::<P>(text, place, path)?;
@@ -68,7 +56,7 @@ fn write_each<P: Printer, W: Out>(
 /// Tells how many paths there are.
 #[tactic(auto, unfolding(crate::specs::Undo::undo_begin))]
 fn append_begin<P: Printer>(text: &mut Text, n: usize) -> Appended
-    ensures { OnOk result (bytes_of text.new ≡ bytes_of text.old ++ print P.spell (undo_begin n)) }
+    ensures { Tells P.spell result text.old text.new (undo_begin n) }
 {
     P::count(text, b"", b"resolve undo", n as u64)?;
     P::begin_array(text, Next(b"resolve_undo"))
@@ -81,13 +69,7 @@ fn write_paths<P: Printer, W: Out>(
     out: &mut W,
 ) -> io::Result<()>
     requires { W.failed out.old ≡ false }
-    ensures ok { OnOk result (Passes (W.taken out.old) (W.taken out.new) (bytes_of text.new)
-        (bytes_of text.old ++ print P.spell (undo_events (Some (map path_stages paths.now))))) }
-    ensures err { OnErr result (AppendsPrefix (W.taken out.old) (W.taken out.new)
-        (bytes_of text.old ++ print P.spell (undo_events (Some (map path_stages paths.now))))) }
-    ensures going { OnOk result (W.failed out.new ≡ false) }
-    ensures cause { IfErr result
-        (λ e. error_kind e ≢ ErrorKind.OutOfMemory → W.failed out.new ≡ true) }
+    ensures { Sends P.spell W.Out out.old out.new result text.old text.new (undo_of paths.now) }
 {
     append_begin::<P>(text, paths.len())?;
     write_each::<P, W>(text, paths, out)?;
@@ -97,15 +79,7 @@ fn write_paths<P: Printer, W: Out>(
 /// Tells the paths of a state that were in conflict.
 pub fn write_undo<P: Printer, W: Out>(text: &mut Text, state: &State, out: &mut W) -> io::Result<()>
     requires { W.failed out.old ≡ false }
-    ensures ok { OnOk result (Passes (W.taken out.old) (W.taken out.new) (bytes_of text.new)
-        (bytes_of text.old
-        ++ print P.spell (undo_events (contents state.now).extensions.resolve_undo))) }
-    ensures err { OnErr result (AppendsPrefix (W.taken out.old) (W.taken out.new)
-        (bytes_of text.old
-        ++ print P.spell (undo_events (contents state.now).extensions.resolve_undo))) }
-    ensures going { OnOk result (W.failed out.new ≡ false) }
-    ensures cause { IfErr result
-        (λ e. error_kind e ≢ ErrorKind.OutOfMemory → W.failed out.new ≡ true) }
+    ensures { Sends P.spell W.Out out.old out.new result text.old text.new (state_undo state.now) }
 {
     match state.resolve_undo() {
         Some(paths) => write_paths::<P, W>(text, paths, out),

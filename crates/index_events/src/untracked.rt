@@ -1,16 +1,12 @@
 //! The events of an untracked cache.
 
-ghost use Rattle.std.specs.Prelude.{◌≡◌, ◌≢◌, ◌++◌, [], ◌∷◌, IfErr, OnErr, OnOk, Some, codes, false, length, map, true};
-ghost use Rattle.std.specs.IoError.{error_kind};
+ghost use Rattle.std.specs.Prelude.{◌≡◌, false, map};
 ghost use Rattle.std.specs.Option.{option_map};
 ghost use Rattle.bstr.specs.Owned.{bstring_bytes};
-ghost use Rattle.index_parts.specs.Taking.{AppendsPrefix};
 ghost use Rattle.index_untracked.specs.Blocks.{directory_value};
 ghost use Rattle.index_untracked.specs.Untracked.{cache_of};
-ghost use Rattle.index_state.specs.State.{contents};
-ghost use Rattle.index_text.specs.Blocks.{Passes};
-ghost use Rattle.index_events.specs.Event.{bytes_of, in_order, listed, print};
-ghost use Rattle.index_events.specs.Untracked.{cache_begin, cache_events, cached_events, content_events, exclude_events, file_id, file_stat, name_events, naming_events, own_events, preamble_events, reading_events, stat_events, subdirectory_events, untracked_events};
+ghost use Rattle.index_events.specs.Event.{Sends, Tells, listed};
+ghost use Rattle.index_events.specs.Untracked.{begin_of, cache_events, cached_events, cached_in, content_events, exclude_events, file_events, file_id, file_stat, name_events, naming_events, own_events, preamble_events, reading_events, stat_events, state_cache, subdirectory_events};
 
 use crate::event::Member::{Element, First, Next};
 use crate::event::{element, first, next};
@@ -22,28 +18,25 @@ use index_state::State;
 use index_text::append::Appended;
 use index_text::block::put_block;
 use index_untracked::{Directory, OidStat, UntrackedCache};
-use std::io::{self, ErrorKind};
+use std::io;
 
 /// Tells the id of a file of exclude patterns.
 fn append_file_id<P: Printer>(text: &mut Text, words: &[u8], file: &OidStat) -> Appended
-    ensures { OnOk result
-        (bytes_of text.new ≡ bytes_of text.old ++ print P.spell (file_id words.now file.now)) }
+    ensures { Tells P.spell result text.old text.new (file_id words.now file.now) }
 {
     P::id(text, next(b"  ", words, b"id"), Some(file.id))
 }
 
 /// Tells the stat of a file of exclude patterns.
 fn append_file_stat<P: Printer>(text: &mut Text, file: &OidStat) -> Appended
-    ensures { OnOk result
-        (bytes_of text.new ≡ bytes_of text.old ++ print P.spell (file_stat file.now)) }
+    ensures { Tells P.spell result text.old text.new (file_stat file.now) }
 {
     P::stat(text, b"    ", First(b"stat"), file.stat)
 }
 
 /// Tells the id and the stat of a file of exclude patterns.
 fn append_file<P: Printer>(text: &mut Text, words: &[u8], file: &OidStat) -> Appended
-    ensures { OnOk result (bytes_of text.new ≡ bytes_of text.old ++ print P.spell
-        (in_order P.BACKWARDS (file_id words.now file.now) (file_stat file.now))) }
+    ensures { Tells P.spell result text.old text.new (file_events P.BACKWARDS words.now file.now) }
 {
     if P::BACKWARDS {
         append_file_stat::<P>(text, file)?;
@@ -61,8 +54,8 @@ fn append_exclude<P: Printer>(
     name: &[u8],
     file: Option<&OidStat>,
 ) -> Appended
-    ensures { OnOk result (bytes_of text.new ≡ bytes_of text.old ++ print P.spell
-        (exclude_events P.BACKWARDS words.now name.now (option_map (λ f. f.now) file.entry))) }
+    ensures { Tells P.spell result text.old text.new
+        (exclude_events P.BACKWARDS words.now name.now (option_map (λ f. f.now) file.entry)) }
 {
     match file {
         Some(file) => {
@@ -82,8 +75,7 @@ fn append_naming<P: Printer>(
     flags: u32,
     name: &[u8],
 ) -> Appended
-    ensures { OnOk result (bytes_of text.new ≡ bytes_of text.old
-        ++ print P.spell (naming_events identifier.now flags name.now)) }
+    ensures { Tells P.spell result text.old text.new (naming_events identifier.now flags name.now) }
 {
     P::string(text, first(b"  ", b"identifier", b"identifier"), identifier)?;
     P::number(text, next(b"  ", b"flags", b"dir_flags"), u64::from(flags))?;
@@ -94,8 +86,8 @@ fn append_naming<P: Printer>(
 /// Tells what a cache says of itself.
 #[tactic(auto, unfolding(crate::specs::Untracked::preamble_events))]
 fn append_preamble<P: Printer>(text: &mut Text, cache: &UntrackedCache) -> Appended
-    ensures { OnOk result (bytes_of text.new ≡ bytes_of text.old
-        ++ print P.spell (preamble_events P.BACKWARDS (cache_of cache.now).preamble)) }
+    ensures { Tells P.spell result text.old text.new
+        (preamble_events P.BACKWARDS (cache_of cache.now).preamble) }
 {
     let name = cache.exclude_filename_per_dir();
     append_naming::<P>(text, cache.identifier(), cache.dir_flags(), name)?;
@@ -111,8 +103,8 @@ fn append_preamble<P: Printer>(text: &mut Text, cache: &UntrackedCache) -> Appen
 /// Tells the stat of a directory.
 #[tactic(auto, unfolding(crate::specs::Untracked::stat_events))]
 fn append_stat<P: Printer>(text: &mut Text, stat: Option<&Stat>) -> Appended
-    ensures { OnOk result (bytes_of text.new ≡ bytes_of text.old
-        ++ print P.spell (stat_events (option_map (λ s. s.now) stat.entry))) }
+    ensures { Tells P.spell result text.old text.new
+        (stat_events (option_map (λ s. s.now) stat.entry)) }
 {
     match stat {
         Some(stat) => {
@@ -125,8 +117,8 @@ fn append_stat<P: Printer>(text: &mut Text, stat: Option<&Stat>) -> Appended
 
 /// Tells how a directory was read.
 fn append_reading<P: Printer>(text: &mut Text, directory: &Directory) -> Appended
-    ensures { OnOk result (bytes_of text.new ≡ bytes_of text.old
-        ++ print P.spell (reading_events P.BACKWARDS (directory_value directory.now))) }
+    ensures { Tells P.spell result text.old text.new
+        (reading_events P.BACKWARDS (directory_value directory.now)) }
 {
     let own = next(b"    ", b"check only", b"check_only");
     let file = next(b"    ", b"exclude file", b"exclude_file_oid");
@@ -141,8 +133,8 @@ fn append_reading<P: Printer>(text: &mut Text, directory: &Directory) -> Appende
 /// Tells what is known of a directory by itself.
 #[tactic(auto, unfolding(crate::specs::Untracked::own_events))]
 fn append_own<P: Printer>(text: &mut Text, directory: &Directory) -> Appended
-    ensures { OnOk result (bytes_of text.new ≡ bytes_of text.old
-        ++ print P.spell (own_events P.BACKWARDS (directory_value directory.now))) }
+    ensures { Tells P.spell result text.old text.new
+        (own_events P.BACKWARDS (directory_value directory.now)) }
 {
     P::string(text, first(b"    ", b"name", b"name"), directory.name())?;
     if P::BACKWARDS {
@@ -156,8 +148,7 @@ fn append_own<P: Printer>(text: &mut Text, directory: &Directory) -> Appended
 /// Tells a name.
 #[tactic(auto, unfolding(crate::specs::Untracked::name_events))]
 fn append_name<P: Printer>(text: &mut Text, place: usize, name: &[u8]) -> Appended
-    ensures { OnOk result
-        (bytes_of text.new ≡ bytes_of text.old ++ print P.spell (name_events place name.now)) }
+    ensures { Tells P.spell result text.old text.new (name_events place name.now) }
 {
     P::begin_object(text, Element(place))?;
     P::string(text, first(b"    ", b"untracked", b"name"), name)?;
@@ -166,8 +157,8 @@ fn append_name<P: Printer>(text: &mut Text, place: usize, name: &[u8]) -> Append
 
 /// Tells names.
 fn append_names<P: Printer>(text: &mut Text, names: &[BString]) -> Appended
-    ensures { OnOk result (bytes_of text.new
-        ≡ bytes_of text.old ++ print P.spell (listed name_events (map bstring_bytes names.now))) }
+    ensures { Tells P.spell result text.old text.new
+        (listed name_events (map bstring_bytes names.now)) }
 {
     for (place, name) in names.iter().enumerate() {
         append_name::<P>(text, place, name.as_bytes())?;
@@ -177,8 +168,7 @@ fn append_names<P: Printer>(text: &mut Text, names: &[BString]) -> Appended
 
 /// Tells the places of directories.
 fn append_places<P: Printer>(text: &mut Text, places: &[usize]) -> Appended
-    ensures { OnOk result (bytes_of text.new
-        ≡ bytes_of text.old ++ print P.spell (listed subdirectory_events places.now)) }
+    ensures { Tells P.spell result text.old text.new (listed subdirectory_events places.now) }
 {
     for (index, place) in places.iter().enumerate() {
         P::number(
@@ -193,8 +183,8 @@ fn append_places<P: Printer>(text: &mut Text, places: &[usize]) -> Appended
 /// Tells what is in a directory.
 #[tactic(auto, unfolding(crate::specs::Untracked::content_events))]
 fn append_content<P: Printer>(text: &mut Text, directory: &Directory) -> Appended
-    ensures { OnOk result (bytes_of text.new ≡ bytes_of text.old
-        ++ print P.spell (content_events (directory_value directory.now))) }
+    ensures { Tells P.spell result text.old text.new
+        (content_events (directory_value directory.now)) }
 {
     P::begin_array(text, Next(b"untracked_entries"))?;
     append_names::<P>(text, directory.untracked_entries())?;
@@ -207,8 +197,8 @@ fn append_content<P: Printer>(text: &mut Text, directory: &Directory) -> Appende
 /// Tells a directory.
 #[tactic(auto, unfolding(crate::specs::Untracked::cached_events))]
 fn append_directory<P: Printer>(text: &mut Text, place: usize, directory: &Directory) -> Appended
-    ensures { OnOk result (bytes_of text.new ≡ bytes_of text.old
-        ++ print P.spell (cached_events P.BACKWARDS place (directory_value directory.now))) }
+    ensures { Tells P.spell result text.old text.new
+        (cached_events P.BACKWARDS place (directory_value directory.now)) }
 {
     P::count(text, b"  ", b"directory", place as u64)?;
     P::begin_object(text, Element(place))?;
@@ -224,15 +214,8 @@ fn write_each<P: Printer, W: Out>(
     out: &mut W,
 ) -> io::Result<()>
     requires { W.failed out.old ≡ false }
-    ensures ok { OnOk result (Passes (W.taken out.old) (W.taken out.new) (bytes_of text.new)
-        (bytes_of text.old ++ print P.spell
-        (listed (cached_events P.BACKWARDS) (map directory_value directories.now)))) }
-    ensures err { OnErr result (AppendsPrefix (W.taken out.old) (W.taken out.new)
-        (bytes_of text.old ++ print P.spell
-        (listed (cached_events P.BACKWARDS) (map directory_value directories.now)))) }
-    ensures going { OnOk result (W.failed out.new ≡ false) }
-    ensures cause { IfErr result
-        (λ e. error_kind e ≢ ErrorKind.OutOfMemory → W.failed out.new ≡ true) }
+    ensures { Sends P.spell W.Out out.old out.new result text.old text.new
+        (cached_in P.BACKWARDS directories.now) }
 {
     for (place, directory) in directories.iter().enumerate() {
         append_directory::<P>(text, place, directory)?;
@@ -244,8 +227,7 @@ fn write_each<P: Printer, W: Out>(
 /// Tells how many directories there are, and what the cache says of itself.
 #[tactic(auto, unfolding(crate::specs::Untracked::cache_begin))]
 fn append_begin<P: Printer>(text: &mut Text, cache: &UntrackedCache) -> Appended
-    ensures { OnOk result (bytes_of text.new ≡ bytes_of text.old ++ print P.spell (cache_begin
-        P.BACKWARDS (length (cache_of cache.now).directories) (cache_of cache.now).preamble)) }
+    ensures { Tells P.spell result text.old text.new (begin_of P.BACKWARDS (cache_of cache.now)) }
 {
     P::count(
         text,
@@ -265,13 +247,8 @@ fn write_cache<P: Printer, W: Out>(
     out: &mut W,
 ) -> io::Result<()>
     requires { W.failed out.old ≡ false }
-    ensures ok { OnOk result (Passes (W.taken out.old) (W.taken out.new) (bytes_of text.new)
-        (bytes_of text.old ++ print P.spell (cache_events P.BACKWARDS (cache_of cache.now)))) }
-    ensures err { OnErr result (AppendsPrefix (W.taken out.old) (W.taken out.new)
-        (bytes_of text.old ++ print P.spell (cache_events P.BACKWARDS (cache_of cache.now)))) }
-    ensures going { OnOk result (W.failed out.new ≡ false) }
-    ensures cause { IfErr result
-        (λ e. error_kind e ≢ ErrorKind.OutOfMemory → W.failed out.new ≡ true) }
+    ensures { Sends P.spell W.Out out.old out.new result text.old text.new
+        (cache_events P.BACKWARDS (cache_of cache.now)) }
 {
     append_begin::<P>(text, cache)?;
     write_each::<P, W>(text, cache.directories(), out)?;
@@ -285,15 +262,8 @@ pub fn write_untracked<P: Printer, W: Out>(
     out: &mut W,
 ) -> io::Result<()>
     requires { W.failed out.old ≡ false }
-    ensures ok { OnOk result (Passes (W.taken out.old) (W.taken out.new) (bytes_of text.new)
-        (bytes_of text.old ++ print P.spell
-        (untracked_events P.BACKWARDS (contents state.now).extensions.untracked))) }
-    ensures err { OnErr result (AppendsPrefix (W.taken out.old) (W.taken out.new)
-        (bytes_of text.old ++ print P.spell
-        (untracked_events P.BACKWARDS (contents state.now).extensions.untracked))) }
-    ensures going { OnOk result (W.failed out.new ≡ false) }
-    ensures cause { IfErr result
-        (λ e. error_kind e ≢ ErrorKind.OutOfMemory → W.failed out.new ≡ true) }
+    ensures { Sends P.spell W.Out out.old out.new result text.old text.new
+        (state_cache P.BACKWARDS state.now) }
 {
     match state.untracked() {
         Some(cache) => write_cache::<P, W>(text, cache, out),

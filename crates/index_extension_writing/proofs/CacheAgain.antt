@@ -20,8 +20,8 @@ use Rattle.index_untracked.specs.CacheBitmaps.{ListsBelow, AreBitmaps, IsTail}
 use Rattle.index_untracked.specs.CachedStat.{cached_stat}
 use Rattle.index_untracked.specs.Untracked.{oid_stat, Preamble, Cache, IsPreamble, IsNest, AreDirectories, IsCache}
 use Rattle.index_untracked.specs.declared.OidStat.{OidStat}
-use Rattle.index_extension_writing.specs.BitmapImage.{bitmap_bytes}
-use Rattle.index_extension_writing.specs.EncodedBitmap.{encoded, set_from}
+use Rattle.index_bitmap_writing.specs.BitmapImage.{bitmap_bytes}
+use Rattle.index_bitmap_writing.specs.EncodedBitmap.{encoded, set_from}
 use Rattle.index_extension_writing.specs.UntrackedImage.{file_stat, file_id, preamble_bytes, directory_bytes, is_marked}
 use Rattle.index_extension_writing.specs.UntrackedImage.{marks_bytes, bitmaps_bytes, valid_stat, valid_id, tail_bytes}
 use Rattle.index_extension_writing.specs.UntrackedImage.{directories_bytes, cache_bytes, start_bytes, stat_bytes}
@@ -30,11 +30,11 @@ use Rattle.index_extension_writing.specs.declared.marks.Mark.TheVariants as mark
 use Rattle.index_extension_writing.specs.SpellableCache.{IsSpellableFile, IsSpellablePreamble, IsSpellableBlock, bare}
 use Rattle.index_extension_writing.specs.SpellableCache.{IsSpellableKnown, AreOfBlock, IsSpellableCache}
 use Rattle.index_extension_writing.proofs.BlocksAgain.{block_there}
-use Rattle.index_extension_writing.proofs.EncodedBits.{bits_listed, bits_spellable, last_len}
+use Rattle.index_bitmap_writing.proofs.EncodedBits.{bits_listed, bits_spellable, last_len}
 use Rattle.index_extension_writing.proofs.KnownAgain.{stat_len, stat_again, id_again, stat_piece, id_piece, pieces_of}
 use Rattle.index_extension_writing.proofs.KnownAgain.{bits_by, maps_from, known_again, stats_joined, ids_joined}
 use Rattle.index_extension_writing.proofs.KnownAgain.{pieces_number, stats_sizes, ids_sizes, valid_bits, hash_bits}
-use Rattle.index_extension_writing.proofs.WrittenBitmaps.{bitmap_there}
+use Rattle.index_bitmap_writing.proofs.WrittenBitmaps.{bitmap_there}
 use Rattle.index_extension_writing.proofs.WrittenDirectories.{many_directories}
 
 -- ---- what a cache says of itself

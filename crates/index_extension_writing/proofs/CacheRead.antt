@@ -25,7 +25,7 @@ use Rattle.index_extension_writing.specs.SpellableCache.{IsName, IsSpellableBloc
 use Rattle.index_extension_writing.specs.SpellableCache.{AreOfBlocks, IsSpellableCache, names_are_some}
 use Rattle.index_extension_writing.proofs.BlocksAgain.{places_len}
 use Rattle.index_extension_writing.proofs.CacheAgain.{listed_len}
-use Rattle.index_extension_writing.proofs.WrittenBitmaps.{be_four, bytes_first, bytes_behind}
+use Rattle.index_bitmap_writing.proofs.WrittenBitmaps.{be_four, bytes_first, bytes_behind}
 
 abbrev IsByte : ℕ → Type 0
 IsByte n = n < 256

@@ -14,7 +14,7 @@ use Rattle.index_parts.specs.declared.hash.ObjectId.{ObjectId}
 use Rattle.index_untracked.specs.Blocks.{DirectoryValue}
 use Rattle.index_untracked.specs.CacheBitmaps.{DirectoryBitmaps, value_at, with_bitmaps}
 use Rattle.index_untracked.specs.CachedStat.{cached_stat}
-use Rattle.index_extension_writing.specs.EncodedBitmap.{set_from}
+use Rattle.index_bitmap_writing.specs.EncodedBitmap.{set_from}
 use Rattle.index_extension_writing.specs.UntrackedImage.{stat_bytes, valid_stat, valid_id, is_marked}
 use Rattle.index_extension_writing.specs.declared.marks.Mark.TheVariants as marks
 use Rattle.index_extension_writing.specs.SpellableCache.{IsSpellableStat, IsIdOf, IsSpellableKnown, bare}

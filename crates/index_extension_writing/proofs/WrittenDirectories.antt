@@ -10,8 +10,8 @@ use Rattle.index_parts.specs.declared.hash.Kind.{Kind}
 use Rattle.index_untracked.specs.Blocks.{DirectoryValue, directory_value}
 use Rattle.index_untracked.specs.Untracked.{Cache, Preamble}
 use Rattle.index_untracked.specs.declared.Directory.{Directory}
-use Rattle.index_extension_writing.specs.BitmapImage.{bitmap_bytes}
-use Rattle.index_extension_writing.specs.EncodedBitmap.{encoded}
+use Rattle.index_bitmap_writing.specs.BitmapImage.{bitmap_bytes}
+use Rattle.index_bitmap_writing.specs.EncodedBitmap.{encoded}
 use Rattle.index_extension_writing.specs.UntrackedImage.{file_stat, file_id, preamble_bytes, start_bytes, bitmaps_bytes}
 use Rattle.index_extension_writing.specs.UntrackedImage.{cache_bytes, directories_bytes, directory_bytes}
 use Rattle.index_extension_writing.specs.UntrackedImage.{has_mark, is_marked, names_bytes, tail_bytes, valid_stat, valid_id}

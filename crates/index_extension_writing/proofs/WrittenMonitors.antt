@@ -6,11 +6,11 @@ use Rattle.index_extensions.proofs.WrittenItems.{be_be32}
 use Rattle.index_parts.specs.Numbers.{be, be32}
 use Rattle.index_small_extensions.specs.FsMonitor.{TokenValue, nanoseconds, opaque, Monitor, IsToken, version_1}
 use Rattle.index_small_extensions.specs.FsMonitor.{version_2, IsMonitor}
-use Rattle.index_extension_writing.specs.BitmapImage.{bitmap_bytes}
+use Rattle.index_bitmap_writing.specs.BitmapImage.{bitmap_bytes}
 use Rattle.index_extension_writing.specs.MonitorImage.{version_of, token_bytes, sized_bitmap_bytes, monitor_bytes}
 use Rattle.index_extension_writing.specs.MonitorImage.{IsSpellableToken, IsSpellableMonitor}
-use Rattle.index_extension_writing.proofs.WrittenBitmaps.{be_be64, be_four, be_eight, bytes_first, bytes_behind}
-use Rattle.index_extension_writing.proofs.WrittenBitmaps.{bitmap_there, bitmap_len, bitmap_spellable, words_size}
+use Rattle.index_bitmap_writing.proofs.WrittenBitmaps.{be_be64, be_four, be_eight, bytes_first, bytes_behind}
+use Rattle.index_bitmap_writing.proofs.WrittenBitmaps.{bitmap_there, bitmap_len, bitmap_spellable, words_size}
 
 -- ---- lengths
 

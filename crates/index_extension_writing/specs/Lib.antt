@@ -1,6 +1,3 @@
-pub mod BitmapImage
-pub mod EncodedBitmap
-pub mod EncodingSteps
 pub mod MonitorImage
 pub mod MonitorPlaces
 pub mod ResolveUndoImage

@@ -6,8 +6,8 @@ use Rattle.index_extensions.specs.Encoding.{item_of}
 use Rattle.index_extensions.specs.Walk.{Item}
 use Rattle.index_small_extensions.specs.FsMonitor.{TokenValue, nanoseconds, opaque, Monitor, token_value}
 use Rattle.index_small_extensions.specs.declared.fs_monitor.Token.{Token}
-use Rattle.index_extension_writing.specs.BitmapImage.{be64, bitmap_bytes, lent_bitmap, IsSpellableBitmap}
-use Rattle.index_extension_writing.specs.declared.ewah.LentVec.{LentVec}
+use Rattle.index_bitmap_writing.specs.BitmapImage.{be64, bitmap_bytes, lent_bitmap, IsSpellableBitmap}
+use Rattle.index_bitmap_writing.specs.declared.ewah.LentVec.{LentVec}
 
 -- a token and a bitmap whose words are lent, as plain data
 abbrev pub lent_monitor : Token → LentVec → Monitor

@@ -14,8 +14,8 @@ use Rattle.index_untracked.specs.Blocks.{DirectoryValue, directory_value}
 use Rattle.index_untracked.specs.Untracked.{Cache, Preamble}
 use Rattle.index_untracked.specs.declared.Directory.{Directory}
 use Rattle.index_untracked.specs.declared.OidStat.{OidStat}
-use Rattle.index_extension_writing.specs.BitmapImage.{bitmap_bytes}
-use Rattle.index_extension_writing.specs.EncodedBitmap.{encoded}
+use Rattle.index_bitmap_writing.specs.BitmapImage.{bitmap_bytes}
+use Rattle.index_bitmap_writing.specs.EncodedBitmap.{encoded}
 use Rattle.index_extension_writing.specs.declared.marks.Mark.{Mark}
 use Rattle.index_extension_writing.specs.declared.marks.Mark.TheVariants as marks
 

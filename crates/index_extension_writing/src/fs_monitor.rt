@@ -8,14 +8,14 @@ ghost use Rattle.index_extensions.specs.Encoding.{item_bytes};
 ghost use Rattle.index_parts.specs.Numbers.{be32};
 ghost use Rattle.index_parts.specs.Puts.{Puts};
 ghost use Rattle.index_small_extensions.specs.FsMonitor.{monitor_of, token_value};
-ghost use Rattle.index_extension_writing.specs.BitmapImage.{bitmap_bytes, lent_bitmap};
+ghost use Rattle.index_bitmap_writing.specs.BitmapImage.{bitmap_bytes, lent_bitmap};
 ghost use Rattle.index_extension_writing.specs.MonitorImage.{lent_monitor, monitor_bytes, monitor_item};
 ghost use Rattle.index_extension_writing.specs.MonitorImage.{sized_bitmap_bytes, token_bytes, version_of};
 ghost use Rattle.index_extension_writing.specs.MonitorPlaces.{are_below, monitor_is_within};
 
-use crate::ewah;
-use crate::ewah::{LentVec, lent};
-use crate::pieces::{put_head, put_number, put_text, put_word};
+use index_bitmap_writing::ewah;
+use index_bitmap_writing::ewah::{LentVec, lent};
+use index_bitmap_writing::pieces::{put_head, put_number, put_text, put_word};
 use index_bitmaps::ewah::{Positions, Run};
 use index_parts::hash::io::Out;
 use index_small_extensions::fs_monitor::{FsMonitor, SIGNATURE, Token};

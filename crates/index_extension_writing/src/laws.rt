@@ -7,31 +7,12 @@ ghost use Rattle.index_parts.specs.declared.hash.Kind.{Kind};
 ghost use Rattle.index_small_extensions.specs.FsMonitor.{IsMonitor, Monitor};
 ghost use Rattle.index_small_extensions.specs.ResolveUndo.{IsResolveUndo, PathStages};
 ghost use Rattle.index_untracked.specs.Untracked.{Cache, IsCache};
-ghost use Rattle.index_extension_writing.specs.BitmapImage.{bitmap_bytes, IsSpellableBitmap};
-ghost use Rattle.index_extension_writing.specs.EncodedBitmap.{encoded, set_from};
+ghost use Rattle.index_bitmap_writing.specs.BitmapImage.{bitmap_bytes, IsSpellableBitmap};
+ghost use Rattle.index_bitmap_writing.specs.EncodedBitmap.{encoded, set_from};
 ghost use Rattle.index_extension_writing.specs.MonitorImage.{monitor_bytes, IsSpellableMonitor};
 ghost use Rattle.index_extension_writing.specs.ResolveUndoImage.{resolve_undo_bytes, AreSpellablePaths};
 ghost use Rattle.index_extension_writing.specs.SpellableCache.{IsSpellableCache, names_are_some};
 ghost use Rattle.index_extension_writing.specs.UntrackedImage.{cache_bytes};
-
-/// What is written of a bitmap is read as the bitmap, whatever stands behind it. A bitmap that was read can be written
-/// so.
-pub fn bitmap_reads_back()
-    ensures read { (b : Bitmap) (rest : List ℕ) → IsSpellableBitmap b
-        → IsBitmap (bitmap_bytes b ++ rest) b rest }
-    ensures spellable { (bytes : List ℕ) (b : Bitmap) (rest : List ℕ) → All (λ n. n < 256) bytes
-        → IsBitmap bytes b rest → IsSpellableBitmap b }
-{}
-
-/// The bitmap that is made of bits lists the places of those that are set, declares no more bits than there are, and can
-/// be written.
-pub fn bits_read_back()
-    ensures places { (bits : List Bool) → length bits < 2 ^ 32
-        → ListPlaces (map Ok (set_from 0 bits)) (encoded bits).words }
-    ensures few { (bits : List Bool) → (encoded bits).num_bits ≤ length bits }
-    ensures spellable { (bits : List Bool) → length bits < 2 ^ 32
-        → IsSpellableBitmap (encoded bits) }
-{}
 
 /// What is written of a file system monitor is read as what it said. What was read can be written so.
 pub fn monitor_reads_back()

@@ -2,12 +2,9 @@
 //! (gitformat-index, "Extensions").
 #![tactic(auto)]
 
-pub mod encoding;
-mod ewah;
 pub mod fs_monitor;
 pub mod laws;
 mod marks;
-mod pieces;
 pub mod resolve_undo;
 pub mod untracked_cache;
 mod untracked_sizes;

@@ -9,7 +9,7 @@ ghost use Rattle.index_small_extensions.specs.ResolveUndo.{path_stages};
 ghost use Rattle.index_extension_writing.specs.ResolveUndoImage.{mode_bytes, octal_digits, path_bytes, resolve_undo_bytes};
 ghost use Rattle.index_extension_writing.specs.ResolveUndoImage.{resolve_undo_item, stage_id, stage_mode};
 
-use crate::pieces::{put_head, put_text};
+use index_bitmap_writing::pieces::{put_head, put_text};
 use index_parts::hash::io::Out;
 use index_small_extensions::resolve_undo::{ResolvePath, SIGNATURE, Stage};
 use std::io;

@@ -9,18 +9,19 @@ ghost use Rattle.index_parts.specs.Id.{id_bytes};
 ghost use Rattle.index_parts.specs.Puts.{Puts};
 ghost use Rattle.index_untracked.specs.Blocks.{directory_value};
 ghost use Rattle.index_untracked.specs.Untracked.{cache_of};
-ghost use Rattle.index_extension_writing.specs.BitmapImage.{bitmap_bytes};
-ghost use Rattle.index_extension_writing.specs.EncodedBitmap.{encoded};
+ghost use Rattle.index_bitmap_writing.specs.BitmapImage.{bitmap_bytes};
+ghost use Rattle.index_bitmap_writing.specs.EncodedBitmap.{encoded};
 ghost use Rattle.index_extension_writing.specs.SpellableCache.{has_names, names_are_some};
 ghost use Rattle.index_extension_writing.specs.UntrackedImage.{bitmaps_bytes, cache_bytes, cache_item};
 ghost use Rattle.index_extension_writing.specs.UntrackedImage.{directories_bytes, directory_bytes};
 ghost use Rattle.index_extension_writing.specs.UntrackedImage.{file_id, file_stat, has_mark, preamble_bytes};
 ghost use Rattle.index_extension_writing.specs.UntrackedImage.{start_bytes, stat_bytes, tail_bytes, valid_id, valid_stat};
 
-use crate::marks::{Mark, Marks};
-use crate::pieces::{put_head, put_text};
-use crate::{encoding, untracked_sizes};
+use crate::marks::Mark;
+use crate::untracked_sizes;
 use bstr::BString;
+use index_bitmap_writing::marks;
+use index_bitmap_writing::pieces::{put_head, put_text};
 use index_metadata::entry::Stat;
 use index_parts::encode;
 use index_parts::hash::io::Out;
@@ -140,17 +141,6 @@ fn put_blocks<W: Out>(directories: &[Directory], out: &mut W) -> io::Result<()>
     Ok(())
 }
 
-/// Writes the bitmap of the directories that have a mark.
-fn put_marks<W: Out>(directories: &[Directory], mark: Mark, out: &mut W) -> io::Result<()>
-    requires few { length directories.now < 2 ^ 32 }
-    requires unfailed { W.failed out.old ≡ false }
-    ensures { Puts W.Out out.old out.new result
-        (bitmap_bytes (encoded (map (has_mark mark) directories.now))) }
-{
-    let marks = Marks::new(directories, mark);
-    encoding::put(marks.num_bits(), &marks, out)
-}
-
 /// Writes the three bitmaps.
 fn put_bitmaps<W: Out>(directories: &[Directory], out: &mut W) -> io::Result<()>
     requires few { length directories.now < 2 ^ 32 }
@@ -158,9 +148,9 @@ fn put_bitmaps<W: Out>(directories: &[Directory], out: &mut W) -> io::Result<()>
     ensures { Puts W.Out out.old out.new result
         (bitmaps_bytes (map directory_value directories.now)) }
 {
-    put_marks(directories, Mark::Valid, out)?;
-    put_marks(directories, Mark::CheckOnly, out)?;
-    put_marks(directories, Mark::HashValid, out)
+    marks::put(directories, Mark::Valid, out)?;
+    marks::put(directories, Mark::CheckOnly, out)?;
+    marks::put(directories, Mark::HashValid, out)
 }
 
 /// Writes a stat, where it is valid.

@@ -7,15 +7,15 @@ ghost use Rattle.index_cached_tree.specs.TreeWriting.{within_32};
 ghost use Rattle.index_parts.specs.Offset.{offset_bytes};
 ghost use Rattle.index_untracked.specs.Blocks.{directory_value};
 ghost use Rattle.index_untracked.specs.Untracked.{cache_of};
-ghost use Rattle.index_extension_writing.specs.BitmapImage.{bitmap_bytes};
-ghost use Rattle.index_extension_writing.specs.EncodedBitmap.{encoded};
+ghost use Rattle.index_bitmap_writing.specs.BitmapImage.{bitmap_bytes};
+ghost use Rattle.index_bitmap_writing.specs.EncodedBitmap.{encoded};
 ghost use Rattle.index_extension_writing.specs.UntrackedImage.{cache_bytes, directories_bytes, has_mark, known_bytes};
 ghost use Rattle.index_extension_writing.specs.UntrackedImage.{names_bytes, preamble_bytes, start_bytes, valid_id, valid_stat};
 
-use crate::encoding;
-use crate::marks::{Mark, Marks};
+use crate::marks::Mark;
 use crate::untracked_cache::file_id;
 use bstr::BString;
+use index_bitmap_writing::marks;
 use index_metadata::entry::Stat;
 use index_parts::encode;
 use index_parts::hash::{Kind, ObjectId};
@@ -115,15 +115,6 @@ fn blocks_len(directories: &[Directory]) -> Option<u32>
     Some(len)
 }
 
-/// How many bytes the bitmap of the directories that have a mark has.
-fn marks_len(directories: &[Directory], mark: Mark) -> u64
-    requires { length directories.now < 2 ^ 32 }
-    ensures len { result ≡ length (bitmap_bytes (encoded (map (has_mark mark) directories.now))) }
-    ensures fits { result < 2 ^ 36 }
-{
-    encoding::content_len(&Marks::new(directories, mark))
-}
-
 /// How many bytes directories have, and what stands behind them; None where they have more than 2^32 - 1.
 fn directories_len(directories: &[Directory]) -> Option<u32>
     ensures { result ≡ within_32 (length (directories_bytes (map directory_value directories.now))) }
@@ -133,9 +124,9 @@ fn directories_len(directories: &[Directory]) -> Option<u32>
     }
     let blocks = blocks_len(directories)?;
     let len = u64::from(blocks)
-        + marks_len(directories, Mark::Valid)
-        + marks_len(directories, Mark::CheckOnly)
-        + marks_len(directories, Mark::HashValid)
+        + marks::content_len(directories, Mark::Valid)
+        + marks::content_len(directories, Mark::CheckOnly)
+        + marks::content_len(directories, Mark::HashValid)
         + 1;
     if len > u64::from(u32::MAX) {
         return None;

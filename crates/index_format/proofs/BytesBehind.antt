@@ -6,7 +6,7 @@ use Rattle.index_entries.specs.Entry.{IsEntry, IsEntry23, IsEntry4, head_bytes}
 use Rattle.index_entries.specs.Record.{AreBytes, Record}
 use Rattle.index_entries.specs.declared.Version.{Version}
 use Rattle.index_entries.specs.declared.Version.TheVariants.{V2, V3, V4}
-use Rattle.index_extension_writing.proofs.WrittenBitmaps.{bytes_behind, bytes_first}
+use Rattle.index_bitmap_writing.proofs.WrittenBitmaps.{bytes_behind, bytes_first}
 
 behind23 : (kind : Kind) (bytes : List ℕ) (r : Record) (rest : List ℕ) → IsEntry23 kind bytes r rest → AreBytes bytes
     → AreBytes rest

@@ -12,7 +12,7 @@ use Rattle.index_extension_writing.specs.MonitorImage.{IsSpellableMonitor}
 use Rattle.index_extension_writing.specs.ResolveUndoImage.{AreSpellablePaths}
 use Rattle.index_extension_writing.specs.SpellableCache.{IsSpellableBlock, IsSpellableCache, names_are_some}
 use Rattle.index_extension_writing.proofs.CacheRead.{cache_spellable}
-use Rattle.index_extension_writing.proofs.WrittenBitmaps.{be_four, bytes_behind, bytes_first}
+use Rattle.index_bitmap_writing.proofs.WrittenBitmaps.{be_four, bytes_behind, bytes_first}
 use Rattle.index_extension_writing.proofs.WrittenMonitors.{monitor_spellable}
 use Rattle.index_extension_writing.proofs.WrittenPaths.{paths_spellable}
 use Rattle.index_format.specs.Outcome.{IsOutcome, Outcome}

@@ -1,5 +1,5 @@
 -- What is asked of an untracked cache that is kept, and of what a monitor said (gitformat-index, "Untracked cache",
--- "File System Monitor cache"). An index has neither but by reading, and so they are always such.
+-- "File System Monitor cache"). Those that are read of a file are always such.
 use Rattle.std.specs.Prelude.{◌≡◌, true, IfSome, None}
 use Rattle.index_parts.specs.declared.hash.Kind.{Kind}
 use Rattle.index_extension_writing.specs.MonitorImage.{IsSpellableMonitor}

@@ -3,9 +3,11 @@
 
 ghost use Rattle.std.specs.Prelude.{◌≡◌, ℕ, ◌<◌, All, None, false, length, map, position, IfSome, IsNone};
 ghost use Rattle.index_cached_tree.specs.Sound.{CountsAtMost};
+ghost use Rattle.index_cached_tree.specs.StoredTree.{IsStorableTree};
 ghost use Rattle.index_cached_tree.specs.Tree.{node_of, nodes_from};
 ghost use Rattle.index_cached_tree.specs.declared.Tree.TheViews.{out-Tree};
 ghost use Rattle.index_parts.specs.Id.{id_kind, null_id};
+ghost use Rattle.index_parts.specs.declared.hash.Kind.{Kind};
 ghost use Rattle.index_invalidation.specs.Invalidation.{invalidated, invalidated_below, is_named, slash_of};
 
 use index_cached_tree::Tree;
@@ -71,7 +73,7 @@ fn invalidate_below(children: &mut Vec<Tree>, path: &[u8])
 ///
 /// The root and the directories of the path lose their counts, and with them their ids, which become null. Where the
 /// path itself is that of a directory, the directory goes with all below it. All else stays. Of siblings with one name
-/// the first is meant. A directory that the tree lacks ends the way down.
+/// the first is meant. A directory that the tree lacks ends the way down. A tree that bytes can hold stays one.
 ///
 /// No memory is taken. Names are compared on the way alone, and the calls are as deep as the tree at most.
 #[cycle(nodes)]
@@ -79,6 +81,8 @@ pub fn invalidate(tree: &mut Tree, path: &[u8])
     ensures is { node_of tree.new ≡ invalidated path.now (node_of tree.old) }
     ensures counts { (most : ℕ) → CountsAtMost most (node_of tree.old)
         → CountsAtMost most (node_of tree.new) }
+    ensures storable { (kind : Kind) → IsStorableTree kind (node_of tree.old)
+        → IsStorableTree kind (node_of tree.new) }
 {
     clear(tree);
     invalidate_below(&mut tree.children, path);

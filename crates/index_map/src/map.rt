@@ -1,9 +1,7 @@
 //! The map of a file: a line for each part.
 
-ghost use Rattle.std.specs.Prelude.{◌≡◌, ◌≢◌, ◌++◌, IfErr, OnOk, OnErr, codes, false, true};
-ghost use Rattle.std.specs.Io.KnownBytes.{Appends};
-ghost use Rattle.std.specs.IoError.{error_kind};
-ghost use Rattle.index_parts.specs.Taking.{AppendsPrefix};
+ghost use Rattle.std.specs.Prelude.{◌≡◌, ◌++◌, OnOk, codes, false};
+ghost use Rattle.index_text.specs.Blocks.{PutsText};
 ghost use Rattle.index_text.specs.Escaped.{escaped};
 ghost use Rattle.index_map.specs.Lines.{map_line, map_lines, map_path, record_path, what_text};
 
@@ -18,7 +16,6 @@ use index_text::lines::Lines;
 use index_text::quote::append_quoted;
 use std::alloc::{AllocError, Global};
 use std::io;
-use std::io::ErrorKind;
 
 /// The path of the entry at a place, or nothing where there is none.
 fn record_path<'a>(entries: &EntrySlice<'a>, place: usize) -> &'a [u8]
@@ -112,7 +109,7 @@ fn append_line(
 /// one line: a byte that isn't plain ASCII is `\x` and two digits of base 16, and a backslash is doubled.
 ///
 /// The lines wait in one buffer, which goes out past 64 KiB. An error is want of memory for that buffer
-/// ([`ErrorKind::OutOfMemory`]) or the output's, which has failed then; what was written by then is a prefix of the
+/// ([`io::ErrorKind::OutOfMemory`]) or the output's, which has failed then; what was written by then is a prefix of the
 /// lines.
 pub fn write_map<W: Out>(
     alloc: Global,
@@ -122,14 +119,8 @@ pub fn write_map<W: Out>(
     out: &mut W,
 ) -> io::Result<()>
     requires { W.failed out.old ≡ false }
-    ensures ok { OnOk result (Appends (W.taken out.old) (W.taken out.new)
-        (map_lines style entries.now.records parts.now)) }
-    ensures err { OnErr result (AppendsPrefix (W.taken out.old) (W.taken out.new)
-        (map_lines style entries.now.records parts.now)) }
-    ensures cause { IfErr result
-        (λ e. error_kind e ≢ ErrorKind.OutOfMemory → W.failed out.new ≡ true) }
-    ensures unfailed { OnOk result (W.failed out.new ≡ false) }
-    ensures loan { W.loan out.new ≡ W.loan out.old }
+    ensures { PutsText W.Out out.old out.new result
+        (map_lines style entries.now.records parts.now) }
 {
     let entries = entries.as_slice();
     let mut lines = Vec::with_capacity(alloc, BLOCK_LEN + SPARE_LEN)?;

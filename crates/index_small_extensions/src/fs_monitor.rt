@@ -85,6 +85,14 @@ impl FsMonitor {
     {
         &self.entry_dirty
     }
+
+    /// Puts other places in the place of its own, where entries have changed. When the monitor was asked stays.
+    pub fn set_entry_dirty(&mut self, entry_dirty: ewah::Vec)
+        ensures { monitor_of self.new
+            ≡ record { token = token_value self.old.token; dirty = bitmap entry_dirty } }
+    {
+        self.entry_dirty = entry_dirty;
+    }
 }
 
 /// Lets each fault of the bytes pass; want of memory is none.

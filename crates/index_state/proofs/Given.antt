@@ -1,9 +1,13 @@
 -- The entry at a place that a search of the records gave.
-use Rattle.std.proofs.Common.{◌≡◌, ℕ, ◌<◌, List, length, get_or, Option, Some, sym, ap, ◌∙◌, subst}
+use Rattle.std.proofs.Common.{◌≡◌, ℕ, ◌<◌, List, length, get_or, Option, Some, sym, ap, ◌∙◌, subst, arith}
+use Rattle.std.proofs.lemmas.List.{length-map}
 use Rattle.std.specs.List.{HoldsAt}
 use Rattle.std.specs.Prelude.{option_and_then, slice_get}
 use Rattle.index_entries.specs.Record.{Record, record_in, records_in}
 use Rattle.index_entries.specs.declared.Entry.{Entry}
+use Rattle.index_state.specs.State.{entries_of, records, storage_of}
+use Rattle.index_state.specs.StateSearches.{IsEntryWith}
+use Rattle.index_state.specs.declared.State.{State}
 use Rattle.index_lookups.proofs.Closest.{entry_given, holds_entry}
 
 module _ (storage : List ℕ) (es : List Entry) (i : ℕ) (e : Entry) (read : e ≡ get_or es i e) where
@@ -14,3 +18,10 @@ module _ (storage : List ℕ) (es : List Entry) (i : ℕ) (e : Entry) (read : e 
   pub given_place : (o : Option ℕ) → i < length (records_in storage es) → Some i ≡ o
       → Some e ≡ option_and_then (slice_get es) o
   given_place o within same = ap Some read ∙ entry_given storage es i e o within same
+
+-- it is one of the state's, and such as the record at that place
+pub entry_with : (P : Record → Type 0) (s : State) (i : ℕ) (e : Entry) → e ≡ get_or (entries_of s) i e
+    → (i < length (records s)) × HoldsAt P (records s) i → IsEntryWith P s e
+entry_with P s i e read h =
+    let inside : i < length (entries_of s) = omega (arith, h.0, length-map (entries_of s) (record_in (storage_of s))) in
+    record { found = (i, inside, sym read); key = given_holds (storage_of s) (entries_of s) i e read P h }

@@ -1,6 +1,6 @@
 -- An empty index is storable, so is one of leaves alone; it stays so where an entry is added that is, where entries
 -- move, and where one is taken out.
-use Rattle.std.proofs.Common.{◌≡◌, ℕ, ◌<◌, ◌≤◌, Bool, false, List, ◌∷◌, length, get_or, All}
+use Rattle.std.proofs.Common.{◌≡◌, ℕ, ◌<◌, ◌≤◌, Bool, false, List, ◌∷◌, length, get_or, All, ap, ◌∙◌}
 use Rattle.std.specs.Prelude.{◌≢◌, IfSome}
 use Rattle.std.proofs.lemmas.List.Elements.{All-nil, All-push, All-tail, All-weaker}
 use Rattle.std.specs.List.{remove}
@@ -9,8 +9,9 @@ use Rattle.std.proofs.lemmas.List.Sorted.{All-permutation, IsPermutation-map, Is
 use Rattle.index_parts.specs.Id.{id_kind}
 use Rattle.index_parts.specs.declared.hash.Kind.{Kind}
 use Rattle.index_metadata.specs.declared.entry.stat.FileTime.{FileTime}
+use Rattle.index_entries.specs.Held.{Appends}
 use Rattle.index_entries.specs.declared.Entry.{Entry}
-use Rattle.index_entries.specs.Record.{Record, IsSized, record_in, records_in}
+use Rattle.index_entries.specs.Record.{IdsAreOf, Record, IsSized, record_in, records_in}
 use Rattle.index_entries.specs.Storable.{IsStorableIn}
 use Rattle.index_cached_tree.specs.StoredTree.{IsStorableTree}
 use Rattle.index_tree_reader.proofs.Fits.{FitsFile}
@@ -65,6 +66,12 @@ fewer_storable v storage es i e is inside read h =
     IsPermutation-map (record_in storage) es (e ∷ remove es i) (IsPermutation-remove es i e inside read) in
     keeps_storable v (records_in storage (remove es i)) false h (λ P a. All-tail P (record_in storage e)
     (records_in storage (remove es i)) (All-permutation P (records_in storage es) _ moved (rw is at a)))
+
+-- ids stay of a kind where an entry of that kind is appended
+pub appended_ids : (kind : Kind) (s : List ℕ) (es : List Entry) (r : Record) (t : List ℕ) (fs : List Entry)
+    → Appends s es r t fs → IdsAreOf kind es → id_kind r.id ≡ kind → IdsAreOf kind fs
+appended_ids kind s es r t fs a h same =
+    rw a.entries (All-push (λ e. id_kind e.id ≡ kind) es a.entry h (ap (λ (x : Record). id_kind x.id) a.is ∙ same))
 
 -- records that a file holds all of, in an index with nothing else
 pub fitting_storable : (kind : Kind) (time : FileTime) (rs : List Record) → All (FitsFile kind) rs

@@ -1,7 +1,14 @@
 -- An empty index, and what edits of one leave (the library's own).
-use Rattle.std.specs.Prelude.{◌≡◌, ℕ, Bool, true, false, List, [], ◌∷◌, ◌++◌, length, Option, Some, None, IfSome, slice_index_or}
+use Rattle.std.specs.Prelude.{◌≡◌, ℕ, Bool, true, false, List, [], ◌∷◌, ◌++◌, length, map, Option, Some, None, IfSome, slice_index_or}
 use Rattle.std.specs.Borrow.{Lends, LendsIf, LendsSo, MutBor, Fml, Array}
+use Rattle.std.specs.Global.{Vec}
 use Rattle.index_parts.specs.declared.hash.Kind.{Kind}
+use Rattle.index_parts.specs.declared.hash.ObjectId.{ObjectId}
+use Rattle.index_metadata.specs.declared.entry.flags.Flags.{Flags}
+use Rattle.index_metadata.specs.declared.entry.mode.Mode.{Mode}
+use Rattle.index_metadata.specs.declared.entry.stat.Stat.{Stat}
+use Rattle.index_small_extensions.specs.ResolveUndo.{PathStages, path_stages}
+use Rattle.index_small_extensions.specs.declared.resolve_undo.ResolvePath.{ResolvePath}
 use Rattle.index_metadata.specs.declared.entry.stat.FileTime.{FileTime}
 use Rattle.index_entries.specs.declared.Version.{Version}
 use Rattle.index_entries.specs.declared.Version.TheVariants.{V2}
@@ -67,8 +74,17 @@ without_tree c = record c { extensions = record c.extensions { tree = None } }
 abbrev pub without_link : Contents → Contents
 without_link c = record c { extensions = record c.extensions { link = None } }
 
+-- resolve-undo as it is in memory stands for this
+abbrev pub undo_of : Vec ResolvePath → List PathStages
+undo_of paths = map path_stages paths.items
+
 abbrev pub without_resolve_undo : Contents → Contents
 without_resolve_undo c = record c { extensions = record c.extensions { resolve_undo = None } }
+
+-- the parts of a record in one
+abbrev pub record_of : List ℕ → Stat → ObjectId → Flags → Mode → Record
+record_of path stat id flags mode =
+    record { path = path; stat = stat; id = id; flags = flags.0; mode = mode.0 }
 
 -- one more record at the end, of which the extensions say nothing; all else stays
 abbrev pub with_record : Contents → Record → Contents

@@ -3,3 +3,7 @@ pub mod Edits
 pub mod Racy
 pub mod SoundState
 pub mod State
+pub mod StateChanges
+pub mod StateEdits
+pub mod StateSearches
+pub mod StateTrees

@@ -1,17 +1,21 @@
 -- What is said of entries that aren't in order, and of a cached tree that doesn't hold together (gitformat-index,
 -- "Index entries are sorted in ascending order", "Cache tree").
-use Rattle.std.specs.Prelude.{◌≡◌, ℕ, ◌-◌, List, slice_index_or, Option, Some, None, IfSome, Result, Ok, Err, IsOk}
+use Rattle.std.specs.Prelude.{◌≡◌, ℕ, ◌-◌, List, length, slice_index_or, Option, Some, None, IfSome, Result, Ok, Err, IsOk}
 use Rattle.bstr.specs.Owned.{bstring_bytes}
 use Rattle.index_metadata.specs.Flags.{stage_of}
-use Rattle.index_cached_tree.specs.Agreement.{Trees, Agrees}
+use Rattle.index_cached_tree.specs.Agreement.{Trees, Agrees, AreTrees}
 use Rattle.index_cached_tree.specs.Sound.{IsSoundTree, CountsAtMost}
 use Rattle.index_cached_tree.specs.Tree.{Node}
 use Rattle.index_extensions.specs.ExtensionValue.{or_else}
-use Rattle.index_cached_tree.specs.TreeFaults.{TreeFault, first_fault, excess_in, SaysOrWants}
+use Rattle.index_cached_tree.specs.TreeFaults.{TreeFault, first_fault, excess_in, SaysOrWants, SaysTree}
 use Rattle.index_cached_tree.specs.declared.verify.Error.{Error as TreeError}
 use Rattle.index_entries.specs.Order.{IsStrictlyOrdered}
 use Rattle.index_entries.specs.Record.{Record}
 use Rattle.index_entries.specs.Sorted.{IsFirstFall}
+use Rattle.index_objects.specs.Object.{Found}
+use Rattle.index_parts.specs.declared.hash.ObjectId.{ObjectId}
+use Rattle.index_state.specs.State.{contents, entries_of}
+use Rattle.index_state.specs.declared.State.{State}
 use Rattle.index_state.specs.declared.verify.entries.Error.{Error}
 use Rattle.index_state.specs.declared.verify.entries.Error.TheVariants.{OutOfOrder, Memory}
 
@@ -50,3 +54,15 @@ abbrev pub JudgesExtensions : ℕ → Trees → Option Node → Result (Unit {0}
 JudgesExtensions entries trees None r = IsOk r
 JudgesExtensions entries trees (Some t) (Ok u) = AreSoundExtensions entries (Some t) × Agrees trees t
 JudgesExtensions entries trees (Some t) (Err e) = SaysOrWants e (extensions_fault entries (Some trees) (Some t))
+
+-- the same of a state's tree, over as many entries as it has
+abbrev pub HasSoundTree : State → Type 0
+HasSoundTree s = AreSoundExtensions (length (entries_of s)) (contents s).extensions.tree
+
+abbrev pub SaysUnsound : State → TreeError → Type 0
+SaysUnsound s e = SaysTree e (extensions_fault (length (entries_of s)) None (contents s).extensions.tree)
+
+abbrev pub JudgesTree : (ObjectId → Found) → State → Result (Unit {0}) TreeError → Type 0
+JudgesTree found s r =
+    (trees : Trees) × AreTrees found trees
+    × JudgesExtensions (length (entries_of s)) trees (contents s).extensions.tree r

@@ -10,18 +10,16 @@ mod storable;
 mod storage;
 
 ghost use Rattle.std.specs.Borrow.{sem};
-ghost use Rattle.std.specs.Prelude.{◌≡◌, ◌≢◌, ◌+◌, ◌<◌, ◌≤◌, All, Contains, length, option_and_then, slice_get, IfOk};
-ghost use Rattle.std.specs.Prelude.{IfErr, IfSome, OnOk, OnErr, ok_or, option_copied};
+ghost use Rattle.std.specs.Prelude.{◌≡◌, ◌<◌, ◌≤◌, length, IfOk};
+ghost use Rattle.std.specs.Prelude.{IfErr, IfSome, option_copied};
 ghost use Rattle.index_metadata.specs.Flags.{stage_code};
-ghost use Rattle.index_parts.specs.Id.{id_kind};
-ghost use Rattle.index_search.specs.Digits.{digits};
-ghost use Rattle.index_state.specs.Edits.{AddsEntry, IsUnchanged, LendsEntries, with_record};
-ghost use Rattle.index_lookups.specs.Lookup.{HasKey, IsKeyAt, IsPathAt, IsPathGap, insertion_of, place_of};
-ghost use Rattle.index_entries.specs.Order.{IsOrderedByPath, IsStrictlyOrdered};
-ghost use Rattle.index_entries.specs.Record.{IdsAreOf, record_in};
-ghost use Rattle.index_state.specs.State.{PathsInStorage, contents, entries_of, records, storage_of};
-ghost use Rattle.index_format.specs.Storable.{IsStorable};
-ghost use Rattle.index_parts.specs.declared.hash.Kind.{Kind};
+ghost use Rattle.index_state.specs.Edits.{LendsEntries};
+ghost use Rattle.index_lookups.specs.Lookup.{HasKey, IsKeyAt, IsPathAt, IsPathGap, place_of};
+ghost use Rattle.index_entries.specs.Order.{IsOrderedByPath};
+ghost use Rattle.index_state.specs.State.{PathsInStorage, entries_of, records};
+ghost use Rattle.index_state.specs.Edits.{record_of};
+ghost use Rattle.index_state.specs.StateEdits.{Pushes};
+ghost use Rattle.index_state.specs.StateSearches.{FindsEntry, FindsPlace, IsEntryWith, SearchesKey, SearchesPath};
 
 use crate::State;
 use index_entries::list::append;
@@ -39,8 +37,7 @@ impl State {
     pub fn entry_index_by_path_and_stage(&self, path: &[u8], stage: Stage) -> Option<usize>
         requires { PathsInStorage self.now }
         ensures found { IfSome result (IsKeyAt path.now (stage_code stage) (records self.now)) }
-        ensures answer { IsStrictlyOrdered (records self.now)
-            → result ≡ place_of path.now (stage_code stage) (records self.now) }
+        ensures answer { FindsPlace path.now (stage_code stage) (records self.now) result }
     {
         self.search_path_and_stage(path, stage).0.ok()
     }
@@ -49,12 +46,10 @@ impl State {
     /// [`entry_index_by_path_and_stage`](State::entry_index_by_path_and_stage) finds its place.
     pub fn entry_by_path_and_stage(&self, path: &[u8], stage: Stage) -> Option<&Entry>
         requires { PathsInStorage self.now }
-        ensures found { IfSome result (λ e. Contains (entries_of self.now) e.now) }
-        ensures key { IfSome result (λ e. HasKey path.now (stage_code stage)
-            (record_in (storage_of self.now) e.now)) }
-        ensures answer { IsStrictlyOrdered (records self.now)
-            → option_copied result ≡ option_and_then (slice_get (entries_of self.now))
-            (place_of path.now (stage_code stage) (records self.now)) }
+        ensures found { IfSome result
+            (λ e. IsEntryWith (HasKey path.now (stage_code stage)) self.now e.now) }
+        ensures answer { FindsEntry (place_of path.now (stage_code stage)) self.now
+            (option_copied result) }
     {
         let idx = self.entry_index_by_path_and_stage(path, stage)?;
         Some(&self.parts.entries[idx])
@@ -80,12 +75,7 @@ impl State {
     /// where there are entries.
     pub fn search_path(&self, path: &[u8]) -> (Result<usize, usize>, usize)
         requires { PathsInStorage self.now }
-        ensures found { IfOk result.0 (IsPathAt path.now (records self.now)) }
-        ensures in_range { IfErr result.0 (λ i. i ≤ length (records self.now)) }
-        ensures absent { IsOrderedByPath (records self.now)
-            → IfErr result.0 (IsPathGap path.now (records self.now)) }
-        ensures count { result.1 ≤ digits (length (records self.now)) + 1 }
-        ensures at_least_one { 0 < length (records self.now) → 1 ≤ result.1 }
+        ensures { SearchesPath path.now (records self.now) result }
     {
         search::search_path(&self.slice(), path)
     }
@@ -98,13 +88,7 @@ impl State {
     /// that path and stage, and an error is at most the number of entries and says no more.
     pub fn search_path_and_stage(&self, path: &[u8], stage: Stage) -> (Result<usize, usize>, usize)
         requires { PathsInStorage self.now }
-        ensures found { IfOk result.0 (IsKeyAt path.now (stage_code stage) (records self.now)) }
-        ensures in_range { IfErr result.0 (λ i. i ≤ length (records self.now)) }
-        ensures answer { IsStrictlyOrdered (records self.now)
-            → result.0 ≡ ok_or (place_of path.now (stage_code stage) (records self.now))
-            (insertion_of path.now (stage_code stage) (records self.now)) }
-        ensures count { result.1 ≤ digits (length (records self.now)) + 1 }
-        ensures at_least_one { 0 < length (records self.now) → 1 ≤ result.1 }
+        ensures { SearchesKey path.now (stage_code stage) (records self.now) result }
     {
         search::search_path_and_stage(&self.slice(), path, stage)
     }
@@ -138,20 +122,7 @@ impl State {
         mode: Mode,
         path: &[u8],
     ) -> Result<(), AllocError>
-        ensures added { OnOk result (AddsEntry self.old self.new
-            (record { path = path.now; stat = stat; id = id; flags = flags.0; mode = mode.0 })) }
-        ensures pushed { OnOk result (PathsInStorage self.old
-            → contents self.new ≡ with_record (contents self.old)
-            (record { path = path.now; stat = stat; id = id; flags = flags.0; mode = mode.0 })) }
-        ensures placed { OnOk result (PathsInStorage self.old → PathsInStorage self.new) }
-        ensures ids { (kind : Kind)
-            → OnOk result (IdsAreOf kind (entries_of self.old) → id_kind id ≡ kind
-            → IdsAreOf kind (entries_of self.new)) }
-        ensures storable { OnOk result (PathsInStorage self.old → IsStorable (contents self.old)
-            → id_kind id ≡ (contents self.old).kind
-            → (4095 ≤ length path.now → All (λ b. b ≢ 0) path.now)
-            → IsStorable (contents self.new)) }
-        ensures err { OnErr result (IsUnchanged self.old self.new) }
+        ensures { Pushes (record_of path.now stat id flags mode) self.old self.new result }
     {
         let entry = Pathless {
             stat,

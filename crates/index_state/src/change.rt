@@ -1,15 +1,7 @@
 //! Making one change of an index.
 
-ghost use Rattle.std.specs.Prelude.{◌≡◌, ◌∷◌, [], IfOk, MatchResult, None, OnErr, OnOk, count_by, length};
-ghost use Rattle.index_edits.specs.Edits.{IsResolvedInto, IsStagedInto, IsToldOf, IsUnstagedFrom, merged};
-ghost use Rattle.index_edits.specs.Refusals.{IsReason, fault_of};
-ghost use Rattle.index_edits.specs.declared.change.Change.TheVariants.{Stage, Unstage};
-ghost use Rattle.index_entries.specs.Order.{IsStrictlyOrdered};
-ghost use Rattle.index_entries.specs.Record.{with_path};
-ghost use Rattle.index_lookups.specs.Range.{is_at};
-ghost use Rattle.index_state.specs.Edits.{IsUnchanged};
-ghost use Rattle.index_state.specs.State.{PathsInStorage, contents, records, storage_of};
-ghost use Rattle.index_updates.specs.Updates.{updated};
+ghost use Rattle.index_state.specs.State.{PathsInStorage};
+ghost use Rattle.index_state.specs.StateChanges.{Resolves, Stages, Unstages};
 
 use crate::State;
 use index_edits::error::Error;
@@ -37,19 +29,7 @@ impl State {
         path: &[u8],
     ) -> Result<Displaced, Error>
         requires { PathsInStorage self.old }
-        ensures reason { MatchResult result
-            (λ _. fault_of (C.refusal check.now) (contents self.old).kind entry path.now ≡ None)
-            (IsReason (fault_of (C.refusal check.now) (contents self.old).kind entry path.now)
-            (length (storage_of self.old)) path.now) }
-        ensures updated { OnOk result (IsStrictlyOrdered (records self.old)
-            → contents self.new
-            ≡ updated (Stage entry path.entry ∷ []) (contents self.old)) }
-        ensures staged { OnOk result (IsStrictlyOrdered (records self.old)
-            → IsStagedInto (with_path path.now entry) (records self.old) (records self.new)) }
-        ensures told { IfOk result (λ told. IsStrictlyOrdered (records self.old)
-            → IsToldOf (with_path path.now entry) (records self.old) told) }
-        ensures placed { PathsInStorage self.new }
-        ensures err { OnErr result (IsUnchanged self.old self.new) }
+        ensures { Stages (C.refusal check.now) entry path.entry self.old self.new result }
     {
         parts::stage(&mut self.parts, check, entry, path)
     }
@@ -63,21 +43,7 @@ impl State {
         path: &[u8],
     ) -> Result<Displaced, Error>
         requires { PathsInStorage self.old }
-        ensures reason { MatchResult result
-            (λ _. fault_of (C.refusal check.now) (contents self.old).kind (merged entry) path.now
-            ≡ None)
-            (IsReason (fault_of (C.refusal check.now) (contents self.old).kind (merged entry) path.now)
-            (length (storage_of self.old)) path.now) }
-        ensures updated { OnOk result (IsStrictlyOrdered (records self.old)
-            → contents self.new
-            ≡ updated (Stage (merged entry) path.entry ∷ []) (contents self.old)) }
-        ensures resolved { OnOk result (IsStrictlyOrdered (records self.old)
-            → IsResolvedInto (with_path path.now (merged entry)) (records self.old)
-            (records self.new)) }
-        ensures told { IfOk result (λ told. IsStrictlyOrdered (records self.old)
-            → IsToldOf (with_path path.now (merged entry)) (records self.old) told) }
-        ensures placed { PathsInStorage self.new }
-        ensures err { OnErr result (IsUnchanged self.old self.new) }
+        ensures { Resolves (C.refusal check.now) entry path.entry self.old self.new result }
     {
         parts::resolve(&mut self.parts, check, entry, path)
     }
@@ -90,15 +56,7 @@ impl State {
     /// strictly increase by path, then stage; over others nothing is said of which go.
     pub fn unstage(&mut self, path: &[u8]) -> Result<usize, AllocError>
         requires { PathsInStorage self.old }
-        ensures updated { OnOk result (IsStrictlyOrdered (records self.old)
-            → contents self.new ≡ updated (Unstage path.entry ∷ []) (contents self.old)) }
-        ensures unstaged { OnOk result (IsStrictlyOrdered (records self.old)
-            → IsUnstagedFrom path.now (records self.old) (records self.new)) }
-        ensures count { IfOk result (λ count. IsStrictlyOrdered (records self.old)
-            → count ≡ count_by (is_at path.now) (records self.old)) }
-        ensures storage { storage_of self.new ≡ storage_of self.old }
-        ensures placed { PathsInStorage self.new }
-        ensures err { OnErr result (IsUnchanged self.old self.new) }
+        ensures { Unstages path.entry self.old self.new result }
     {
         parts::unstage(&mut self.parts, path)
     }

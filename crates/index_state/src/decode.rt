@@ -1,12 +1,11 @@
 //! Reading an index from the bytes of a file.
 
 ghost use Rattle.std.specs.Prelude.{◌≡◌, IfOk};
-ghost use Rattle.index_entries.specs.Record.{IdsAreOf};
 ghost use Rattle.index_format.specs.Answer.{IsAnswer};
 ghost use Rattle.index_format.specs.Contents.{ExtensionIdsAreOf};
 ghost use Rattle.index_format.specs.DecodeErrors.{Says};
-ghost use Rattle.index_format.specs.Storable.{IsStorable};
-ghost use Rattle.index_state.specs.State.{PathsInStorage, contents, entries_of};
+ghost use Rattle.index_state.specs.State.{contents};
+ghost use Rattle.index_state.specs.State.{IsWellFormed};
 
 use crate::State;
 use index_format::Parts;
@@ -45,9 +44,7 @@ impl State {
     ) -> Result<(State, Option<ObjectId>), Error>
         // The state or the first fault that the format gives these bytes.
         ensures answer { Says contents result (IsAnswer object_hash timestamp options «data».now) }
-        ensures placed { IfOk result (λ x. PathsInStorage x.0) }
-        ensures ids { IfOk result (λ x. IdsAreOf object_hash (entries_of x.0)) }
-        ensures storable { IfOk result (λ x. IsStorable (contents x.0)) }
+        ensures formed { IfOk result (λ x. IsWellFormed object_hash x.0) }
         ensures extension_ids { IfOk result
             (λ x. ExtensionIdsAreOf object_hash (contents x.0).extensions) }
     {

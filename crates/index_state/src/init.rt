@@ -1,13 +1,10 @@
 //! A new index.
 
-ghost use Rattle.std.specs.Prelude.{◌≡◌, [], Ok, Err, IfOk, IfErr, flat_map};
-ghost use Rattle.index_parts.specs.Id.{id_kind};
-ghost use Rattle.index_entries.specs.Order.{IsStrictlyOrdered};
-ghost use Rattle.index_entries.specs.TreeOrder.{AreGitOrdered};
-ghost use Rattle.index_tree_reader.specs.Leaves.{AreLeaves, SaysLeaves};
-ghost use Rattle.index_state.specs.Edits.{empty_contents, with_records};
+ghost use Rattle.std.specs.Prelude.{◌≡◌, [], Ok, IfOk, IfErr};
+ghost use Rattle.index_state.specs.Edits.{empty_contents};
 ghost use Rattle.index_format.specs.Storable.{IsStorable};
-ghost use Rattle.index_state.specs.State.{PathsInStorage, contents, records, storage_of};
+ghost use Rattle.index_state.specs.State.{PathsInStorage, contents, storage_of};
+ghost use Rattle.index_state.specs.StateTrees.{IsOfTree, SaysNoLeaves};
 
 use crate::State;
 use index_entries::Version;
@@ -62,20 +59,10 @@ impl State {
         max_objects: usize,
         now: FileTime,
     ) -> Result<State, Error>
-        ensures leaves { IfOk result
-            (λ s. AreLeaves (F.found objects.now) (C.refusal check.now) tree.now max_objects
-            (Ok (records s))) }
-        ensures others { IfOk result
-            (λ s. contents s ≡ with_records (empty_contents (id_kind tree.now) now) (records s)) }
-        ensures storage { IfOk result (λ s. storage_of s ≡ flat_map (λ r. r.path) (records s)) }
-        ensures placed { IfOk result PathsInStorage }
-        ensures storable { IfOk result (λ s. IsStorable (contents s)) }
-        ensures ordered { IfOk result
-            (λ s. AreGitOrdered (F.found objects.now) (id_kind tree.now) tree.now
-            → IsStrictlyOrdered (records s)) }
+        ensures made { IfOk result
+            (IsOfTree (F.found objects.now) (C.refusal check.now) tree.now max_objects now) }
         ensures fault { IfErr result
-            (λ e. SaysLeaves e (λ f. AreLeaves (F.found objects.now) (C.refusal check.now) tree.now
-            max_objects (Err f))) }
+            (SaysNoLeaves (F.found objects.now) (C.refusal check.now) tree.now max_objects) }
     {
         let leaves = leaves_of(alloc, tree, objects, check, max_objects)?;
         let (entries, path_backing) = leaves.into_parts();

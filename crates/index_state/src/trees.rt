@@ -1,17 +1,14 @@
 //! The trees of the entries.
 
-ghost use Rattle.std.specs.Prelude.{◌≡◌, ◌⊎◌, ◌<◌, ◌^◌, [], Some, IfOk, IfErr, IfSome, MatchOption, OnErr, length};
-ghost use Rattle.index_cached_tree.specs.Tree.{Node, node_of};
+ghost use Rattle.std.specs.Prelude.{◌≡◌, ◌⊎◌, ◌<◌, ◌^◌, Some, IfOk, IfErr, OnErr, length};
+ghost use Rattle.index_cached_tree.specs.Tree.{node_of};
 ghost use Rattle.index_entries.specs.Order.{IsStrictlyOrdered};
-ghost use Rattle.index_tree_writer.specs.Cached.{IsCached};
-ghost use Rattle.index_tree_writer.specs.Directory.{HoldsFirst, IsTreeOf, Items, objects};
-ghost use Rattle.index_tree_writer.specs.Kept.{KeepsCounts};
-ghost use Rattle.index_tree_writer.specs.Objects.{with_objects};
-ghost use Rattle.index_tree_writer.specs.Refusals.{AreFit, AreRefused, SaysTreesFault};
-ghost use Rattle.index_tree_writer.specs.Staged.{merged_in, staged_in};
-ghost use Rattle.index_tree_writer.specs.TreeIds.{AreRight, SaysTreeIds, any_name};
+ghost use Rattle.index_tree_writer.specs.Refusals.{AreFit};
 ghost use Rattle.index_state.specs.Edits.{with_cached_tree};
-ghost use Rattle.index_state.specs.State.{PathsInStorage, contents, entries_of, records, storage_of};
+ghost use Rattle.index_state.specs.State.{PathsInStorage, contents, records};
+ghost use Rattle.index_state.specs.StateEdits.{Renews, Sets};
+ghost use Rattle.index_state.specs.StateTrees.{HasFewEntries, HasFitEntries, HasRightIds, SaysNoTrees, SaysWrongIds};
+ghost use Rattle.index_state.specs.StateTrees.{StoresFirst, StoresTrees};
 
 use crate::State;
 use crate::verify::tree_ids;
@@ -42,20 +39,15 @@ impl State {
     ) -> Result<Tree, Error>
         requires placed { PathsInStorage self.now }
         requires ordered { IsStrictlyOrdered (records self.now) }
-        ensures written { IfOk result (λ t. (items : Items)
-            × IsTreeOf (contents self.now).kind (staged_in (records self.now)) items
-            × IsCached (contents self.now).kind [] items (node_of t)
-            × (S.stored sink.new
-            ≡ with_objects (S.stored sink.old) (objects (contents self.now).kind items))) }
+        ensures written { IfOk result
+            (StoresTrees self.now (S.stored sink.old) (S.stored sink.new)) }
         ensures fit { IfOk result
             (λ _. AreFit (C.refusal check.now) (contents self.now).kind (records self.now)) }
         ensures few { IfOk result (λ _. length (records self.now) < 2 ^ 31) }
         ensures ended { OnErr result ((sink.new ≡ sink.old)
-            ⊎ HoldsFirst (contents self.now).kind (staged_in (records self.now))
-            (S.stored sink.old) (S.stored sink.new)) }
-        ensures fault { IfErr result (λ e. SaysTreesFault e (λ n. S.fault sink.new ≡ Some n)
-            (λ f. AreRefused (C.refusal check.now) (contents self.now).kind (records self.now) f
-            × (sink.new ≡ sink.old))) }
+            ⊎ StoresFirst self.now (S.stored sink.old) (S.stored sink.new)) }
+        ensures fault { IfErr result (SaysNoTrees (C.refusal check.now) self.now
+            (S.fault sink.new) (sink.new ≡ sink.old)) }
     {
         write_trees(alloc, self.parts.object_hash, &self.slice(), check, sink)
     }
@@ -64,9 +56,7 @@ impl State {
     /// where the other extensions aren't known to fit them, an untracked cache and what a file system monitor said go.
     /// All else stays.
     pub fn set_tree(&mut self, tree: Tree)
-        ensures set { contents self.new ≡ with_cached_tree (contents self.old) (node_of tree) }
-        ensures entries { entries_of self.new ≡ entries_of self.old }
-        ensures storage { storage_of self.new ≡ storage_of self.old }
+        ensures { Sets (with_cached_tree (contents self.old) (node_of tree)) self.old self.new }
     {
         if !self.parts.extensions_fit {
             self.parts.extensions.untracked = None;
@@ -80,11 +70,7 @@ impl State {
     /// keeps its count and id where that one has them at the same directory. Any other is invalid, and has the null id.
     /// So it names no tree that the one before didn't name. Else it does as [`set_tree`](State::set_tree).
     pub fn renew_tree(&mut self, mut tree: Tree)
-        ensures set { (t : Node) × KeepsCounts (contents self.old).kind []
-            (contents self.old).extensions.tree (node_of tree) t
-            × (contents self.new ≡ with_cached_tree (contents self.old) t) }
-        ensures entries { entries_of self.new ≡ entries_of self.old }
-        ensures storage { storage_of self.new ≡ storage_of self.old }
+        ensures { Renews (node_of tree) self.old self.new }
     {
         let old = self.parts.extensions.tree.as_ref();
         keep_counts(self.parts.object_hash, &mut tree, old);
@@ -102,14 +88,10 @@ impl State {
     pub fn verify_tree_ids(&self, alloc: Global) -> Result<(), tree_ids::Error>
         requires placed { PathsInStorage self.now }
         requires ordered { IsStrictlyOrdered (records self.now) }
-        ensures right { IfOk result (λ _. IfSome (contents self.now).extensions.tree
-            (AreRight (contents self.now).kind (records self.now))) }
-        ensures fit { IfOk result (λ _. IfSome (contents self.now).extensions.tree
-            (λ _. AreFit any_name (contents self.now).kind (merged_in (records self.now)))) }
-        ensures few { IfOk result (λ _. IfSome (contents self.now).extensions.tree
-            (λ _. length (merged_in (records self.now)) < 2 ^ 31)) }
-        ensures fault { IfErr result (λ e. MatchOption (contents self.now).extensions.tree ⊥
-            (λ t. SaysTreeIds (contents self.now).kind (records self.now) t e)) }
+        ensures right { IfOk result (λ _. HasRightIds self.now) }
+        ensures fit { IfOk result (λ _. HasFitEntries self.now) }
+        ensures few { IfOk result (λ _. HasFewEntries self.now) }
+        ensures fault { IfErr result (SaysWrongIds self.now) }
     {
         let Some(tree) = self.tree() else {
             return Ok(());

@@ -3,13 +3,12 @@
 pub mod entries;
 pub mod tree_ids;
 
-ghost use Rattle.std.specs.Prelude.{◌≡◌, ◌↔◌, ℕ, false, IfErr, IfOk, IsOk, IsTrue, OnOk, None, Some, length, take};
+ghost use Rattle.std.specs.Prelude.{◌≡◌, ◌↔◌, ℕ, false, IfErr, IfOk, IsOk, IsTrue, OnOk, Some, take};
 ghost use Rattle.index_entries.specs.Order.{IsOrderedByPath, IsStrictlyOrdered};
 ghost use Rattle.index_entries.specs.Sorted.{IsFirstFall};
-ghost use Rattle.index_cached_tree.specs.Agreement.{Trees, AreTrees};
-ghost use Rattle.index_cached_tree.specs.TreeFaults.{SaysTree};
-ghost use Rattle.index_state.specs.State.{PathsInStorage, contents, entries_of, records};
-ghost use Rattle.index_state.specs.SoundState.{AreSoundExtensions, JudgesExtensions, SaysFall, extensions_fault};
+ghost use Rattle.index_state.specs.State.{PathsInStorage, records};
+ghost use Rattle.index_state.specs.SoundState.{SaysFall};
+ghost use Rattle.index_state.specs.SoundState.{HasSoundTree, JudgesTree, SaysUnsound};
 
 use crate::State;
 use bstr::BString;
@@ -65,16 +64,9 @@ impl State {
         use_find: bool,
         objects: &F,
     ) -> Result<(), tree::verify::Error>
-        ensures sound { use_find ≡ false
-            → (IsOk result
-            ↔ AreSoundExtensions (length (entries_of self.now))
-            (contents self.now).extensions.tree) }
-        ensures fault { use_find ≡ false → IfErr result (λ e. SaysTree e
-            (extensions_fault (length (entries_of self.now)) None
-            (contents self.now).extensions.tree)) }
-        ensures objects { IsTrue use_find → (trees : Trees) × AreTrees (F.found objects.now) trees
-            × JudgesExtensions (length (entries_of self.now)) trees
-            (contents self.now).extensions.tree result }
+        ensures sound { use_find ≡ false → (IsOk result ↔ HasSoundTree self.now) }
+        ensures fault { use_find ≡ false → IfErr result (SaysUnsound self.now) }
+        ensures objects { IsTrue use_find → JudgesTree (F.found objects.now) self.now result }
     {
         let Some(tree) = self.tree() else {
             return Ok(());

@@ -1,5 +1,6 @@
 mod CopiedTables
 mod FilledTables
+pub mod FoldedPaths
 pub mod Joins
 mod OutlinedTables
 pub mod Refusals
@@ -9,5 +10,6 @@ mod Rows
 mod SameRows
 mod Tables
 mod Trees
+mod Updates
 mod Writes
 mod WrittenRows

@@ -1,5 +1,5 @@
 -- What holds of the value that a table in order spells.
-use Rattle.std.proofs.Common.{◌≡◌, ◌≢◌, ℕ, List, [], ◌∷◌, All, Bool, true, false, cond, not, refl, sym, subst}
+use Rattle.std.proofs.Common.{◌≡◌, ◌≢◌, ℕ, List, [], ◌∷◌, All, Bool, true, false, cond, inl, inr, not, refl, sym, subst}
 use Rattle.std.proofs.lemmas.List.Elements.{All-cons, All-filter, All-head, All-nil, All-tail}
 use Rattle.gix_index.specs.Contents.{Contents}
 use Rattle.gix_index.specs.EntryImage.{is_removed, written}
@@ -8,10 +8,12 @@ use Rattle.gix_index.specs.Record.{Record}
 use Rattle.gix_index.specs.Storable.{CanEncode}
 use Rattle.gix_index.specs.VersionChoice.{VersionChoice}
 use Rattle.gix_index.specs.VersionChoice.TheVariants as choices
+use Rattle.gix_index.specs.WriteOptions.{Options}
 use Rattle.index_table.specs.Fitting.{IsFit, IsFitTable}
 use Rattle.index_table.specs.Table.{records_of, spelled}
-use Rattle.index_table.specs.Writing.{IsSpelledBy, Spells}
+use Rattle.index_table.specs.Writing.{IsSpelledBy, IsUnwritable, PassesLimit, Spells}
 use Rattle.index_table.specs.declared.row.Row.{Row}
+use Rattle.index_table.specs.declared.write.Fault.{Fault}
 
 abbrev LacksNul : Record → Type 0
 LacksNul r = All (λ b. b ≢ 0) r.path
@@ -45,6 +47,12 @@ can_encode choices.Smallest kind sparse paths rows v fit e = tt
 can_encode choices.V4 kind sparse paths rows v fit e =
     All-filter (λ r. not (is_removed r.flags)) LacksNul v.records
     (subst (λ (rs : List Record). All LacksNul rs) (sym e) (no_nul kind sparse paths rows fit))
+
+-- a value whose paths all can be in the version isn't written for a limit alone
+pub limit_only : (options : Options) (fault : Fault) (v : Contents) → CanEncode options.version v
+    → IsUnwritable options fault v → PassesLimit options fault v
+limit_only options fault v can (inl h) = h
+limit_only options fault v can (inr h) = absurd (h.1.1 can)
 
 pub spells : (kind : Kind) (paths : List ℕ) (rows : List Row) (v : Contents) (P : Contents → Type 0)
     → IsFitTable kind false paths rows

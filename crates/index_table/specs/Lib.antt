@@ -4,4 +4,5 @@ pub mod Joining
 pub mod Overwriting
 pub mod Reading
 pub mod Table
+pub mod Updating
 pub mod Writing

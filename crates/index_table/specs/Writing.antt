@@ -7,7 +7,7 @@ use Rattle.gix_index.specs.Kind.{Kind}
 use Rattle.gix_index.specs.Outcome.{no_extension}
 use Rattle.gix_index.specs.WriteError.{Error as WriteError}
 use Rattle.gix_index.specs.WriteError.TheVariants as errors
-use Rattle.gix_index.specs.WriteError.TheVariants.{TooLarge, TooManyEntries}
+use Rattle.gix_index.specs.WriteError.TheVariants.{NulInPath, TooLarge, TooManyEntries}
 use Rattle.gix_index.specs.WriteExtensions.{Extensions}
 use Rattle.gix_index.specs.WriteExtensions.TheVariants as extensions
 use Rattle.gix_index.specs.WriteOptions.{Options}
@@ -67,6 +67,11 @@ abbrev pub PassesLimit : Options → Fault → Contents → Type 0
 PassesLimit options fault v =
     ((fault ≡ faults.Count) × RefusedWith v options TooManyEntries)
     ⊎ ((fault ≡ faults.Length) × RefusedWith v options TooLarge)
+
+-- the same, or a path has a NUL, which version 4 can't hold; then no row is told
+abbrev pub IsUnwritable : Options → Fault → Contents → Type 0
+IsUnwritable options fault v =
+    PassesLimit options fault v ⊎ ((fault ≡ faults.Row 0) × RefusedWith v options NulInPath)
 
 -- ---- why nothing is written
 

@@ -31,7 +31,7 @@ fn has_plain_path(row: &Row, paths: &[u8]) -> bool
 }
 
 /// Whether the row is marked `REMOVE`, and so left out of a file.
-pub(crate) fn is_left_out(row: &Row) -> bool
+pub fn is_left_out(row: &Row) -> bool
     ensures { result ≡ is_removed row.now.flags }
 {
     row.flags & 0x20000 == 0x20000
@@ -167,12 +167,7 @@ pub(crate) fn push_rows(state: &mut State, rows: &[Row], paths: &[u8]) -> Result
 }
 
 /// The value that the rows spell: the records of those that aren't left out, in their order, and no extension.
-pub(crate) fn spelled(
-    alloc: Global,
-    rows: &[Row],
-    paths: &[u8],
-    kind: Kind,
-) -> Result<State, AllocError>
+pub fn spelled(alloc: Global, rows: &[Row], paths: &[u8], kind: Kind) -> Result<State, AllocError>
     ensures spelled { IfOk result
         (λ state. IsSpelledBy kind paths.now rows.now (contents state)) }
     ensures placed { IfOk result PathsInStorage }

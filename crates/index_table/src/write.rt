@@ -2,9 +2,8 @@
 
 ghost use Rattle.std.specs.Prelude.{◌≡◌, ◌++◌, ◌≤◌, ◌<◌, IfErr, IfOk, IfSome, None, drop, false, length, true};
 ghost use Rattle.gix_index.specs.State.{PathsInStorage, contents};
-ghost use Rattle.gix_index.specs.Storable.{CanEncode};
 ghost use Rattle.index_table.specs.Fitting.{IsFitTable, IsUnfitTable};
-ghost use Rattle.index_table.specs.Writing.{HasImage, IfPassed, IfRefused, IfUnwritten, IsUnwritten, PassesLimit, PassesRoom, Spells, options_with, plain_options, reason_told};
+ghost use Rattle.index_table.specs.Writing.{HasImage, IfPassed, IfRefused, IfUnwritten, IsUnwritable, IsUnwritten, PassesRoom, Spells, options_with, plain_options, reason_told};
 
 use crate::row::Row;
 use crate::spell::{first_fallen, first_unfit, spelled, unfit_fault};
@@ -38,13 +37,20 @@ pub struct Image {
 /// Why a file can't hold a table.
 #[derive(Clone, Copy)]
 pub enum Fault {
-    /// The row at this place can't stand in a file, and its mode is one of git's.
+    /// The row at this place can't stand in a file, or in a tree, and its mode is one of git's.
     Row(usize),
     /// The mode of the row at this place is none of git's.
     Mode(usize),
     /// The row at this place isn't above the one before it, by path, then stage.
     Order(usize),
-    /// There are more rows than the 4294967295 entries that a file can count.
+    /// A name of the path of the row at this place is none that git lets stand in one. Only changes and trees tell so.
+    Name(usize),
+    /// The row at this place is in conflict. Only trees tell so.
+    Unmerged(usize),
+    /// The path of the row at this place lies below that of another, as if that were a directory, or in a directory for
+    /// which another row stands whole. Only trees tell so.
+    Below(usize),
+    /// There are more rows than the 4294967295 entries that a file can count, or the 2147483647 of trees.
     Count,
     /// The file would have more than the 4294967295 bytes that its offsets can reach.
     Length,
@@ -95,10 +101,9 @@ pub(crate) fn put_state(
     room: &mut [u8],
 ) -> Result<Image, Unwritten>
     requires placed { PathsInStorage state }
-    requires paths { CanEncode options.version (contents state) }
     ensures done { IfOk result
         (λ told. HasImage options told room.old room.new (contents state)) }
-    ensures refused { IfRefused result (λ fault. PassesLimit options fault (contents state)) }
+    ensures refused { IfRefused result (λ fault. IsUnwritable options fault (contents state)) }
     ensures no_room { IfPassed result (λ told. PassesRoom options told room.old (contents state)) }
     ensures room { IfErr result (λ _. room.new ≡ room.old) }
 {
@@ -122,7 +127,7 @@ pub(crate) fn put_state(
 }
 
 /// The first fault that a table has by itself, if any: of a row, or of their order.
-pub(crate) fn fault_in(rows: &[Row], paths: &[u8], kind: Kind, is_sparse: bool) -> Option<Fault>
+pub fn fault_in(rows: &[Row], paths: &[u8], kind: Kind, is_sparse: bool) -> Option<Fault>
     ensures fit { result ≡ None → IsFitTable kind is_sparse paths.now rows.now }
     ensures fault { IfSome result (IsUnfitTable kind is_sparse paths.now rows.now) }
 {

@@ -22,8 +22,7 @@ fn shared_path(alloc: Global, path: &str, id: ObjectId) -> Result<PathBuf, Alloc
     ensures { IfOk result (λ shared. path_buf_bytes shared ≡ shared_path path.now id) }
 {
     let file = PathBuf::from_str(alloc, path)?;
-    let name = format!(in alloc; "sharedindex.{id}")?;
-    file.as_path().with_file_name(alloc, name.as_str())
+    file::shared_path(alloc, file.as_path(), &id)
 }
 
 /// All bytes of the file at a path, if it can be read.

@@ -1,4 +1,5 @@
 pub mod Appended
+pub mod Blocks
 pub mod Placed
 pub mod Prepended
 pub mod Printed

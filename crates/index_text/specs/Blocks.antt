@@ -1,6 +1,13 @@
--- Lines that go out block by block (the library's own).
-use Rattle.std.specs.Prelude.{◌≡◌, ℕ, nat_lt, List, [], ◌++◌, length, Option, if◌then◌else◌}
+-- Text that goes out block by block, and what a call leaves that writes so (the library's own).
+use Rattle.std.specs.Prelude.{◌≡◌, ◌≢◌, ℕ, nat_lt, List, [], ◌++◌, length, Option, Result, OnOk, OnErr, IfErr, true}
+use Rattle.std.specs.Prelude.{false}
+use Rattle.std.specs.Prelude.{if◌then◌else◌}
 use Rattle.std.specs.Io.KnownBytes.{Appends}
+use Rattle.std.specs.IoError.{error_kind}
+use Rattle.std.specs.declared.io.Error.{Error}
+use Rattle.std.specs.declared.io.ErrorKind.TheVariants.{OutOfMemory}
+use Rattle.index_parts.specs.Taking.{AppendsPrefix}
+use Rattle.index_parts.specs.declared.hash.io.Out.{Ghosts}
 
 -- some of the bytes went out, and the others wait
 abbrev pub Passes : Option (List ℕ) → Option (List ℕ) → List ℕ → List ℕ → Type 0
@@ -9,3 +16,23 @@ Passes old new waiting all = (done : List ℕ) × Appends old new done × (done 
 -- what waits of a text: all of it up to 64 KiB, and nothing from there on
 abbrev pub waiting_of : List ℕ → List ℕ
 waiting_of text = if nat_lt (length text) 65536 then text else []
+
+-- What a call leaves that lets a text out where it fills a block: behind an Ok a front of it went out, and the rest
+-- waits; behind an Err a prefix of it went out. The writer goes on behind an Ok, and has failed behind an error other
+-- than want of memory. Its loans are as before.
+pub record PutsBlocks {S T : Type 0} (writer : Ghosts S) (old new : S) (answer : Result T Error) (waiting text : List ℕ)
+    : Type 0 where
+  pub ok : OnOk answer (Passes (writer.taken old) (writer.taken new) waiting text)
+  pub err : OnErr answer (AppendsPrefix (writer.taken old) (writer.taken new) text)
+  pub going : OnOk answer (writer.failed new ≡ false)
+  pub cause : IfErr answer (λ e. error_kind e ≢ OutOfMemory → writer.failed new ≡ true)
+  pub loan : writer.loan new ≡ writer.loan old
+
+-- the same where nothing waits behind an Ok
+pub record PutsText {S T : Type 0} (writer : Ghosts S) (old new : S) (answer : Result T Error) (text : List ℕ)
+    : Type 0 where
+  pub ok : OnOk answer (Appends (writer.taken old) (writer.taken new) text)
+  pub err : OnErr answer (AppendsPrefix (writer.taken old) (writer.taken new) text)
+  pub going : OnOk answer (writer.failed new ≡ false)
+  pub cause : IfErr answer (λ e. error_kind e ≢ OutOfMemory → writer.failed new ≡ true)
+  pub loan : writer.loan new ≡ writer.loan old

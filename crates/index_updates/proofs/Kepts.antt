@@ -1,5 +1,5 @@
 -- What is kept after changes stays sound.
-use Rattle.std.proofs.Common.{◌≡◌, ℕ, List, Option, Some, None, sym, subst, ◌∙◌}
+use Rattle.std.proofs.Common.{◌≡◌, List, Option, Some, None, sym, subst}
 use Rattle.std.specs.Prelude.{IfSome}
 use Rattle.std.specs.Option.{option_map}
 use Rattle.index_cached_tree.specs.Sound.{CountsAtMost}

@@ -1,8 +1,14 @@
+pub mod Granted
 pub mod Invalidations
 pub mod Kepts
 pub mod Losings
 pub mod Nexts
 pub mod Recordings
+pub mod Reorders
 pub mod Risings
+pub mod Sides
 pub mod SpellableCaches
 pub mod SpellableSides
+pub mod StorableChanges
+pub mod UndoSwaps
+pub mod Watches

@@ -18,12 +18,12 @@ use Rattle.index_updates.specs.Undone.{all_recorded, lost, undone}
 use Rattle.index_updates.proofs.Recordings.{alone, at, before, behind}
 
 -- where a path stands to one that a side is recorded at
-data Stands (r : Record) (p : PathStages) : Type 0 where
+pub data Stands (r : Record) (p : PathStages) : Type 0 where
   below : path_cmp p.name r.path ≡ Less → Stands r p
   there : p.name ≡ r.path → Stands r p
   above : path_cmp r.path p.name ≡ Less → is_lt (path_cmp p.name r.path) ≡ false → p.name ≢ r.path → Stands r p
 
-stands : (r : Record) (p : PathStages) → Stands r p
+pub stands : (r : Record) (p : PathStages) → Stands r p
 stands r p = by (path_cmp p.name r.path) refl
   where
     by : (o : Ordering) → path_cmp p.name r.path ≡ o → Stands r p

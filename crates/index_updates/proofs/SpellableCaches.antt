@@ -1,8 +1,8 @@
 -- A cache that can be spelled still can where a path is invalidated.
-use Rattle.std.proofs.Common.{◌≡◌, ℕ, zero, suc, ◌+◌, Bool, true, false, cond, eqb, List, [], ◌∷◌, ◌++◌, length, map}
+use Rattle.std.proofs.Common.{◌≡◌, ℕ, ◌+◌, Bool, true, false, cond, eqb, List, [], ◌∷◌, ◌++◌, length, map}
 use Rattle.std.proofs.Common.{Option, Some, None, refl, sym, ap, subst, ◌∙◌, arith}
 use Rattle.std.specs.Prelude.{◌≤◌, ◌<◌, ◌*◌, ◌^◌}
-use Rattle.std.specs.List.{AllByRecursion, enumerate_from, list_any}
+use Rattle.std.specs.List.{enumerate_from, list_any}
 use Rattle.std.proofs.lemmas.List.{length-map}
 use Rattle.std.proofs.lemmas.List.FromFn.{length-enumerate_from}
 use Rattle.index_parts.specs.Limit.{IsWithin}
@@ -14,7 +14,7 @@ use Rattle.index_untracked.specs.UntrackedEdits.{concerned, folders_of, path_inv
 use Rattle.index_untracked.specs.UntrackedEdits.{unlisted_at, way}
 use Rattle.index_untracked.proofs.Invalidating.{stays}
 use Rattle.index_untracked.proofs.Nests.{listed_len}
-use Rattle.index_extension_writing.specs.SpellableCache.{AreOfBlock, AreOfBlocks, IsSpellableBlock, IsSpellableCache}
+use Rattle.index_extension_writing.specs.SpellableCache.{AreOfBlocks, IsSpellableBlock, IsSpellableCache}
 use Rattle.index_extension_writing.specs.SpellableCache.{IsSpellableKnown, bare}
 
 -- no smaller number passes a limit

@@ -1,8 +1,8 @@
 -- Sides that are recorded can be spelled, where those of before can, and the entries are such that they can.
-use Rattle.std.proofs.Common.{◌≡◌, ◌≢◌, ℕ, ◌-◌, ◌<◌, ◌^◌, ◌==◌, ◌∙◌, Bool, true, false, cond, eqb, List, [], ◌∷◌, ◌++◌}
+use Rattle.std.proofs.Common.{◌≡◌, ◌-◌, ◌==◌, ◌∙◌, Bool, true, false, cond, List, [], ◌∷◌}
 use Rattle.std.proofs.Common.{All, length, take, drop, filter, Option, Some, None, refl, sym, subst}
-use Rattle.std.specs.Prelude.{IfSome, not, slice_set}
-use Rattle.std.specs.Option.{option_map, unwrap_or}
+use Rattle.std.specs.Prelude.{IfSome, not}
+use Rattle.std.specs.Option.{unwrap_or}
 use Rattle.std.specs.Ordering.{is_eq, is_lt}
 use Rattle.std.proofs.lemmas.Bool.{eq-eqb}
 use Rattle.std.proofs.lemmas.List.{length-set}
@@ -93,7 +93,7 @@ module _ (kind : Kind) where
       (recorded_spells r (unwrap_or undo []) (All-head (IsRecordable kind) r rs a) before)
 
   -- entries stay such that their sides can be recorded
-  recordable_stay : (c : Change) (rs : List Record) → StagesRecordable kind c → All (IsRecordable kind) rs
+  pub recordable_stay : (c : Change) (rs : List Record) → StagesRecordable kind c → All (IsRecordable kind) rs
       → All (IsRecordable kind) (applied_one c rs)
   unfolding staged unstaged
   recordable_stay (changes.Stage entry path) rs s a =

@@ -1,18 +1,26 @@
 -- What speaks of the entries of an index, and is kept where they change (gitformat-index, "Cache tree", "Resolve undo",
--- "Untracked cache").
-use Rattle.std.specs.Prelude.{◌≡◌, ℕ, List, IfSome, None}
+-- "Untracked cache", "File System Monitor cache").
+use Rattle.std.specs.Prelude.{◌≡◌, ℕ, List, IfSome, Option, None}
 use Rattle.std.specs.Option.{option_map}
 use Rattle.index_parts.specs.declared.hash.Kind.{Kind}
 use Rattle.index_cached_tree.specs.Sound.{CountsAtMost}
 use Rattle.index_cached_tree.specs.Tree.{node_of}
 use Rattle.index_entries.specs.Record.{Record}
 use Rattle.index_extension_writing.specs.SpellableCache.{IsSpellableCache}
+use Rattle.index_small_extensions.specs.FsMonitor.{Monitor, monitor_of}
+use Rattle.index_small_extensions.specs.declared.fs_monitor.FsMonitor.{FsMonitor}
 use Rattle.index_untracked.specs.Untracked.{CacheIdsAreOf, cache_of}
+use Rattle.index_edits.specs.Changes.{applied}
 use Rattle.index_edits.specs.declared.change.Change.{Change}
+use Rattle.index_monitor.specs.Dirty.{monitor_after}
 use Rattle.index_updates.specs.Invalidated.{all_invalidated, all_unlisted}
 use Rattle.index_updates.specs.Rising.{ArePathsRising}
 use Rattle.index_updates.specs.Undone.{undo_paths, undone}
 use Rattle.index_updates.specs.declared.kept.Kept.{Kept}
+
+-- what a monitor said, after changes of these records
+abbrev pub watched : List Change → List Record → Option FsMonitor → Option Monitor
+watched cs rs monitor = monitor_after cs rs (applied cs rs) (option_map monitor_of monitor)
 
 -- what is kept after changes of these records
 pub record IsKeptAfter (cs : List Change) (rs : List Record) (old now : Kept) : Type 0 where

@@ -1,16 +1,14 @@
 -- What resolve-undo has after changes of an index: each takes sides of conflicts out, which are recorded
 -- (gitformat-index, "Resolve undo"; git-update-index, "--unresolve"). A side with an entry of its path and its stage in
 -- its place isn't recorded. Each definition speaks of any list.
-use Rattle.std.specs.Prelude.{◌==◌, ◌&&◌, Bool, false, not, List, [], ◌∷◌, filter, map, Option, Some}
+use Rattle.std.specs.Prelude.{◌==◌, ◌&&◌, Bool, not, List, [], ◌∷◌, filter, map, Option, Some}
 use Rattle.std.specs.Option.{option_map, unwrap_or}
 use Rattle.std.specs.declared.vec.Vec.{Vec}
 use Rattle.index_entries.specs.Order.{record_stage}
 use Rattle.index_entries.specs.Record.{Record}
-use Rattle.index_lookups.specs.Lookup.{has_key}
-use Rattle.index_metadata.specs.Flags.{stage_number}
 use Rattle.index_edits.specs.Changes.{applied_one, takes_out}
 use Rattle.index_edits.specs.declared.change.Change.{Change}
-use Rattle.index_edits.specs.declared.change.Change.TheVariants as changes
+use Rattle.index_monitor.specs.Dirty.{is_replaced}
 use Rattle.index_small_extensions.specs.ResolveUndo.{PathStages, path_stages}
 use Rattle.index_small_extensions.specs.declared.resolve_undo.ResolvePath.{ResolvePath}
 use Rattle.index_updates.specs.Recorded.{recorded}
@@ -18,11 +16,6 @@ use Rattle.index_updates.specs.Recorded.{recorded}
 -- what resolve-undo has, where it is there
 abbrev pub undo_paths : {Z : Type 0} → Option (Vec ResolvePath Z) → Option (List PathStages)
 undo_paths undo = option_map (λ paths. map path_stages paths.items) undo
-
--- an entry with the record's path and its stage comes in its place
-abbrev pub is_replaced : Change → Record → Bool
-is_replaced (changes.Stage entry path) r = has_key path.now (stage_number entry.flags.0) r
-is_replaced (changes.Unstage path) r = false
 
 -- the record is a side of a conflict, and goes where the change is made
 abbrev pub is_lost : Change → Record → Bool

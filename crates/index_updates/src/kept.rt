@@ -1,6 +1,7 @@
 //! What is kept where entries change.
 
 use index_cached_tree::Tree;
+use index_small_extensions::FsMonitor;
 use index_small_extensions::resolve_undo::Paths;
 use index_untracked::UntrackedCache;
 
@@ -13,4 +14,6 @@ pub struct Kept {
     pub undo: Option<Paths>,
     /// The untracked cache.
     pub untracked: Option<UntrackedCache>,
+    /// What a file system monitor said.
+    pub monitor: Option<FsMonitor>,
 }

@@ -1,6 +1,6 @@
 //! Changes of the parts of an index in memory, with what speaks of its entries.
 
-ghost use Rattle.std.specs.Prelude.{◌≡◌, ◌∷◌, [], IfOk, MatchResult, None, OnErr, OnOk, count_by, length};
+ghost use Rattle.std.specs.Prelude.{◌≡◌, ◌∷◌, [], All, IfOk, MatchResult, None, OnErr, OnOk, count_by, length};
 ghost use Rattle.index_edits.specs.Changes.{IsAppliedTo, IsApplyReason, refusal_of};
 ghost use Rattle.index_edits.specs.Edits.{IsResolvedInto, IsStagedInto, IsToldOf, IsUnstagedFrom, merged};
 ghost use Rattle.index_edits.specs.Refusals.{IsReason, fault_of};
@@ -9,6 +9,7 @@ ghost use Rattle.index_entries.specs.Order.{IsStrictlyOrdered};
 ghost use Rattle.index_entries.specs.Record.{with_path};
 ghost use Rattle.index_format.specs.Contents.{PartsInStorage, parts_contents, parts_records, parts_storage};
 ghost use Rattle.index_lookups.specs.Range.{is_at};
+ghost use Rattle.index_updates.specs.StillStorable.{StagesSized, StaysStorable};
 ghost use Rattle.index_updates.specs.Updates.{AreUnchanged, updated};
 
 use crate::kept::Kept;
@@ -27,13 +28,19 @@ fn take_kept(extensions: &mut Outcome) -> Kept
     ensures tree { result.tree ≡ extensions.old.tree }
     ensures undo { result.undo ≡ extensions.old.resolve_undo }
     ensures untracked { result.untracked ≡ extensions.old.untracked }
-    ensures others { extensions.new
-        ≡ record extensions.old { tree = None; resolve_undo = None; untracked = None } }
+    ensures monitor { result.monitor ≡ extensions.old.fs_monitor }
+    ensures others { extensions.new ≡ record extensions.old {
+      tree = None;
+      resolve_undo = None;
+      untracked = None;
+      fs_monitor = None;
+    } }
 {
     Kept {
         tree: extensions.tree.take(),
         undo: extensions.resolve_undo.take(),
         untracked: extensions.untracked.take(),
+        monitor: extensions.fs_monitor.take(),
     }
 }
 
@@ -43,15 +50,18 @@ fn put_kept(extensions: &mut Outcome, kept: Kept)
       tree = kept.tree;
       resolve_undo = kept.undo;
       untracked = kept.untracked;
+      fs_monitor = kept.monitor;
     } }
 {
     extensions.tree = kept.tree;
     extensions.resolve_undo = kept.undo;
     extensions.untracked = kept.untracked;
+    extensions.fs_monitor = kept.monitor;
 }
 
-/// Makes changes one after another, all or none: what the parts stand for is then `updated`. An error is the same as
-/// that of [`update`](crate::update::update), and leaves the parts as they were.
+/// Makes changes one after another, all or none: what the parts stand for is then `updated`, and where a file of any
+/// version could hold it, one still can. An error is the same as that of [`update`](crate::update::update), and leaves
+/// the parts as they were.
 pub fn apply<C: ComponentCheck>(
     parts: &mut Parts,
     check: &C,
@@ -67,6 +77,9 @@ pub fn apply<C: ComponentCheck>(
         → parts_contents parts.new ≡ updated changes.now (parts_contents parts.old)) }
     ensures applied { OnOk result (IsStrictlyOrdered (parts_records parts.old)
         → IsAppliedTo changes.now (parts_records parts.old) (parts_records parts.new)) }
+    ensures storable { OnOk result (IsStrictlyOrdered (parts_records parts.old)
+        → All StagesSized changes.now
+        → StaysStorable (parts_contents parts.old) (parts_contents parts.new)) }
     ensures placed { PartsInStorage parts.new }
     ensures err { OnErr result (AreUnchanged parts.old parts.new) }
 {
@@ -81,14 +94,12 @@ pub fn apply<C: ComponentCheck>(
     );
     put_kept(&mut parts.extensions, kept);
     result?;
-    if !changes.is_empty() {
-        parts.extensions.fs_monitor = None;
-    }
     Ok(())
 }
 
 /// Stages an entry at a path, and tells what went where it came: what the parts stand for is then `updated` by this one
-/// change. An error is the same as that of [`stage`](crate::single::stage), and leaves the parts as they were.
+/// change, and where a file of any version could hold it, one still can. An error is the same as that of
+/// [`stage`](crate::single::stage), and leaves the parts as they were.
 pub fn stage<C: ComponentCheck>(
     parts: &mut Parts,
     check: &C,
@@ -105,6 +116,8 @@ pub fn stage<C: ComponentCheck>(
         ≡ updated (Stage entry path.entry ∷ []) (parts_contents parts.old)) }
     ensures staged { OnOk result (IsStrictlyOrdered (parts_records parts.old)
         → IsStagedInto (with_path path.now entry) (parts_records parts.old) (parts_records parts.new)) }
+    ensures storable { OnOk result (IsStrictlyOrdered (parts_records parts.old)
+        → StaysStorable (parts_contents parts.old) (parts_contents parts.new)) }
     ensures told { IfOk result (λ told. IsStrictlyOrdered (parts_records parts.old)
         → IsToldOf (with_path path.now entry) (parts_records parts.old) told) }
     ensures placed { PartsInStorage parts.new }
@@ -122,7 +135,6 @@ pub fn stage<C: ComponentCheck>(
     );
     put_kept(&mut parts.extensions, kept);
     let told = made?;
-    parts.extensions.fs_monitor = None;
     Ok(told)
 }
 
@@ -145,6 +157,8 @@ pub fn resolve<C: ComponentCheck>(
     ensures resolved { OnOk result (IsStrictlyOrdered (parts_records parts.old)
         → IsResolvedInto (with_path path.now (merged entry)) (parts_records parts.old)
         (parts_records parts.new)) }
+    ensures storable { OnOk result (IsStrictlyOrdered (parts_records parts.old)
+        → StaysStorable (parts_contents parts.old) (parts_contents parts.new)) }
     ensures told { IfOk result (λ told. IsStrictlyOrdered (parts_records parts.old)
         → IsToldOf (with_path path.now (merged entry)) (parts_records parts.old) told) }
     ensures placed { PartsInStorage parts.new }
@@ -162,18 +176,20 @@ pub fn resolve<C: ComponentCheck>(
     );
     put_kept(&mut parts.extensions, kept);
     let told = solved?;
-    parts.extensions.fs_monitor = None;
     Ok(told)
 }
 
 /// Takes the entries at a path out, whatever their stage, and tells how many went: what the parts stand for is then
-/// `updated` by this one change. An error is want of memory, and leaves the parts as they were.
+/// `updated` by this one change, and where a file of any version could hold it, one still can. An error is want of
+/// memory, and leaves the parts as they were.
 pub fn unstage(parts: &mut Parts, path: &[u8]) -> Result<usize, AllocError>
     requires { PartsInStorage parts.old }
     ensures updated { OnOk result (IsStrictlyOrdered (parts_records parts.old)
         → parts_contents parts.new ≡ updated (Unstage path.entry ∷ []) (parts_contents parts.old)) }
     ensures unstaged { OnOk result (IsStrictlyOrdered (parts_records parts.old)
         → IsUnstagedFrom path.now (parts_records parts.old) (parts_records parts.new)) }
+    ensures storable { OnOk result (IsStrictlyOrdered (parts_records parts.old)
+        → StaysStorable (parts_contents parts.old) (parts_contents parts.new)) }
     ensures count { IfOk result (λ count. IsStrictlyOrdered (parts_records parts.old)
         → count ≡ count_by (is_at path.now) (parts_records parts.old)) }
     ensures storage { parts_storage parts.new ≡ parts_storage parts.old }
@@ -184,6 +200,5 @@ pub fn unstage(parts: &mut Parts, path: &[u8]) -> Result<usize, AllocError>
     let gone = single::unstage(&mut parts.entries, &parts.path_backing, &mut kept, path);
     put_kept(&mut parts.extensions, kept);
     let count = gone?;
-    parts.extensions.fs_monitor = None;
     Ok(count)
 }

@@ -2,6 +2,7 @@
 
 ghost use Rattle.std.specs.Prelude.{◌⊎◌, ◌≡◌, ◌++◌, ◌∷◌, [], All, IfOk, MatchResult, None, OnErr, OnOk, count_by};
 ghost use Rattle.std.specs.Prelude.{length};
+ghost use Rattle.std.specs.Option.{option_map};
 ghost use Rattle.index_entries.specs.Order.{IsStrictlyOrdered};
 ghost use Rattle.index_entries.specs.Record.{IsPlaced, records_in, with_path};
 ghost use Rattle.index_lookups.specs.Range.{is_at};
@@ -9,7 +10,8 @@ ghost use Rattle.index_edits.specs.Changes.{IsAppliedTo};
 ghost use Rattle.index_edits.specs.Edits.{IsResolvedInto, IsStagedInto, IsToldOf, IsUnstagedFrom, merged};
 ghost use Rattle.index_edits.specs.Refusals.{IsReason, fault_of};
 ghost use Rattle.index_edits.specs.declared.change.Change.TheVariants.{Stage, Unstage};
-ghost use Rattle.index_updates.specs.Kept.{IsKeptAfter, StaysSound};
+ghost use Rattle.index_small_extensions.specs.FsMonitor.{monitor_of};
+ghost use Rattle.index_updates.specs.Kept.{IsKeptAfter, StaysSound, watched};
 ghost use Rattle.index_updates.specs.Recordable.{StaysSpellable};
 ghost use Rattle.index_updates.specs.Undone.{undo_paths, undone};
 
@@ -22,10 +24,12 @@ use index_edits::resolve::merged;
 use index_edits::stage::{Displaced, check_stage, settle};
 use index_entries::slice::EntrySlice;
 use index_entries::{Entry, PathStorage, Pathless};
+use index_monitor::dirty::monitor_after;
 use index_objects::check::ComponentCheck;
 use index_parts::hash::Kind;
+use index_small_extensions::FsMonitor;
 use index_small_extensions::resolve_undo::Paths;
-use std::alloc::AllocError;
+use std::alloc::{AllocError, Global};
 
 /// What resolve-undo has after a change of these entries. An error is want of memory.
 fn undo_after(
@@ -45,11 +49,129 @@ fn undo_after(
     Ok(undo)
 }
 
+/// The same entries. An error is want of memory.
+fn copied(alloc: Global, entries: &[Entry]) -> Result<Vec<Entry>, AllocError>
+    ensures { IfOk result (λ made. made.items ≡ entries.now) }
+{
+    let mut made: Vec<Entry> = Vec::with_capacity(alloc, entries.len())?;
+    made.extend_from_slice(entries)?;
+    Ok(made)
+}
+
+/// What went where an entry came, and what a monitor says of the entries then.
+struct Settled {
+    told: Displaced,
+    monitor: Option<FsMonitor>,
+}
+
+/// How many entries went from a path, and what a monitor says of the others then.
+struct Cut {
+    count: usize,
+    monitor: Option<FsMonitor>,
+}
+
+/// Puts an entry in its place: where a monitor told of the entries in a copy of them, so that an error leaves them.
+fn settle_watched(
+    entries: &mut Vec<Entry>,
+    storage: &mut PathStorage,
+    monitor: &Option<FsMonitor>,
+    entry: Pathless,
+    path: &[u8],
+) -> Result<Settled, AllocError>
+    requires placed { All (IsPlaced (length storage.old.items)) entries.old.items }
+    ensures staged { OnOk result (IsStrictlyOrdered (records_in storage.old.items entries.old.items)
+        → IsStagedInto (with_path path.now entry)
+        (records_in storage.old.items entries.old.items)
+        (records_in storage.new.items entries.new.items)) }
+    ensures told { IfOk result (λ made.
+        IsStrictlyOrdered (records_in storage.old.items entries.old.items)
+        → IsToldOf (with_path path.now entry)
+        (records_in storage.old.items entries.old.items) made.told) }
+    ensures monitor { IfOk result (λ made.
+        IsStrictlyOrdered (records_in storage.old.items entries.old.items)
+        → option_map monitor_of made.monitor ≡ watched (Stage entry path.entry ∷ [])
+        (records_in storage.old.items entries.old.items) monitor.now) }
+    ensures placed { All (IsPlaced (length storage.new.items)) entries.new.items }
+    ensures storage { (storage.new.items ≡ storage.old.items)
+        ⊎ (storage.new.items ≡ storage.old.items ++ path.now) }
+    ensures err_entries { OnErr result (entries.new.items ≡ entries.old.items) }
+    ensures err_storage { OnErr result (storage.new.items ≡ storage.old.items) }
+{
+    if monitor.is_none() {
+        return Ok(Settled {
+            told: settle(entries, storage, entry, path)?,
+            monitor: None,
+        });
+    }
+    let len = storage.len();
+    let mut edited = copied(*storage.allocator(), entries)?;
+    let told = settle(&mut edited, storage, entry, path)?;
+    let made = monitor_after(
+        *storage.allocator(),
+        &EntrySlice::new(entries, storage),
+        &EntrySlice::new(&edited, storage),
+        monitor,
+        &[Change::Stage { entry, path }],
+    );
+    match made {
+        Ok(monitor) => {
+            *entries = edited;
+            Ok(Settled { told, monitor })
+        }
+        Err(e) => {
+            storage.truncate(len);
+            Err(e)
+        }
+    }
+}
+
+/// Takes the entries at a path out: where a monitor told of the entries out of a copy of them, so that an error leaves
+/// them.
+fn cut_watched(
+    entries: &mut Vec<Entry>,
+    storage: &PathStorage,
+    monitor: &Option<FsMonitor>,
+    path: &[u8],
+) -> Result<Cut, AllocError>
+    requires placed { All (IsPlaced (length storage.now.items)) entries.old.items }
+    ensures unstaged { OnOk result (IsStrictlyOrdered (records_in storage.now.items entries.old.items)
+        → IsUnstagedFrom path.now (records_in storage.now.items entries.old.items)
+        (records_in storage.now.items entries.new.items)) }
+    ensures count { IfOk result (λ made.
+        IsStrictlyOrdered (records_in storage.now.items entries.old.items)
+        → made.count ≡ count_by (is_at path.now) (records_in storage.now.items entries.old.items)) }
+    ensures monitor { IfOk result (λ made.
+        IsStrictlyOrdered (records_in storage.now.items entries.old.items)
+        → option_map monitor_of made.monitor ≡ watched (Unstage path.entry ∷ [])
+        (records_in storage.now.items entries.old.items) monitor.now) }
+    ensures placed { All (IsPlaced (length storage.now.items)) entries.new.items }
+    ensures err_entries { OnErr result (entries.new.items ≡ entries.old.items) }
+{
+    if monitor.is_none() {
+        return Ok(Cut {
+            count: index_edits::unstage::unstage(entries, storage, path),
+            monitor: None,
+        });
+    }
+    let mut edited = copied(*storage.allocator(), entries)?;
+    let count = index_edits::unstage::unstage(&mut edited, storage, path);
+    let monitor = monitor_after(
+        *storage.allocator(),
+        &EntrySlice::new(entries, storage),
+        &EntrySlice::new(&edited, storage),
+        monitor,
+        &[Change::Unstage { path }],
+    )?;
+    *entries = edited;
+    Ok(Cut { count, monitor })
+}
+
 /// Stages an entry at a path, and keeps what speaks of the entries.
 ///
 /// The entries, the storage, what is told and what is refused are as [`stage`](index_edits::stage::stage) has them, and
 /// what is kept is as [`update`](crate::update::update) leaves it after this one change. An error leaves all as it was.
-/// Over entries that don't strictly increase nothing more is said. Resolve-undo is copied once.
+/// Over entries that don't strictly increase nothing more is said. Resolve-undo is copied once, and so are the entries
+/// where a monitor told of them.
 pub fn stage<C: ComponentCheck>(
     entries: &mut Vec<Entry>,
     storage: &mut PathStorage,
@@ -80,6 +202,9 @@ pub fn stage<C: ComponentCheck>(
     ensures kept { OnOk result (IsStrictlyOrdered (records_in storage.old.items entries.old.items)
         → IsKeptAfter (Stage entry path.entry ∷ []) (records_in storage.old.items entries.old.items)
         kept.old kept.new) }
+    ensures monitor { OnOk result (IsStrictlyOrdered (records_in storage.old.items entries.old.items)
+        → option_map monitor_of kept.new.monitor ≡ watched (Stage entry path.entry ∷ [])
+        (records_in storage.old.items entries.old.items) kept.old.monitor) }
     ensures sound { OnOk result (IsStrictlyOrdered (records_in storage.old.items entries.old.items)
         → StaysSound kept.old kept.new) }
     ensures spellable { OnOk result
@@ -96,8 +221,8 @@ pub fn stage<C: ComponentCheck>(
     check_stage(check, kind, storage.len(), entry, path)?;
     let change = Change::Stage { entry, path };
     let undo = undo_after(entries, storage, &kept.undo, &change)?;
-    let told = settle(entries, storage, entry, path)?;
-    renew(kept, undo, &[change]);
+    let Settled { told, monitor } = settle_watched(entries, storage, &kept.monitor, entry, path)?;
+    renew(kept, undo, monitor, &[change]);
     Ok(told)
 }
 
@@ -133,6 +258,9 @@ pub fn resolve<C: ComponentCheck>(
     ensures kept { OnOk result (IsStrictlyOrdered (records_in storage.old.items entries.old.items)
         → IsKeptAfter (Stage (merged entry) path.entry ∷ [])
         (records_in storage.old.items entries.old.items) kept.old kept.new) }
+    ensures monitor { OnOk result (IsStrictlyOrdered (records_in storage.old.items entries.old.items)
+        → option_map monitor_of kept.new.monitor ≡ watched (Stage (merged entry) path.entry ∷ [])
+        (records_in storage.old.items entries.old.items) kept.old.monitor) }
     ensures sound { OnOk result (IsStrictlyOrdered (records_in storage.old.items entries.old.items)
         → StaysSound kept.old kept.new) }
     ensures spellable { OnOk result
@@ -175,6 +303,9 @@ pub fn unstage(
     ensures kept { OnOk result (IsStrictlyOrdered (records_in storage.now.items entries.old.items)
         → IsKeptAfter (Unstage path.entry ∷ []) (records_in storage.now.items entries.old.items)
         kept.old kept.new) }
+    ensures monitor { OnOk result (IsStrictlyOrdered (records_in storage.now.items entries.old.items)
+        → option_map monitor_of kept.new.monitor ≡ watched (Unstage path.entry ∷ [])
+        (records_in storage.now.items entries.old.items) kept.old.monitor) }
     ensures sound { OnOk result (IsStrictlyOrdered (records_in storage.now.items entries.old.items)
         → StaysSound kept.old kept.new) }
     ensures spellable { OnOk result
@@ -187,7 +318,7 @@ pub fn unstage(
 {
     let change = Change::Unstage { path };
     let undo = undo_after(entries, storage, &kept.undo, &change)?;
-    let count = index_edits::unstage::unstage(entries, storage, path);
-    renew(kept, undo, &[change]);
+    let Cut { count, monitor } = cut_watched(entries, storage, &kept.monitor, path)?;
+    renew(kept, undo, monitor, &[change]);
     Ok(count)
 }

@@ -1,20 +1,16 @@
 //! Reading an index from the disk, with the shared index that it links to.
 
-ghost use Rattle.std.specs.Prelude.{◌≡◌, ◌⊎◌, Bool, List, ℕ, Option, false, true, IfErr, IfOk, IfSome, IsOk, IsTrue, None, Ok};
+ghost use Rattle.std.specs.Prelude.{◌≡◌, false, true, IfErr, IfOk, IsOk, None, Ok};
 ghost use Rattle.std.specs.Path.{path_buf_bytes, path_bytes};
-ghost use Rattle.index_entries.specs.Record.{IdsAreOf};
-ghost use Rattle.index_folder.specs.World.{IsFaultOf, Known, MayBe, MayBeMissing, whole_of};
+ghost use Rattle.index_folder.specs.World.{whole_of};
 ghost use Rattle.index_format.specs.declared.decode.Options.{Options};
-ghost use Rattle.index_metadata.specs.declared.entry.stat.FileTime.{FileTime as Timestamp};
-ghost use Rattle.index_parts.specs.declared.hash.Kind.{Kind as IdKind};
 ghost use Rattle.index_parts.specs.declared.hash.ObjectId.{ObjectId};
-ghost use Rattle.index_state.specs.State.{PathsInStorage, contents, entries_of};
-ghost use Rattle.index_format.specs.Storable.{IsStorable};
-ghost use Rattle.gix_index.specs.Checked.{IsFileAnswer};
-ghost use Rattle.gix_index.specs.Disk.{IsTimeFor, disk_at, disk_beside, known_of, shared_path};
-ghost use Rattle.gix_index.specs.File.{IsEmptyFile, checksum_of, path_of, state_of};
-ghost use Rattle.gix_index.specs.FileFaults.{SaysOfFile, SaysOfFiles};
-ghost use Rattle.gix_index.specs.Linked.{IsOnDisk, IsOnDiskSince, IsReadAs, expecting};
+ghost use Rattle.gix_index.specs.Disk.{IsTimeFor, known_of, shared_path};
+ghost use Rattle.gix_index.specs.File.{path_of, state_of};
+ghost use Rattle.gix_index.specs.File.{IsFileOf, IsWholeFile};
+ghost use Rattle.gix_index.specs.ReadFile.{FollowsTo, IsFileRead, IsFound, IsReadOf, IsSharedRead, Loads, Opens, Reads};
+ghost use Rattle.gix_index.specs.ReadFile.{SaysOfAny, SaysOfFileBy, SaysOfFinding, SaysOfFollowing, SaysOfShared};
+ghost use Rattle.index_state.specs.State.{IsWellFormed};
 
 use super::File;
 use super::init::{Error, decoded};
@@ -35,9 +31,7 @@ use std::path::{Path, PathBuf};
 
 /// What it says that a file can't be opened or read.
 pub(super) fn read_fault(path: PathBuf, error: io::Error) -> Error
-    ensures { (works : Bool) (known : Known) → (works ≡ true → IsFaultOf known error)
-        → (skip : Bool) (kind : IdKind) (time : Timestamp) (options : Options)
-        → SaysOfFile (path_buf_bytes path) works known skip kind time options result }
+    ensures { SaysOfAny (path_buf_bytes path) error result }
 {
     if error.kind() == ErrorKind::OutOfMemory {
         return Error::Memory;
@@ -63,16 +57,10 @@ fn read_file<S: Source>(
     reading: ReadOptions,
 ) -> Result<File, Error>
     requires { S.remaining file ≡ whole_of (S.stored file) }
-    ensures read { IfOk result (λ index. IsReadAs (known_of (S.stored file)) reading.skip_hash
-        reading.object_hash reading.timestamp reading.options
-        (contents (state_of index)) (checksum_of index)) }
-    ensures path { IfOk result (λ file. path_of file ≡ path_buf_bytes path) }
-    ensures placed { IfOk result (λ file. PathsInStorage (state_of file)) }
-    ensures ids { IfOk result (λ file. IdsAreOf reading.object_hash (entries_of (state_of file))) }
-    ensures storable { IfOk result (λ file. IsStorable (contents (state_of file))) }
-    ensures fault { IfErr result (SaysOfFile (path_buf_bytes path) (S.works file)
-        (known_of (S.stored file)) reading.skip_hash reading.object_hash reading.timestamp
-        reading.options) }
+    ensures read { IfOk result (IsFileRead (known_of (S.stored file)) reading) }
+    ensures formed { IfOk result (IsFileOf (path_buf_bytes path) reading.object_hash) }
+    ensures fault { IfErr result
+        (SaysOfFileBy (path_buf_bytes path) (S.works file) (known_of (S.stored file)) reading) }
 {
     match in_windows(alloc, &mut file, reading, false) {
         Ok(Some(read)) => {
@@ -99,16 +87,10 @@ fn shared_at<D: Folder>(
     id: ObjectId,
     reading: ReadOptions,
 ) -> Result<State, Error>
-    ensures read { IfOk result (λ state. (checksum : Option ObjectId)
-        × IsReadAs (D.known folder.now (shared_path (path_bytes path.entry) id))
-        reading.skip_hash reading.object_hash reading.timestamp (expecting reading.options id)
-        (contents state) checksum) }
-    ensures placed { IfOk result PathsInStorage }
-    ensures ids { IfOk result (λ state. IdsAreOf reading.object_hash (entries_of state)) }
-    ensures storable { IfOk result (λ state. IsStorable (contents state)) }
-    ensures fault { IfErr result (SaysOfFile (shared_path (path_bytes path.entry) id)
-        (D.works folder.now) (D.known folder.now (shared_path (path_bytes path.entry) id)) reading.skip_hash
-        reading.object_hash reading.timestamp (expecting reading.options id)) }
+    ensures read { IfOk result (IsSharedRead (D.known folder.now) path.entry id reading) }
+    ensures formed { IfOk result (IsWellFormed reading.object_hash) }
+    ensures fault { IfErr result
+        (SaysOfShared (D.works folder.now) (D.known folder.now) path.entry id reading) }
 {
     let shared = shared_path(alloc, path, &id)?;
     let file = match folder.open(shared.as_path()) {
@@ -128,28 +110,12 @@ fn follow<D: Folder>(
     mut file: File,
     reading: ReadOptions,
 ) -> Result<File, Error>
-    requires read { (bytes : List ℕ)
-        × IsFileAnswer reading.skip_hash reading.object_hash reading.timestamp reading.options bytes
-        (Ok (contents (state_of file), checksum_of file)) }
-    requires placed { PathsInStorage (state_of file) }
-    requires ids { IdsAreOf reading.object_hash (entries_of (state_of file)) }
-    requires storable { IsStorable (contents (state_of file)) }
-    ensures read { IfOk result (λ read. (own : Known)
-        → IsReadAs own reading.skip_hash reading.object_hash reading.timestamp reading.options
-        (contents (state_of file)) (checksum_of file)
-        → IsOnDisk (disk_beside own (D.known folder.now) (path_of file))
-        reading.skip_hash reading.object_hash reading.timestamp reading.options
-        (contents (state_of read)) (checksum_of read)) }
-    ensures placed { IfOk result (λ read. PathsInStorage (state_of read)) }
-    ensures ids { IfOk result (λ read. IdsAreOf reading.object_hash (entries_of (state_of read))) }
-    ensures storable { IfOk result (λ read. IsStorable (contents (state_of read))) }
-    ensures path { IfOk result (λ read. path_of read ≡ path_of file) }
-    ensures unlinked { IfOk result (λ read. (contents (state_of read)).extensions.link ≡ None) }
-    ensures fault { IfErr result (λ e. (own : Known)
-        → IsReadAs own reading.skip_hash reading.object_hash reading.timestamp reading.options
-        (contents (state_of file)) (checksum_of file)
-        → SaysOfFiles (path_of file) (D.works folder.now) (disk_beside own (D.known folder.now) (path_of file))
-        reading.skip_hash reading.object_hash reading.timestamp reading.options e) }
+    requires read { IsReadOf reading file }
+    requires formed { IsWellFormed reading.object_hash (state_of file) }
+    ensures read { IfOk result (FollowsTo (D.known folder.now) reading file) }
+    ensures whole { IfOk result (IsWholeFile (path_of file) reading.object_hash) }
+    ensures fault { IfErr result
+        (SaysOfFollowing (D.works folder.now) (D.known folder.now) reading file) }
 {
     let Some(link) = take_followed_link(&mut file.state) else {
         return Ok(file);
@@ -183,22 +149,11 @@ pub(super) fn read_from<D: Folder>(
     or_default: bool,
     has_time: bool,
 ) -> Result<File, Error>
-    ensures read { IfOk result (λ file. ((time : Timestamp)
-        × IsTimeFor has_time reading.timestamp (D.known folder.now (path_bytes at.entry)) time
-        × IsOnDisk (disk_beside (D.known folder.now (path_bytes at.entry)) (D.known folder.now)
-        (path_buf_bytes path)) reading.skip_hash reading.object_hash time reading.options
-        (contents (state_of file)) (checksum_of file))
-        ⊎ (IsTrue or_default × MayBeMissing (D.known folder.now (path_bytes at.entry))
-        × IsEmptyFile reading.object_hash reading.timestamp file)) }
-    ensures path { IfOk result (λ file. path_of file ≡ path_buf_bytes path) }
-    ensures placed { IfOk result (λ file. PathsInStorage (state_of file)) }
-    ensures ids { IfOk result (λ file. IdsAreOf reading.object_hash (entries_of (state_of file))) }
-    ensures storable { IfOk result (λ file. IsStorable (contents (state_of file))) }
-    ensures unlinked { IfOk result (λ file. (contents (state_of file)).extensions.link ≡ None) }
-    ensures fault { IfErr result (λ e. (time : Timestamp)
-        × (has_time ≡ false → time ≡ reading.timestamp) × SaysOfFiles (path_buf_bytes path)
-        (D.works folder.now) (disk_beside (D.known folder.now (path_bytes at.entry)) (D.known folder.now)
-        (path_buf_bytes path)) reading.skip_hash reading.object_hash time reading.options e) }
+    ensures read { IfOk result
+        (IsFound (D.known folder.now) at.entry path reading or_default has_time) }
+    ensures whole { IfOk result (IsWholeFile (path_buf_bytes path) reading.object_hash) }
+    ensures fault { IfErr result
+        (SaysOfFinding (D.works folder.now) (D.known folder.now) at.entry path reading has_time) }
 {
     let file = match folder.open(at) {
         Ok(file) => file,
@@ -243,17 +198,8 @@ impl File {
         timestamp: FileTime,
         options: decode::Options,
     ) -> Result<File, Error>
-        ensures read { IfOk result
-            (λ file. IsOnDisk (disk_at (D.known folder.now) (path_buf_bytes path)) skip_hash
-            object_hash timestamp options (contents (state_of file)) (checksum_of file)) }
-        ensures path { IfOk result (λ file. path_of file ≡ path_buf_bytes path) }
-        ensures placed { IfOk result (λ file. PathsInStorage (state_of file)) }
-        ensures ids { IfOk result (λ file. IdsAreOf object_hash (entries_of (state_of file))) }
-        ensures storable { IfOk result (λ file. IsStorable (contents (state_of file))) }
-        ensures unlinked { IfOk result (λ file. (contents (state_of file)).extensions.link ≡ None) }
-        ensures fault { IfErr result (SaysOfFiles (path_buf_bytes path) (D.works folder.now)
-            (disk_at (D.known folder.now) (path_buf_bytes path)) skip_hash object_hash timestamp
-            options) }
+        ensures { Reads (D.works folder.now) (D.known folder.now) path skip_hash object_hash
+            timestamp options result }
     {
         let reading = ReadOptions {
             object_hash,
@@ -277,19 +223,8 @@ impl File {
         timestamp: FileTime,
         options: decode::Options,
     ) -> Result<File, Error>
-        ensures read { IfOk result
-            (λ file. IsOnDisk (disk_at (D.known folder.now) (path_buf_bytes path)) skip_hash
-            object_hash timestamp options (contents (state_of file)) (checksum_of file)
-            ⊎ (MayBeMissing (D.known folder.now (path_buf_bytes path))
-            × IsEmptyFile object_hash timestamp file)) }
-        ensures path { IfOk result (λ file. path_of file ≡ path_buf_bytes path) }
-        ensures placed { IfOk result (λ file. PathsInStorage (state_of file)) }
-        ensures ids { IfOk result (λ file. IdsAreOf object_hash (entries_of (state_of file))) }
-        ensures storable { IfOk result (λ file. IsStorable (contents (state_of file))) }
-        ensures unlinked { IfOk result (λ file. (contents (state_of file)).extensions.link ≡ None) }
-        ensures fault { IfErr result (SaysOfFiles (path_buf_bytes path) (D.works folder.now)
-            (disk_at (D.known folder.now) (path_buf_bytes path)) skip_hash object_hash timestamp
-            options) }
+        ensures { Loads (D.works folder.now) (D.known folder.now) path skip_hash object_hash
+            timestamp options result }
     {
         let reading = ReadOptions {
             object_hash,
@@ -312,18 +247,8 @@ impl File {
         skip_hash: bool,
         options: decode::Options,
     ) -> Result<File, Error>
-        ensures read { IfOk result
-            (λ file. IsOnDiskSince (disk_at (D.known folder.now) (path_buf_bytes path)) skip_hash
-            object_hash options (contents (state_of file)) (checksum_of file)) }
-        ensures path { IfOk result (λ file. path_of file ≡ path_buf_bytes path) }
-        ensures placed { IfOk result (λ file. PathsInStorage (state_of file)) }
-        ensures ids { IfOk result (λ file. IdsAreOf object_hash (entries_of (state_of file))) }
-        ensures storable { IfOk result (λ file. IsStorable (contents (state_of file))) }
-        ensures unlinked { IfOk result (λ file. (contents (state_of file)).extensions.link ≡ None) }
-        ensures fault { IfErr result (λ e. (time : Timestamp)
-            × SaysOfFiles (path_buf_bytes path) (D.works folder.now)
-            (disk_at (D.known folder.now) (path_buf_bytes path)) skip_hash object_hash time
-            options e) }
+        ensures { Opens (D.works folder.now) (D.known folder.now) path skip_hash object_hash
+            options result }
     {
         let reading = ReadOptions {
             object_hash,

@@ -1,12 +1,9 @@
 //! Writing a `File`: the state's bytes, and their digest behind them.
 
-ghost use Rattle.std.specs.Prelude.{◌≡◌, true, false, OnOk};
-ghost use Rattle.index_parts.specs.Taking.{Hashes};
-ghost use Rattle.index_format.specs.Image.{body, image};
-ghost use Rattle.index_format.specs.Storable.{IsWritable};
+ghost use Rattle.std.specs.Prelude.{◌≡◌, true, false};
 ghost use Rattle.index_state.specs.State.{PathsInStorage, contents};
 ghost use Rattle.gix_index.specs.File.{state_of};
-ghost use Rattle.gix_index.specs.WrittenFile.{WritesIndex};
+ghost use Rattle.gix_index.specs.WrittenFile.{PutsBody, PutsFile};
 
 use super::File;
 use index_entries::Version;
@@ -24,13 +21,8 @@ fn put_hashed<W: Out>(
     requires placed { PathsInStorage state.now }
     requires unfailed { W.failed out.old ≡ false }
     requires digest { options.skip_hash ≡ false }
-    ensures answer { WritesIndex W.taken W.failed out.old out.new result (contents state.now)
-        options
-        (body (contents state.now) options) }
-    ensures hashed { OnOk result
-        (Hashes W.hashed out.old out.new (body (contents state.now) options)) }
-    ensures loan { W.loan out.new ≡ W.loan out.old }
-    ensures writable { OnOk result (IsWritable (contents state.now) options) }
+    ensures { PutsBody W.taken W.failed W.hashed W.loan out.old out.new result
+        (contents state.now) options }
 {
     let mut hashing = Write::new(out, state.object_hash());
     let result = state.write_to(&mut hashing, options);
@@ -50,13 +42,8 @@ fn put_unhashed<W: Out>(
     requires placed { PathsInStorage state.now }
     requires unfailed { W.failed out.old ≡ false }
     requires no_digest { options.skip_hash ≡ true }
-    ensures answer { WritesIndex W.taken W.failed out.old out.new result (contents state.now)
-        options
-        (body (contents state.now) options) }
-    ensures hashed { OnOk result
-        (Hashes W.hashed out.old out.new (body (contents state.now) options)) }
-    ensures loan { W.loan out.new ≡ W.loan out.old }
-    ensures writable { OnOk result (IsWritable (contents state.now) options) }
+    ensures { PutsBody W.taken W.failed W.hashed W.loan out.old out.new result
+        (contents state.now) options }
 {
     let version = state.write_to(out, options)?;
     Ok((version, state.object_hash().null()))
@@ -70,13 +57,8 @@ fn put_body<W: Out>(
 ) -> Result<(Version, ObjectId), Error>
     requires placed { PathsInStorage state.now }
     requires unfailed { W.failed out.old ≡ false }
-    ensures answer { WritesIndex W.taken W.failed out.old out.new result (contents state.now)
-        options
-        (body (contents state.now) options) }
-    ensures hashed { OnOk result
-        (Hashes W.hashed out.old out.new (body (contents state.now) options)) }
-    ensures loan { W.loan out.new ≡ W.loan out.old }
-    ensures writable { OnOk result (IsWritable (contents state.now) options) }
+    ensures { PutsBody W.taken W.failed W.hashed W.loan out.old out.new result
+        (contents state.now) options }
 {
     if options.skip_hash {
         put_unhashed(state, out, options)
@@ -100,13 +82,8 @@ impl File {
     ) -> Result<(Version, ObjectId), Error>
         requires placed { PathsInStorage (state_of self.now) }
         requires unfailed { W.failed out.old ≡ false }
-        ensures answer { WritesIndex W.taken W.failed out.old out.new result
-            (contents (state_of self.now)) options
-            (image (contents (state_of self.now)) options) }
-        ensures hashed { OnOk result
-            (Hashes W.hashed out.old out.new (image (contents (state_of self.now)) options)) }
-        ensures loan { W.loan out.new ≡ W.loan out.old }
-        ensures writable { OnOk result (IsWritable (contents (state_of self.now)) options) }
+        ensures { PutsFile W.taken W.failed W.hashed W.loan out.old out.new result
+            self.now options }
     {
         let (version, id) = put_body(&self.state, out, options)?;
         out.put(id.as_bytes())?;

@@ -2,13 +2,12 @@
 
 ghost use Rattle.std.specs.Prelude.{◌≡◌, IfOk, IfErr, IfSome, OnOk, OnErr};
 ghost use Rattle.std.specs.Path.{path_buf_bytes};
-ghost use Rattle.index_format.specs.Storable.{IsStorable};
 ghost use Rattle.index_format.specs.Contents.{ExtensionIdsAreOf};
-ghost use Rattle.index_state.specs.State.{PathsInStorage, contents, entries_of};
-ghost use Rattle.index_entries.specs.Record.{IdsAreOf};
+ghost use Rattle.index_state.specs.State.{contents};
 ghost use Rattle.gix_index.specs.Checked.{digest_fault, IsFileAnswer, SaysFile};
 ghost use Rattle.index_window.specs.Intact.{digest_id, IsIntact, IsBroken};
-ghost use Rattle.gix_index.specs.File.{state_of, path_of};
+ghost use Rattle.gix_index.specs.File.{IsFileOf, state_of};
+ghost use Rattle.gix_index.specs.ReadFile.{IsAnswerBy};
 
 use super::File;
 pub use index_file_faults::init::Error;
@@ -59,15 +58,10 @@ pub(super) fn decoded(
     reading: ReadOptions,
 ) -> Result<File, Error>
     requires known { IfSome known (λ id. id ≡ digest_id reading.object_hash bytes.now) }
-    ensures answer { SaysFile result
-        (IsFileAnswer reading.skip_hash reading.object_hash reading.timestamp reading.options
-        bytes.now) }
+    ensures answer { SaysFile result (IsAnswerBy reading bytes.now) }
     ensures intact { IfErr result (λ e. e ≡ Error.Memory
         → IsIntact reading.skip_hash reading.object_hash bytes.now) }
-    ensures path { IfOk result (λ file. path_of file ≡ path_buf_bytes path) }
-    ensures placed { IfOk result (λ file. PathsInStorage (state_of file)) }
-    ensures ids { IfOk result (λ file. IdsAreOf reading.object_hash (entries_of (state_of file))) }
-    ensures storable { IfOk result (λ file. IsStorable (contents (state_of file))) }
+    ensures formed { IfOk result (IsFileOf (path_buf_bytes path) reading.object_hash) }
     ensures extension_ids { IfOk result
         (λ file. ExtensionIdsAreOf reading.object_hash (contents (state_of file)).extensions) }
 {
@@ -109,10 +103,7 @@ impl File {
             (IsFileAnswer skip_hash object_hash timestamp options «data».now) }
         ensures intact { IfErr result (λ e. e ≡ Error.Memory
             → IsIntact skip_hash object_hash «data».now) }
-        ensures path { IfOk result (λ file. path_of file ≡ path_buf_bytes path) }
-        ensures placed { IfOk result (λ file. PathsInStorage (state_of file)) }
-        ensures ids { IfOk result (λ file. IdsAreOf object_hash (entries_of (state_of file))) }
-        ensures storable { IfOk result (λ file. IsStorable (contents (state_of file))) }
+        ensures formed { IfOk result (IsFileOf (path_buf_bytes path) object_hash) }
         ensures extension_ids { IfOk result
             (λ file. ExtensionIdsAreOf object_hash (contents (state_of file)).extensions) }
     {

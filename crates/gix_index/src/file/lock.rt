@@ -1,19 +1,17 @@
 //! An index that is locked before it is read, so that no other writer comes between its reading and its writing.
 
 ghost use Rattle.std.specs.Path.{path_buf_bytes};
-ghost use Rattle.std.specs.Prelude.{◌≡◌, ◌⊎◌, [], IfErr, IfOk, IsTrue, None, OnErr, OnOk, Some, true};
-ghost use Rattle.index_entries.specs.Record.{IdsAreOf};
+ghost use Rattle.std.specs.Prelude.{◌≡◌, [], IfErr, IfOk, None, OnErr, OnOk, Some, true};
 ghost use Rattle.index_folder.specs.Locks.{IsReleased, LeadsTo, Restores, asked_of, lock_of, target_of};
-ghost use Rattle.index_folder.specs.World.{Makes, MayBeMissing};
-ghost use Rattle.index_format.specs.Storable.{IsStorable, IsWritable};
-ghost use Rattle.index_metadata.specs.declared.entry.stat.FileTime.{FileTime as Timestamp};
-ghost use Rattle.index_state.specs.State.{PathsInStorage, contents, entries_of};
-ghost use Rattle.gix_index.specs.Disk.{disk_beside};
-ghost use Rattle.gix_index.specs.File.{IsEmptyFile, checksum_of, path_of, state_of};
+ghost use Rattle.index_folder.specs.World.{Makes};
+ghost use Rattle.index_format.specs.Storable.{IsWritable};
+ghost use Rattle.index_state.specs.State.{PathsInStorage, contents};
+ghost use Rattle.gix_index.specs.File.{state_of};
 ghost use Rattle.gix_index.specs.FileFaults.{SaysOfLocking};
 ghost use Rattle.gix_index.specs.InPlace.{IsPutSince};
-ghost use Rattle.gix_index.specs.Linked.{IsOnDiskSince};
-ghost use Rattle.index_file_faults.specs.WriteFaults.{SaysOfCommitting};
+ghost use Rattle.gix_index.specs.File.{IsWholeFile};
+ghost use Rattle.gix_index.specs.ReadFile.{IsReadUnder};
+ghost use Rattle.gix_index.specs.WrittenFile.{SaysOfCommittingFile};
 ghost use Rattle.gix_index.specs.WrittenFile.{IsWrittenTo};
 
 use super::File;
@@ -56,26 +54,17 @@ impl File {
         options: decode::Options,
         or_default: bool,
     ) -> Result<Locked<D::Made>, Error>
-        ensures read { IfOk result (λ locked. IsOnDiskSince (disk_beside
-            (D.known folder.new (target_of locked.lock.place)) (D.known folder.new)
-            (path_buf_bytes path)) skip_hash object_hash options
-            (contents (state_of locked.file)) (checksum_of locked.file)
-            ⊎ (IsTrue or_default × MayBeMissing (D.known folder.new (target_of locked.lock.place))
-            × ((time : Timestamp) × IsEmptyFile object_hash time locked.file))) }
-        ensures path { IfOk result (λ locked. path_of locked.file ≡ path_buf_bytes path) }
-        ensures asked { IfOk result (λ locked. asked_of locked.lock.place ≡ path_buf_bytes path) }
-        ensures target { IfOk result (λ locked. LeadsTo (D.known folder.old) 5
-            (path_buf_bytes path) (target_of locked.lock.place)) }
-        ensures made { IfOk result (λ locked. Makes (D.guards folder.old) (D.known folder.old)
-            (D.known folder.new) (lock_of locked.lock.place)) }
-        ensures empty { IfOk result (λ locked. D.alone folder.old ≡ true
-            → D.Made.contents locked.lock.file ≡ Some []) }
-        ensures placed { IfOk result (λ locked. PathsInStorage (state_of locked.file)) }
-        ensures ids { IfOk result
-            (λ locked. IdsAreOf object_hash (entries_of (state_of locked.file))) }
-        ensures storable { IfOk result (λ locked. IsStorable (contents (state_of locked.file))) }
-        ensures unlinked { IfOk result
-            (λ locked. (contents (state_of locked.file)).extensions.link ≡ None) }
+        ensures read { IfOk result (λ x. IsReadUnder (D.known folder.new) path skip_hash object_hash
+            options or_default x.lock.place x.file) }
+        ensures whole { IfOk result
+            (λ x. IsWholeFile (path_buf_bytes path) object_hash x.file) }
+        ensures asked { IfOk result (λ x. asked_of x.lock.place ≡ path_buf_bytes path) }
+        ensures target { IfOk result
+            (λ x. LeadsTo (D.known folder.old) 5 (path_buf_bytes path) (target_of x.lock.place)) }
+        ensures made { IfOk result (λ x. Makes (D.guards folder.old) (D.known folder.old)
+            (D.known folder.new) (lock_of x.lock.place)) }
+        ensures empty { IfOk result (λ x. D.alone folder.old ≡ true
+            → D.Made.contents x.lock.file ≡ Some []) }
         ensures restored { OnErr result (D.alone folder.old ≡ true → Restores (D.works folder.old)
             (D.known folder.old) (D.known folder.new) (path_buf_bytes path)) }
         ensures fault { IfErr result (SaysOfLocking (path_buf_bytes path) (D.works folder.old)
@@ -145,8 +134,8 @@ impl File {
         ensures released { OnErr result (D.alone folder.old ≡ true
             → IsReleased (D.works folder.old) (D.known folder.old) (D.known folder.new)
             (lock_of lock.place)) }
-        ensures fault { IfErr result (SaysOfCommitting (D.works folder.old) lock.place
-            (contents (state_of self.old)) options) }
+        ensures fault { IfErr result (SaysOfCommittingFile (D.works folder.old) lock.place self.old
+            options) }
         ensures alone { D.alone folder.new ≡ D.alone folder.old }
         ensures works { D.works folder.new ≡ D.works folder.old }
     {
@@ -187,8 +176,8 @@ impl<M: Made> Locked<M> {
         ensures released { OnErr result (D.alone folder.old ≡ true
             → IsReleased (D.works folder.old) (D.known folder.old) (D.known folder.new)
             (lock_of self.lock.place)) }
-        ensures fault { IfErr result (SaysOfCommitting (D.works folder.old) self.lock.place
-            (contents (state_of self.file)) options) }
+        ensures fault { IfErr result (SaysOfCommittingFile (D.works folder.old) self.lock.place
+            self.file options) }
     {
         let Locked { mut file, lock } = self;
         match file.commit(folder, alloc, lock, options, is_synced) {

@@ -3,21 +3,16 @@
 ghost use Rattle.std.specs.Option.{option_map};
 ghost use Rattle.std.specs.Path.{path_buf_bytes};
 ghost use Rattle.std.specs.Prelude.{◌≡◌, IfErr, IfOk, None};
-ghost use Rattle.index_entries.specs.Record.{IdsAreOf};
-ghost use Rattle.index_format.specs.Storable.{IsStorable};
 ghost use Rattle.index_split.specs.Link.{link_of};
 ghost use Rattle.index_state.specs.Edits.{without_link};
-ghost use Rattle.index_state.specs.State.{PathsInStorage, contents, entries_of, storage_of};
+ghost use Rattle.index_state.specs.State.{contents, entries_of, storage_of};
 ghost use Rattle.gix_index.specs.Disk.{disk_in_hand};
-ghost use Rattle.gix_index.specs.File.{checksum_of, path_of, state_of};
-ghost use Rattle.gix_index.specs.FileFaults.{SaysOfBoth};
-ghost use Rattle.gix_index.specs.Linked.{Follows, IsOnDisk};
+ghost use Rattle.gix_index.specs.File.{IsWholeFile};
+ghost use Rattle.gix_index.specs.Linked.{Follows};
+ghost use Rattle.gix_index.specs.ReadFile.{IsFileOnDisk, SaysOfBothBy};
 
 use super::File;
 use super::init::{Error, decoded};
-use index_format::decode;
-use index_metadata::entry::FileTime;
-use index_parts::hash::Kind;
 use index_split::link::Link;
 use index_state::State;
 use index_window::ReadOptions;
@@ -52,33 +47,21 @@ impl File {
         data: &[u8],
         shared: &[u8],
         path: PathBuf,
-        object_hash: Kind,
-        skip_hash: bool,
-        timestamp: FileTime,
-        options: decode::Options,
+        reading: ReadOptions,
     ) -> Result<File, Error>
         ensures read { IfOk result
-            (λ file. IsOnDisk (disk_in_hand «data».now shared.now timestamp) skip_hash
-            object_hash timestamp options (contents (state_of file)) (checksum_of file)) }
-        ensures path { IfOk result (λ file. path_of file ≡ path_buf_bytes path) }
-        ensures placed { IfOk result (λ file. PathsInStorage (state_of file)) }
-        ensures ids { IfOk result (λ file. IdsAreOf object_hash (entries_of (state_of file))) }
-        ensures storable { IfOk result (λ file. IsStorable (contents (state_of file))) }
-        ensures unlinked { IfOk result (λ file. (contents (state_of file)).extensions.link ≡ None) }
-        ensures fault { IfErr result (SaysOfBoth (disk_in_hand «data».now shared.now timestamp)
-            skip_hash object_hash timestamp options) }
+            (IsFileOnDisk (disk_in_hand «data».now shared.now reading.timestamp) reading) }
+        ensures whole { IfOk result (IsWholeFile (path_buf_bytes path) reading.object_hash) }
+        ensures fault { IfErr result
+            (SaysOfBothBy (disk_in_hand «data».now shared.now reading.timestamp) reading) }
     {
-        let mut reading = ReadOptions {
-            object_hash,
-            skip_hash,
-            timestamp,
-            options,
-        };
         let mut file = decoded(alloc, data, None, path, reading)?;
         let Some(link) = take_followed_link(&mut file.state) else {
             return Ok(file);
         };
-        reading.options.expected_checksum = Some(link.shared_index_checksum);
+        let mut options = reading.options;
+        options.expected_checksum = Some(link.shared_index_checksum);
+        let reading = ReadOptions { options, ..reading };
         let index = decoded(alloc, shared, None, PathBuf::new(alloc), reading)?;
         let (shared, _) = index.into_parts();
         link.dissolve_into(alloc, &mut file.state, shared)?;

@@ -1,22 +1,17 @@
 //! Reading an index from the disk by itself, with the bytes behind its entries.
 
-ghost use Rattle.std.specs.Prelude.{◌≡◌, Bool, Option, IfErr, IfNone, IfOk, IfSome, Ok};
+ghost use Rattle.std.specs.Prelude.{◌≡◌, Option, IfErr, IfNone, IfOk, IfSome, Ok};
 ghost use Rattle.std.specs.Path.{path_buf_bytes};
-ghost use Rattle.index_entries.specs.Record.{IdsAreOf};
-ghost use Rattle.index_folder.specs.World.{Known, whole_of};
-ghost use Rattle.index_format.specs.Contents.{Contents};
-ghost use Rattle.index_format.specs.Storable.{IsStorable};
+ghost use Rattle.index_folder.specs.World.{whole_of};
 ghost use Rattle.index_format.specs.declared.decode.Options.{Options};
-ghost use Rattle.index_metadata.specs.declared.entry.stat.FileTime.{FileTime as Timestamp};
 ghost use Rattle.index_parts.specs.declared.hash.ObjectId.{ObjectId};
-ghost use Rattle.index_state.specs.State.{PathsInStorage, contents, entries_of};
 ghost use Rattle.index_window.specs.Behind.{FollowEntries};
 ghost use Rattle.index_window.specs.Intact.{digest_id};
-ghost use Rattle.gix_index.specs.Checked.{IsFileAnswer};
-ghost use Rattle.gix_index.specs.Disk.{MayHave, known_of};
-ghost use Rattle.gix_index.specs.File.{path_of, state_of};
+ghost use Rattle.gix_index.specs.Disk.{known_of};
 ghost use Rattle.gix_index.specs.FileFaults.{SaysOfFile};
-ghost use Rattle.gix_index.specs.Linked.{IsReadAlone, IsReadAloneIn};
+ghost use Rattle.gix_index.specs.File.{IsFileOf};
+ghost use Rattle.gix_index.specs.Linked.{IsReadAlone};
+ghost use Rattle.gix_index.specs.ReadFile.{IsFileReadAlone, IsNoIndex, IsReadAloneBy, SaysOfFileBy, SaysOfHolder};
 
 use super::File;
 use super::at::read_fault;
@@ -46,9 +41,7 @@ pub struct Unfollowed {
 /// The bytes behind the entries of a file; None only where it is no index.
 fn behind_entries(kind: Kind, bytes: &[u8]) -> Option<&[u8]>
     ensures found { IfSome result (λ rest. FollowEntries kind bytes.now rest.now) }
-    ensures none { IfNone result ((skip : Bool) (time : Timestamp) (options : Options)
-        (value : Contents) (checksum : Option ObjectId)
-        → IsFileAnswer skip kind time options bytes.now (Ok (value, checksum)) → ⊥) }
+    ensures none { IfNone result (IsNoIndex kind bytes.now) }
 {
     let Ok((version, count, entries)) = header::decode(bytes, kind) else {
         return None;
@@ -69,16 +62,10 @@ fn decoded_whole(
     reading: ReadOptions,
 ) -> Result<Unfollowed, Error>
     requires known { IfSome known (λ id. id ≡ digest_id reading.object_hash bytes.now) }
-    ensures read { IfOk result (λ read. IsReadAloneIn reading.skip_hash reading.object_hash
-        reading.timestamp reading.options bytes.now read) }
-    ensures path { IfOk result (λ read. path_of read.index ≡ path_buf_bytes path) }
-    ensures placed { IfOk result (λ read. PathsInStorage (state_of read.index)) }
-    ensures ids { IfOk result
-        (λ read. IdsAreOf reading.object_hash (entries_of (state_of read.index))) }
-    ensures storable { IfOk result (λ read. IsStorable (contents (state_of read.index))) }
-    ensures fault { IfErr result (λ e. (works : Bool) (known : Known) → MayHave known bytes.now
-        → SaysOfFile (path_buf_bytes path) works known reading.skip_hash reading.object_hash
-        reading.timestamp reading.options e) }
+    ensures read { IfOk result (IsReadAloneBy reading bytes.now) }
+    ensures formed { IfOk result
+        (λ read. IsFileOf (path_buf_bytes path) reading.object_hash read.index) }
+    ensures fault { IfErr result (SaysOfHolder (path_buf_bytes path) bytes.now reading) }
 {
     let index = decoded(alloc, bytes, known, path, reading)?;
     let Some(rest) = behind_entries(reading.object_hash, bytes) else {
@@ -97,16 +84,11 @@ fn read_alone<S: Source>(
     reading: ReadOptions,
 ) -> Result<Unfollowed, Error>
     requires { S.remaining file ≡ whole_of (S.stored file) }
-    ensures read { IfOk result (IsReadAlone (known_of (S.stored file)) reading.skip_hash
-        reading.object_hash reading.timestamp reading.options) }
-    ensures path { IfOk result (λ read. path_of read.index ≡ path_buf_bytes path) }
-    ensures placed { IfOk result (λ read. PathsInStorage (state_of read.index)) }
-    ensures ids { IfOk result
-        (λ read. IdsAreOf reading.object_hash (entries_of (state_of read.index))) }
-    ensures storable { IfOk result (λ read. IsStorable (contents (state_of read.index))) }
-    ensures fault { IfErr result (SaysOfFile (path_buf_bytes path) (S.works file)
-        (known_of (S.stored file)) reading.skip_hash reading.object_hash reading.timestamp
-        reading.options) }
+    ensures read { IfOk result (IsFileReadAlone (known_of (S.stored file)) reading) }
+    ensures formed { IfOk result
+        (λ read. IsFileOf (path_buf_bytes path) reading.object_hash read.index) }
+    ensures fault { IfErr result
+        (SaysOfFileBy (path_buf_bytes path) (S.works file) (known_of (S.stored file)) reading) }
 {
     match in_windows(alloc, &mut file, reading, true) {
         Ok(Some(read)) => {
@@ -146,10 +128,8 @@ impl File {
     ) -> Result<Unfollowed, Error>
         ensures read { IfOk result (IsReadAlone (D.known folder.now (path_buf_bytes path))
             skip_hash object_hash timestamp options) }
-        ensures path { IfOk result (λ read. path_of read.index ≡ path_buf_bytes path) }
-        ensures placed { IfOk result (λ read. PathsInStorage (state_of read.index)) }
-        ensures ids { IfOk result (λ read. IdsAreOf object_hash (entries_of (state_of read.index))) }
-        ensures storable { IfOk result (λ read. IsStorable (contents (state_of read.index))) }
+        ensures formed { IfOk result
+            (λ read. IsFileOf (path_buf_bytes path) object_hash read.index) }
         ensures fault { IfErr result (SaysOfFile (path_buf_bytes path) (D.works folder.now)
             (D.known folder.now (path_buf_bytes path)) skip_hash object_hash timestamp options) }
     {

@@ -1,11 +1,11 @@
 //! Whether a file still has the bytes that its checksum is of.
 
-ghost use Rattle.std.specs.Prelude.{◌≡◌, ◌≤◌, ◌<◌, ◌↔◌, length, Err, None, Some, IfErr, IfSome, IsOk, OnOk};
-ghost use Rattle.index_parts.specs.Id.{id_kind, id_len};
+ghost use Rattle.std.specs.Prelude.{◌≡◌, ◌<◌, Err, None, Some, IfErr, IfSome, IsOk, OnOk};
+ghost use Rattle.index_parts.specs.Id.{id_kind};
 ghost use Rattle.index_parts.specs.declared.hash.ObjectId.{ObjectId};
 ghost use Rattle.index_window.specs.Intact.{digest_id};
 ghost use Rattle.gix_index.specs.File.{checksum_of, path_of};
-ghost use Rattle.gix_index.specs.VerifiedFile.{FitsFile, SaysOfBytes, SaysOfFileBytes};
+ghost use Rattle.gix_index.specs.VerifiedFile.{Compares, FitsFile, SaysOfVerifying};
 
 use super::File;
 pub use index_file_faults::verify::Error;
@@ -19,11 +19,7 @@ use std::io::ErrorKind;
 /// The same as [`bytes`], where the digest was taken already.
 fn compare(data: &[u8], digest: ObjectId, checksum: ObjectId) -> Result<(), Error>
     requires digest { digest ≡ digest_id (id_kind checksum) «data».now }
-    ensures too_short { (result ≡ Err Error.TooShort)
-        ↔ (length «data».now < id_len (id_kind checksum)) }
-    ensures ok { OnOk result ((id_len (id_kind checksum) ≤ length «data».now)
-        × (digest_id (id_kind checksum) «data».now ≡ checksum)) }
-    ensures fault { IfErr result (SaysOfBytes «data».now checksum) }
+    ensures { Compares «data».now checksum result }
 {
     if data.len() < checksum.kind().len_in_bytes() {
         return Err(Error::TooShort);
@@ -38,11 +34,7 @@ fn compare(data: &[u8], digest: ObjectId, checksum: ObjectId) -> Result<(), Erro
 /// [`Error::TooShort`]: there are fewer bytes than the checksum has. [`Error::Verify`]: the digest, which it names as
 /// `actual`, is another. No other error comes, and no memory is taken.
 pub fn bytes(data: &[u8], checksum: ObjectId) -> Result<(), Error>
-    ensures too_short { (result ≡ Err Error.TooShort)
-        ↔ (length «data».now < id_len (id_kind checksum)) }
-    ensures ok { OnOk result ((id_len (id_kind checksum) ≤ length «data».now)
-        × (digest_id (id_kind checksum) «data».now ≡ checksum)) }
-    ensures fault { IfErr result (SaysOfBytes «data».now checksum) }
+    ensures { Compares «data».now checksum result }
 {
     let kind = checksum.kind();
     let end = data.len().saturating_sub(kind.len_in_bytes());
@@ -58,10 +50,8 @@ impl File {
         ensures nothing { checksum_of self.now ≡ None → IsOk result }
         ensures ok { OnOk result (IfSome (checksum_of self.now)
             (FitsFile (D.known folder.now (path_of self.now)))) }
-        ensures fault { IfErr result (λ e. (checksum : ObjectId)
-            × (checksum_of self.now ≡ Some checksum)
-            × SaysOfFileBytes (path_of self.now) (D.works folder.now)
-            (D.known folder.now (path_of self.now)) checksum e) }
+        ensures fault { IfErr result
+            (SaysOfVerifying self.now (D.works folder.now) (D.known folder.now)) }
     {
         let Some(checksum) = self.checksum else {
             return Ok(());

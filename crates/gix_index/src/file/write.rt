@@ -1,20 +1,16 @@
 //! Writing a `File` to its path, by way of a lock file.
 
 ghost use Rattle.std.specs.Path.{path_buf_bytes};
-ghost use Rattle.std.specs.Prelude.{◌≡◌, ◌++◌, ℕ, List, [], Bool, Option, Some, true, codes, IfErr, IfOk, OnErr, OnOk};
+ghost use Rattle.std.specs.Prelude.{◌≡◌, ◌++◌, [], Some, true, codes, IfErr, IfOk, OnErr, OnOk};
 ghost use Rattle.std.specs.Io.KnownBytes.{Appends};
 ghost use Rattle.index_folder.specs.Locks.{IsReleased, asked_of, lock_of};
-ghost use Rattle.index_folder.specs.World.{Known};
-ghost use Rattle.index_file_faults.specs.WriteFaults.{SaysOfCommitting, SaysOfPut, SaysOfWrite};
-ghost use Rattle.index_parts.specs.Id.{make_id};
-ghost use Rattle.index_format.specs.Contents.{Contents};
-ghost use Rattle.index_format.specs.Image.{image, image_version, trailer};
+ghost use Rattle.index_file_faults.specs.WriteFaults.{SaysOfPut};
 ghost use Rattle.index_format.specs.Storable.{IsWritable};
-ghost use Rattle.index_format.specs.declared.write.Options.{Options as WriteOptions};
 ghost use Rattle.index_state.specs.State.{PathsInStorage, contents};
 ghost use Rattle.gix_index.specs.File.{path_of, state_of};
-ghost use Rattle.gix_index.specs.InPlace.{IsPut, IsPutSince, LeavesLock};
-ghost use Rattle.gix_index.specs.WrittenFile.{IsWritten};
+ghost use Rattle.gix_index.specs.InPlace.{IsPutSince, LeavesLock};
+ghost use Rattle.gix_index.specs.WrittenFile.{IsWritten, SaysOfCommittingFile, SaysOfWritingFile, Stores};
+ghost use Rattle.gix_index.specs.WrittenFile.{id_of, image_of, version_of};
 
 use super::File;
 use index_entries::Version;
@@ -48,18 +44,16 @@ pub(super) fn committed<D: Folder>(
 ) -> Result<(PathBuf, Version, ObjectId), Error>
     requires { PathsInStorage (state_of index.now) }
     ensures path { IfOk result (λ x. path_buf_bytes x.0 ≡ asked_of lock.place) }
-    ensures version { IfOk result
-        (λ x. x.1 ≡ image_version (contents (state_of index.now)) options) }
-    ensures id { IfOk result (λ x. x.2 ≡ make_id (contents (state_of index.now)).kind
-        (trailer (contents (state_of index.now)) options)) }
+    ensures version { IfOk result (λ x. x.1 ≡ version_of index.now options) }
+    ensures id { IfOk result (λ x. x.2 ≡ id_of index.now options) }
     ensures writable { OnOk result (IsWritable (contents (state_of index.now)) options) }
     ensures put { OnOk result (D.alone folder.old ≡ true → D.Made.contents lock.file ≡ Some []
         → IsPutSince (D.known folder.old) (D.known folder.new) lock.place
         (contents (state_of index.now)) options) }
     ensures released { OnErr result (D.alone folder.old ≡ true → IsReleased (D.works folder.old)
         (D.known folder.old) (D.known folder.new) (lock_of lock.place)) }
-    ensures fault { IfErr result (SaysOfCommitting (D.works folder.old) lock.place
-        (contents (state_of index.now)) options) }
+    ensures fault { IfErr result
+        (SaysOfCommittingFile (D.works folder.old) lock.place index.now options) }
     ensures alone { D.alone folder.new ≡ D.alone folder.old }
     ensures works { D.works folder.new ≡ D.works folder.old }
 {
@@ -94,12 +88,10 @@ impl File {
         options: Options,
     ) -> Result<Filled<W>, write::Error>
         requires { PathsInStorage (state_of self.now) }
-        ensures version { IfOk result
-            (λ x. x.version ≡ image_version (contents (state_of self.now)) options) }
-        ensures id { IfOk result (λ x. x.id ≡ make_id (contents (state_of self.now)).kind
-            (trailer (contents (state_of self.now)) options)) }
-        ensures bytes { IfOk result (λ x. Appends (W.contents file) (W.contents x.file)
-            (image (contents (state_of self.now)) options)) }
+        ensures version { IfOk result (λ x. x.version ≡ version_of self.now options) }
+        ensures id { IfOk result (λ x. x.id ≡ id_of self.now options) }
+        ensures bytes { IfOk result
+            (λ x. Appends (W.contents file) (W.contents x.file) (image_of self.now options)) }
         ensures writable { OnOk result (IsWritable (contents (state_of self.now)) options) }
         ensures fault { IfErr result (SaysOfPut (contents (state_of self.now)) options) }
     {
@@ -121,18 +113,15 @@ impl File {
         options: Options,
     ) -> Result<(Version, ObjectId), Error>
         requires { PathsInStorage (state_of self.now) }
-        ensures version { IfOk result
-            (λ x. x.0 ≡ image_version (contents (state_of self.now)) options) }
-        ensures id { IfOk result (λ x. x.1 ≡ make_id (contents (state_of self.now)).kind
-            (trailer (contents (state_of self.now)) options)) }
+        ensures version { IfOk result (λ x. x.0 ≡ version_of self.now options) }
+        ensures id { IfOk result (λ x. x.1 ≡ id_of self.now options) }
         ensures writable { OnOk result (IsWritable (contents (state_of self.now)) options) }
-        ensures put { OnOk result (D.alone folder.old ≡ true → IsPut (D.known folder.old)
-            (D.known folder.new) (path_of self.now ++ codes ".lock") (path_of self.now)
-            (contents (state_of self.now)) options) }
+        ensures put { OnOk result (Stores (D.alone folder.old) (D.known folder.old)
+            (D.known folder.new) self.now options) }
         ensures left { OnErr result (D.alone folder.old ≡ true → LeavesLock (D.works folder.old)
             (D.known folder.old) (D.known folder.new) (path_of self.now ++ codes ".lock")) }
-        ensures fault { IfErr result (SaysOfWrite (D.works folder.old) (D.known folder.old)
-            (path_of self.now) (contents (state_of self.now)) options) }
+        ensures fault { IfErr result
+            (SaysOfWritingFile (D.works folder.old) (D.known folder.old) self.now options) }
     {
         let lock = lock_path(alloc, &self.path)?;
         let path = self.path.clone()?;
@@ -176,13 +165,12 @@ impl File {
         ensures ok { OnOk result (IsWritten self.old self.new options) }
         ensures err { OnErr result (self.new ≡ self.old) }
         ensures writable { OnOk result (IsWritable (contents (state_of self.old)) options) }
-        ensures put { OnOk result (D.alone folder.old ≡ true → IsPut (D.known folder.old)
-            (D.known folder.new) (path_of self.old ++ codes ".lock") (path_of self.old)
-            (contents (state_of self.old)) options) }
+        ensures put { OnOk result (Stores (D.alone folder.old) (D.known folder.old)
+            (D.known folder.new) self.old options) }
         ensures left { OnErr result (D.alone folder.old ≡ true → LeavesLock (D.works folder.old)
             (D.known folder.old) (D.known folder.new) (path_of self.old ++ codes ".lock")) }
-        ensures fault { IfErr result (SaysOfWrite (D.works folder.old) (D.known folder.old)
-            (path_of self.old) (contents (state_of self.old)) options) }
+        ensures fault { IfErr result
+            (SaysOfWritingFile (D.works folder.old) (D.known folder.old) self.old options) }
     {
         let (version, id) = self.replace(folder, alloc, options)?;
         self.state.set_version(version);

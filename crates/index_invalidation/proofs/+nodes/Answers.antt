@@ -2,6 +2,7 @@ use Rattle.std.proofs.Common.{◌≡◌, ◌+◌, false, take, drop, map, Option
 use Rattle.std.specs.Prelude.{position}
 use Rattle.std.proofs.lemmas.List.Quantifiers.{position-Some}
 use Rattle.index_cached_tree.specs.Sound.{CountsAtMost}
+use Rattle.index_cached_tree.specs.StoredTree.{IsStorableTree}
 use Rattle.index_cached_tree.specs.Tree.{node_of, nodes_from}
 use Rattle.index_cached_tree.specs.declared.Tree.{Tree}
 use Rattle.index_cached_tree.specs.declared.Tree.TheOpen.{Tree-F}
@@ -11,6 +12,7 @@ use Rattle.index_parts.specs.Id.{id_kind, null_id}
 use Rattle.index_invalidation.specs.Invalidation.{invalidated, invalidated_below, is_named, slash_of}
 use Rattle.index_invalidation.proofs.Below.{counts_stay}
 use Rattle.index_invalidation.proofs.Places.{changed, gone, none_changed, none_gone, same_node}
+use Rattle.index_invalidation.proofs.StorableTrees.{storable_stays}
 use Rattle.index_invalidation.proofs.+nodes.Goals as goal
 
 pub invalidate_below-returns-in-Some-place_of : goal.invalidate_below-returns-in-Some-place_of
@@ -82,3 +84,7 @@ pub invalidate-returns-clause-counts : goal.invalidate-returns-clause-counts
 invalidate-returns-clause-counts t c = λ most h.
     subst (CountsAtMost most) (sym (invalidate-returns-clause-is t c))
     (counts_stay most c.args.path.now (node_of c.args.tree.now) h)
+
+pub invalidate-returns-clause-storable : goal.invalidate-returns-clause-storable
+invalidate-returns-clause-storable t c = λ kind h. subst (IsStorableTree kind) (sym (invalidate-returns-clause-is t c))
+    (storable_stays kind c.args.path.now (node_of c.args.tree.now) h)

@@ -2,13 +2,13 @@
 
 ghost use Rattle.std.specs.Borrow.{sem};
 ghost use Rattle.std.specs.Option.{option_copied_mut};
-ghost use Rattle.std.specs.Prelude.{◌≡◌, Contains, IfSome, option_and_then, slice_get};
+ghost use Rattle.std.specs.Prelude.{◌≡◌, IfSome};
 ghost use Rattle.index_metadata.specs.Flags.{stage_code};
-ghost use Rattle.index_entries.specs.Order.{IsStrictlyOrdered};
-ghost use Rattle.index_entries.specs.Record.{record_in};
 ghost use Rattle.index_lookups.specs.Lookup.{HasKey, place_of};
 ghost use Rattle.index_state.specs.Edits.{LendsEntries, LendsEntryAt, with_time, with_version};
-ghost use Rattle.index_state.specs.State.{PathsInStorage, contents, entries_of, records, storage_of};
+ghost use Rattle.index_state.specs.State.{PathsInStorage, contents, entries_of, storage_of};
+ghost use Rattle.index_state.specs.StateEdits.{Sets};
+ghost use Rattle.index_state.specs.StateSearches.{FindsEntry, IsEntryWith};
 
 use crate::State;
 use index_entries::{Entry, PathStorage, PathStorageRef, Version};
@@ -17,9 +17,7 @@ use index_metadata::entry::{FileTime, Stage};
 impl State {
     /// Sets when the file was last written. All else stays.
     pub fn set_timestamp(&mut self, timestamp: FileTime)
-        ensures set { contents self.new ≡ with_time (contents self.old) timestamp }
-        ensures entries { entries_of self.new ≡ entries_of self.old }
-        ensures storage { storage_of self.new ≡ storage_of self.old }
+        ensures { Sets (with_time (contents self.old) timestamp) self.old self.new }
     {
         self.parts.timestamp = timestamp;
     }
@@ -27,9 +25,7 @@ impl State {
     /// Sets the version, as a file that was just written has it. All else stays: which version a later write takes is
     /// told by the entries alone.
     pub fn set_version(&mut self, version: Version)
-        ensures version { contents self.new ≡ with_version (contents self.old) version }
-        ensures entries { entries_of self.new ≡ entries_of self.old }
-        ensures storage { storage_of self.new ≡ storage_of self.old }
+        ensures { Sets (with_version (contents self.old) version) self.old self.new }
     {
         self.parts.version = version;
     }
@@ -61,12 +57,10 @@ impl State {
     pub fn entry_mut_by_path_and_stage(&mut self, path: &[u8], stage: Stage) -> Option<&mut Entry>
         requires { PathsInStorage self.old }
         ensures* writes_back { sem 𝓛 (LendsEntryAt path.now (stage_code stage) self.entry result) }
-        ensures found { IfSome result (λ e. Contains (entries_of self.old) e.now) }
-        ensures key { IfSome result
-            (λ e. HasKey path.now (stage_code stage) (record_in (storage_of self.old) e.now)) }
-        ensures answer { IsStrictlyOrdered (records self.old)
-            → option_copied_mut result ≡ option_and_then (slice_get (entries_of self.old))
-            (place_of path.now (stage_code stage) (records self.old)) }
+        ensures found { IfSome result
+            (λ e. IsEntryWith (HasKey path.now (stage_code stage)) self.old e.now) }
+        ensures answer { FindsEntry (place_of path.now (stage_code stage)) self.old
+            (option_copied_mut result) }
     {
         let idx = self.entry_index_by_path_and_stage(path, stage)?;
         Some(self.parts.entry_mut(idx))

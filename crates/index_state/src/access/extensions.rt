@@ -2,14 +2,15 @@
 
 ghost use Rattle.std.specs.Borrow.{sem};
 ghost use Rattle.std.specs.Option.{option_map, option_copied_mut};
-ghost use Rattle.std.specs.Prelude.{◌≡◌, map};
+ghost use Rattle.std.specs.Prelude.{◌≡◌};
 ghost use Rattle.index_small_extensions.specs.FsMonitor.{monitor_of};
-ghost use Rattle.index_small_extensions.specs.ResolveUndo.{path_stages};
 ghost use Rattle.index_cached_tree.specs.Tree.{node_of};
 ghost use Rattle.index_untracked.specs.Untracked.{cache_of};
 ghost use Rattle.index_state.specs.Edits.{LendsTree, without_link, without_resolve_undo, without_tree};
 ghost use Rattle.index_split.specs.Link.{link_of};
-ghost use Rattle.index_state.specs.State.{contents, entries_of, storage_of};
+ghost use Rattle.index_state.specs.State.{contents};
+ghost use Rattle.index_state.specs.Edits.{undo_of};
+ghost use Rattle.index_state.specs.StateEdits.{Takes};
 
 use crate::State;
 use index_cached_tree::Tree;
@@ -37,10 +38,7 @@ impl State {
 
     /// Takes the cached tree out, and leaves none. All else stays.
     pub fn remove_tree(&mut self) -> Option<Tree>
-        ensures given { option_map node_of result ≡ (contents self.old).extensions.tree }
-        ensures removed { contents self.new ≡ without_tree (contents self.old) }
-        ensures entries { entries_of self.new ≡ entries_of self.old }
-        ensures storage { storage_of self.new ≡ storage_of self.old }
+        ensures { Takes (option_map node_of result) (λ o. o.tree) without_tree self.old self.new }
     {
         self.parts.extensions.tree.take()
     }
@@ -54,10 +52,7 @@ impl State {
 
     /// Takes the link out, and leaves none. All else stays.
     pub fn take_link(&mut self) -> Option<Link>
-        ensures given { option_map link_of result ≡ (contents self.old).extensions.link }
-        ensures removed { contents self.new ≡ without_link (contents self.old) }
-        ensures entries { entries_of self.new ≡ entries_of self.old }
-        ensures storage { storage_of self.new ≡ storage_of self.old }
+        ensures { Takes (option_map link_of result) (λ o. o.link) without_link self.old self.new }
     {
         self.parts.extensions.link.take()
     }
@@ -65,7 +60,7 @@ impl State {
     /// The stages of conflicts that were resolved, path by path, where the file had them and they could be read
     /// (gitformat-index, "Resolve undo").
     pub fn resolve_undo(&self) -> Option<&resolve_undo::Paths>
-        ensures { option_map (λ paths. map path_stages paths.now.items) result
+        ensures { option_map (λ paths. undo_of paths.now) result
             ≡ (contents self.now).extensions.resolve_undo }
     {
         self.parts.extensions.resolve_undo.as_ref()
@@ -73,11 +68,8 @@ impl State {
 
     /// Takes these out, and leaves none. All else stays.
     pub fn remove_resolve_undo(&mut self) -> Option<resolve_undo::Paths>
-        ensures given { option_map (λ paths. map path_stages paths.items) result
-            ≡ (contents self.old).extensions.resolve_undo }
-        ensures removed { contents self.new ≡ without_resolve_undo (contents self.old) }
-        ensures entries { entries_of self.new ≡ entries_of self.old }
-        ensures storage { storage_of self.new ≡ storage_of self.old }
+        ensures { Takes (option_map undo_of result) (λ o. o.resolve_undo) without_resolve_undo
+            self.old self.new }
     {
         self.parts.extensions.resolve_undo.take()
     }

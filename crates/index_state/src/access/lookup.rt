@@ -2,21 +2,22 @@
 
 ghost use Rattle.std.specs.Bool.{OnTrue};
 ghost use Rattle.std.specs.List.{list_any};
-ghost use Rattle.std.specs.Option.{ok_or, option_copied, option_map};
-ghost use Rattle.std.specs.Prelude.{◌≡◌, ◌↔◌, ℕ, ◌+◌, ◌<◌, ◌≤◌, Contains, List, Option, length, take, is_some};
-ghost use Rattle.std.specs.Prelude.{option_and_then, slice_get, true, IfErr, IfOk, IfSome, IsTrue};
+ghost use Rattle.std.specs.Option.{option_copied};
+ghost use Rattle.std.specs.Prelude.{◌≡◌, ◌↔◌, ◌<◌, ◌≤◌, Option, length, take, is_some};
+ghost use Rattle.std.specs.Prelude.{true, IfOk, IfSome, IsTrue};
 ghost use Rattle.std.specs.declared.ops.Range.{Range};
 ghost use Rattle.index_metadata.specs.Flags.{stage_code};
 ghost use Rattle.index_lookups.specs.Closest.{closest, stands_in};
-ghost use Rattle.index_search.specs.Digits.{digits};
 ghost use Rattle.index_lookups.specs.FilterMap.{closure_of, entries_left, storage_left};
-ghost use Rattle.index_lookups.specs.Folded.{IsNamed, folded_closest, folded_place};
-ghost use Rattle.index_lookups.specs.Lookup.{IsKeyAt, IsPathAt, IsPathGap, insertion_of, insertion_of_path, place_of};
-ghost use Rattle.index_entries.specs.Order.{IsOrderedByPath, IsStrictlyOrdered};
-ghost use Rattle.index_lookups.specs.Range.{HasStageOf, IsPart, IsPrefixRange, IsRange, LiesWithin, is_at, part_at};
+ghost use Rattle.index_lookups.specs.Folded.{folded_closest, folded_place};
+ghost use Rattle.index_lookups.specs.Lookup.{IsKeyAt};
+ghost use Rattle.index_entries.specs.Order.{IsOrderedByPath};
+ghost use Rattle.index_lookups.specs.Range.{HasStageOf, IsPart, IsPrefixRange, IsRange, LiesWithin, is_at};
 ghost use Rattle.index_lookups.specs.Range.{place_of_path};
-ghost use Rattle.index_entries.specs.Record.{record_in};
 ghost use Rattle.index_state.specs.State.{PathsInStorage, entries_of, records, storage_of};
+ghost use Rattle.index_state.specs.StateSearches.{FindsClosest, FindsEntry, FindsPart, FindsPlace, FindsPrefixed};
+ghost use Rattle.index_state.specs.StateSearches.{IsEntryWith, SearchesDirectory, SearchesFolded, SearchesKey};
+ghost use Rattle.index_state.specs.StateSearches.{SearchesPath, SearchesPrefix, entry_by};
 
 use crate::State;
 use index_entries::Entry;
@@ -56,8 +57,8 @@ impl State {
         requires bound { upper_bound ≤ length (entries_of self.now) }
         ensures found { IfSome result
             (IsKeyAt path.now (stage_code stage) (take upper_bound (records self.now))) }
-        ensures answer { IsStrictlyOrdered (take upper_bound (records self.now))
-            → result ≡ place_of path.now (stage_code stage) (take upper_bound (records self.now)) }
+        ensures answer { FindsPlace path.now (stage_code stage)
+            (take upper_bound (records self.now)) result }
     {
         range::entry_index_by_path_and_stage_bounded(&self.slice(), path, stage, upper_bound)
     }
@@ -68,12 +69,9 @@ impl State {
     /// given still has that path and one of both stages, and None says nothing.
     pub fn entry_by_path(&self, path: &[u8]) -> Option<&Entry>
         requires { PathsInStorage self.now }
-        ensures found { IfSome result (λ e. Contains (entries_of self.now) e.now) }
-        ensures key { IfSome result
-            (λ e. HasStageOf path.now (record_in (storage_of self.now) e.now)) }
-        ensures answer { IsStrictlyOrdered (records self.now) → option_copied result
-            ≡ option_and_then (slice_get (entries_of self.now))
-            (place_of_path path.now (records self.now)) }
+        ensures found { IfSome result
+            (λ e. IsEntryWith (HasStageOf path.now) self.now e.now) }
+        ensures answer { FindsEntry (place_of_path path.now) self.now (option_copied result) }
     {
         let place = range::place_by_path(&self.slice(), path)?;
         Some(&self.parts.entries[place])
@@ -96,15 +94,12 @@ impl State {
     /// [`prefixed_entries_range`](State::prefixed_entries_range) has their places.
     pub fn prefixed_entries(&self, prefix: &[u8]) -> Option<&[Entry]>
         requires { PathsInStorage self.now }
-        ensures in_range { (range : Option (Range ℕ))
-            × IfSome range (LiesWithin (entries_of self.now))
-            × (option_copied result ≡ option_map (part_at (entries_of self.now)) range) }
+        ensures in_range { FindsPart (λ range. IfSome range (LiesWithin (entries_of self.now)))
+            self.now (option_copied result) }
         ensures exactly { IsOrderedByPath (records self.now)
-            → (range : Option (Range ℕ)) × IsPrefixRange prefix.now (records self.now) range
-            × (option_copied result ≡ option_map (part_at (entries_of self.now)) range) }
+            → FindsPrefixed prefix.now self.now (option_copied result) }
         ensures empty { length prefix.now ≡ 0
-            → (range : Option (Range ℕ)) × IsPrefixRange prefix.now (records self.now) range
-            × (option_copied result ≡ option_map (part_at (entries_of self.now)) range) }
+            → FindsPrefixed prefix.now self.now (option_copied result) }
     {
         let range = range::prefixed_entries_range(&self.slice(), prefix)?;
         Some(&self.parts.entries[range])
@@ -131,11 +126,7 @@ impl State {
     /// The number is promised over entries whose paths never fall. Over other entries it is at most their number.
     pub fn search_prefix(&self, prefix: &[u8]) -> (usize, usize)
         requires { PathsInStorage self.now }
-        ensures in_range { result.0 ≤ length (records self.now) }
-        ensures place { IsOrderedByPath (records self.now)
-            → result.0 ≡ insertion_of_path prefix.now (records self.now) }
-        ensures count { result.1 ≤ digits (length (records self.now)) + 1 }
-        ensures at_least_one { 0 < length (records self.now) → 1 ≤ result.1 }
+        ensures { SearchesPrefix prefix.now (records self.now) result }
     {
         range::search_prefix(&self.slice(), prefix)
     }
@@ -147,12 +138,9 @@ impl State {
     /// directory or stands below it, and None says nothing.
     pub fn entry_closest_to_directory_or_directory(&self, directory: &[u8]) -> Option<&Entry>
         requires { PathsInStorage self.now }
-        ensures found { IfSome result (λ e. Contains (entries_of self.now) e.now) }
-        ensures place { IfSome result
-            (λ e. stands_in directory.now (record_in (storage_of self.now) e.now) ≡ true) }
-        ensures answer { IsOrderedByPath (records self.now) → option_copied result
-            ≡ option_and_then (slice_get (entries_of self.now))
-            (closest directory.now (records self.now)) }
+        ensures found { IfSome result
+            (λ e. IsEntryWith (λ r. stands_in directory.now r ≡ true) self.now e.now) }
+        ensures answer { FindsClosest directory.now self.now (option_copied result) }
     {
         let place = directory::closest_place(&self.slice(), directory)?;
         Some(&self.parts.entries[place])
@@ -189,8 +177,7 @@ impl State {
         lookup: &AccelerateLookup<'_>,
     ) -> Option<&Entry>
         requires { lookup.now ≡ records self.now }
-        ensures { option_copied result ≡ option_and_then (slice_get (entries_of self.now))
-            (folded_place ignore_case path.now (records self.now)) }
+        ensures { option_copied result ≡ entry_by (folded_place ignore_case path.now) self.now }
     {
         let place = lookup.search_path_icase(path, ignore_case).0?;
         Some(&self.parts.entries[place])
@@ -205,9 +192,7 @@ impl State {
         lookup: &AccelerateLookup<'_>,
     ) -> (Option<usize>, usize)
         requires { lookup.now ≡ records self.now }
-        ensures answer { result.0 ≡ folded_place ignore_case path.now (records self.now) }
-        ensures count { result.1 ≤ digits (length (records self.now)) + 1 }
-        ensures at_least_one { 0 < length (records self.now) → 1 ≤ result.1 }
+        ensures { SearchesFolded ignore_case path.now (records self.now) result }
     {
         lookup.search_path_icase(path, ignore_case)
     }
@@ -221,8 +206,8 @@ impl State {
         lookup: &AccelerateLookup<'_>,
     ) -> Option<&Entry>
         requires { lookup.now ≡ records self.now }
-        ensures { option_copied result ≡ option_and_then (slice_get (entries_of self.now))
-            (folded_closest ignore_case directory.now (records self.now)) }
+        ensures { option_copied result
+            ≡ entry_by (folded_closest ignore_case directory.now) self.now }
     {
         let place = lookup.search_directory_icase(directory, ignore_case).0?;
         Some(&self.parts.entries[place])
@@ -237,11 +222,7 @@ impl State {
         lookup: &AccelerateLookup<'_>,
     ) -> (Option<usize>, usize)
         requires { lookup.now ≡ records self.now }
-        ensures answer { result.0 ≡ folded_closest ignore_case directory.now (records self.now) }
-        ensures count { (names : List (List ℕ)) × IsNamed ignore_case (records self.now) names
-            × (result.1 ≤ digits (length names) + 1) }
-        ensures at_least_one { (names : List (List ℕ))
-            × IsNamed ignore_case (records self.now) names × (0 < length names → 1 ≤ result.1) }
+        ensures { SearchesDirectory ignore_case directory.now (records self.now) result }
     {
         lookup.search_directory_icase(directory, ignore_case)
     }
@@ -287,25 +268,14 @@ impl PathSearch for State {
 
     fn search_path(&self, path: &[u8]) -> (Result<usize, usize>, usize)
         requires { PathsInStorage self.now }
-        ensures found { IfOk result.0 (IsPathAt path.now (records self.now)) }
-        ensures in_range { IfErr result.0 (λ i. i ≤ length (records self.now)) }
-        ensures absent { IsOrderedByPath (records self.now)
-            → IfErr result.0 (IsPathGap path.now (records self.now)) }
-        ensures count { result.1 ≤ digits (length (records self.now)) + 1 }
-        ensures at_least_one { 0 < length (records self.now) → 1 ≤ result.1 }
+        ensures { SearchesPath path.now (records self.now) result }
     {
         State::search_path(self, path)
     }
 
     fn search_path_and_stage(&self, path: &[u8], stage: Stage) -> (Result<usize, usize>, usize)
         requires { PathsInStorage self.now }
-        ensures found { IfOk result.0 (IsKeyAt path.now (stage_code stage) (records self.now)) }
-        ensures in_range { IfErr result.0 (λ i. i ≤ length (records self.now)) }
-        ensures answer { IsStrictlyOrdered (records self.now)
-            → result.0 ≡ ok_or (place_of path.now (stage_code stage) (records self.now))
-            (insertion_of path.now (stage_code stage) (records self.now)) }
-        ensures count { result.1 ≤ digits (length (records self.now)) + 1 }
-        ensures at_least_one { 0 < length (records self.now) → 1 ≤ result.1 }
+        ensures { SearchesKey path.now (stage_code stage) (records self.now) result }
     {
         State::search_path_and_stage(self, path, stage)
     }

@@ -1,11 +1,11 @@
 //! Taking entries of a state out.
 
-ghost use Rattle.std.specs.Prelude.{◌≡◌, ◌<◌, ℕ, Bool, filter, length, not, remove, slice_get, Some};
-ghost use Rattle.index_entries.specs.Record.{Record};
-ghost use Rattle.index_entries.specs.Removed.{AnswersBy, AnswersByPlace, ChangesFlagsAlone, LeavesPaths, RemovesWith, left_by};
+ghost use Rattle.std.specs.Prelude.{◌≡◌, ◌<◌, length, remove};
+ghost use Rattle.index_entries.specs.Removed.{ChangesFlagsAlone, LeavesPaths};
 ghost use Rattle.index_state.specs.Edits.{edited};
 ghost use Rattle.index_state.specs.State.{PathsInStorage, contents, entries_of, records, storage_of};
-ghost use Rattle.index_format.specs.Storable.{IsStorable};
+ghost use Rattle.index_state.specs.State.{KeepsStorable};
+ghost use Rattle.index_state.specs.StateEdits.{FiltersBy, FiltersByPlace, RemovesFrom, TakesOut};
 
 use crate::State;
 use index_entries::{Entry, remove};
@@ -25,19 +25,15 @@ impl State {
     )
         requires placed { PathsInStorage self.old }
         requires callable { F.IsAlwaysCallable should_remove }
-        ensures removed { (last : F)
-            × RemovesWith (λ f i p e b o g. F.step f i p e b o g) (storage_of self.old)
-            should_remove (entries_of self.old) last (entries_of self.new) }
-        ensures filtered { (test : Record → Bool) → AnswersBy F.FnMut test should_remove
-            → records self.new ≡ filter (λ r. not (test r)) (records self.old) }
-        ensures filtered_by_place { (test : ℕ → Record → Bool)
-            → AnswersByPlace F.FnMut test should_remove
-            → records self.new ≡ left_by test (records self.old) }
+        ensures removed { RemovesFrom (λ f i p e b o g. F.step f i p e b o g) should_remove
+            self.old self.new }
+        ensures filtered { FiltersBy F.FnMut should_remove self.old self.new }
+        ensures filtered_by_place { FiltersByPlace F.FnMut should_remove self.old self.new }
         ensures storage { storage_of self.new ≡ storage_of self.old }
         ensures others { contents self.new ≡ edited (contents self.old) (records self.new) }
         ensures placed { LeavesPaths F.FnMut should_remove → PathsInStorage self.new }
         ensures storable { ChangesFlagsAlone F.FnMut should_remove
-            → IsStorable (contents self.old) → IsStorable (contents self.new) }
+            → KeepsStorable self.old self.new }
     {
         remove::remove_entries(
             &mut self.parts.entries,
@@ -51,12 +47,7 @@ impl State {
     /// them; the storage of paths, its own among them, and all else stay.
     pub fn remove_entry_at_index(&mut self, index: usize) -> Entry
         requires { index < length (entries_of self.old) }
-        ensures given { slice_get (entries_of self.old) index ≡ Some result }
-        ensures removed { entries_of self.new ≡ remove (entries_of self.old) index }
-        ensures storage { storage_of self.new ≡ storage_of self.old }
-        ensures others { contents self.new ≡ edited (contents self.old) (records self.new) }
-        ensures placed { PathsInStorage self.old → PathsInStorage self.new }
-        ensures storable { IsStorable (contents self.old) → IsStorable (contents self.new) }
+        ensures { TakesOut index self.old self.new result }
     {
         self.parts.extensions_fit = false;
         self.parts.entries.remove(index)

@@ -1,13 +1,8 @@
 //! Entries whose stat would be trusted too soon.
 
-ghost use Rattle.std.specs.Prelude.{◌≡◌, All, map};
-ghost use Rattle.index_entries.specs.Record.{IdsAreOf};
-ghost use Rattle.index_format.specs.Storable.{IsStorable};
-ghost use Rattle.index_metadata.specs.declared.entry.stat.FileTime.{FileTime as Timestamp};
-ghost use Rattle.index_parts.specs.declared.hash.Kind.{Kind};
-ghost use Rattle.index_state.specs.Edits.{with_records};
-ghost use Rattle.index_state.specs.Racy.{MayBeTrusted, smudged, smudged_entry, smudged_stat};
-ghost use Rattle.index_state.specs.State.{PathsInStorage, contents, entries_of, records, storage_of};
+ghost use Rattle.std.specs.Prelude.{◌≡◌, map};
+ghost use Rattle.index_state.specs.Racy.{smudged_entry, smudged_stat};
+ghost use Rattle.index_state.specs.StateEdits.{Smudges};
 
 use crate::State;
 use index_entries::Entry;
@@ -40,16 +35,7 @@ impl State {
     /// With the time of the index that was read, the entries may be written as an index of any later time: what git
     /// trusts by its stat then, it trusted in the index that was read.
     pub fn smudge_racy(&mut self, time: FileTime)
-        ensures smudged { contents self.new ≡ with_records (contents self.old)
-            (map (smudged time) (contents self.old).records) }
-        ensures trusted { (later : Timestamp)
-            → All (λ r. MayBeTrusted later (smudged time r) → MayBeTrusted time r)
-            (contents self.old).records }
-        ensures storage { storage_of self.new ≡ storage_of self.old }
-        ensures placed { PathsInStorage self.old → PathsInStorage self.new }
-        ensures ids { (kind : Kind) → IdsAreOf kind (entries_of self.old)
-            → IdsAreOf kind (entries_of self.new) }
-        ensures storable { IsStorable (contents self.old) → IsStorable (contents self.new) }
+        ensures { Smudges time self.old self.new }
     {
         smudge(&mut self.parts.entries, time);
     }

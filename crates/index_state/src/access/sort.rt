@@ -1,12 +1,9 @@
 //! Putting the entries of a state in order.
 
-ghost use Rattle.std.specs.List.Sorted.{IsPermutation, IsStable};
-ghost use Rattle.std.specs.Prelude.{◌≡◌, ◌↔◌, false, IsOk, IsTrue, OnErr, OnOk};
-ghost use Rattle.index_entries.specs.Order.{IsStrictlyOrdered, record_cmp};
-ghost use Rattle.index_entries.specs.Sorted.{IsOrdered, TiesFollow};
-ghost use Rattle.index_state.specs.Edits.{IsUnchanged, edited, refit};
-ghost use Rattle.index_state.specs.State.{PathsInStorage, contents, entries_of, records, storage_of};
-ghost use Rattle.index_format.specs.Storable.{IsStorable};
+ghost use Rattle.std.specs.Prelude.{◌↔◌, false, IsTrue};
+ghost use Rattle.index_entries.specs.Order.{IsStrictlyOrdered};
+ghost use Rattle.index_state.specs.State.{PathsInStorage, records};
+ghost use Rattle.index_state.specs.StateEdits.{Sorts, SortsBy};
 
 use crate::State;
 use index_entries::{Entry, sort};
@@ -22,21 +19,7 @@ impl State {
     /// of memory the state is as it was.
     pub fn sort_entries(&mut self) -> Result<(), AllocError>
         requires { PathsInStorage self.old }
-        ensures placed { PathsInStorage self.new }
-        ensures permutation { IsPermutation (records self.old) (records self.new) }
-        ensures ordered { OnOk result (IsOrdered (records self.new)) }
-        ensures stable { IsStable record_cmp (records self.old) (records self.new) }
-        ensures no_memory { IsOrdered (records self.old) → IsOk result }
-        ensures unmoved { IsOrdered (records self.old) → entries_of self.new ≡ entries_of self.old }
-        ensures storage { storage_of self.new ≡ storage_of self.old }
-        ensures others { contents self.new
-            ≡ refit (contents self.old) (records self.new) (contents self.new).fit }
-        ensures fit { IsStrictlyOrdered (records self.old)
-            → (contents self.new).fit ≡ (contents self.old).fit }
-        ensures unfit { OnOk result ((IsStrictlyOrdered (records self.old) → ⊥)
-            → (contents self.new).fit ≡ false) }
-        ensures storable { IsStorable (contents self.old) → IsStorable (contents self.new) }
-        ensures err { OnErr result (IsUnchanged self.old self.new) }
+        ensures { Sorts self.old self.new result }
     {
         let in_order = self.is_in_order();
         sort::sort(&mut self.parts.entries, &self.parts.path_backing)?;
@@ -64,17 +47,7 @@ impl State {
     ) -> Result<(), AllocError>
         requires callable { F.IsAlwaysCallable compare }
         requires placed { PathsInStorage self.old }
-        ensures placed { PathsInStorage self.new }
-        ensures permutation { IsPermutation (records self.old) (records self.new) }
-        ensures ordered { OnOk result (IsOrdered (records self.new)) }
-        ensures ties { OnOk result
-            (TiesFollow F.FnMut compare (storage_of self.old) (entries_of self.old)
-            (entries_of self.new)) }
-        ensures storage { storage_of self.new ≡ storage_of self.old }
-        ensures others { OnOk result
-            (contents self.new ≡ edited (contents self.old) (records self.new)) }
-        ensures storable { IsStorable (contents self.old) → IsStorable (contents self.new) }
-        ensures err { OnErr result (IsUnchanged self.old self.new) }
+        ensures { SortsBy F.FnMut compare self.old self.new result }
     {
         sort::sort_by(&mut self.parts.entries, &self.parts.path_backing, compare)?;
         self.parts.extensions_fit = false;

@@ -11,7 +11,7 @@ impl State {
     /// Whether a file can hold the index, so that what is written of it is read as it was written: true exactly where
     /// each id, also of entries marked `REMOVE`, is of the state's kind, no path of 4095 bytes or more has a NUL, and
     /// bytes can hold the cached tree and resolve-undo, where they are there. An untracked cache and what a monitor said
-    /// come by reading alone, and are always such that bytes can hold them.
+    /// come by reading, and are always such that bytes can hold them; edits keep them so.
     ///
     /// It holds of each state that was read or newly made, and a caller that edits through loans, as
     /// [`entries_mut`](State::entries_mut) and [`tree_mut`](State::tree_mut) give them, sees by it whether it still

@@ -1,8 +1,8 @@
 //! Handing out the storage of paths, and putting one in.
 
 ghost use Rattle.std.specs.Prelude.{◌≡◌, []};
-ghost use Rattle.index_state.specs.Edits.{with_records};
-ghost use Rattle.index_state.specs.State.{contents, entries_of, records, storage_of};
+ghost use Rattle.index_state.specs.State.{storage_of};
+ghost use Rattle.index_state.specs.StateEdits.{HasStorage};
 
 use crate::State;
 use index_entries::PathStorage;
@@ -15,9 +15,7 @@ impl State {
     /// that read paths may not be made where there are entries.
     pub fn take_path_backing(&mut self) -> PathStorage
         ensures given { result.items ≡ storage_of self.old }
-        ensures emptied { storage_of self.new ≡ [] }
-        ensures entries { entries_of self.new ≡ entries_of self.old }
-        ensures others { contents self.new ≡ with_records (contents self.old) (records self.new) }
+        ensures emptied { HasStorage [] self.old self.new }
     {
         let alloc = *self.parts.path_backing.allocator();
         std::mem::replace(&mut self.parts.path_backing, Vec::new(alloc))
@@ -27,9 +25,7 @@ impl State {
     /// out they have the paths that they had.
     pub fn return_path_backing(&mut self, backing: PathStorage)
         requires { storage_of self.old ≡ [] }
-        ensures stored { storage_of self.new ≡ backing.items }
-        ensures entries { entries_of self.new ≡ entries_of self.old }
-        ensures others { contents self.new ≡ with_records (contents self.old) (records self.new) }
+        ensures { HasStorage backing.items self.old self.new }
     {
         self.parts.path_backing = backing;
     }

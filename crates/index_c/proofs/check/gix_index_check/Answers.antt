@@ -1,7 +1,7 @@
 use Rattle.std.proofs.Common.{◌⊎◌}
 use Rattle.gix_index.specs.Kind.{Kind}
 use Rattle.index_c.specs.Checking.{IsSoundIndex, IsUnsoundIndex}
-use Rattle.index_c.specs.Summaries.{IsRefusedIndex, IsUnread}
+use Rattle.index_numbers.specs.Summaries.{IsRefusedIndex, IsUnread}
 use Rattle.index_table.specs.Reading.{IsReadSo}
 use Rattle.index_table.proofs.Joins.{read_weaker}
 use Rattle.index_c.proofs.Checks.{check_refused, check_unread}

@@ -1,7 +1,7 @@
 use Rattle.std.proofs.Common.{◌⊎◌}
 use Rattle.gix_index.specs.Kind.{Kind}
 use Rattle.index_c.specs.Checking.{AreSoundBoth, AreUnsoundBoth}
-use Rattle.index_c.specs.Joined.{AreRefusedBoth, LackMemory}
+use Rattle.index_numbers.specs.Joined.{AreRefusedBoth, LackMemory}
 use Rattle.index_table.specs.Joining.{AreReadSo}
 use Rattle.index_table.proofs.Joins.{both_weaker}
 use Rattle.index_c.proofs.Checks.{both_lack, both_refused}

@@ -1,12 +1,12 @@
 use Rattle.std.proofs.Common.{◌≡◌, arith}
 use Rattle.gix_index.specs.Contents.{Contents}
 use Rattle.gix_index.specs.Kind.{Kind}
-use Rattle.index_c.specs.Joined.{AreRefusedBoth, LackMemory}
-use Rattle.index_c.specs.Summaries.{IsToldWith}
+use Rattle.index_numbers.specs.Joined.{AreRefusedBoth, LackMemory}
+use Rattle.index_numbers.specs.Summaries.{IsToldWith}
 use Rattle.index_table.specs.Joining.{AreReadSo, FailBoth}
 use Rattle.index_table.specs.Reading.{Fills, IsTooSmall}
 use Rattle.index_table.proofs.Joins.{both_weaker}
-use Rattle.index_c.proofs.Refusals.{lack_both, refused_both}
+use Rattle.index_numbers.proofs.Refusals.{lack_both, refused_both}
 use Rattle.index_c.proofs.Tellings.{done_told, failure_told, kept_told, no_room_told, with_kind}
 use Rattle.index_c.proofs.read.gix_index_read_split.Goals as goal
 

@@ -18,7 +18,12 @@ pub returns-in_err-verify_contents-clause-refused : goal.returns-in_err-verify_c
 returns-in_err-verify_contents-clause-refused g c =
     let p = err_from_is_err_and c.from_residual-in_err-verify_contents.result
     c.from_residual-in_err-verify_contents.ensures.1 in
-    rw (p.1, p.2) (untold (inr c.in_err-verify_contents.ensures.fault) (Keeps-refl (g.W.Out.taken c.args.out.now)))
+    rw (p.1, p.2) (untold (inr (record {
+      value = contents (state_of c.in_ok-index.index);
+      checksum = checksum_of c.in_ok-index.index;
+      read = c.in_ok-index.ensures.read;
+      is = c.in_err-verify_contents.ensures.fault;
+    })) (Keeps-refl (g.W.Out.taken c.args.out.now)))
 
 pub returns-in-Ok-clause-told : goal.returns-in-Ok-clause-told
 returns-in-Ok-clause-told g c = record {

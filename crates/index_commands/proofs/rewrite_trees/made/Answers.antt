@@ -15,7 +15,13 @@ returns-in_err-index-clause-fault g c =
 pub returns-in_err-tree-clause-fault : goal.returns-in_err-tree-clause-fault
 returns-in_err-tree-clause-fault g c =
     let p = err_from_is_err_and c.from_residual-in_err-tree.result c.from_residual-in_err-tree.ensures.1 in
-    rw (p.1, p.2) (inr c.in_err-tree.ensures.fault)
+    rw (p.1, p.2) (inr (record {
+      value = contents (state_of c.in_ok-index.index);
+      checksum = checksum_of c.in_ok-index.index;
+      time = (contents (state_of c.in_ok-index.index)).time;
+      read = c.in_ok-index.ensures.read.read;
+      is = c.in_err-tree.ensures.fault;
+    }))
 
 pub returns-clause-made : goal.returns-clause-made
 returns-clause-made g c =

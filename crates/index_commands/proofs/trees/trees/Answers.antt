@@ -16,7 +16,13 @@ returns-in_err-index-clause-refused g c =
 pub returns-in_err-tree-clause-refused : goal.returns-in_err-tree-clause-refused
 returns-in_err-tree-clause-refused g c =
     let p = err_from_is_err_and c.from_residual-in_err-tree.result c.from_residual-in_err-tree.ensures.1 in
-    rw (p.1, p.2) (untold (inr c.in_err-tree.ensures.fault) (Keeps-refl (g.W.Out.taken c.args.out.now)))
+    rw (p.1, p.2) (untold (inr (record {
+      value = contents (state_of c.in_ok-index.index);
+      checksum = checksum_of c.in_ok-index.index;
+      time = c.in_ok-index.ensures.read.time;
+      read = c.in_ok-index.ensures.read.is;
+      is = c.in_err-tree.ensures.fault;
+    })) (Keeps-refl (g.W.Out.taken c.args.out.now)))
 
 pub returns-in-Ok-clause-told : goal.returns-in-Ok-clause-told
 returns-in-Ok-clause-told g c = record {

@@ -1,6 +1,6 @@
 use Rattle.std.proofs.Common.{◌∙◌, ap, refl, rules}
 use Rattle.std.proofs.lemmas.Result.{IfOk-weaker}
-use Rattle.gix_index.specs.File.{checksum_of, state_of}
+use Rattle.gix_index.specs.File.{checksum_of}
 use Rattle.gix_index.specs.State.{contents}
 use Rattle.gix_index.specs.StateType.{State}
 use Rattle.index_commands.specs.Updating.{empty, there}

@@ -1,8 +1,9 @@
-use Rattle.std.proofs.Common.{◌∙◌, ap, subst, sym}
+use Rattle.std.proofs.Common.{refl, subst, sym}
 use Rattle.gix_index.specs.File.{state_of}
+use Rattle.gix_index.specs.SoundState.{SaysFall}
 use Rattle.gix_index.specs.State.{contents}
 use Rattle.gix_index.specs.StateType.{State}
-use Rattle.index_commands.specs.Updating.{IsUpdatedBy}
+use Rattle.index_commands.specs.Updating.{IsUpdatedBy, unordered}
 use Rattle.index_commands.proofs.update.updated.Goals as goal
 
 pub returns-clause-updated : goal.returns-clause-updated
@@ -15,3 +16,13 @@ returns-clause-updated g c = record {
       (contents (state_of c.in_ok-index.index)) (contents s)) (sym c.from_state.ensures.state)
       (rw (c.deref-2.ensures.value, c.into_parts-state.ensures.state) at c.in_ok-change.ensures.updated);
 }
+
+pub returns-in-Err-clause-fault : goal.returns-in-Err-clause-fault
+returns-in-Err-clause-fault g c = unordered (record {
+  value = contents (state_of c.in_ok-index.index);
+  begun = c.in_ok-index.ensures.begun;
+  is = (
+    refl,
+    subst (λ (s : State). SaysFall (contents s).records c.in-Err.fault) c.deref.ensures c.in-Err.ensures.fault,
+  );
+})

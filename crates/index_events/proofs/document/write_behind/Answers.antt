@@ -1,174 +1,133 @@
-use Rattle.std.proofs.Common.{ℕ, List, [], ◌∷◌, ◌++◌, refl}
+use Rattle.std.proofs.Common.{Err, List, Ok, [], ◌∷◌, ◌++◌, refl}
 use Rattle.std.proofs.lemmas.Result.{err_from_is_err_and}
 use Rattle.index_state.specs.State.{contents}
 use Rattle.index_events.specs.Bitmaps.{link_events}
 use Rattle.index_events.specs.Document.{behind_events, last_events}
-use Rattle.index_events.specs.Event.{Event, end_array, print}
+use Rattle.index_events.specs.Event.{Event, end_array}
 use Rattle.index_events.specs.Trees.{cached_tree_events}
 use Rattle.index_events.specs.Undo.{undo_events}
 use Rattle.index_events.specs.Untracked.{untracked_events}
-use Rattle.index_events.proofs.Chain.{broken_more, cut_first, in_five, in_four, in_three, in_two, told_more, waits_more}
+use Rattle.index_events.proofs.Chain.{done_as, first_sent, in_five, in_four, in_three, in_two, rest_unheld, sent_then}
+use Rattle.index_events.proofs.Chain.{told_then}
 use Rattle.index_events.proofs.Listed.{single_told}
-use Rattle.index_events.proofs.Told.{all_waits}
 use Rattle.index_events.proofs.document.write_behind.Goals as goal
 
-pub returns-in_err-write_tree-clause-err : goal.returns-in_err-write_tree-clause-err
+pub returns-in_err-write_tree : goal.returns-in_err-write_tree
 unfolding behind_events
-returns-in_err-write_tree-clause-err g c =
+returns-in_err-write_tree g c =
     let spell = g.P.Printer.spell in
     let old = c.args.text.now.bytes.items in
     let o = (contents c.args.state.now).extensions in
-    let u = g.W.Out.taken c.args.out.now in
     let e1 : List Event = end_array ∷ [] in
     let e2 = cached_tree_events o.tree in
     let e3 = link_events o.link in
     let e4 = undo_events o.resolve_undo in
     let e5 = untracked_events g.P.Printer.BACKWARDS o.untracked in
     let e6 = last_events o c.args.marks.now in
-    let t1 = c.end_array.new.text.bytes.items in
-    let p1 = all_waits u t1 (old ++ print spell e1)
-    (single_told spell old t1 end_array end_array c.in_ok-end_array.ensures refl) in
-    rw (err_from_is_err_and c.from_residual-in_err-write_tree.result c.from_residual-in_err-write_tree.ensures.1).1
-    (in_two spell old e1 e2 e3 e4 e5 e6 u (g.W.Out.taken c.write_tree.new.out)
-    (broken_more spell old e1 e2 u u (g.W.Out.taken c.write_tree.new.out) t1 p1 c.in_err-write_tree.ensures.err))
+    let p1 = first_sent spell old e1 c.requires (single_told spell old c.end_array.new.text.bytes.items end_array
+    end_array c.in_ok-end_array.ensures refl) in
+    let p = err_from_is_err_and c.from_residual-in_err-write_tree.result c.from_residual-in_err-write_tree.ensures.1 in
+    rw (p.1, p.2) (in_two g.W.Out c.args.out.now c.write_tree.new.out spell old _ _ c.in_err-write_tree.field-0.0 e1 e2 e3 e4 e5 e6
+    (sent_then spell old e1 e2 (Err _) p1 c.in_err-write_tree.ensures))
 
-pub returns-in_err-write_link-clause-err : goal.returns-in_err-write_link-clause-err
+pub returns-in_err-write_link : goal.returns-in_err-write_link
 unfolding behind_events
-returns-in_err-write_link-clause-err g c =
+returns-in_err-write_link g c =
     let spell = g.P.Printer.spell in
     let old = c.args.text.now.bytes.items in
     let o = (contents c.args.state.now).extensions in
-    let u = g.W.Out.taken c.args.out.now in
     let e1 : List Event = end_array ∷ [] in
     let e2 = cached_tree_events o.tree in
     let e3 = link_events o.link in
     let e4 = undo_events o.resolve_undo in
     let e5 = untracked_events g.P.Printer.BACKWARDS o.untracked in
     let e6 = last_events o c.args.marks.now in
-    let t1 = c.end_array.new.text.bytes.items in
-    let p1 = all_waits u t1 (old ++ print spell e1)
-    (single_told spell old t1 end_array end_array c.in_ok-end_array.ensures refl) in
-    let t2 = c.write_tree.new.text.bytes.items in
-    let p2 = told_more spell old e1 e2 u u (g.W.Out.taken c.write_tree.new.out) t1 t2 p1
-    c.in_ok-write_tree.ensures.ok in
-    rw (err_from_is_err_and c.from_residual-in_err-write_link.result c.from_residual-in_err-write_link.ensures.1).1
-    (in_three spell old e1 e2 e3 e4 e5 e6 u (g.W.Out.taken c.write_link.new.out)
-    (broken_more spell old (e1 ++ e2) e3 u (g.W.Out.taken c.write_tree.new.out) (g.W.Out.taken c.write_link.new.out) t2 p2 c.in_err-write_link.ensures.err))
+    let p1 = first_sent spell old e1 c.requires (single_told spell old c.end_array.new.text.bytes.items end_array
+    end_array c.in_ok-end_array.ensures refl) in
+    let p2 = sent_then spell old e1 e2 (Ok _) p1 c.in_ok-write_tree.ensures in
+    let p = err_from_is_err_and c.from_residual-in_err-write_link.result c.from_residual-in_err-write_link.ensures.1 in
+    rw (p.1, p.2) (in_three g.W.Out c.args.out.now c.write_link.new.out spell old _ _ c.in_err-write_link.field-0.0 e1 e2 e3 e4 e5 e6
+    (sent_then spell old (e1 ++ e2) e3 (Err _) p2 c.in_err-write_link.ensures))
 
-pub returns-in_err-write_undo-clause-err : goal.returns-in_err-write_undo-clause-err
+pub returns-in_err-write_undo : goal.returns-in_err-write_undo
 unfolding behind_events
-returns-in_err-write_undo-clause-err g c =
+returns-in_err-write_undo g c =
     let spell = g.P.Printer.spell in
     let old = c.args.text.now.bytes.items in
     let o = (contents c.args.state.now).extensions in
-    let u = g.W.Out.taken c.args.out.now in
     let e1 : List Event = end_array ∷ [] in
     let e2 = cached_tree_events o.tree in
     let e3 = link_events o.link in
     let e4 = undo_events o.resolve_undo in
     let e5 = untracked_events g.P.Printer.BACKWARDS o.untracked in
     let e6 = last_events o c.args.marks.now in
-    let t1 = c.end_array.new.text.bytes.items in
-    let p1 = all_waits u t1 (old ++ print spell e1)
-    (single_told spell old t1 end_array end_array c.in_ok-end_array.ensures refl) in
-    let t2 = c.write_tree.new.text.bytes.items in
-    let p2 = told_more spell old e1 e2 u u (g.W.Out.taken c.write_tree.new.out) t1 t2 p1
-    c.in_ok-write_tree.ensures.ok in
-    let t3 = c.write_link.new.text.bytes.items in
-    let p3 = told_more spell old (e1 ++ e2) e3 u (g.W.Out.taken c.write_tree.new.out) (g.W.Out.taken c.write_link.new.out) t2 t3 p2
-    c.in_ok-write_link.ensures.ok in
-    rw (err_from_is_err_and c.from_residual-in_err-write_undo.result c.from_residual-in_err-write_undo.ensures.1).1
-    (in_four spell old e1 e2 e3 e4 e5 e6 u (g.W.Out.taken c.write_undo.new.out)
-    (broken_more spell old ((e1 ++ e2) ++ e3) e4 u (g.W.Out.taken c.write_link.new.out) (g.W.Out.taken c.write_undo.new.out) t3 p3 c.in_err-write_undo.ensures.err))
+    let p1 = first_sent spell old e1 c.requires (single_told spell old c.end_array.new.text.bytes.items end_array
+    end_array c.in_ok-end_array.ensures refl) in
+    let p2 = sent_then spell old e1 e2 (Ok _) p1 c.in_ok-write_tree.ensures in
+    let p3 = sent_then spell old (e1 ++ e2) e3 (Ok _) p2 c.in_ok-write_link.ensures in
+    let p = err_from_is_err_and c.from_residual-in_err-write_undo.result c.from_residual-in_err-write_undo.ensures.1 in
+    rw (p.1, p.2) (in_four g.W.Out c.args.out.now c.write_undo.new.out spell old _ _ c.in_err-write_undo.field-0.0 e1 e2 e3 e4 e5 e6
+    (sent_then spell old ((e1 ++ e2) ++ e3) e4 (Err _) p3 c.in_err-write_undo.ensures))
 
-pub returns-in_err-write_untracked-clause-err : goal.returns-in_err-write_untracked-clause-err
+pub returns-in_err-write_untracked : goal.returns-in_err-write_untracked
 unfolding behind_events
-returns-in_err-write_untracked-clause-err g c =
+returns-in_err-write_untracked g c =
     let spell = g.P.Printer.spell in
     let old = c.args.text.now.bytes.items in
     let o = (contents c.args.state.now).extensions in
-    let u = g.W.Out.taken c.args.out.now in
     let e1 : List Event = end_array ∷ [] in
     let e2 = cached_tree_events o.tree in
     let e3 = link_events o.link in
     let e4 = undo_events o.resolve_undo in
     let e5 = untracked_events g.P.Printer.BACKWARDS o.untracked in
     let e6 = last_events o c.args.marks.now in
-    let t1 = c.end_array.new.text.bytes.items in
-    let p1 = all_waits u t1 (old ++ print spell e1)
-    (single_told spell old t1 end_array end_array c.in_ok-end_array.ensures refl) in
-    let t2 = c.write_tree.new.text.bytes.items in
-    let p2 = told_more spell old e1 e2 u u (g.W.Out.taken c.write_tree.new.out) t1 t2 p1
-    c.in_ok-write_tree.ensures.ok in
-    let t3 = c.write_link.new.text.bytes.items in
-    let p3 = told_more spell old (e1 ++ e2) e3 u (g.W.Out.taken c.write_tree.new.out) (g.W.Out.taken c.write_link.new.out) t2 t3 p2
-    c.in_ok-write_link.ensures.ok in
-    let t4 = c.write_undo.new.text.bytes.items in
-    let p4 = told_more spell old ((e1 ++ e2) ++ e3) e4 u (g.W.Out.taken c.write_link.new.out) (g.W.Out.taken c.write_undo.new.out) t3 t4 p3
-    c.in_ok-write_undo.ensures.ok in
-    rw (err_from_is_err_and c.from_residual-in_err-write_untracked.result c.from_residual-in_err-write_untracked.ensures.1).1
-    (in_five spell old e1 e2 e3 e4 e5 e6 u (g.W.Out.taken c.write_untracked.new.out)
-    (broken_more spell old (((e1 ++ e2) ++ e3) ++ e4) e5 u (g.W.Out.taken c.write_undo.new.out) (g.W.Out.taken c.write_untracked.new.out) t4 p4 c.in_err-write_untracked.ensures.err))
+    let p1 = first_sent spell old e1 c.requires (single_told spell old c.end_array.new.text.bytes.items end_array
+    end_array c.in_ok-end_array.ensures refl) in
+    let p2 = sent_then spell old e1 e2 (Ok _) p1 c.in_ok-write_tree.ensures in
+    let p3 = sent_then spell old (e1 ++ e2) e3 (Ok _) p2 c.in_ok-write_link.ensures in
+    let p4 = sent_then spell old ((e1 ++ e2) ++ e3) e4 (Ok _) p3 c.in_ok-write_undo.ensures in
+    let p = err_from_is_err_and c.from_residual-in_err-write_untracked.result c.from_residual-in_err-write_untracked.ensures.1 in
+    rw (p.1, p.2) (in_five g.W.Out c.args.out.now c.write_untracked.new.out spell old _ _ c.in_err-write_untracked.field-0.0 e1 e2 e3 e4 e5 e6
+    (sent_then spell old (((e1 ++ e2) ++ e3) ++ e4) e5 (Err _) p4 c.in_err-write_untracked.ensures))
 
-pub returns-in_err-append_last-clause-err : goal.returns-in_err-append_last-clause-err
+pub returns-in_err-append_last : goal.returns-in_err-append_last
 unfolding behind_events
-returns-in_err-append_last-clause-err g c =
+returns-in_err-append_last g c =
     let spell = g.P.Printer.spell in
     let old = c.args.text.now.bytes.items in
     let o = (contents c.args.state.now).extensions in
-    let u = g.W.Out.taken c.args.out.now in
     let e1 : List Event = end_array ∷ [] in
     let e2 = cached_tree_events o.tree in
     let e3 = link_events o.link in
     let e4 = undo_events o.resolve_undo in
     let e5 = untracked_events g.P.Printer.BACKWARDS o.untracked in
     let e6 = last_events o c.args.marks.now in
-    let t1 = c.end_array.new.text.bytes.items in
-    let p1 = all_waits u t1 (old ++ print spell e1)
-    (single_told spell old t1 end_array end_array c.in_ok-end_array.ensures refl) in
-    let t2 = c.write_tree.new.text.bytes.items in
-    let p2 = told_more spell old e1 e2 u u (g.W.Out.taken c.write_tree.new.out) t1 t2 p1
-    c.in_ok-write_tree.ensures.ok in
-    let t3 = c.write_link.new.text.bytes.items in
-    let p3 = told_more spell old (e1 ++ e2) e3 u (g.W.Out.taken c.write_tree.new.out) (g.W.Out.taken c.write_link.new.out) t2 t3 p2
-    c.in_ok-write_link.ensures.ok in
-    let t4 = c.write_undo.new.text.bytes.items in
-    let p4 = told_more spell old ((e1 ++ e2) ++ e3) e4 u (g.W.Out.taken c.write_link.new.out) (g.W.Out.taken c.write_undo.new.out) t3 t4 p3
-    c.in_ok-write_undo.ensures.ok in
-    let t5 = c.write_untracked.new.text.bytes.items in
-    let p5 = told_more spell old (((e1 ++ e2) ++ e3) ++ e4) e5 u (g.W.Out.taken c.write_undo.new.out) (g.W.Out.taken c.write_untracked.new.out) t4 t5 p4
-    c.in_ok-write_untracked.ensures.ok in
-    rw (err_from_is_err_and c.from_residual-in_err-append_last.result
-    c.from_residual-in_err-append_last.ensures.1).1
-    (cut_first spell old ((((e1 ++ e2) ++ e3) ++ e4) ++ e5) e6 u (g.W.Out.taken c.write_untracked.new.out) t5 p5)
+    let p1 = first_sent spell old e1 c.requires (single_told spell old c.end_array.new.text.bytes.items end_array
+    end_array c.in_ok-end_array.ensures refl) in
+    let p2 = sent_then spell old e1 e2 (Ok _) p1 c.in_ok-write_tree.ensures in
+    let p3 = sent_then spell old (e1 ++ e2) e3 (Ok _) p2 c.in_ok-write_link.ensures in
+    let p4 = sent_then spell old ((e1 ++ e2) ++ e3) e4 (Ok _) p3 c.in_ok-write_undo.ensures in
+    let p5 = sent_then spell old (((e1 ++ e2) ++ e3) ++ e4) e5 (Ok _) p4 c.in_ok-write_untracked.ensures in
+    let r = c.from_residual-in_err-append_last.result in
+    let p = err_from_is_err_and r c.from_residual-in_err-append_last.ensures.1 in
+    rest_unheld spell old ((((e1 ++ e2) ++ e3) ++ e4) ++ e5) e6 r p.1 p.2 p5
 
-pub returns-clause-ok : goal.returns-clause-ok
+pub returns : goal.returns
 unfolding behind_events
-returns-clause-ok g c =
+returns g c =
     let spell = g.P.Printer.spell in
     let old = c.args.text.now.bytes.items in
     let o = (contents c.args.state.now).extensions in
-    let u = g.W.Out.taken c.args.out.now in
     let e1 : List Event = end_array ∷ [] in
     let e2 = cached_tree_events o.tree in
     let e3 = link_events o.link in
     let e4 = undo_events o.resolve_undo in
     let e5 = untracked_events g.P.Printer.BACKWARDS o.untracked in
     let e6 = last_events o c.args.marks.now in
-    let t1 = c.end_array.new.text.bytes.items in
-    let p1 = all_waits u t1 (old ++ print spell e1)
-    (single_told spell old t1 end_array end_array c.in_ok-end_array.ensures refl) in
-    let t2 = c.write_tree.new.text.bytes.items in
-    let p2 = told_more spell old e1 e2 u u (g.W.Out.taken c.write_tree.new.out) t1 t2 p1
-    c.in_ok-write_tree.ensures.ok in
-    let t3 = c.write_link.new.text.bytes.items in
-    let p3 = told_more spell old (e1 ++ e2) e3 u (g.W.Out.taken c.write_tree.new.out) (g.W.Out.taken c.write_link.new.out) t2 t3 p2
-    c.in_ok-write_link.ensures.ok in
-    let t4 = c.write_undo.new.text.bytes.items in
-    let p4 = told_more spell old ((e1 ++ e2) ++ e3) e4 u (g.W.Out.taken c.write_link.new.out) (g.W.Out.taken c.write_undo.new.out) t3 t4 p3
-    c.in_ok-write_undo.ensures.ok in
-    let t5 = c.write_untracked.new.text.bytes.items in
-    let p5 = told_more spell old (((e1 ++ e2) ++ e3) ++ e4) e5 u (g.W.Out.taken c.write_undo.new.out) (g.W.Out.taken c.write_untracked.new.out) t4 t5 p4
-    c.in_ok-write_untracked.ensures.ok in
-    waits_more spell old ((((e1 ++ e2) ++ e3) ++ e4) ++ e5) e6 u (g.W.Out.taken c.write_untracked.new.out) t5 c.append_last.new.text.bytes.items p5
-    c.in_ok-append_last.ensures
+    let p1 = first_sent spell old e1 c.requires (single_told spell old c.end_array.new.text.bytes.items end_array
+    end_array c.in_ok-end_array.ensures refl) in
+    let p2 = sent_then spell old e1 e2 (Ok _) p1 c.in_ok-write_tree.ensures in
+    let p3 = sent_then spell old (e1 ++ e2) e3 (Ok _) p2 c.in_ok-write_link.ensures in
+    let p4 = sent_then spell old ((e1 ++ e2) ++ e3) e4 (Ok _) p3 c.in_ok-write_undo.ensures in
+    let p5 = sent_then spell old (((e1 ++ e2) ++ e3) ++ e4) e5 (Ok _) p4 c.in_ok-write_untracked.ensures in
+    done_as (told_then spell old ((((e1 ++ e2) ++ e3) ++ e4) ++ e5) e6 p5 c.in_ok-append_last.ensures)

@@ -1,7 +1,7 @@
-use Rattle.std.proofs.Common.{◌≡◌, ◌++◌, false, take}
+use Rattle.std.proofs.Common.{◌≡◌, ◌++◌, Ok, false, take}
 use Rattle.index_entries.specs.Record.{record_in}
 use Rattle.index_state.specs.State.{storage_of}
-use Rattle.index_text.specs.Blocks.{Passes}
+use Rattle.index_text.specs.Blocks.{PutsBlocks}
 use Rattle.index_events.specs.Document.{entry_events}
 use Rattle.index_events.proofs.Listed.{all_shown}
 use Rattle.index_events.proofs.document.write_entries.Given as goal
@@ -9,8 +9,8 @@ use Rattle.index_events.proofs.document.write_entries.Given as goal
 -- the entries before this one were told
 abbrev pub invariant-loop-place : goal.invariant-loop-place
 invariant-loop-place g l = record {
-  told : Passes (g.W.Out.taken l.fn.out) (g.W.Out.taken l.out) l.text.bytes.items
+  going : g.W.Out.failed l.out ≡ false;
+  told : PutsBlocks {T = Unit {0}} g.W.Out l.fn.out l.out (Ok tt) l.text.bytes.items
       (l.fn.text.bytes.items ++ all_shown g.P.Printer.spell entry_events (record_in (storage_of l.fn.state))
       (take l.place l.entry-items));
-  going : g.W.Out.failed l.out ≡ false;
 }

@@ -1,6 +1,5 @@
-use Rattle.std.proofs.Common.{List, [], ◌∷◌, ◌++◌, ◌∙◌, ap, codes}
+use Rattle.std.proofs.Common.{List, ◌∷◌, ◌++◌, ◌∙◌, ap, codes}
 use Rattle.std.proofs.lemmas.Result.{on_ok_weaker}
-use Rattle.std.specs.Option.{option_map}
 use Rattle.index_events.specs.Event.{Event, FieldValue, empty_field, next, presence, print}
 use Rattle.index_events.specs.Marks.{end_events, marker_events}
 use Rattle.index_events.proofs.Marked.{bad_marker, good_marker, no_marker}

@@ -1,4 +1,4 @@
-use Rattle.std.proofs.Common.{List, [], ◌∷◌, ◌++◌, ◌∙◌, Some, ap, codes, sym}
+use Rattle.std.proofs.Common.{List, ◌∷◌, ◌++◌, ◌∙◌, Some, ap, codes, sym}
 use Rattle.std.proofs.lemmas.Result.{on_ok_weaker}
 use Rattle.std.specs.Option.{option_map}
 use Rattle.index_events.specs.Event.{Event, FieldValue, empty_field, next, presence, print}

@@ -1,49 +1,52 @@
-use Rattle.std.proofs.Common.{◌≡◌, ℕ, List, ◌++◌, ◌∙◌, ap, arith}
+use Rattle.std.proofs.Common.{◌++◌, ◌∙◌, ap, arith}
 use Rattle.std.proofs.lemmas.Result.{err_from_is_err_and}
 use Rattle.index_untracked.specs.Blocks.{directory_value}
 use Rattle.index_untracked.specs.declared.Directory.{Directory}
-use Rattle.index_text.proofs.Written.{front_before_entry, front_of_block, written_all, written_more}
-use Rattle.index_events.specs.Event.{print}
 use Rattle.index_events.specs.Untracked.{cached_events}
+use Rattle.index_text.proofs.Written.{all_placed, no_placed, none_placed, placed_broken, placed_out}
+use Rattle.index_events.specs.Event.{print}
 use Rattle.index_events.proofs.Listed.{shown, shown_is}
 use Rattle.index_events.proofs.untracked.write_each.Goals as goal
 
+pub loop-place-init : goal.loop-place-init
+loop-place-init g c = record {
+  going = c.requires;
+  told = none_placed (shown g.P.Printer.spell (cached_events g.P.Printer.BACKWARDS) directory_value) c.args.text.now.bytes.items c.args.directories.now c.requires;
+}
+
 pub loop-place-preserved : goal.loop-place-preserved
 loop-place-preserved g c = record {
-  told = written_more (shown g.P.Printer.spell (cached_events g.P.Printer.BACKWARDS) directory_value) (g.W.Out.taken c.args.out.now)
-      (g.W.Out.taken c.loop-place.out) (g.W.Out.taken c.put_block.new.out) c.args.text.now.bytes.items
-      c.args.directories.now c.loop-place.place c.index-directories-place.result c.loop-place.text.bytes.items
-      c.append_directory.new.text.bytes.items c.put_block.new.text.items (omega (arith, c.loop-place-test.true))
+  going = c.in_ok-put_block.ensures.has_failed;
+  told = placed_out (shown g.P.Printer.spell (cached_events g.P.Printer.BACKWARDS) directory_value) c.args.text.now.bytes.items
+      c.args.directories.now c.loop-place.place c.index-directories-place.result (omega (arith, c.loop-place-test.true))
       c.loop-place.invariant.told
       (c.in_ok-append_directory.ensures ∙ ap (λ (x : Directory). c.loop-place.text.bytes.items
       ++ print g.P.Printer.spell (cached_events g.P.Printer.BACKWARDS c.loop-place.place (directory_value x))) c.index-directories-place.is)
-      c.in_ok-put_block.ensures.ok;
-  going = c.in_ok-put_block.ensures.has_failed;
+      c.in_ok-put_block.ensures.ok c.in_ok-put_block.ensures.has_failed c.in_ok-put_block.ensures.loan;
 }
 
-pub returns-in_err-append_directory-clause-err : goal.returns-in_err-append_directory-clause-err
-returns-in_err-append_directory-clause-err g c =
-    rw (err_from_is_err_and c.from_residual.result c.from_residual.ensures.1).1
-    (front_before_entry (shown g.P.Printer.spell (cached_events g.P.Printer.BACKWARDS) directory_value) (g.W.Out.taken c.args.out.now)
-    (g.W.Out.taken c.loop-place.out) c.args.text.now.bytes.items _ c.args.directories.now c.loop-place.place
-    c.loop-place.text.bytes.items c.loop-place.invariant.told
-    (shown_is g.P.Printer.spell (cached_events g.P.Printer.BACKWARDS) directory_value c.args.text.now.bytes.items c.args.directories.now))
+pub returns-in_err-append_directory : goal.returns-in_err-append_directory
+returns-in_err-append_directory g c =
+    let r = c.from_residual.result in
+    let p = err_from_is_err_and r c.from_residual.ensures.1 in
+    no_placed r (shown g.P.Printer.spell (cached_events g.P.Printer.BACKWARDS) directory_value) c.args.text.now.bytes.items
+    c.args.directories.now c.loop-place.place p.1 p.2 c.loop-place.invariant.told
+    (shown_is g.P.Printer.spell (cached_events g.P.Printer.BACKWARDS) directory_value c.args.text.now.bytes.items c.args.directories.now)
 
-pub returns-in_err-put_block-clause-err : goal.returns-in_err-put_block-clause-err
-returns-in_err-put_block-clause-err g c =
-    rw (err_from_is_err_and c.from_residual-in_err-put_block.result c.from_residual-in_err-put_block.ensures.1).1
-    (front_of_block (shown g.P.Printer.spell (cached_events g.P.Printer.BACKWARDS) directory_value) (g.W.Out.taken c.args.out.now)
-    (g.W.Out.taken c.loop-place.out) (g.W.Out.taken c.put_block.new.out) c.args.text.now.bytes.items _
-    c.args.directories.now c.loop-place.place c.index-directories-place.result c.loop-place.text.bytes.items
-    c.append_directory.new.text.bytes.items (omega (arith, c.loop-place-test.true)) c.loop-place.invariant.told
+pub returns-in_err-put_block : goal.returns-in_err-put_block
+returns-in_err-put_block g c =
+    let r = c.from_residual-in_err-put_block.result in
+    let p = err_from_is_err_and r c.from_residual-in_err-put_block.ensures.1 in
+    placed_broken r (shown g.P.Printer.spell (cached_events g.P.Printer.BACKWARDS) directory_value) c.args.text.now.bytes.items
+    c.args.directories.now c.loop-place.place c.index-directories-place.result p.1 (omega (arith, c.loop-place-test.true))
+    c.loop-place.invariant.told
     (c.in_ok-append_directory.ensures ∙ ap (λ (x : Directory). c.loop-place.text.bytes.items
     ++ print g.P.Printer.spell (cached_events g.P.Printer.BACKWARDS c.loop-place.place (directory_value x))) c.index-directories-place.is)
-    c.in_err-put_block.ensures.err
-    (shown_is g.P.Printer.spell (cached_events g.P.Printer.BACKWARDS) directory_value c.args.text.now.bytes.items c.args.directories.now))
+    c.in_err-put_block.ensures.err c.in_err-put_block.ensures.has_failed c.in_err-put_block.ensures.loan
+    (shown_is g.P.Printer.spell (cached_events g.P.Printer.BACKWARDS) directory_value c.args.text.now.bytes.items c.args.directories.now)
 
-pub returns-clause-ok : goal.returns-clause-ok
-returns-clause-ok g c =
-    written_all (shown g.P.Printer.spell (cached_events g.P.Printer.BACKWARDS) directory_value) (g.W.Out.taken c.args.out.now)
-    (g.W.Out.taken c.loop-place.out) c.args.text.now.bytes.items _ c.args.directories.now c.loop-place.place
-    c.loop-place.text.bytes.items (omega (arith, c.loop-place-test.false)) c.loop-place.invariant.told
+pub returns : goal.returns
+returns g c =
+    all_placed (shown g.P.Printer.spell (cached_events g.P.Printer.BACKWARDS) directory_value) c.args.text.now.bytes.items
+    c.args.directories.now c.loop-place.place (omega (arith, c.loop-place-test.false)) c.loop-place.invariant.told
     (shown_is g.P.Printer.spell (cached_events g.P.Printer.BACKWARDS) directory_value c.args.text.now.bytes.items c.args.directories.now)

@@ -1,6 +1,6 @@
 use Rattle.std.proofs.Common.{refl}
 use Rattle.index_parts.proofs.Puts.{puts_after, puts_stopped}
-use Rattle.index_extension_writing.specs.BitmapImage.{lent_bitmap}
+use Rattle.index_bitmap_writing.specs.BitmapImage.{lent_bitmap}
 use Rattle.index_extension_writing.specs.MonitorImage.{sized_bitmap_bytes}
 use Rattle.index_extension_writing.proofs.fs_monitor.put_behind_version.Goals as goal
 

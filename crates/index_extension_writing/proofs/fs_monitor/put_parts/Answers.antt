@@ -2,7 +2,7 @@ use Rattle.std.proofs.Common.{arith}
 use Rattle.std.specs.Prelude.{codes}
 use Rattle.index_parts.proofs.Puts.{puts_after, puts_is, puts_stopped}
 use Rattle.index_extension_writing.specs.MonitorImage.{lent_monitor, monitor_bytes}
-use Rattle.index_extension_writing.proofs.Lengths.{item_parts}
+use Rattle.index_bitmap_writing.proofs.Lengths.{item_parts}
 use Rattle.index_extension_writing.proofs.WrittenMonitors.{monitor_len}
 use Rattle.index_extension_writing.proofs.fs_monitor.put_parts.Goals as goal
 

@@ -1,7 +1,7 @@
 use Rattle.std.proofs.Common.{arith}
 use Rattle.index_parts.proofs.Puts.{puts_after, puts_is, puts_stopped}
-use Rattle.index_extension_writing.specs.BitmapImage.{bitmap_bytes, lent_bitmap}
-use Rattle.index_extension_writing.proofs.WrittenBitmaps.{bitmap_len}
+use Rattle.index_bitmap_writing.specs.BitmapImage.{bitmap_bytes, lent_bitmap}
+use Rattle.index_bitmap_writing.proofs.WrittenBitmaps.{bitmap_len}
 use Rattle.index_extension_writing.proofs.WrittenMonitors.{sized_parts}
 use Rattle.index_extension_writing.proofs.fs_monitor.put_sized_bitmap.Goals as goal
 

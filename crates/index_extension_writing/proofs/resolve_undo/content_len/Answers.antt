@@ -5,7 +5,7 @@ use Rattle.index_cached_tree.specs.TreeWriting.{within_32}
 use Rattle.index_small_extensions.specs.ResolveUndo.{path_stages}
 use Rattle.index_small_extensions.specs.declared.resolve_undo.ResolvePath.{ResolvePath}
 use Rattle.index_extension_writing.specs.ResolveUndoImage.{path_bytes}
-use Rattle.index_extension_writing.proofs.Lengths.{too_long_at, within_some}
+use Rattle.index_bitmap_writing.proofs.Lengths.{too_long_at, within_some}
 use Rattle.index_extension_writing.proofs.WrittenPaths.{listed}
 use Rattle.index_extension_writing.proofs.resolve_undo.content_len.Goals as goal
 

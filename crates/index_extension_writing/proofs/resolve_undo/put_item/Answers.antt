@@ -3,7 +3,7 @@ use Rattle.std.specs.Prelude.{codes}
 use Rattle.index_parts.proofs.Puts.{puts_after, puts_is, puts_stopped}
 use Rattle.index_small_extensions.specs.ResolveUndo.{path_stages}
 use Rattle.index_extension_writing.specs.ResolveUndoImage.{resolve_undo_bytes}
-use Rattle.index_extension_writing.proofs.Lengths.{item_parts}
+use Rattle.index_bitmap_writing.proofs.Lengths.{item_parts}
 use Rattle.index_extension_writing.proofs.WrittenPaths.{listed}
 use Rattle.index_extension_writing.proofs.resolve_undo.put_item.Goals as goal
 

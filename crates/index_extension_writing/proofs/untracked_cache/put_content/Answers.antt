@@ -6,7 +6,7 @@ use Rattle.index_untracked.specs.Blocks.{directory_value}
 use Rattle.index_untracked.specs.Untracked.{cache_of}
 use Rattle.index_extension_writing.specs.UntrackedImage.{directories_bytes}
 use Rattle.index_extension_writing.proofs.WrittenDirectories.{cache_grouped, cache_parts}
-use Rattle.index_extension_writing.proofs.WrittenForms.{stopped_behind}
+use Rattle.index_bitmap_writing.proofs.WrittenForms.{stopped_behind}
 use Rattle.index_extension_writing.proofs.untracked_cache.put_content.Goals as goal
 
 pub returns-in_err-put_preamble : goal.returns-in_err-put_preamble

@@ -3,7 +3,7 @@ use Rattle.std.specs.Prelude.{codes}
 use Rattle.index_parts.proofs.Puts.{puts_after, puts_is, puts_stopped}
 use Rattle.index_untracked.specs.Untracked.{cache_of}
 use Rattle.index_extension_writing.specs.UntrackedImage.{cache_bytes}
-use Rattle.index_extension_writing.proofs.Lengths.{item_parts}
+use Rattle.index_bitmap_writing.proofs.Lengths.{item_parts}
 use Rattle.index_extension_writing.proofs.WrittenDirectories.{many_bytes}
 use Rattle.index_extension_writing.proofs.untracked_cache.put_item.Goals as goal
 

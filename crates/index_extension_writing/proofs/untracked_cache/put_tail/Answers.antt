@@ -2,7 +2,7 @@ use Rattle.std.proofs.Common.{◌++◌, ◌∷◌, []}
 use Rattle.index_parts.proofs.Puts.{puts_after, puts_from, puts_is, puts_stopped}
 use Rattle.index_extension_writing.proofs.WrittenDirectories.{lent_ids, lent_stats, tail_behind_ids, tail_behind_stats}
 use Rattle.index_extension_writing.proofs.WrittenDirectories.{tail_parts}
-use Rattle.index_extension_writing.proofs.WrittenForms.{stopped_behind}
+use Rattle.index_bitmap_writing.proofs.WrittenForms.{stopped_behind}
 use Rattle.index_extension_writing.proofs.untracked_cache.put_tail.Goals as goal
 
 pub returns-in_err-put_bitmaps : goal.returns-in_err-put_bitmaps

@@ -5,7 +5,7 @@ use Rattle.index_cached_tree.specs.TreeWriting.{within_32}
 use Rattle.index_untracked.specs.Blocks.{directory_value}
 use Rattle.index_untracked.specs.declared.Directory.{Directory}
 use Rattle.index_extension_writing.specs.UntrackedImage.{known_bytes}
-use Rattle.index_extension_writing.proofs.Lengths.{none_within, some_within, too_long_at, within_some}
+use Rattle.index_bitmap_writing.proofs.Lengths.{none_within, some_within, too_long_at, within_some}
 use Rattle.index_extension_writing.proofs.WrittenSizes.{known_same}
 use Rattle.index_extension_writing.proofs.untracked_sizes.blocks_len.Goals as goal
 

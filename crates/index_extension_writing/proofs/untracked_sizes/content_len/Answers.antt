@@ -5,7 +5,7 @@ use Rattle.index_parts.specs.Offset.{offset_bytes}
 use Rattle.index_untracked.specs.Blocks.{directory_value}
 use Rattle.index_untracked.specs.Untracked.{cache_of}
 use Rattle.index_extension_writing.specs.UntrackedImage.{cache_bytes, directories_bytes, preamble_bytes}
-use Rattle.index_extension_writing.proofs.Lengths.{none_within, some_within, within_none, within_some}
+use Rattle.index_bitmap_writing.proofs.Lengths.{none_within, some_within, within_none, within_some}
 use Rattle.index_extension_writing.proofs.WrittenSizes.{cache_sum}
 use Rattle.index_extension_writing.proofs.untracked_sizes.content_len.Goals as goal
 

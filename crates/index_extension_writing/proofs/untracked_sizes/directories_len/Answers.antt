@@ -4,7 +4,7 @@ use Rattle.std.proofs.lemmas.Bool.{eqb-true, eqb-false}
 use Rattle.index_cached_tree.specs.TreeWriting.{within_32}
 use Rattle.index_untracked.specs.Blocks.{directory_value}
 use Rattle.index_extension_writing.specs.UntrackedImage.{directories_bytes, known_bytes}
-use Rattle.index_extension_writing.proofs.Lengths.{none_within, some_within, within_none, within_some}
+use Rattle.index_bitmap_writing.proofs.Lengths.{none_within, some_within, within_none, within_some}
 use Rattle.index_extension_writing.proofs.WrittenDirectories.{no_directories}
 use Rattle.index_extension_writing.proofs.WrittenSizes.{directories_sum, known_many}
 use Rattle.index_extension_writing.proofs.untracked_sizes.directories_len.Goals as goal
@@ -22,22 +22,22 @@ returns-in_err-blocks c =
     c.from_residual.ensures
     ∙ sym (within_none (length (directories_bytes (map directory_value ds))) (omega (arith, sum, long)))
 
-pub marks_len-requires : goal.marks_len-requires
-marks_len-requires c =
+pub content_len-requires : goal.content_len-requires
+content_len-requires c =
     let ds = c.args.directories.now in
     let size = some_within (length (flat_map known_bytes (map directory_value ds))) c.in_ok-blocks.blocks
     c.in_ok-blocks.ensures in
     omega (arith, known_many ds, size.1)
 
-pub marks_len-requires-2 : goal.marks_len-requires-2
-marks_len-requires-2 c =
+pub content_len-requires-2 : goal.content_len-requires-2
+content_len-requires-2 c =
     let ds = c.args.directories.now in
     let size = some_within (length (flat_map known_bytes (map directory_value ds))) c.in_ok-blocks.blocks
     c.in_ok-blocks.ensures in
     omega (arith, known_many ds, size.1)
 
-pub marks_len-requires-3 : goal.marks_len-requires-3
-marks_len-requires-3 c =
+pub content_len-requires-3 : goal.content_len-requires-3
+content_len-requires-3 c =
     let ds = c.args.directories.now in
     let size = some_within (length (flat_map known_bytes (map directory_value ds))) c.in_ok-blocks.blocks
     c.in_ok-blocks.ensures in
@@ -55,9 +55,9 @@ returns-then-len-from c =
       size.0,
       c.from.ensures,
       c.from-2.ensures,
-      c.marks_len.ensures.len,
-      c.marks_len-2.ensures.len,
-      c.marks_len-3.ensures.len,
+      c.content_len.ensures.len,
+      c.content_len-2.ensures.len,
+      c.content_len-3.ensures.len,
       c.if-len-from.true,
     )))
 
@@ -67,14 +67,14 @@ returns c =
     let size = some_within (length (flat_map known_bytes (map directory_value ds))) c.in_ok-blocks.blocks
     c.in_ok-blocks.ensures in
     let sum = directories_sum ds (eqb-false (length ds) 0 (sym c.if-is_empty.ensures)) in
-    let all = c.from.result + c.marks_len.result + c.marks_len-2.result + c.marks_len-3.result + 1 in
+    let all = c.from.result + c.content_len.result + c.content_len-2.result + c.content_len-3.result + 1 in
     let len : all ≡ length (directories_bytes (map directory_value ds)) = omega (
       arith,
       sum,
       size.0,
       c.from.ensures,
-      c.marks_len.ensures.len,
-      c.marks_len-2.ensures.len,
-      c.marks_len-3.ensures.len,
+      c.content_len.ensures.len,
+      c.content_len-2.ensures.len,
+      c.content_len-3.ensures.len,
     ) in
     sym (ap within_32 (sym len) ∙ within_some all (omega (arith, c.if-len-from.false, c.from-2.ensures)))

@@ -3,7 +3,7 @@ use Rattle.bstr.specs.Owned.{bstring_bytes}
 use Rattle.index_cached_tree.specs.TreeWriting.{within_32}
 use Rattle.index_untracked.specs.Blocks.{directory_value}
 use Rattle.index_extension_writing.specs.UntrackedImage.{known_bytes, names_bytes}
-use Rattle.index_extension_writing.proofs.Lengths.{none_within, some_within, within_none, within_some}
+use Rattle.index_bitmap_writing.proofs.Lengths.{none_within, some_within, within_none, within_some}
 use Rattle.index_extension_writing.proofs.WrittenSizes.{known_len}
 use Rattle.index_extension_writing.proofs.untracked_sizes.directory_len.Goals as goal
 

@@ -3,7 +3,7 @@ use Rattle.index_cached_tree.specs.TreeWriting.{within_32}
 use Rattle.index_parts.specs.Offset.{offset_bytes}
 use Rattle.index_untracked.specs.Untracked.{cache_of}
 use Rattle.index_extension_writing.specs.UntrackedImage.{file_id, preamble_bytes}
-use Rattle.index_extension_writing.proofs.Lengths.{within_none, within_some}
+use Rattle.index_bitmap_writing.proofs.Lengths.{within_none, within_some}
 use Rattle.index_extension_writing.proofs.WrittenSizes.{preamble_sum}
 use Rattle.index_extension_writing.proofs.untracked_sizes.preamble_len.Goals as goal
 use Rattle.index_extension_writing.proofs.untracked_sizes.preamble_len.Goals.{then-identifier-from-via-then-identifier-from, then-identifier-from-via-else-identifier-from+then-name-from}

@@ -1,71 +1,53 @@
-use Rattle.std.proofs.Common.{◌∙◌, ℕ, List, subst, Result, Ok, Err}
-use Rattle.std.specs.Prelude.{OnOk, OnErr}
-use Rattle.std.specs.Io.KnownBytes.{Appends}
+use Rattle.std.proofs.Common.{List, ℕ, subst}
 use Rattle.std.proofs.lemmas.Result.{err_from_is_err_and}
-use Rattle.index_parts.specs.Taking.{AppendsPrefix}
 use Rattle.index_entries.specs.Record.{Record}
 use Rattle.index_map.specs.Lines.{map_line, map_lines}
 use Rattle.index_map.specs.declared.part.Part.{Part}
-use Rattle.index_text.proofs.Printed.{listed_more, listed_all, front_before_line, front_of_block, front_of_rest}
+use Rattle.index_text.proofs.Printed.{first_lines, line_broken, line_more, lines_out, no_line}
+use Rattle.index_text.specs.Blocks.{PutsText}
 use Rattle.index_map.proofs.map.write_map.Goals as goal
 
-on_ok_then : {A E : Type 0} (r : Result A E) {P Q : Type 0} → (P → Q) → OnOk r P → OnOk r Q
-on_ok_then (Ok x) f p = f p
-on_ok_then (Err e) f p = p
-
-on_err_then : {A E : Type 0} (r : Result A E) {P Q : Type 0} → (P → Q) → OnErr r P → OnErr r Q
-on_err_then (Ok x) f p = p
-on_err_then (Err e) f p = f p
+pub loop-part-init : goal.loop-part-init
+loop-part-init g c =
+    let f : Part → List ℕ = map_line c.args.style c.as_slice-entries.result in
+    record { going = c.requires; lines = first_lines f c.args.parts.now c.requires c.in_ok-lines.ensures.items }
 
 pub loop-part-preserved : goal.loop-part-preserved
 loop-part-preserved g c =
     let f : Part → List ℕ = map_line c.args.style c.as_slice-entries.result in
     record {
-      loan = c.in_ok-put_block.ensures.loan ∙ c.loop-part.invariant.loan;
-      unfailed = c.in_ok-put_block.ensures.has_failed;
-      lines = listed_more f _ _ _ c.args.parts.now c.loop-part.part-index _ _ _ _ _ _ c.loop-part-test.true
-          c.loop-part.invariant.lines.1 c.loop-part.invariant.lines.2 c.in_ok-append_line.ensures
-          c.in_ok-put_block.ensures.ok.1 c.in_ok-put_block.ensures.ok.2;
+      going = c.in_ok-put_block.ensures.has_failed;
+      lines = line_more f c.args.parts.now c.loop-part.part-index _ c.loop-part-test.true c.loop-part.invariant.lines
+          c.in_ok-append_line.ensures c.in_ok-put_block.ensures.ok c.in_ok-put_block.ensures.has_failed
+          c.in_ok-put_block.ensures.loan;
     }
 
-pub returns-in_err-append_line-clause-err : goal.returns-in_err-append_line-clause-err
-returns-in_err-append_line-clause-err g c =
+pub returns-in_err-append_line : goal.returns-in_err-append_line
+returns-in_err-append_line g c =
     let f : Part → List ℕ = map_line c.args.style c.as_slice-entries.result in
-    let P : List Record → Type 0 = λ rs. AppendsPrefix (g.W.Out.taken c.args.out.now)
-    (g.W.Out.taken c.loop-part.out) (map_lines c.args.style rs c.args.parts.now) in
-    let front = front_before_line f _ _ c.args.parts.now c.loop-part.part-index _ _ c.loop-part.invariant.lines.1
-    c.loop-part.invariant.lines.2 in
-    rw (err_from_is_err_and c.from_residual-in_err-append_line.result c.from_residual-in_err-append_line.ensures.1).1
-    (subst P c.as_slice-entries.ensures front)
+    let r = c.from_residual-in_err-append_line.result in
+    let p = err_from_is_err_and r c.from_residual-in_err-append_line.ensures.1 in
+    let P : List Record → Type 0 = λ rs. PutsText g.W.Out c.args.out.now c.loop-part.out r (map_lines c.args.style rs c.args.parts.now) in
+    subst P c.as_slice-entries.ensures
+    (no_line r f c.args.parts.now c.loop-part.part-index p.1 p.2 c.loop-part.invariant.lines)
 
-pub returns-in_err-put_block-clause-err : goal.returns-in_err-put_block-clause-err
-returns-in_err-put_block-clause-err g c =
+pub returns-in_err-put_block : goal.returns-in_err-put_block
+returns-in_err-put_block g c =
     let f : Part → List ℕ = map_line c.args.style c.as_slice-entries.result in
-    let P : List Record → Type 0 = λ rs. AppendsPrefix (g.W.Out.taken c.args.out.now)
-    (g.W.Out.taken c.put_block.new.out) (map_lines c.args.style rs c.args.parts.now) in
-    let front = front_of_block f _ _ _ c.args.parts.now c.loop-part.part-index _ _ _ _ c.loop-part-test.true
-    c.loop-part.invariant.lines.1 c.loop-part.invariant.lines.2 c.in_ok-append_line.ensures c.in_err-put_block.ensures.err in
-    rw (err_from_is_err_and c.from_residual-in_err-put_block.result c.from_residual-in_err-put_block.ensures.1).1
-    (subst P c.as_slice-entries.ensures front)
+    let r = c.from_residual-in_err-put_block.result in
+    let p = err_from_is_err_and r c.from_residual-in_err-put_block.ensures.1 in
+    let P : List Record → Type 0 = λ rs. PutsText g.W.Out c.args.out.now c.put_block.new.out r (map_lines c.args.style rs c.args.parts.now) in
+    subst P c.as_slice-entries.ensures
+    (line_broken r f c.args.parts.now c.loop-part.part-index _ p.1 c.loop-part-test.true c.loop-part.invariant.lines
+    c.in_ok-append_line.ensures c.in_err-put_block.ensures.err c.in_err-put_block.ensures.has_failed
+    c.in_err-put_block.ensures.loan)
 
-pub returns-clause-ok : goal.returns-clause-ok
-returns-clause-ok g c =
+pub returns : goal.returns
+returns g c =
     let f : Part → List ℕ = map_line c.args.style c.as_slice-entries.result in
-    let P : List Record → Type 0 = λ rs. Appends (g.W.Out.taken c.args.out.now)
-    (g.W.Out.taken c.put_text.new.out) (map_lines c.args.style rs c.args.parts.now) in
-    let Q : List ℕ → Type 0 =
-    λ t. Appends (g.W.Out.taken c.loop-part.out) (g.W.Out.taken c.put_text.new.out) t in
-    on_ok_then c.put_text.result (λ h. subst P c.as_slice-entries.ensures
-    (listed_all f _ _ _ c.args.parts.now c.loop-part.part-index _ _ c.loop-part-test.false c.loop-part.invariant.lines.1
-    c.loop-part.invariant.lines.2 (subst Q c.as_slice.ensures.value h))) c.put_text.ensures.ok
-
-pub returns-clause-err : goal.returns-clause-err
-returns-clause-err g c =
-    let f : Part → List ℕ = map_line c.args.style c.as_slice-entries.result in
-    let P : List Record → Type 0 = λ rs. AppendsPrefix (g.W.Out.taken c.args.out.now)
-    (g.W.Out.taken c.put_text.new.out) (map_lines c.args.style rs c.args.parts.now) in
-    let Q : List ℕ → Type 0 =
-    λ t. AppendsPrefix (g.W.Out.taken c.loop-part.out) (g.W.Out.taken c.put_text.new.out) t in
-    on_err_then c.put_text.result (λ h. subst P c.as_slice-entries.ensures (front_of_rest f _ _ _ c.args.parts.now
-    c.loop-part.part-index _ _ c.loop-part.invariant.lines.1 c.loop-part.invariant.lines.2 (subst Q c.as_slice.ensures.value h)))
-    c.put_text.ensures.err
+    let r = c.put_text.result in
+    let P : List Record → Type 0 = λ rs. PutsText g.W.Out c.args.out.now c.put_text.new.out r (map_lines c.args.style rs c.args.parts.now) in
+    subst P c.as_slice-entries.ensures
+    (lines_out r f c.args.parts.now c.loop-part.part-index c.loop-part-test.false c.loop-part.invariant.lines
+    c.as_slice.ensures.value c.put_text.ensures.ok c.put_text.ensures.err c.put_text.ensures.has_failed
+    c.put_text.ensures.loan)

@@ -1,28 +1,20 @@
-use Rattle.std.proofs.Common.{refl, ap, ◌≡◌, inl, inr, length}
-use Rattle.index_entries.specs.Record.{IsSized}
+use Rattle.std.proofs.Common.{refl, ap, ◌≡◌, inl, inr, length, List, rules, sym, subst}
+use Rattle.index_entries.specs.Record.{IsSized, Record}
 use Rattle.index_parts.specs.Id.{id_bytes, id_kind, id_len}
+use Rattle.index_format.specs.Storable.{IsStorable}
 use Rattle.index_state.specs.Edits.{edited}
 use Rattle.index_state.specs.State.{contents, entries_of, storage_of}
-use Rattle.index_entries.proofs.Appended.{appended_records}
+use Rattle.index_entries.proofs.Appended.{appended_placed, appended_records}
 use Rattle.index_entries.proofs.StorableEntries.{variant_of}
-use Rattle.index_state.proofs.Storables.{push_storable}
+use Rattle.index_state.proofs.Storables.{appended_ids, push_storable}
 use Rattle.index_state.proofs.State.dangerously_push_entry.Goals as goal
-
-pub returns-clause-added : goal.returns-clause-added
-returns-clause-added c =
-    let a = c.in_ok-append.ensures.appended in
-    record { entry = a.entry; entries = a.entries; storage = a.storage; placed = a.placed; is = a.is; others = refl }
-
-pub returns-clause-pushed : goal.returns-clause-pushed
-returns-clause-pushed c = λ placed.
-    let old = c.args.self.now in
-    ap (λ rs. edited (contents old) rs)
-    (appended_records (storage_of old) (entries_of old) _ _ _ placed c.in_ok-append.ensures.appended)
 
 -- The types of the arguments say how many bits a number has and how many bytes an id: `given` is what they say, one
 -- argument after the other, and so is each part of it for the fields of a struct.
-pub returns-clause-storable : goal.returns-clause-storable
-returns-clause-storable c = λ placed h kind path.
+pub returns : goal.returns
+returns c =
+    let old = c.args.self.now in
+    let a = c.in_ok-append.ensures.appended in
     let given = c.well_formed.1 in
     let stat = given.0.1.1 in
     let mtime = stat.0.1.1 in
@@ -50,4 +42,22 @@ returns-clause-storable c = λ placed h kind path.
       mode = given.1.1.1.0.1.1.0.1;
       id = id;
     } in
-    rw (returns-clause-pushed c placed) (push_storable (contents c.args.self.now) _ h kind path sized)
+    record {
+      added = record {
+        entry = a.entry;
+        entries = a.entries;
+        storage = a.storage;
+        placed = a.placed;
+        is = a.is;
+        others = refl;
+      };
+      pushed = λ placed. ap (λ (rs : List Record). edited (contents old) rs)
+          (appended_records (storage_of old) (entries_of old) _ _ _ placed a);
+      placed = λ placed. appended_placed (storage_of old) (entries_of old) _ _ _ placed a;
+      ids = λ kind h same. appended_ids kind (storage_of old) (entries_of old) _ _ _ a h same;
+      storable = λ placed h kind path. subst IsStorable
+          (sym (ap (λ (rs : List Record). edited (contents old) rs)
+          (appended_records (storage_of old) (entries_of old) _ _ _ placed a)))
+          (push_storable (contents old) _ h kind path sized);
+      err = search rules;
+    }

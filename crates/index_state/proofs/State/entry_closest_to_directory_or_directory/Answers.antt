@@ -1,13 +1,12 @@
 use Rattle.std.proofs.Common.{◌≡◌, true}
 use Rattle.index_lookups.specs.Closest.{stands_in}
 use Rattle.index_state.specs.State.{entries_of, storage_of}
-use Rattle.index_state.proofs.Given.{given_holds, given_place}
+use Rattle.index_state.proofs.Given.{entry_with, given_place}
 use Rattle.index_state.proofs.State.entry_closest_to_directory_or_directory.Goals as goal
 
-pub returns-clause-place : goal.returns-clause-place
-returns-clause-place c =
-    given_holds (storage_of c.args.self.now) (entries_of c.args.self.now) c.in_ok-place.place c.index.result.now
-    c.index.ensures (λ r. stands_in c.args.directory.now r ≡ true) (rw c.slice.ensures at c.in_ok-place.ensures.found)
+pub returns-clause-found : goal.returns-clause-found
+returns-clause-found c = entry_with (λ r. stands_in c.args.directory.now r ≡ true) c.args.self.now
+    c.in_ok-place.place c.index.result.now c.index.ensures (rw c.slice.ensures at c.in_ok-place.ensures.found)
 
 pub returns-clause-answer : goal.returns-clause-answer
 returns-clause-answer c = λ o. given_place (storage_of c.args.self.now)

@@ -19,9 +19,11 @@ returns c =
       (refl, λ w. (i, found, c.entry_mut.ensures.value, refl), unchanged),
       record {
         writes_back = tt;
-        found = (i, inside, sym c.entry_mut.ensures.value);
-        key = entry_key c.args.path.now
-            (stage_code c.args.stage) storage es i c.entry_mut.result.now found c.entry_mut.ensures.value;
+        found = record {
+          found = (i, inside, sym c.entry_mut.ensures.value);
+          key = entry_key c.args.path.now
+              (stage_code c.args.stage) storage es i c.entry_mut.result.now found c.entry_mut.ensures.value;
+        };
         answer = λ o. entry_place c.args.path.now (stage_code c.args.stage) storage es i c.entry_mut.result.now found
             c.entry_mut.ensures.value _ (c.in_ok-idx.ensures.answer o);
       },

@@ -1,4 +1,4 @@
-use Rattle.std.proofs.Common.{◌≡◌, All, List, ap, length, map, subst, sym, ◌∙◌}
+use Rattle.std.proofs.Common.{◌≡◌, All, List, ap, length, map, rules, subst, sym, ◌∙◌}
 use Rattle.std.proofs.lemmas.List.{length-map}
 use Rattle.index_entries.specs.Record.{IdsAreOf, IsPlaced, Record, records_in}
 use Rattle.index_entries.specs.declared.Entry.{Entry}
@@ -11,43 +11,24 @@ use Rattle.index_state.proofs.Smudges.{all_of, records_smudged, smudged_ids, smu
 use Rattle.index_state.proofs.Smudges.{trusted_before}
 use Rattle.index_state.proofs.State.smudge_racy.Goals as goal
 
-pub returns-clause-smudged : goal.returns-clause-smudged
-returns-clause-smudged c =
+pub returns : goal.returns
+returns c =
     let old = c.args.self.now in
-    let f = smudged_entry c.args.time in
+    let time = c.args.time in
+    let f = smudged_entry time in
     let is : c.smudge.new.entries ≡ map f (entries_of old) = c.smudge.ensures ∙ ap (map f) c.deref_mut.ensures.value in
     let held : entries_of (with_entries old c.smudge.new.entries) ≡ map f (entries_of old) =
     entries_of-with_entries old c.smudge.new.entries (ap (λ (l : List Entry). length l) is ∙ length-map (entries_of old) f)
     ∙ is in
-    ap (λ (rs : List Record). with_records (contents old) rs)
-    (ap (records_in (storage_of old)) held ∙ records_smudged c.args.time (storage_of old) (entries_of old))
-
-pub returns-clause-trusted : goal.returns-clause-trusted
-returns-clause-trusted c = λ later.
-    all_of (λ r. MayBeTrusted later (smudged c.args.time r) → MayBeTrusted c.args.time r)
-    (trusted_before c.args.time later) (records c.args.self.now)
-
-pub returns-clause-placed : goal.returns-clause-placed
-returns-clause-placed c = λ h.
-    let old = c.args.self.now in
-    let f = smudged_entry c.args.time in
-    let is : c.smudge.new.entries ≡ map f (entries_of old) = c.smudge.ensures ∙ ap (map f) c.deref_mut.ensures.value in
-    let held : entries_of (with_entries old c.smudge.new.entries) ≡ map f (entries_of old) =
-    entries_of-with_entries old c.smudge.new.entries (ap (λ (l : List Entry). length l) is ∙ length-map (entries_of old) f)
-    ∙ is in
-    subst (All (IsPlaced (length (storage_of old)))) (sym held)
-    (smudged_placed c.args.time (length (storage_of old)) (entries_of old) h)
-
-pub returns-clause-ids : goal.returns-clause-ids
-returns-clause-ids c = λ kind h.
-    let old = c.args.self.now in
-    let f = smudged_entry c.args.time in
-    let is : c.smudge.new.entries ≡ map f (entries_of old) = c.smudge.ensures ∙ ap (map f) c.deref_mut.ensures.value in
-    let held : entries_of (with_entries old c.smudge.new.entries) ≡ map f (entries_of old) =
-    entries_of-with_entries old c.smudge.new.entries (ap (λ (l : List Entry). length l) is ∙ length-map (entries_of old) f)
-    ∙ is in
-    subst (IdsAreOf kind) (sym held) (smudged_ids c.args.time kind (entries_of old) h)
-
-pub returns-clause-storable : goal.returns-clause-storable
-returns-clause-storable c = λ h.
-    subst IsStorable (sym (returns-clause-smudged c)) (smudged_storable c.args.time (contents c.args.self.now) h)
+    let value = ap (λ (rs : List Record). with_records (contents old) rs)
+    (ap (records_in (storage_of old)) held ∙ records_smudged time (storage_of old) (entries_of old)) in
+    record {
+      smudged = value;
+      trusted = λ later. all_of (λ r. MayBeTrusted later (smudged time r) → MayBeTrusted time r)
+          (trusted_before time later) (records old);
+      storage = search rules;
+      placed = λ h. subst (All (IsPlaced (length (storage_of old)))) (sym held)
+          (smudged_placed time (length (storage_of old)) (entries_of old) h);
+      ids = λ kind h. subst (IdsAreOf kind) (sym held) (smudged_ids time kind (entries_of old) h);
+      storable = λ h. subst IsStorable (sym value) (smudged_storable time (contents old) h);
+    }

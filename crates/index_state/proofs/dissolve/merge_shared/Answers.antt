@@ -5,22 +5,36 @@ use Rattle.index_state.specs.State.{contents, entries_of, storage_of}
 use Rattle.index_state.proofs.Merges.{merged_ids, merged_storable, says_dissolve}
 use Rattle.index_state.proofs.dissolve.merge_shared.Goals as goal
 
-pub returns-in-Err-clause-fault : goal.returns-in-Err-clause-fault
-returns-in-Err-clause-fault c =
+pub returns-in-Err : goal.returns-in-Err
+returns-in-Err c =
     let none : c.args.shared.parts.extensions.link ≡ None = search rules in
     let h = rw (c.entries.ensures, c.path_backing.ensures) at c.in-Err.ensures.fault in
-    rw c.from.ensures
-    (says_dissolve c.in-Err.e (link_of c.args.link.now) (pair_of c.in-Some.bitmaps) (contents c.args.shared)
-    (contents c.args.split.now) (ap (option_map link_of) none) (ap (option_map pair_of) c.in-Some.is) h)
+    record {
+      dissolved = search rules;
+      without_bitmaps = search rules;
+      no_memory = search rules;
+      placed = search rules;
+      ids = search rules;
+      storable = search rules;
+      fault = rw c.from.ensures
+          (says_dissolve c.in-Err.e (link_of c.args.link.now) (pair_of c.in-Some.bitmaps) (contents c.args.shared)
+          (contents c.args.split.now) (ap (option_map link_of) none) (ap (option_map pair_of) c.in-Some.is) h);
+      unchanged = search rules;
+    }
 
-pub returns-clause-ids : goal.returns-clause-ids
-returns-clause-ids c = λ kind mine theirs.
+pub returns : goal.returns
+returns c =
     let m = rw (c.entries.ensures, c.path_backing.ensures) at c.in_default-merge.ensures.merged in
-    merged_ids kind _ _ (storage_of c.args.shared) (storage_of c.args.split.now) c.merge.new.storage.items
-    (entries_of c.args.shared) (entries_of c.args.split.now) c.merge.new.entries.items m mine theirs
-
-pub returns-clause-storable : goal.returns-clause-storable
-returns-clause-storable c = λ mine theirs same.
-    let m = rw (c.entries.ensures, c.path_backing.ensures) at c.in_default-merge.ensures.merged in
-    merged_storable (pair_of c.in-Some.bitmaps) (contents c.args.shared) (contents c.args.split.now) _
-    (record { is = m; others = refl }) mine theirs same
+    record {
+      dissolved = search rules;
+      without_bitmaps = search rules;
+      no_memory = search rules;
+      placed = search rules;
+      ids = λ kind mine theirs. merged_ids kind _ _ (storage_of c.args.shared) (storage_of c.args.split.now)
+          c.merge.new.storage.items (entries_of c.args.shared) (entries_of c.args.split.now) c.merge.new.entries.items m
+          mine theirs;
+      storable = λ mine theirs same. merged_storable (pair_of c.in-Some.bitmaps) (contents c.args.shared)
+          (contents c.args.split.now) _ (record { is = m; others = refl }) mine theirs same;
+      fault = search rules;
+      unchanged = search rules;
+    }

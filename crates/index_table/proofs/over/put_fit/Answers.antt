@@ -1,32 +1,22 @@
-use Rattle.std.proofs.Common.{ap, subst, sym, ◌∙◌}
+use Rattle.std.proofs.Common.{subst, sym, ◌∙◌}
 use Rattle.std.proofs.lemmas.Result.{IfOk-weaker}
 use Rattle.gix_index.specs.Contents.{Contents}
 use Rattle.gix_index.specs.Order.{IsStrictlyOrdered}
 use Rattle.gix_index.specs.State.{contents}
 use Rattle.gix_index.specs.WriteOptions.{Options}
 use Rattle.index_table.specs.Overwriting.{TakesPlaceOf, full_options}
-use Rattle.index_table.specs.Writing.{HasImage, PassesLimit, PassesRoom}
+use Rattle.index_table.specs.Writing.{HasImage, IsUnwritable, PassesLimit, PassesRoom}
 use Rattle.index_table.specs.declared.write.Fault.{Fault}
 use Rattle.index_table.specs.declared.write.Image.{Image}
 use Rattle.index_table.proofs.Replacements.{kept_records, replaces, written_records}
 use Rattle.index_table.proofs.Results.{passed_weaker, refused_weaker}
-use Rattle.index_table.proofs.Writes.{can_encode}
+use Rattle.index_table.proofs.Writes.{can_encode, limit_only}
 use Rattle.index_table.proofs.over.put_fit.Goals as goal
 
 pub keep_tree-requires-clause-ordered : goal.keep_tree-requires-clause-ordered
 keep_tree-requires-clause-ordered c =
     subst IsStrictlyOrdered (sym (written_records (contents c.args.state) (contents c.replace.new.state)
     c.args.paths.now c.args.rows.now c.in_default.ensures.value)) c.requires.table.ordered
-
-pub put_state-written-requires-clause-paths : goal.put_state-written-requires-clause-paths
-put_state-written-requires-clause-paths c =
-    let kept = kept_records (contents c.replace.new.state) (contents c.keep_tree.new.state) c.in-Some.tree
-    c.in-Some.ensures.keeps in
-    can_encode c.options_of.result.version c.args.format.now.kind _ c.args.paths.now c.args.rows.now (contents
-    c.keep_tree.new.state)
-    c.requires.table.fit
-    (kept ∙ written_records (contents c.args.state) (contents c.replace.new.state) c.args.paths.now c.args.rows.now
-    c.in_default.ensures.value)
 
 pub returns-clause-done : goal.returns-clause-done
 returns-clause-done c =
@@ -46,13 +36,18 @@ pub returns-clause-refused : goal.returns-clause-refused
 returns-clause-refused c =
     let value : Contents = contents c.keep_tree.new.state in
     let Holds : Options → Fault → Contents → Type 0 = λ options x. PassesLimit options x in
-    refused_weaker c.put_state-written.result (λ (x : Fault). Holds c.options_of.result x value)
+    let kept = kept_records (contents c.replace.new.state) value c.in-Some.tree c.in-Some.ensures.keeps in
+    let can = can_encode c.options_of.result.version c.args.format.now.kind _ c.args.paths.now c.args.rows.now value
+    c.requires.table.fit
+    (kept ∙ written_records (contents c.args.state) (contents c.replace.new.state) c.args.paths.now c.args.rows.now
+    c.in_default.ensures.value) in
+    refused_weaker c.put_state-written.result (λ (x : Fault). IsUnwritable c.options_of.result x value)
     (λ (x : Fault). TakesPlaceOf c.args.format.now.kind c.args.paths.now c.args.rows.now c.in-Some.tree
     (Holds (full_options c.args.format.now) x) (contents c.args.state))
     (λ x h. replaces c.args.format.now.kind c.args.paths.now c.args.rows.now (contents c.args.state)
     (contents c.replace.new.state) value c.in-Some.tree (Holds (full_options c.args.format.now) x)
     c.requires.table c.in_default.ensures.value c.in-Some.ensures.keeps
-    (subst (λ (o : Options). Holds o x value) c.options_of.ensures h))
+    (subst (λ (o : Options). Holds o x value) c.options_of.ensures (limit_only c.options_of.result x value can h)))
     c.put_state-written.ensures.refused
 
 pub returns-clause-no_room : goal.returns-clause-no_room

@@ -3,18 +3,12 @@ use Rattle.std.proofs.lemmas.Result.{IfOk-weaker}
 use Rattle.gix_index.specs.Contents.{Contents}
 use Rattle.gix_index.specs.State.{contents}
 use Rattle.gix_index.specs.WriteOptions.{Options}
-use Rattle.index_table.specs.Writing.{HasImage, IsUnwritten, PassesLimit, PassesRoom, Spells, plain_options}
+use Rattle.index_table.specs.Writing.{HasImage, IsUnwritable, IsUnwritten, PassesLimit, PassesRoom, Spells, plain_options}
 use Rattle.index_table.specs.declared.write.Fault.{Fault}
 use Rattle.index_table.specs.declared.write.Image.{Image}
 use Rattle.index_table.proofs.Results.{passed_weaker, refused_weaker, unwritten_of}
-use Rattle.index_table.proofs.Writes.{can_encode, spells}
+use Rattle.index_table.proofs.Writes.{can_encode, limit_only, spells}
 use Rattle.index_table.proofs.write.write_table.Goals as goal
-
-pub put_state-requires-clause-paths : goal.put_state-requires-clause-paths
-put_state-requires-clause-paths c =
-    let fit = c.in_default.ensures.fit refl in
-    can_encode c.options_of.result.version c.args.format.now.kind _ c.args.paths.now c.args.rows.now
-    (contents c.in-Ok.state) fit.fit c.in-Ok.ensures.spelled.records_are
 
 pub returns-in-Ok-clause-done : goal.returns-in-Ok-clause-done
 returns-in-Ok-clause-done c =
@@ -33,11 +27,14 @@ pub returns-in-Ok-clause-refused : goal.returns-in-Ok-clause-refused
 returns-in-Ok-clause-refused c =
     let value : Contents = contents c.in-Ok.state in
     let Holds : Options → Fault → Contents → Type 0 = λ options x. PassesLimit options x in
-    refused_weaker c.put_state.result (λ (x : Fault). Holds c.options_of.result x value)
+    let fit = c.in_default.ensures.fit refl in
+    let can = can_encode c.options_of.result.version c.args.format.now.kind _ c.args.paths.now c.args.rows.now value
+    fit.fit c.in-Ok.ensures.spelled.records_are in
+    refused_weaker c.put_state.result (λ (x : Fault). IsUnwritable c.options_of.result x value)
     (λ (x : Fault). IsUnwritten c.args.format.now c.args.paths.now c.args.rows.now x)
     (λ x h. inr (spells c.args.format.now.kind c.args.paths.now c.args.rows.now value
-    (Holds (plain_options c.args.format.now) x) (c.in_default.ensures.fit refl) c.in-Ok.ensures.spelled
-    (subst (λ (o : Options). Holds o x value) c.options_of.ensures h)))
+    (Holds (plain_options c.args.format.now) x) fit c.in-Ok.ensures.spelled
+    (subst (λ (o : Options). Holds o x value) c.options_of.ensures (limit_only c.options_of.result x value can h))))
     c.put_state.ensures.refused
 
 pub returns-in-Ok-clause-no_room : goal.returns-in-Ok-clause-no_room

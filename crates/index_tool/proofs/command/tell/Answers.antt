@@ -1,3 +1,4 @@
+use Rattle.std.proofs.Common.{false, true}
 use Rattle.index_commands.specs.Checking.{FailsToPass}
 use Rattle.index_commands.specs.Trees.{FailsToTree}
 use Rattle.index_failures.specs.Reading.{FailsReading, SaysOfBytes, SaysOfIndex}
@@ -15,13 +16,13 @@ returns-in-List-clause-refused g c =
 pub returns-in-Check-clause-refused : goal.returns-in-Check-clause-refused
 returns-in-Check-clause-refused g c =
     rw c.in-Check.is (telling_refused (g.D.Folder.known c.args.folder.now)
-    (FailsToPass (g.D.Folder.works c.args.folder.now) (g.D.Folder.known c.args.folder.now) c.args.kind c.args.path.now)
+    (FailsToPass false (g.D.Folder.works c.args.folder.now) (g.D.Folder.known c.args.folder.now) c.args.kind c.args.path.now)
     readings.Check c.args.kind c.args.path.now _ _ _ c.check.result c.check.ensures.refused)
 
 pub returns-in-CheckTrees-clause-refused : goal.returns-in-CheckTrees-clause-refused
 returns-in-CheckTrees-clause-refused g c =
     rw c.in-CheckTrees.is (telling_refused (g.D.Folder.known c.args.folder.now)
-    (FailsToPass (g.D.Folder.works c.args.folder.now) (g.D.Folder.known c.args.folder.now) c.args.kind c.args.path.now)
+    (FailsToPass true (g.D.Folder.works c.args.folder.now) (g.D.Folder.known c.args.folder.now) c.args.kind c.args.path.now)
     readings.CheckTrees c.args.kind c.args.path.now _ _ _ c.check-in-CheckTrees.result c.check-in-CheckTrees.ensures.refused)
 
 pub returns-in-Map-clause-refused : goal.returns-in-Map-clause-refused

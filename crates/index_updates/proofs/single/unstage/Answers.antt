@@ -1,7 +1,6 @@
 use Rattle.std.proofs.Common.{◌∙◌, ◌∷◌, [], ap, refl, subst, sym}
 use Rattle.index_entries.specs.Order.{IsStrictlyOrdered}
 use Rattle.index_entries.specs.Record.{records_in}
-use Rattle.index_edits.specs.Edits.{IsUnstagedFrom}
 use Rattle.index_edits.proofs.Applied.{one_unstaged}
 use Rattle.index_edits.specs.declared.change.Change.TheVariants.{Unstage}
 use Rattle.index_updates.specs.Undone.{undo_paths, undone}
@@ -20,12 +19,8 @@ returns-clause-sound c = λ o.
 
 pub returns-clause-applied : goal.returns-clause-applied
 returns-clause-applied c = λ o.
-    let es = c.args.entries.now.items in
-    let path = c.args.path.now in
-    let made = subst (λ t. IsStrictlyOrdered (records_in t es)
-    → IsUnstagedFrom path (records_in t es) (records_in t c.unstage-count.new.entries.items)) c.deref-2.ensures.value
-    c.unstage-count.ensures.unstaged in
-    one_unstaged _ (records_in c.args.storage.now.items es) _ path refl (λ r. refl) (made o)
+    one_unstaged _ (records_in c.args.storage.now.items c.args.entries.now.items) _ c.args.path.now refl (λ r. refl)
+    (c.in_ok-count.ensures.unstaged o)
 
 pub returns-clause-spellable : goal.returns-clause-spellable
 returns-clause-spellable c = λ o.

@@ -9,15 +9,16 @@ use Rattle.gix_index.specs.Disk.{disk_in_hand}
 use Rattle.gix_index.specs.File.{checksum_of, state_of}
 use Rattle.gix_index.specs.Linked.{joined, own}
 use Rattle.gix_index.proofs.FileFaults.{link_of_both, own_of_both, shared_of_both}
-use Rattle.gix_index.proofs.Joined.{read_kind, unlinked_storable}
+use Rattle.gix_index.proofs.Joined.{dissolved_unlinked, read_kind, unlinked_storable}
 use Rattle.gix_index.proofs.file.File.decode_split.Goals as goal
 
 pub returns-in_err-file-clause-fault : goal.returns-in_err-file-clause-fault
 returns-in_err-file-clause-fault c =
     let a = c.args in
+    let r = a.reading in
     let p = err_from_is_err_and c.from_residual.result c.from_residual.ensures.1 in
-    rw (p.1, p.2) (own_of_both a.skip_hash a.object_hash a.timestamp a.options
-    (disk_in_hand a.«data».now a.shared.now a.timestamp) a.«data».now c.in_err-file.field-0.0 refl
+    rw (p.1, p.2) (own_of_both r.skip_hash r.object_hash r.timestamp r.options
+    (disk_in_hand a.«data».now a.shared.now r.timestamp) a.«data».now c.in_err-file.field-0.0 refl
     c.in_err-file.ensures.answer)
 
 pub returns-in_default-clause-read : goal.returns-in_default-clause-read
@@ -33,11 +34,12 @@ returns-in_default-clause-read c =
 pub returns-in_err-index-clause-fault : goal.returns-in_err-index-clause-fault
 returns-in_err-index-clause-fault c =
     let a = c.args in
+    let r = a.reading in
     let link = rw c.in-Some.is at c.take_followed_link.ensures.given in
     let split = c.in_ok-file.file in
     let p = err_from_is_err_and c.from_residual-in_err-index.result c.from_residual-in_err-index.ensures.1 in
-    rw (p.1, p.2) (shared_of_both a.skip_hash a.object_hash a.timestamp a.options
-    (disk_in_hand a.«data».now a.shared.now a.timestamp) a.shared.now (contents (state_of split)) (checksum_of split)
+    rw (p.1, p.2) (shared_of_both r.skip_hash r.object_hash r.timestamp r.options
+    (disk_in_hand a.«data».now a.shared.now r.timestamp) a.shared.now (contents (state_of split)) (checksum_of split)
     (link_of c.in-Some.link) c.in_err-index.field-0.0
     (record {
       read = record { bytes = a.«data».now; held = refl; read = c.in_ok-file.ensures.answer };
@@ -48,6 +50,7 @@ returns-in_err-index-clause-fault c =
 pub returns-in_err-dissolve_into-clause-fault : goal.returns-in_err-dissolve_into-clause-fault
 returns-in_err-dissolve_into-clause-fault c =
     let a = c.args in
+    let r = a.reading in
     let t = c.take_followed_link.ensures in
     let link = rw c.in-Some.is at t.given in
     let split = c.in_ok-file.file in
@@ -55,8 +58,8 @@ returns-in_err-dissolve_into-clause-fault c =
     let e = c.in_err-dissolve_into.field-0.0 in
     let p = err_from_is_err_and c.from_residual-in_err-dissolve_into.result
     c.from_residual-in_err-dissolve_into.ensures.1 in
-    rw (p.1, p.2) (link_of_both a.skip_hash a.object_hash a.timestamp a.options
-    (disk_in_hand a.«data».now a.shared.now a.timestamp) (contents (state_of split)) (checksum_of split)
+    rw (p.1, p.2) (link_of_both r.skip_hash r.object_hash r.timestamp r.options
+    (disk_in_hand a.«data».now a.shared.now r.timestamp) (contents (state_of split)) (checksum_of split)
     (link_of c.in-Some.link) (contents (state_of index)) (checksum_of index) e
     (record {
       read = record { bytes = a.«data».now; held = refl; read = c.in_ok-file.ensures.answer };
@@ -89,21 +92,27 @@ returns-clause-read c =
           (contents c.dissolve_into.new.split)) t.removed d;
     })
 
-pub returns-clause-ids : goal.returns-clause-ids
-returns-clause-ids c =
-    c.dissolve_into.ensures.ids c.args.object_hash
-    (rw c.take_followed_link.ensures.entries c.in_ok-file.ensures.ids)
-    (rw c.into_parts-shared.ensures.state c.in_ok-index.ensures.ids)
-
-pub returns-clause-storable : goal.returns-clause-storable
-returns-clause-storable c =
+pub returns-clause-whole : goal.returns-clause-whole
+returns-clause-whole c =
     let t = c.take_followed_link.ensures in
     let split = c.in_ok-file.file in
     let index = c.in_ok-index.index in
     let mine = read_kind _ _ _ _ c.args.«data».now (contents (state_of split)) _ c.in_ok-file.ensures.answer in
     let theirs = read_kind _ _ _ _ c.args.shared.now (contents (state_of index)) _ c.in_ok-index.ensures.answer in
     let same = ap contents c.into_parts-shared.ensures.state in
-    c.dissolve_into.ensures.storable
-    (subst IsStorable (sym t.removed) (unlinked_storable (contents (state_of split)) c.in_ok-file.ensures.storable))
-    (rw c.into_parts-shared.ensures.state c.in_ok-index.ensures.storable)
-    (ap (λ (v : Contents). v.kind) same ∙ theirs ∙ sym mine ∙ sym (ap (λ (v : Contents). v.kind) t.removed))
+    let own = c.in_ok-file.ensures.formed in
+    let shared = c.in_ok-index.ensures.formed in
+    let after = c.dissolve_into.ensures in
+    let unlinked = ap (λ (v : Contents). v.extensions.link) t.removed in
+    record {
+      path = own.path;
+      placed = after.placed;
+      ids = after.ids c.args.reading.object_hash (rw t.entries own.ids)
+          (rw c.into_parts-shared.ensures.state shared.ids);
+      storable = after.storable
+          (subst IsStorable (sym t.removed) (unlinked_storable (contents (state_of split)) own.storable))
+          (rw c.into_parts-shared.ensures.state shared.storable)
+          (ap (λ (v : Contents). v.kind) same ∙ theirs ∙ sym mine ∙ sym (ap (λ (v : Contents). v.kind) t.removed));
+      unlinked = dissolved_unlinked (link_of c.in-Some.link) _ _ _ unlinked
+          c.in_ok-dissolve_into.ensures.dissolved;
+    }

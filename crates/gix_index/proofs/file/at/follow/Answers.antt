@@ -1,4 +1,4 @@
-use Rattle.std.proofs.Common.{sym, ap, ◌∙◌, subst}
+use Rattle.std.proofs.Common.{refl, sym, ap, ◌∙◌, subst}
 use Rattle.std.proofs.lemmas.Result.{err_from_is_err_and}
 use Rattle.index_split.specs.Link.{link_of}
 use Rattle.index_state.specs.Dissolve.{IsDissolved, SaysDissolve}
@@ -9,7 +9,7 @@ use Rattle.gix_index.specs.Disk.{disk_beside}
 use Rattle.gix_index.specs.File.{path_of, state_of, checksum_of}
 use Rattle.gix_index.specs.Linked.{own, joined}
 use Rattle.gix_index.proofs.FileFaults.{of_link, of_shared}
-use Rattle.gix_index.proofs.Joined.{read_kind, unlinked_storable}
+use Rattle.gix_index.proofs.Joined.{dissolved_unlinked, read_kind, unlinked_storable}
 use Rattle.gix_index.proofs.file.at.follow.Goals as goal
 
 pub returns-in_default-clause-read : goal.returns-in_default-clause-read
@@ -80,17 +80,22 @@ returns-clause-read g c = λ known read.
           (contents c.dissolve_into.new.split)) t.removed d;
     })
 
-pub returns-clause-ids : goal.returns-clause-ids
-returns-clause-ids g c =
-    c.dissolve_into.ensures.ids c.args.reading.object_hash
-    (rw c.take_followed_link.ensures.entries c.requires.ids) c.in_ok-shared.ensures.ids
-
-pub returns-clause-storable : goal.returns-clause-storable
-returns-clause-storable g c =
+pub returns-clause-whole : goal.returns-clause-whole
+returns-clause-whole g c =
     let t = c.take_followed_link.ensures in
     let s = c.in_ok-shared.ensures.read in
     let mine = read_kind _ _ _ _ c.requires.read.0 (contents (state_of c.args.file)) _ c.requires.read.1 in
     let theirs = read_kind _ _ _ _ s.1.bytes (contents c.in_ok-shared.shared) s.0 s.1.read in
     let same = theirs ∙ sym mine ∙ sym (ap (λ (v : Contents). v.kind) t.removed) in
-    c.dissolve_into.ensures.storable (subst IsStorable (sym t.removed)
-    (unlinked_storable (contents (state_of c.args.file)) c.requires.storable)) c.in_ok-shared.ensures.storable same
+    let shared = c.in_ok-shared.ensures.formed in
+    let after = c.dissolve_into.ensures in
+    let unlinked = ap (λ (v : Contents). v.extensions.link) t.removed in
+    record {
+      path = refl;
+      placed = after.placed;
+      ids = after.ids c.args.reading.object_hash (rw t.entries c.requires.formed.ids) shared.ids;
+      storable = after.storable (subst IsStorable (sym t.removed)
+          (unlinked_storable (contents (state_of c.args.file)) c.requires.formed.storable)) shared.storable same;
+      unlinked = dissolved_unlinked (link_of c.in-Some.link) _ _ _ unlinked
+          c.in_ok-dissolve_into.ensures.dissolved;
+    }

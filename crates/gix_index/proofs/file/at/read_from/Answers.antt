@@ -66,7 +66,7 @@ returns-clause-read g c =
     stored (λ id. world (shared_path (path_buf_bytes c.args.path) id))
     (λ f. IsTrue c.args.or_default × MayBeMissing own × IsEmptyFile r.object_hash r.timestamp f)
     c.follow.result c.in-Ok.ensures.opened c.in-Ok-time_of.ensures.time
-    (rw c.in_ok-index.ensures.path at (read_followed r.skip_hash r.object_hash time r.options
+    (rw c.in_ok-index.ensures.formed.path at (read_followed r.skip_hash r.object_hash time r.options
     (λ (k : Known). disk_beside k world (path_of index)) (known_of stored) (contents (state_of index))
     (checksum_of index) c.follow.result c.in_ok-index.ensures.read c.follow.ensures.read))
 
@@ -82,6 +82,6 @@ returns-clause-fault g c =
     fault_at r.skip_hash r.object_hash r.options works c.args.has_time r.timestamp time path
     (world (path_bytes c.args.at)) stored (λ id. world (shared_path path id))
     c.follow.result c.in-Ok.ensures.opened c.in-Ok-time_of.ensures.time
-    (rw c.in_ok-index.ensures.path at (fault_followed r.skip_hash r.object_hash time r.options (path_of index) works
+    (rw c.in_ok-index.ensures.formed.path at (fault_followed r.skip_hash r.object_hash time r.options (path_of index) works
     (λ (k : Known). disk_beside k world (path_of index)) (known_of stored) (contents (state_of index))
     (checksum_of index) c.follow.result c.in_ok-index.ensures.read c.follow.ensures.fault))

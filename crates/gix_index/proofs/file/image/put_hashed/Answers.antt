@@ -1,4 +1,5 @@
-use Rattle.std.proofs.Common.{◌∙◌, ap, suc, [], rules}
+use Rattle.std.proofs.Common.{◌∙◌, ap, arith, suc, [], rules}
+use Rattle.std.proofs.lemmas.Grind.{common_steps}
 use Rattle.index_parts.specs.Digest.{digest}
 use Rattle.index_parts.specs.Id.{make_id}
 use Rattle.index_parts.specs.declared.hash.Kind.{Kind}
@@ -7,22 +8,24 @@ use Rattle.index_state.specs.State.{contents}
 use Rattle.gix_index.proofs.Files.{hashed_id}
 use Rattle.gix_index.proofs.file.image.put_hashed.Goals as goal
 
-pub returns-clause-answer : goal.returns-clause-answer
-returns-clause-answer g c =
+pub returns : goal.returns
+returns g c =
     let v = contents c.args.state.now in
     let h = c.in_ok-version.ensures.hashed 0 c.object_hash.result []
     (c.new-hashing.ensures.kind, c.new-hashing.ensures.empty) in
     record {
-      version = search rules;
-      id = hashed_id v c.args.options _ c.requires.digest (c.finalize.ensures _ h.1
-          ∙ ap (λ (k : Kind). make_id k (digest k (body v c.args.options))) (h.0 ∙ c.object_hash.ensures));
-      bytes = search rules;
-      too_many = search rules;
-      nul_in_path = search rules;
-      too_large = search rules;
+      answer = record {
+        version = search rules;
+        id = hashed_id v c.args.options _ c.requires.digest (c.finalize.ensures _ h.1
+            ∙ ap (λ (k : Kind). make_id k (digest k (body v c.args.options))) (h.0 ∙ c.object_hash.ensures));
+        bytes = search rules;
+        too_many = search rules;
+        nul_in_path = search rules;
+        too_large = search rules;
+      };
+      hashed = λ depth k m held.
+          let grown = c.in_ok-version.ensures.hashed (suc depth) k m (rw c.new-hashing.ensures.inner held) in
+          search (rules, grown);
+      loan = grind (arith, common_steps);
+      writable = search rules;
     }
-
-pub returns-clause-hashed : goal.returns-clause-hashed
-returns-clause-hashed g c = λ depth k m held.
-    let grown = c.in_ok-version.ensures.hashed (suc depth) k m (rw c.new-hashing.ensures.inner held) in
-    search (rules, grown)

@@ -1,0 +1,3 @@
+pub mod BitmapImage
+pub mod EncodedBitmap
+pub mod EncodingSteps

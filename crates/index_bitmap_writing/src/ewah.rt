@@ -1,0 +1,124 @@
+//! Writing a bitmap (git's bitmap-format document, "Serialization format for an EWAH bitmap").
+
+ghost use Rattle.std.specs.Prelude.{◌≡◌, ◌++◌, ◌+◌, ◌*◌, ◌^◌, ◌<◌, false, length};
+ghost use Rattle.std.specs.List.{flat_map};
+ghost use Rattle.index_cached_tree.specs.TreeWriting.{within_32};
+ghost use Rattle.index_bitmaps.specs.Bitmap.{bitmap};
+ghost use Rattle.index_parts.specs.Numbers.{be32};
+ghost use Rattle.index_parts.specs.Puts.{Puts};
+ghost use Rattle.index_bitmap_writing.specs.BitmapImage.{be64, bitmap_bytes, last_run, lent_bitmap};
+
+use crate::pieces::{put_number, put_word};
+use index_bitmaps::ewah;
+use index_parts::hash::io::Out;
+use std::io;
+
+/// A bitmap in its compressed form, whose words are lent.
+#[derive(Clone, Copy, Debug)]
+pub struct LentVec<'a> {
+    /// How many bits the bitmap declares.
+    num_bits: u32,
+    /// Its words.
+    words: &'a [u64],
+}
+
+/// The same bitmap, with its words lent.
+pub fn lent(map: &ewah::Vec) -> LentVec<'_>
+    ensures { lent_bitmap result ≡ bitmap map.now }
+{
+    LentVec {
+        num_bits: map.num_bits(),
+        words: map.words(),
+    }
+}
+
+/// The bytes of a bitmap without its words: the number of bits, the number of words, and the position of the last run
+/// word.
+pub const WORDLESS_LEN: u64 = 12;
+
+/// The bytes of a word.
+pub const WORD_LEN: u64 = 8;
+
+/// The bits of a run word below its number of literal words: the repeated bit, and the number of repetitions.
+const LITERALS_SHIFT: u32 = 33;
+
+/// Writes words.
+fn put_words<W: Out>(words: &[u64], out: &mut W) -> io::Result<()>
+    requires { W.failed out.old ≡ false }
+    ensures { Puts W.Out out.old out.new result (flat_map be64 words.now) }
+{
+    for word in words {
+        put_word(*word, out)?;
+    }
+    Ok(())
+}
+
+/// The position of the last run word. It takes a step for each run word.
+fn last_run(words: &[u64]) -> u32
+    requires { length words.now < 2 ^ 32 }
+    ensures { result ≡ last_run words.now }
+{
+    let mut place = 0;
+    let mut rest = words;
+    while let Some((run_word, behind)) = rest.split_first() {
+        let literals = *run_word >> LITERALS_SHIFT;
+        if behind.len() as u64 <= literals {
+            break;
+        }
+        let (_, after) = behind.split_at(literals as usize);
+        rest = after;
+        place += 1 + literals as u32;
+    }
+    place
+}
+
+/// Writes words, and the position of the last run word.
+fn put_behind_numbers<W: Out>(words: &[u64], out: &mut W) -> io::Result<()>
+    requires count { length words.now < 2 ^ 32 }
+    requires unfailed { W.failed out.old ≡ false }
+    ensures { Puts W.Out out.old out.new result
+        (flat_map be64 words.now ++ be32 (last_run words.now)) }
+{
+    put_words(words, out)?;
+    put_number(last_run(words), out)
+}
+
+/// Writes the number of words, and what stands behind it.
+fn put_behind_bits<W: Out>(words: &[u64], out: &mut W) -> io::Result<()>
+    requires count { length words.now < 2 ^ 32 }
+    requires unfailed { W.failed out.old ≡ false }
+    ensures { Puts W.Out out.old out.new result
+        (be32 (length words.now) ++ (flat_map be64 words.now ++ be32 (last_run words.now))) }
+{
+    put_number(words.len() as u32, out)?;
+    put_behind_numbers(words, out)
+}
+
+/// How many bytes a bitmap has; None where it has more than 2^32 - 1. It takes no memory.
+pub fn content_len(bitmap: LentVec<'_>) -> Option<u32>
+    ensures { result ≡ within_32 (length (bitmap_bytes (lent_bitmap bitmap.entry))) }
+{
+    let count = bitmap.words.len() as u64;
+    if count > u64::from(u32::MAX) {
+        return None;
+    }
+    let len = WORDLESS_LEN + WORD_LEN * count;
+    if len > u64::from(u32::MAX) {
+        return None;
+    }
+    Some(len as u32)
+}
+
+/// Writes a bitmap in the words that it has, of which there are fewer than 2^32: the number of its bits, the number of
+/// its words, the words, and the position of the last run word.
+///
+/// An error comes only where the writer failed, which then took a prefix of the bytes. No memory is taken.
+pub fn put<W: Out>(bitmap: LentVec<'_>, out: &mut W) -> io::Result<()>
+    requires count { length bitmap.words.now < 2 ^ 32 }
+    requires unfailed { W.failed out.old ≡ false }
+    ensures written { Puts W.Out out.old out.new result
+        (bitmap_bytes (lent_bitmap bitmap.entry)) }
+{
+    put_number(bitmap.num_bits, out)?;
+    put_behind_bits(bitmap.words, out)
+}

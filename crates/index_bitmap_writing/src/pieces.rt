@@ -1,0 +1,59 @@
+//! Numbers, texts, and the head of an extension.
+
+ghost use Rattle.std.specs.Prelude.{◌≡◌, ◌++◌, [], ◌∷◌, false};
+ghost use Rattle.std.specs.List.{flat_map};
+ghost use Rattle.index_parts.specs.Numbers.{be32};
+ghost use Rattle.index_parts.specs.Puts.{Puts};
+ghost use Rattle.index_bitmap_writing.specs.BitmapImage.{be64};
+
+use index_extensions::Signature;
+use index_parts::hash::io::Out;
+use std::io;
+
+/// Writes a number of four bytes.
+pub fn put_number<W: Out>(n: u32, out: &mut W) -> io::Result<()>
+    requires { W.failed out.old ≡ false }
+    ensures { Puts W.Out out.old out.new result (be32 n) }
+{
+    out.put(&n.to_be_bytes())
+}
+
+/// Writes a number of eight bytes.
+pub fn put_word<W: Out>(word: u64, out: &mut W) -> io::Result<()>
+    requires { W.failed out.old ≡ false }
+    ensures { Puts W.Out out.old out.new result (be64 word) }
+{
+    out.put(&word.to_be_bytes())
+}
+
+/// Writes a text and a NUL.
+pub fn put_text<W: Out>(text: &[u8], out: &mut W) -> io::Result<()>
+    requires { W.failed out.old ≡ false }
+    ensures { Puts W.Out out.old out.new result (text.now ++ 0 ∷ []) }
+{
+    out.put_each(&two(text, b"\0"))
+}
+
+/// Two pieces.
+fn two<'a>(a: &'a [u8], b: &'a [u8]) -> [&'a [u8]; 2]
+    ensures { flat_map (λ p. p.now) result ≡ a.now ++ b.now }
+{
+    [a, b]
+}
+
+/// The eight bytes before the content of an extension.
+fn head(signature: Signature, len: u32) -> [u8; 8]
+    ensures { result ≡ signature ++ be32 len }
+{
+    let [a, b, c, d] = signature;
+    let [e, f, g, h] = len.to_be_bytes();
+    [a, b, c, d, e, f, g, h]
+}
+
+/// Writes what stands before the content of an extension: its signature, and the length of the content.
+pub fn put_head<W: Out>(signature: Signature, len: u32, out: &mut W) -> io::Result<()>
+    requires { W.failed out.old ≡ false }
+    ensures { Puts W.Out out.old out.new result (signature ++ be32 len) }
+{
+    out.put(&head(signature, len))
+}

@@ -1,0 +1,81 @@
+//! Changes in the order of their paths, where the order makes no difference.
+
+ghost use Rattle.std.specs.Prelude.{◌≡◌, ◌⊎◌, IsNone, true, ◌++◌, ◌∷◌, [], IfOk, IfSome, IsTrue, map};
+ghost use Rattle.std.specs.List.{list_any};
+ghost use Rattle.index_edits.specs.Changes.{path_of};
+ghost use Rattle.index_edits.specs.Reorders.{AreInOrder, IsReorderedTo, are_nested, lies_in};
+ghost use Rattle.index_search.specs.Prefix.{prefix_cmp};
+
+use crate::change::Change;
+use index_search::ordered::{Ordered, search_within};
+use index_search::prefix::compare_pieces;
+use std::alloc::{AllocError, Global};
+use std::cmp::Ordering;
+
+/// Changes by whether their paths lie in a folder.
+#[derive(Clone, Copy)]
+struct InFolder<'a> {
+    changes: &'a [Change<'a>],
+    folder: &'a [u8],
+}
+
+impl Ordered for InFolder<'_> {
+    ghost answers = { λ s. map (λ c. prefix_cmp (s.folder.now ++ 47 ∷ []) (path_of c)) s.changes.now };
+
+    fn len(&self) -> usize {
+        self.changes.len()
+    }
+
+    fn compare(&self, place: usize) -> Ordering {
+        compare_pieces(self.changes[place].path(), self.folder, b"/")
+    }
+}
+
+/// Whether the path of one of the changes lies in the folder.
+fn has_below(changes: &[Change<'_>], folder: &[u8]) -> bool
+    requires { AreInOrder changes.now }
+    ensures { result ≡ list_any (λ c. lies_in folder.now (path_of c)) changes.now }
+{
+    let places = InFolder { changes, folder };
+    search_within(&places, 0, changes.len()).0.is_ok()
+}
+
+/// Whether one of the paths is a folder that another lies in.
+fn are_nested(changes: &[Change<'_>]) -> bool
+    requires { AreInOrder changes.now }
+    ensures { result ≡ are_nested changes.now }
+{
+    changes
+        .iter()
+        .any(|change| has_below(changes, change.path()))
+}
+
+/// Whether the paths never fall.
+fn are_in_order(changes: &[Change<'_>]) -> bool
+    ensures { IsTrue result → AreInOrder changes.now }
+{
+    changes.is_sorted_by(|a, b| a.path().cmp(b.path()).is_le())
+}
+
+/// The changes in the order of their paths, those of one path in theirs; or None where they are in order already, or a
+/// path is a folder that another lies in. They make the same of an index as those that are given. An error is want of
+/// memory.
+pub fn in_order<'a>(
+    alloc: Global,
+    changes: &[Change<'a>],
+) -> Result<Option<Vec<Change<'a>>>, AllocError>
+    ensures same { IfOk result (λ made. IfSome made (λ ds. IsReorderedTo changes.now ds.items)) }
+    ensures none { IfOk result (λ made. IsNone made
+        → AreInOrder changes.now ⊎ (are_nested changes.now ≡ true)) }
+{
+    if are_in_order(changes) {
+        return Ok(None);
+    }
+    let mut ordered = Vec::with_capacity(alloc, changes.len())?;
+    ordered.extend_from_slice(changes)?;
+    ordered.sort_by(|a, b| a.path().cmp(b.path()))?;
+    if are_nested(&ordered) {
+        return Ok(None);
+    }
+    Ok(Some(ordered))
+}

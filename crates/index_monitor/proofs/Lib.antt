@@ -1,0 +1,3 @@
+mod Eithers
+mod Markings
+mod Spellables

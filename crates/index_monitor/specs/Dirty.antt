@@ -1,0 +1,51 @@
+-- What a file system monitor said of entries, after changes of them (gitformat-index, "File System Monitor cache": the n-th
+-- bit tells whether the n-th entry may have changed).
+use Rattle.std.specs.Prelude.{ℕ, ◌^◌, ◌&&◌, ◌||◌, nat_lt, Bool, false, List, [], ◌∷◌, drop, length, map}
+use Rattle.std.specs.Prelude.{Option, Some, None, Result, Ok, Err, if◌then◌else◌}
+use Rattle.std.specs.List.{list_any}
+use Rattle.std.specs.Option.{option_map}
+use Rattle.index_bitmap_writing.specs.EncodedBitmap.{encoded}
+use Rattle.index_bitmaps.specs.Bitmap.{Bitmap}
+use Rattle.index_bitmaps.specs.Ranges.{set_places}
+use Rattle.index_bitmaps.specs.declared.ewah.iter.Malformed.{Malformed}
+use Rattle.index_edits.specs.declared.change.Change.{Change}
+use Rattle.index_edits.specs.declared.change.Change.TheVariants as changes
+use Rattle.index_entries.specs.Order.{record_stage}
+use Rattle.index_entries.specs.Record.{Record}
+use Rattle.index_extension_writing.specs.MonitorPlaces.{monitor_is_within}
+use Rattle.index_lookups.specs.Lookup.{has_key}
+use Rattle.index_metadata.specs.Flags.{stage_number}
+use Rattle.index_small_extensions.specs.FsMonitor.{Monitor}
+
+-- an entry with the record's path and its stage comes in its place
+abbrev pub is_replaced : Change → Record → Bool
+is_replaced (changes.Stage entry path) r = has_key path.now (stage_number entry.flags.0) r
+is_replaced (changes.Unstage path) r = false
+
+-- the first of the records has the path and the stage of another
+abbrev pub leads_with : Record → List Record → Bool
+leads_with r [] = false
+leads_with r (q ∷ qs) = has_key q.path (record_stage q) r
+
+-- the record at a place has the path and the stage of another
+abbrev pub is_at_place : List Record → Record → Result ℕ Malformed → Bool
+is_at_place rs r (Ok place) = leads_with r (drop place rs)
+is_at_place rs r (Err fault) = false
+
+-- a record may have changed: that of its path and stage had its bit, or a change stages it
+abbrev pub is_dirty : List Change → List Record → List (Result ℕ Malformed) → Record → Bool
+is_dirty cs old places r = list_any (is_at_place old r) places || list_any (λ c. is_replaced c r) cs
+
+-- The bits of records, after changes of the old ones of which a monitor told; none where it told of more than there
+-- were, or where records have no places of 32 bits.
+abbrev pub dirty_after : List Change → List Record → List Record → Monitor → Option Bitmap
+dirty_after cs old now m =
+    if monitor_is_within (length old) m && nat_lt (length now) (2 ^ 32)
+    then Some (encoded (map (is_dirty cs old (set_places m.dirty)) now)) else None
+
+-- what it said, after changes that made these records of the old ones; the same where there is no change
+abbrev pub monitor_after : List Change → List Record → List Record → Option Monitor → Option Monitor
+monitor_after cs old now None = None
+monitor_after [] old now (Some m) = Some m
+monitor_after (c ∷ cs) old now (Some m) =
+    option_map (λ dirty. record { token = m.token; dirty = dirty }) (dirty_after (c ∷ cs) old now m)

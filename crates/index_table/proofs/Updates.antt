@@ -1,0 +1,52 @@
+-- What holds of changes that rows say, and why they make nothing.
+use Rattle.std.proofs.Common.{◌≡◌, ℕ, List, Option, Some, None, Err, false, inl, refl, ap, sym}
+use Rattle.gix_index.specs.Changing.ApplyError.{ApplyError}
+use Rattle.gix_index.specs.Changing.ApplyError.TheVariants as applies
+use Rattle.gix_index.specs.Changing.Changes.{IsApplyReason}
+use Rattle.gix_index.specs.Changing.Error.{Error}
+use Rattle.gix_index.specs.Contents.{Contents}
+use Rattle.gix_index.specs.Kind.{Kind}
+use Rattle.gix_index.specs.OrderError.{Error as OrderError}
+use Rattle.gix_index.specs.OrderError.TheVariants as orders
+use Rattle.gix_index.specs.SoundState.{SaysFall}
+use Rattle.index_table.specs.Joining.{AreReadSo}
+use Rattle.index_table.specs.Updating.{IsChangedBy, IsUnmade, MakesNothing, MakesOf, Updates, order_told}
+use Rattle.index_table.specs.Writing.{IfPassed, IfRefused}
+use Rattle.index_table.specs.declared.row.Row.{Row}
+use Rattle.index_table.specs.declared.write.Image.{Image}
+use Rattle.index_table.specs.declared.write.Unwritten.{Unwritten}
+use Rattle.index_table.specs.declared.write.Unwritten.TheVariants.{NoRoom, Refused, Memory}
+use Rattle.index_table.proofs.Joins.{read_so}
+
+-- a refusal is the first, as want of memory is none
+pub refusal_is : (r : Option ApplyError) (at : ℕ) (cause : Error) → IsApplyReason r (applies.Refused at cause)
+    → r ≡ Some (applies.Refused at cause)
+refusal_is None at cause h = absurd cc
+refusal_is (Some e) at cause h = ap (λ (x : ApplyError). Some x) (sym h)
+
+module _ (kind : Kind) (paths : List ℕ) (rows : List Row) (v : Contents) where
+  pub fallen : (e : OrderError) → SaysFall v.records e → MakesNothing kind paths rows v (order_told e)
+  fallen (orders.OutOfOrder index path stage previous_path previous_stage) h =
+      inl (record { place = index; fall = h.0; fault_is = refl })
+  fallen orders.Memory h = tt
+
+  -- it isn't for want of room that nothing is made
+  pub none_passed : (e : Unwritten) (P : Image → Type 0) → MakesNothing kind paths rows v e
+      → IfPassed (Err e) P
+  none_passed (NoRoom told) P h = absurd h
+  none_passed (Refused fault) P h = tt
+  none_passed Memory P h = tt
+
+  pub none_made : (e : Unwritten) → MakesNothing kind paths rows v e
+      → IfRefused (Err e) (λ fault. IsUnmade kind paths rows fault v)
+  none_made (NoRoom told) h = absurd h
+  none_made (Refused fault) h = h
+  none_made Memory h = tt
+
+-- what holds of what the rows make of the value that was read
+pub made : (kind : Kind) (bytes shared paths : List ℕ) (rows : List Row) (before v : Contents) (P : Contents → Type 0)
+    → AreReadSo false kind bytes shared (λ w. w ≡ before) → IsChangedBy kind paths rows before v → P v
+    → Updates kind bytes shared paths rows P
+made kind bytes shared paths rows before v P read changed h =
+    read_so false kind bytes shared (MakesOf kind paths rows P) before read
+    (record { value = v; changed = changed; holds = h })

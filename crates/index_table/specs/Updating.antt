@@ -1,0 +1,167 @@
+-- What the rows of a table make of an index, where they are changes of it (the words of git-update-index, "--index-info"
+-- and "--force-remove").
+use Rattle.std.specs.Prelude.{◌≡◌, ◌⊎◌, ℕ, false, List, All, map, Some, None, if◌then◌else◌}
+use Rattle.gix_index.specs.Changing.ApplyError.TheVariants.{Refused}
+use Rattle.gix_index.specs.Changing.Change.{Change}
+use Rattle.gix_index.specs.Changing.Changes.{IsAppliedTo, refusal_of}
+use Rattle.gix_index.specs.Changing.Error.{Error}
+use Rattle.gix_index.specs.Changing.Error.TheVariants as errors
+use Rattle.gix_index.specs.Changing.Updates.{updated}
+use Rattle.gix_index.specs.Contents.{Contents}
+use Rattle.gix_index.specs.EntryImage.{is_removed}
+use Rattle.gix_index.specs.Kind.{Kind}
+use Rattle.gix_index.specs.Order.{IsStrictlyOrdered}
+use Rattle.gix_index.specs.OrderError.{Error as OrderError}
+use Rattle.gix_index.specs.OrderError.TheVariants as orders
+use Rattle.gix_index.specs.Pathless.{Pathless}
+use Rattle.gix_index.specs.Sorted.{IsFirstFall}
+use Rattle.gix_index.specs.Version.{Version}
+use Rattle.gix_index.specs.Version.TheVariants as versions
+use Rattle.gix_index.specs.VersionChoice.{VersionChoice}
+use Rattle.gix_index.specs.VersionChoice.TheVariants.{Smallest, V4}
+use Rattle.gix_index.specs.WriteExtensions.TheVariants.{Kept}
+use Rattle.gix_index.specs.WriteOptions.{Options}
+use Rattle.index_info.specs.Line.{ChangeValue}
+use Rattle.index_info.specs.Names as names
+use Rattle.index_info.specs.Text.{change_value}
+use Rattle.index_table.specs.Fitting.{HasUnfitRow, IsFit}
+use Rattle.index_table.specs.Joining.{AreReadSo}
+use Rattle.index_table.specs.Table.{row_id, row_path, row_stat}
+use Rattle.index_table.specs.Writing.{HasImage, IsUnwritable, PassesRoom}
+use Rattle.index_table.specs.declared.row.Row.{Row}
+use Rattle.index_table.specs.declared.write.Fault.{Fault}
+use Rattle.index_table.specs.declared.write.Fault.TheVariants as faults
+use Rattle.index_table.specs.declared.write.Image.{Image}
+use Rattle.index_table.specs.declared.write.Unwritten.{Unwritten}
+use Rattle.index_table.specs.declared.write.Unwritten.TheVariants as unwritten
+
+-- ---- the changes
+
+-- all of a row's entry but its path
+abbrev pub row_entry : Row → Pathless
+row_entry row = record {
+  stat = row_stat row;
+  id = row_id row;
+  flags = record { 0 = row.flags };
+  mode = record { 0 = row.mode };
+}
+
+-- a row that is marked REMOVE takes its path out, at each stage; the entry of any other is staged, at its own
+abbrev pub change_said : List ℕ → Row → ChangeValue
+change_said paths row = record {
+  entry = if is_removed row.flags then None else Some (row_entry row);
+  path = row_path paths row;
+}
+
+-- the rows say these changes, in their order
+abbrev pub AreSaidBy : List ℕ → List Row → List Change → Type 0
+AreSaidBy paths rows cs = map change_value cs ≡ map (change_said paths) rows
+
+-- The value's entries are in order, and each row that isn't marked REMOVE can stand in its file. The rows say changes, of
+-- which none is refused, by the names that git lets stand in a path; and they make the other value of this one.
+pub record IsChangedBy (kind : Kind) (paths : List ℕ) (rows : List Row) (before value : Contents) : Type 0 where
+  pub ordered : IsStrictlyOrdered before.records
+  pub fit : All (IsFit kind before.extensions.sparse paths) rows
+  pub changes : List Change
+  pub said : AreSaidBy paths rows changes
+  pub room : ℕ
+  pub granted : refusal_of names.refusal_of before.kind room changes ≡ None
+  pub is : value ≡ updated changes before
+  pub applied : IsAppliedTo changes before.records value.records
+
+-- ---- what is written
+
+-- 4 where that is the version, and else the smaller of 2 and 3 that has the flags
+abbrev pub kept_version : Version → VersionChoice
+kept_version versions.V2 = Smallest
+kept_version versions.V3 = Smallest
+kept_version versions.V4 = V4
+
+-- how a value is written in place of another of its version: with all extensions that fit, and with its digest
+abbrev pub kept_options : Version → Options
+kept_options version = record { extensions = Kept; version = kept_version version; skip_hash = false }
+
+-- the room has the value's image, in its version
+abbrev pub HasKeptImage : Image → List ℕ → List ℕ → Contents → Type 0
+HasKeptImage told room left v = HasImage (kept_options v.version) told room left v
+
+-- the image has more bytes than the room
+abbrev pub PassesRoomKept : Image → List ℕ → Contents → Type 0
+PassesRoomKept told room v = PassesRoom (kept_options v.version) told room v
+
+-- a file can't hold it
+abbrev pub IsUnwritableKept : Fault → Contents → Type 0
+IsUnwritableKept fault v = IsUnwritable (kept_options v.version) fault v
+
+-- this holds of what the rows make of a value
+pub record MakesOf (kind : Kind) (paths : List ℕ) (rows : List Row) (P : Contents → Type 0) (before : Contents)
+    : Type 0 where
+  pub value : Contents
+  pub changed : IsChangedBy kind paths rows before value
+  pub holds : P value
+
+-- the bytes and those of the shared index are read as a value, and this holds of what the rows make of it
+abbrev pub Updates : Kind → List ℕ → List ℕ → List ℕ → List Row → (Contents → Type 0) → Type 0
+Updates kind bytes shared paths rows P = AreReadSo false kind bytes shared (MakesOf kind paths rows P)
+
+-- ---- why nothing is
+
+-- the fault of a change at a place that isn't made
+abbrev pub change_fault : ℕ → Error → Fault
+change_fault at errors.EmptyPath = faults.Row at
+change_fault at (errors.Nul place) = faults.Row at
+change_fault at (errors.Mode mode) = faults.Mode at
+change_fault at (errors.OtherKind expected actual) = faults.Row at
+change_fault at errors.NullId = faults.Row at
+change_fault at errors.NoSlash = faults.Row at
+change_fault at errors.EmptyName = faults.Name at
+change_fault at (errors.Name number) = faults.Name at
+change_fault at (errors.PathTooLong len) = faults.Row at
+change_fault at errors.Memory = faults.Row at
+
+-- the fault is of the value's first entry that isn't above the one before it
+pub record HasFallenEntry (fault : Fault) (v : Contents) : Type 0 where
+  pub place : ℕ
+  pub fall : IsFirstFall v.records (Some place)
+  pub fault_is : fault ≡ faults.Order place
+
+-- the entries are in order, and the fault is of the first row that isn't fit
+pub record HasUnfitChange (kind : Kind) (paths : List ℕ) (rows : List Row) (fault : Fault) (v : Contents)
+    : Type 0 where
+  pub ordered : IsStrictlyOrdered v.records
+  pub unfit : HasUnfitRow kind v.extensions.sparse paths rows fault
+
+-- the entries are in order, each row is fit, and the fault is of the first row whose change is refused
+pub record HasRefusedChange (kind : Kind) (paths : List ℕ) (rows : List Row) (fault : Fault) (v : Contents)
+    : Type 0 where
+  pub ordered : IsStrictlyOrdered v.records
+  pub fit : All (IsFit kind v.extensions.sparse paths) rows
+  pub changes : List Change
+  pub said : AreSaidBy paths rows changes
+  pub room : ℕ
+  pub at : ℕ
+  pub cause : Error
+  pub first : refusal_of names.refusal_of v.kind room changes ≡ Some (Refused at cause)
+  pub fault_is : fault ≡ change_fault at cause
+
+-- the first fault by which the rows make nothing of a value
+abbrev pub IsUnmade : Kind → List ℕ → List Row → Fault → Contents → Type 0
+IsUnmade kind paths rows fault v =
+    HasFallenEntry fault v ⊎ HasUnfitChange kind paths rows fault v ⊎ HasRefusedChange kind paths rows fault v
+
+-- why they make nothing of it; want of memory says nothing
+abbrev pub MakesNothing : Kind → List ℕ → List Row → Contents → Unwritten → Type 0
+MakesNothing kind paths rows v (unwritten.NoRoom told) = ⊥
+MakesNothing kind paths rows v (unwritten.Refused fault) = IsUnmade kind paths rows fault v
+MakesNothing kind paths rows v unwritten.Memory = Unit {0}
+
+-- entries out of order are told so, and want of memory to name them as that
+abbrev pub order_told : OrderError → Unwritten
+order_told (orders.OutOfOrder index path stage previous_path previous_stage) = unwritten.Refused (faults.Order index)
+order_told orders.Memory = unwritten.Memory
+
+-- the first fault by which nothing is written in place of the index of these bytes, joined to the shared one
+abbrev pub IsUnupdated : Kind → List ℕ → List ℕ → List ℕ → List Row → Fault → Type 0
+IsUnupdated kind bytes shared paths rows fault =
+    AreReadSo false kind bytes shared (IsUnmade kind paths rows fault)
+    ⊎ Updates kind bytes shared paths rows (IsUnwritableKept fault)

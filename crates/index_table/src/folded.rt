@@ -1,0 +1,41 @@
+//! Searching a caller's table for a directory with the case of ASCII letters ignored.
+
+ghost use Rattle.std.specs.Prelude.{◌≡◌, ◌<◌, ◌↔◌, ◌++◌, ◌∷◌, [], IsTrue, length, nat_eq, position, slice_index_or, true};
+ghost use Rattle.std.specs.List.{starts_with};
+ghost use Rattle.gix_index.specs.Searching.Folded.{folded, stands_in_folded};
+ghost use Rattle.index_table.specs.Table.{spelled};
+
+use crate::row::{Row, path_of};
+
+/// Whether a path has a slash at this place.
+fn has_slash_at(path: &[u8], at: usize) -> bool
+    ensures { IsTrue result ↔ ((at < length path.now) × (slice_index_or path.now at 0 ≡ 47)) }
+{
+    at < path.len() && path[at] == b'/'
+}
+
+/// Whether a path goes on behind a directory and a slash, with case ignored.
+fn is_below(path: &[u8], directory: &[u8]) -> bool
+    ensures { result ≡ starts_with nat_eq (folded true path.now) (folded true directory.now ++ 47 ∷ []) }
+{
+    let len = directory.len();
+    has_slash_at(path, len) && path[..len].eq_ignore_ascii_case(directory)
+}
+
+/// Whether the row is the directory itself, a sparse one or a submodule, or stands below it, with case ignored.
+fn stands_in(row: &Row, paths: &[u8], directory: &[u8]) -> bool
+    ensures { result ≡ stands_in_folded true directory.now (spelled paths.now row.now) }
+{
+    let path = path_of(row, paths);
+    let is_directory = row.mode == 0o040000 || row.mode == 0o160000;
+    (is_directory && path.eq_ignore_ascii_case(directory)) || is_below(path, directory)
+}
+
+/// The place of the first row that is the directory itself, a sparse one or a submodule, or stands below it, with the
+/// case of ASCII letters ignored. The rows may be in any order, and each is looked at up to that one.
+pub fn closest_folded(rows: &[Row], paths: &[u8], directory: &[u8]) -> Option<usize>
+    ensures { result ≡ position
+        (λ row. stands_in_folded true directory.now (spelled paths.now row)) rows.now }
+{
+    rows.iter().position(|row| stands_in(row, paths, directory))
+}

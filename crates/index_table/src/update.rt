@@ -1,0 +1,179 @@
+//! Changes of an index, which the rows of a caller's table say.
+
+ghost use Rattle.std.specs.Prelude.{◌≡◌, IfErr, IfOk, None, OnErr, OnOk, false};
+ghost use Rattle.gix_index.specs.Order.{IsStrictlyOrdered};
+ghost use Rattle.gix_index.specs.State.{PathsInStorage, contents, records};
+ghost use Rattle.index_info.specs.Text.{change_value};
+ghost use Rattle.index_table.specs.Reading.{LacksMemory};
+ghost use Rattle.index_table.specs.Joining.{FailBoth};
+ghost use Rattle.index_table.specs.Updating.{AreSaidBy, HasKeptImage, IsChangedBy, IsUnupdated, MakesNothing, PassesRoomKept, Updates, change_fault, change_said, kept_options, kept_version, order_told, row_entry};
+ghost use Rattle.index_table.specs.Writing.{IfPassed, IfRefused, IfUnwritten};
+
+use crate::fault::Failure;
+use crate::row::{Row, path_of, stat_of};
+use crate::spell::{first_unfit, id_of, is_left_out, unfit_fault};
+use crate::split::both_of;
+use crate::write::{Fault, Image, Unwritten, put_state};
+use gix_index::change::{ApplyError, Change};
+use gix_index::decode::entry::Pathless;
+use gix_index::entry::{Flags, Mode};
+use gix_index::hash::Kind;
+use gix_index::verify::entries;
+use gix_index::write::{Extensions, Options, VersionChoice};
+use gix_index::{BitFlags as _, ChangeError, State, Version};
+use index_info::names::PathNames;
+use std::alloc::{AllocError, Global};
+
+/// All of a row's entry but its path.
+fn entry_of(row: &Row) -> Pathless
+    ensures { result ≡ row_entry row.now }
+{
+    Pathless {
+        stat: stat_of(row),
+        id: id_of(row),
+        flags: Flags::from_bits_retain(row.flags),
+        mode: Mode::from_bits_retain(row.mode),
+    }
+}
+
+/// The change that a row says.
+fn change_of<'a>(row: &Row, paths: &'a [u8]) -> Change<'a>
+    ensures { change_value result ≡ change_said paths.now row.now }
+{
+    let path = path_of(row, paths);
+    if is_left_out(row) {
+        return Change::Unstage { path };
+    }
+    let entry = entry_of(row);
+    Change::Stage { entry, path }
+}
+
+/// The changes that rows say, with their paths lent.
+fn changes_of<'a>(
+    alloc: Global,
+    rows: &[Row],
+    paths: &'a [u8],
+) -> Result<Vec<Change<'a>>, AllocError>
+    ensures { IfOk result (λ cs. AreSaidBy paths.now rows.now cs.items) }
+{
+    let mut changes = Vec::with_capacity(alloc, rows.len())?;
+    for row in rows {
+        changes.push(change_of(row, paths))?;
+    }
+    Ok(changes)
+}
+
+/// Why nothing is made of entries that aren't in order.
+fn unordered(e: &entries::Error) -> Unwritten
+    ensures { result ≡ order_told e.now }
+{
+    match e {
+        entries::Error::OutOfOrder { current_index, .. } => {
+            Unwritten::Refused(Fault::Order(*current_index))
+        }
+        entries::Error::Memory => Unwritten::Memory,
+    }
+}
+
+/// The fault of a change at a place that isn't made.
+fn change_fault(at: usize, cause: &ChangeError) -> Fault
+    ensures { result ≡ change_fault at cause.now }
+{
+    match cause {
+        ChangeError::Mode { .. } => Fault::Mode(at),
+        ChangeError::EmptyName | ChangeError::Name { .. } => Fault::Name(at),
+        _ => Fault::Row(at),
+    }
+}
+
+/// Makes the changes that rows say of an index, all or none, as `State::apply` makes them.
+fn make_changes(
+    alloc: Global,
+    kind: Kind,
+    state: &mut State,
+    rows: &[Row],
+    paths: &[u8],
+) -> Result<(), Unwritten>
+    requires placed { PathsInStorage state.old }
+    ensures changed { OnOk result
+        (IsChangedBy kind paths.now rows.now (contents state.old) (contents state.new)) }
+    ensures placed { PathsInStorage state.new }
+    ensures why { IfErr result (MakesNothing kind paths.now rows.now (contents state.old)) }
+{
+    if let Err(e) = state.verify_entries() {
+        return Err(unordered(&e));
+    }
+    if let Some(place) = first_unfit(rows, paths, kind, state.is_sparse()) {
+        return Err(Unwritten::Refused(unfit_fault(&rows[place], place)));
+    }
+    let Ok(changes) = changes_of(alloc, rows, paths) else {
+        return Err(Unwritten::Memory);
+    };
+    match state.apply(&PathNames, &changes) {
+        Ok(()) => Ok(()),
+        Err(ApplyError::Refused { at, cause }) => {
+            Err(Unwritten::Refused(change_fault(at, &cause)))
+        }
+        Err(ApplyError::Memory) => Err(Unwritten::Memory),
+    }
+}
+
+/// The version in which an index that was read in this one is written again.
+fn kept_version(version: Version) -> VersionChoice
+    ensures { result ≡ kept_version version }
+{
+    match version {
+        Version::V4 => VersionChoice::V4,
+        Version::V2 | Version::V3 => VersionChoice::Smallest,
+    }
+}
+
+/// How an index that was read in this version is written again.
+fn kept_options(version: Version) -> Options
+    ensures { result ≡ kept_options version }
+{
+    Options {
+        extensions: Extensions::Kept,
+        version: kept_version(version),
+        skip_hash: false,
+    }
+}
+
+/// Makes changes of the index of these bytes, and writes it into the room, in its version and with its digest: a row
+/// stages its entry at its path and stage, and one that is marked `REMOVE` takes its path out, one after another.
+///
+/// The bytes are joined to the shared index that they link to, as `both_of` joins them; what is written links to none.
+/// What speaks of the entries is kept as `State::apply` keeps it. The outer error is of the bytes.
+pub fn update(
+    alloc: Global,
+    rows: &[Row],
+    paths: &[u8],
+    index: &[u8],
+    shared: &[u8],
+    kind: Kind,
+    room: &mut [u8],
+) -> Result<Result<Image, Unwritten>, Failure>
+    ensures done { IfOk result (λ written. IfOk written
+        (λ told. Updates kind index.now shared.now paths.now rows.now
+        (HasKeptImage told room.old room.new))) }
+    ensures refused { IfOk result (λ written. IfRefused written
+        (IsUnupdated kind index.now shared.now paths.now rows.now)) }
+    ensures memory { IfOk result (λ written. IfUnwritten written
+        (LacksMemory None false kind index.now)) }
+    ensures no_room { IfOk result (λ written. IfPassed written
+        (λ told. Updates kind index.now shared.now paths.now rows.now
+        (PassesRoomKept told room.old))) }
+    ensures unread { IfErr result (FailBoth false kind index.now shared.now) }
+    ensures room { IfErr result (λ _. room.new ≡ room.old) }
+    ensures kept { IfOk result (λ written. IfErr written (λ _. room.new ≡ room.old)) }
+{
+    let mut state = match both_of(alloc, index, shared, kind, false) {
+        Ok(state) => state,
+        Err(failure) => return Err(failure),
+    };
+    if let Err(e) = make_changes(alloc, kind, &mut state, rows, paths) {
+        return Ok(Err(e));
+    }
+    let options = kept_options(state.version());
+    Ok(put_state(alloc, state, options, room))
+}

@@ -1,0 +1,3 @@
+mod Blames
+mod Cuts
+mod Makes

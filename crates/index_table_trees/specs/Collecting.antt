@@ -1,0 +1,29 @@
+-- What is collected of trees, by how many bytes each has (the library's own steps).
+use Rattle.std.specs.Prelude.{ℕ, ◌+◌, nat_eq, List, [], ◌∷◌, length, take, drop, Some, None, if◌then◌else◌}
+use Rattle.gix_index.specs.Trees.Objects.{Taken}
+use Rattle.index_table.specs.Table.{padded_id}
+use Rattle.index_table_trees.specs.Trees.{Objects}
+use Rattle.index_table_trees.specs.declared.collected.Collected.{Collected}
+use Rattle.index_table_trees.specs.declared.collected.Piece.{Piece}
+use Rattle.index_table_trees.specs.declared.trees.Tree.{Tree}
+
+-- how many bytes pieces have together
+abbrev pub pieces_len : List Piece → ℕ
+pieces_len [] = 0
+pieces_len (p ∷ ps) = p.len + pieces_len ps
+
+-- the objects of pieces, whose bytes stand one behind the other
+abbrev pub cut : List Piece → List ℕ → Objects
+cut [] bytes = []
+cut (p ∷ ps) bytes = (p.id, take p.len bytes) ∷ cut ps (drop p.len bytes)
+
+-- the rows of pieces, whose bytes stand one behind the other, from a place on
+abbrev pub piece_rows : ℕ → List Piece → List Tree
+piece_rows start [] = []
+piece_rows start (p ∷ ps) =
+    record { id = padded_id p.id; start = start; len = p.len } ∷ piece_rows (start + p.len) ps
+
+-- the objects that are collected, where the bytes are as many as the pieces have
+abbrev pub collected : Collected → Taken
+collected c =
+    if nat_eq (pieces_len c.pieces.items) (length c.bytes.items) then Some (cut c.pieces.items c.bytes.items) else None

@@ -1,0 +1,3 @@
+pub mod Blaming
+pub mod Collecting
+pub mod Trees

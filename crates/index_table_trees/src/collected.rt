@@ -1,0 +1,122 @@
+//! Trees that are collected before they go to a caller's rooms.
+
+ghost use Rattle.std.specs.Prelude.{◌≡◌, ◌++◌, ◌≤◌, ◌<◌, ◌⊎◌, ◌^◌, [], IfOk, IfErr, Some, drop, false, length, true};
+ghost use Rattle.index_table_trees.specs.Collecting.{collected, piece_rows, pieces_len};
+ghost use Rattle.index_table_trees.specs.Trees.{HoldTrees, IfPassed, IfRefused, Objects, PassRoom};
+
+use crate::trees::{Counts, Tree, Unmade};
+use gix_index::hash::ObjectId;
+use gix_index::write_trees::Sink;
+use index_table::row::padded;
+use std::alloc::Global;
+
+/// The number by which a tree is refused for which there is no memory.
+const NO_MEMORY: u32 = 0;
+
+/// A tree that is collected: its id, and how many bytes it has.
+#[derive(Clone, Copy)]
+pub(crate) struct Piece {
+    id: ObjectId,
+    len: usize,
+}
+
+/// The trees that are collected, and the bytes of all, one behind the other.
+#[derive(Drop)]
+pub(crate) struct Collected {
+    pieces: Vec<Piece>,
+    bytes: Vec<u8>,
+}
+
+impl Sink for Collected {
+    ghost use Rattle.index_table_trees.specs.declared.collected.TheConstants.{NO_MEMORY};
+
+    ghost stored = { λ c. collected c };
+
+    ghost fault = { λ _. Some NO_MEMORY };
+
+    fn put(&mut self, id: &ObjectId, bytes: &[u8]) -> Result<(), u32> {
+        let piece = Piece {
+            id: *id,
+            len: bytes.len(),
+        };
+        let Ok(()) = self.pieces.push(piece) else {
+            return Err(NO_MEMORY);
+        };
+        let Ok(()) = self.bytes.extend_from_slice(bytes) else {
+            self.pieces.pop();
+            return Err(NO_MEMORY);
+        };
+        Ok(())
+    }
+}
+
+/// Whether one of the rooms has less than trees take.
+fn lacks_room(counts: &Counts, trees: &[Tree], bytes: &[u8]) -> bool
+    ensures small { result ≡ true → (length trees.now < counts.now.trees)
+        ⊎ (length bytes.now < counts.now.bytes) }
+    ensures trees { result ≡ false → counts.now.trees ≤ length trees.now }
+    ensures bytes { result ≡ false → counts.now.bytes ≤ length bytes.now }
+{
+    trees.len() < counts.trees || bytes.len() < counts.bytes
+}
+
+/// Fills in a row for each piece, whose bytes stand one behind the other.
+fn fill_rows(pieces: &[Piece], trees: &mut [Tree])
+    requires few { pieces_len pieces.now < 2 ^ 64 }
+    requires fits { length pieces.now ≤ length trees.old }
+    ensures { trees.new ≡ piece_rows 0 pieces.now ++ drop (length pieces.now) trees.old }
+{
+    let mut start = 0;
+    for place in 0..pieces.len() {
+        let piece = pieces[place];
+        trees[place] = Tree {
+            id: padded(&piece.id),
+            start,
+            len: piece.len,
+        };
+        start += piece.len;
+    }
+}
+
+impl Collected {
+    /// Nothing so far.
+    pub(crate) fn new(alloc: Global) -> Collected
+        ensures { collected result ≡ Some [] }
+    {
+        Collected {
+            pieces: Vec::new(alloc),
+            bytes: Vec::new(alloc),
+        }
+    }
+
+    /// How many trees there are, and how many bytes they have together.
+    fn counts(&self) -> Counts
+        ensures trees { result.trees ≡ length self.now.pieces.items }
+        ensures bytes { result.bytes ≡ length self.now.bytes.items }
+    {
+        Counts {
+            trees: self.pieces.len(),
+            bytes: self.bytes.len(),
+        }
+    }
+
+    /// Puts the trees into the rooms, if both have room.
+    pub(crate) fn put_into(&self, trees: &mut [Tree], bytes: &mut [u8]) -> Result<Counts, Unmade>
+        requires whole { (os : Objects) × (collected self.now ≡ Some os) }
+        ensures done { (os : Objects) → collected self.now ≡ Some os
+            → IfOk result (λ told. HoldTrees told trees.old trees.new bytes.old bytes.new os) }
+        ensures no_room { (os : Objects) → collected self.now ≡ Some os
+            → IfPassed result (λ told. PassRoom told trees.old bytes.old os) }
+        ensures unrefused { IfRefused result (λ _. ⊥) }
+        ensures trees { IfErr result (λ _. trees.new ≡ trees.old) }
+        ensures bytes { IfErr result (λ _. bytes.new ≡ bytes.old) }
+    {
+        let counts = self.counts();
+        if lacks_room(&counts, trees, bytes) {
+            return Err(Unmade::NoRoom(counts));
+        }
+        fill_rows(&self.pieces, trees);
+        bytes[..counts.bytes].copy_from_slice(&self.bytes);
+        Ok(counts)
+    }
+}

@@ -1,0 +1,39 @@
+use Rattle.std.proofs.Common.{◌≡◌, inl, inr, length, rules}
+use Rattle.index_parts.specs.Id.{id_bytes, id_kind, id_len}
+use Rattle.index_entries.specs.Record.{IsSized, with_path}
+use Rattle.index_entries.proofs.StorableEntries.{variant_of}
+use Rattle.index_format.specs.Contents.{parts_contents}
+use Rattle.index_updates.proofs.StorableChanges.{stage_stays}
+use Rattle.index_updates.proofs.parts.stage.Goals as goal
+
+pub returns-clause-updated : goal.returns-clause-updated
+returns-clause-updated g c = search rules
+
+-- The types of the parts say how many bits a number has and how many bytes an id: `given` is what they say, one part
+-- after the other, and so is each part of it for the fields of a struct.
+pub returns-clause-storable : goal.returns-clause-storable
+returns-clause-storable g c = λ o.
+    let entry = c.args.entry in
+    let given = c.well_formed.1.1.0.1.1 in
+    let stat = given.0.1.1 in
+    let mtime = stat.0.1.1 in
+    let ctime = stat.1.0.1.1 in
+    let id : length (id_bytes entry.id) ≡ id_len (id_kind entry.id) = elim (variant_of entry.id) [
+      | inl v ↦ let bytes = rw v.1 at given.1.0 in rw v.1 bytes.1.1.1.1.0.1.0.1
+      | inr v ↦ let bytes = rw v.1 at given.1.0 in rw v.1 bytes.1.1.1.1.0.1.0.1
+    ] in
+    let sized : IsSized (with_path c.args.path.now entry) = record {
+      ctime_secs = ctime.0.1;
+      ctime_nsecs = ctime.1.0.1;
+      mtime_secs = mtime.0.1;
+      mtime_nsecs = mtime.1.0.1;
+      dev = stat.1.1.0.1;
+      ino = stat.1.1.1.0.1;
+      uid = stat.1.1.1.1.0.1;
+      gid = stat.1.1.1.1.1.0.1;
+      size = stat.1.1.1.1.1.1.0.1;
+      mode = given.1.1.1.0.1.1.0.1;
+      id = id;
+    } in
+    stage_stays (parts_contents c.args.parts.now) _ (g.C.ComponentCheck.refusal c.args.check.now) entry c.args.path
+    c.in_ok-told.ensures.reason sized (returns-clause-updated g c o)
