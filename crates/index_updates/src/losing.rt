@@ -7,7 +7,8 @@ ghost use Rattle.index_entries.specs.Order.{IsStrictlyOrdered, record_stage};
 ghost use Rattle.index_entries.specs.Record.{with_path};
 ghost use Rattle.index_lookups.specs.Range.{LiesWithin, part_at, part_of};
 ghost use Rattle.index_edits.specs.Edits.{are_at_odds};
-ghost use Rattle.index_updates.specs.Recorded.{record_at, recorded};
+ghost use Rattle.index_edits.specs.EditSteps.{record_at};
+ghost use Rattle.index_updates.specs.Recorded.{recorded};
 ghost use Rattle.index_updates.specs.Undone.{all_recorded, is_lost, lost, undo_paths};
 
 use crate::recording::record_side;

@@ -5,7 +5,8 @@ ghost use Rattle.std.specs.List.{HoldsAt};
 ghost use Rattle.std.specs.Ordering.{is_lt};
 ghost use Rattle.index_entries.specs.Order.{path_cmp, record_stage};
 ghost use Rattle.index_small_extensions.specs.ResolveUndo.{path_stages};
-ghost use Rattle.index_updates.specs.Recorded.{no_sides, record_at, recorded, with_side};
+ghost use Rattle.index_edits.specs.EditSteps.{record_at};
+ghost use Rattle.index_updates.specs.Recorded.{no_sides, recorded, with_side};
 
 use bitflags::Flags as _;
 use index_entries::Entry;

@@ -1,7 +1,8 @@
 use Rattle.std.proofs.Common.{◌∙◌, List, ap, map, refl, subst}
 use Rattle.index_small_extensions.specs.declared.resolve_undo.ResolvePath.{ResolvePath}
 use Rattle.index_small_extensions.specs.ResolveUndo.{path_stages}
-use Rattle.index_updates.specs.Recorded.{record_at, with_side}
+use Rattle.index_edits.specs.EditSteps.{record_at}
+use Rattle.index_updates.specs.Recorded.{with_side}
 use Rattle.index_updates.proofs.Recordings.{IsHere, IsOther, IsPlaceFor, recorded_between, recorded_over}
 use Rattle.index_updates.proofs.recording.record_side.Goals as goal
 
