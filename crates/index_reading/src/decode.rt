@@ -3,19 +3,21 @@
 pub mod entries;
 pub mod header;
 
-ghost use Rattle.std.specs.Prelude.{◌≡◌, ◌≤◌, ◌+◌, ◌*◌, ◌||◌, not, nat_lt, false, length, Ok, IfOk, IfErr, IfSome};
+ghost use Rattle.std.specs.Prelude.{◌≡◌, ◌≤◌, ◌+◌, ◌*◌, ◌||◌, not, length, IfOk, IfErr};
 ghost use Rattle.std.specs.Prelude.{OnOk, All};
 ghost use Rattle.index_parts.specs.Id.{id_kind, id_len};
 ghost use Rattle.index_format.specs.Outcome.{outcome_of};
 ghost use Rattle.index_format.specs.Answer.{Answer, IsVerified, IsAnswer, IsBehindHeader, IsEnding};
 ghost use Rattle.index_format.specs.DecodeErrors.{Says, SaysFault};
 ghost use Rattle.index_parts.specs.Limit.{is_within};
-ghost use Rattle.index_entries.specs.Header.{header_of, count_of};
-ghost use Rattle.index_entries.specs.Limits.{entry_cost, is_too_large, most_entries};
+ghost use Rattle.index_entries.specs.Limits.{entry_cost};
+ghost use Rattle.index_extensions.specs.EndMarker.{IsMarker};
 ghost use Rattle.index_format.specs.ExtensionSteps.{IsTaken};
 ghost use Rattle.index_format.specs.Storable.{IsStorable};
 ghost use Rattle.index_format.specs.Contents.{PartsInStorage, ExtensionIdsAreOf, parts_contents, parts_entries};
 ghost use Rattle.index_entries.specs.Record.{IdsAreOf, has_directory};
+ghost use Rattle.index_metadata.specs.declared.entry.stat.FileTime.{FileTime as Time};
+ghost use Rattle.index_reading.specs.Head.{IsDeclared, LooksAt};
 
 use crate::{extension, trailer};
 use index_entries::Version;
@@ -147,36 +149,39 @@ fn is_too_large(limit: Option<usize>, count: u32, paths: usize) -> bool
     !read::is_within(limit, ENTRY_COST * count as usize) || !read::is_within(limit, paths)
 }
 
-/// How many entries a file has, and how they are encoded.
+/// What the header of a file declares, and what stands behind it.
 #[derive(Clone, Copy)]
-pub struct Declared {
-    /// The version that the header declares.
+pub struct Declared<'a> {
+    /// The version of the encoding.
     pub version: Version,
-    /// The count of entries that it declares.
+    /// The count of entries.
     pub count: u32,
     /// An estimate of the bytes that their paths take.
     pub paths: usize,
+    /// The bytes that were given, from behind the header on.
+    pub rest: &'a [u8],
 }
 
-/// What the header declares, the head of a file of so many bytes, whose end marker names this offset, or which has
-/// none. None where the header is at fault, or the count passes what such a file can hold or the limit.
+/// What the header declares, at the head of a file of so many bytes, whose end marker names this offset, or which has
+/// none. Else the fault of the header, of a count that passes what such a file can hold, or of the limit.
 pub fn declared_by(
     head: &[u8],
     len: usize,
     offset: Option<usize>,
     object_hash: Kind,
     options: Options,
-) -> Option<Declared>
-    ensures header { IfSome result (λ x. header_of object_hash head.now ≡ Ok x.version) }
-    ensures count { IfSome result (λ x. x.count ≡ count_of head.now) }
-    ensures fits { IfSome result
-        (λ x. nat_lt (most_entries len offset object_hash x.version) x.count ≡ false) }
-    ensures small { IfSome result (λ x. is_too_large options.alloc_limit_bytes x.count len offset
-        object_hash x.version ≡ false) }
+) -> Result<Declared<'_>, Error>
+    ensures declared { IfOk result (IsDeclared object_hash options head.now len offset) }
+    // Where the head is all of the file.
+    ensures fault { IfErr result (λ e. len ≡ length head.now
+        → IsMarker object_hash head.now offset → (time : Time)
+        → SaysFault e (IsAnswer object_hash time options head.now)) }
 {
-    let (version, count, _) = header::decode(head, object_hash).ok()?;
+    let (version, count, rest) = header::decode(head, object_hash)?;
     if count as usize > entries::max_entries_possible(len, offset, object_hash, version) {
-        return None;
+        return Err(Error::Header(header::Error::Corrupt(
+            "Declared entry count exceeds possible entries for file size",
+        )));
     }
     let paths = entries::estimate_path_storage_requirements_in_bytes(
         count,
@@ -186,13 +191,22 @@ pub fn declared_by(
         version,
     );
     if is_too_large(options.alloc_limit_bytes, count, paths) {
-        return None;
+        return Err(Error::OutOfMemory);
     }
-    Some(Declared {
+    Ok(Declared {
         version,
         count,
         paths,
+        rest,
     })
+}
+
+/// The same of a file of which all bytes are at hand.
+pub fn declared_in(data: &[u8], object_hash: Kind, options: Options) -> Result<Declared<'_>, Error>
+    ensures { LooksAt object_hash options «data».now result }
+{
+    let offset = end_of_index_entry::decode(data, object_hash);
+    declared_by(data, data.len(), offset, object_hash, options)
 }
 
 /// The state of so many entries at the front of the bytes, and the end behind them.
@@ -238,29 +252,18 @@ pub fn from_bytes(
     ensures extension_ids { IfOk result
         (λ x. ExtensionIdsAreOf object_hash (parts_contents x.0).extensions) }
 {
-    let (version, count, rest) = header::decode(data, object_hash)?;
-    let offset = end_of_index_entry::decode(data, object_hash);
-    let most = entries::max_entries_possible(data.len(), offset, object_hash, version);
-    if count as usize > most {
-        return Err(Error::Header(header::Error::Corrupt(
-            "Declared entry count exceeds possible entries for file size",
-        )));
-    }
-    let paths = entries::estimate_path_storage_requirements_in_bytes(
-        count,
-        data.len(),
-        offset,
-        object_hash,
-        version,
-    );
-    if is_too_large(options.alloc_limit_bytes, count, paths) {
-        return Err(Error::OutOfMemory);
-    }
+    let declared = declared_in(data, object_hash, options)?;
     let read_as = ReadAs {
         timestamp,
         object_hash,
-        version,
+        version: declared.version,
         options,
     };
-    read_behind_header(alloc, read_as, count, paths, rest)
+    read_behind_header(
+        alloc,
+        read_as,
+        declared.count,
+        declared.paths,
+        declared.rest,
+    )
 }

@@ -332,7 +332,7 @@ fn ending_of(
 }
 
 /// Room for the entries that are declared.
-fn room_for(alloc: Global, declared: Declared) -> Result<FirstEntries, AllocError>
+fn room_for(alloc: Global, declared: Declared<'_>) -> Result<FirstEntries, AllocError>
     ensures { IfOk result (λ first. (first.list.records ≡ []) × (first.sparse ≡ false)) }
 {
     let list = EntryList::with_capacity(alloc, declared.count as usize, declared.paths)?;
@@ -375,7 +375,7 @@ pub fn windowed<S: Source>(
         return Ok(None);
     }
     let left = len - came as u64;
-    let Some(declared) = declared_by(&window, len as usize, offset, kind, reading.options) else {
+    let Ok(declared) = declared_by(&window, len as usize, offset, kind, reading.options) else {
         return Ok(None);
     };
     let plan = Plan {

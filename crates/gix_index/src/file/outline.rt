@@ -12,9 +12,9 @@ use super::init::{Error, check};
 use index_format::decode;
 use index_metadata::entry::FileTime;
 pub use index_outline::Outline;
-use index_outline::{declared_by, outline_behind_header};
+use index_outline::outline_behind_header;
 use index_parts::hash::Kind;
-use index_reading::decode::ReadAs;
+use index_reading::decode::{ReadAs, declared_in};
 use std::alloc::Global;
 
 impl File {
@@ -42,13 +42,13 @@ impl File {
             (λ o. ExtensionIdsAreOf object_hash (contents o.bare).extensions) }
     {
         check(data, None, object_hash, skip_hash)?;
-        let (version, count, rest) = declared_by(data, timestamp, object_hash, options)?;
+        let declared = declared_in(data, object_hash, options)?;
         let read_as = ReadAs {
             timestamp,
             object_hash,
-            version,
+            version: declared.version,
             options,
         };
-        Ok(outline_behind_header(alloc, read_as, count, rest)?)
+        Ok(outline_behind_header(alloc, read_as, declared.count, declared.rest)?)
     }
 }

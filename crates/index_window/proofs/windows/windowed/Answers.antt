@@ -27,7 +27,7 @@ pub returns-clause-read : goal.returns-clause-read
 returns-clause-read g c =
     let reading = c.args.reading in
     let kind = reading.object_hash in
-    let declared = c.in-Some.declared in
+    let declared = c.in-Ok.declared in
     let plan : Plan = record {
       version = declared.version;
       kind = kind;
@@ -41,13 +41,13 @@ returns-clause-read g c =
     let w1 = c.read_entries.new.window.items in
     let w2 = c.pass_extensions.new.window.items in
     let tail = c.read_rest.new.window.items in
-    let start = c.in-Some-2.start in
-    let at = c.in-Some-3.place.start in
+    let start = c.in-Some.start in
+    let at = c.in-Some-2.place.start in
     let records = c.read_entries.new.first.list.records in
-    let r = rw c.in-Some-2.is at c.in_ok-start.ensures.read in
-    let whole = rw c.in-Some-2.is at c.in_ok-start.ensures.whole in
-    let s = rw c.in-Some-3.is at c.in_ok-place.ensures.abridged in
-    let trailer = rw c.in-Some-3.is at c.in_ok-place.ensures.trailer in
+    let r = rw c.in-Some.is at c.in_ok-start.ensures.read in
+    let whole = rw c.in-Some.is at c.in_ok-start.ensures.whole in
+    let s = rw c.in-Some-2.is at c.in_ok-place.ensures.abridged in
+    let trailer = rw c.in-Some-2.is at c.in_ok-place.ensures.trailer in
     let all-held : c.in_ok-read_rest.field-0 ≡ true = search rules in
     let t = c.in_ok-read_rest.ensures.rest all-held in
     let a : Moment = record {
@@ -107,8 +107,8 @@ returns-clause-read g c =
     let within : c.in_ok-came.came ≤ c.args.len = search rules in
     let count : length more ≡ s.0 + length rest = omega (arith, length-append p.more rest, p.len) in
     let size : length first + r.0 + length more ≡ c.args.len = omega (arith, r.1, s.1, t.2, got, within, count) in
-    let header : header_of kind first ≡ Ok declared.version = rw c.deref.ensures.value at c.in-Some.ensures.header in
-    let counted : declared.count ≡ count_of first = rw c.deref.ensures.value at c.in-Some.ensures.count in
+    let header : header_of kind first ≡ Ok declared.version = rw c.deref.ensures.value at c.in-Ok.ensures.declared.header in
+    let counted : declared.count ≡ count_of first = rw c.deref.ensures.value at c.in-Ok.ensures.declared.count in
     let none : a.records ≡ [] = c.in_ok-first.ensures.0 in
     let total : length hashed + length lent ≡ c.args.len = omega (
       arith,
@@ -152,7 +152,7 @@ returns-clause-read g c =
       length-append w1 more,
       step.moved.inside,
     ) in
-    let at-marker = rw c.in-Some-2.is at c.in_ok-start.ensures.named in
+    let at-marker = rw c.in-Some.is at c.in_ok-start.ensures.named in
     let named : IfSome c.args.offset (λ place. length before ≡ place) =
     some_then c.args.offset _ (λ place. length before ≡ place)
     (λ place e. omega (
@@ -194,7 +194,7 @@ returns-clause-read g c =
           (Consumes-trans b.left passed.left end p.more rest p.consumed t.3) t.4,
       are-bytes,
       intact,
-      answer (x.parts, x.checksum) header counted c.in-Some.ensures.fits c.in-Some.ensures.small refl none whole step
+      answer (x.parts, x.checksum) header counted c.in-Ok.ensures.declared.fits c.in-Ok.ensures.declared.small refl none whole step
           refl size marker (rw behind (ending_whole kind reading.timestamp reading.options declared.version records
           h.items h.passed held (drop at tail) (parts_contents x.parts, x.checksum) h.are
           h.held_are room (subst (λ (l : List ℕ). IsEnding kind reading.timestamp reading.options declared.version
