@@ -1,14 +1,13 @@
 //! An index in the bytes of its file of which no entry is kept: they are only counted.
 #![tactic(auto)]
 
-ghost use Rattle.std.specs.Prelude.{◌≡◌, ◌↔◌, ◌*◌, ◌||◌, not, IfErr, IfOk, Ok};
+ghost use Rattle.std.specs.Prelude.{◌≡◌, ◌*◌, ◌||◌, not, IfErr, IfOk};
 ghost use Rattle.index_entries.specs.Limits.{entry_cost};
-ghost use Rattle.index_format.specs.Answer.{Answer, IsAnswer, IsBehindHeader};
-ghost use Rattle.index_format.specs.Contents.{Contents, ExtensionIdsAreOf};
-ghost use Rattle.index_format.specs.DecodeErrors.{SaysFault};
-ghost use Rattle.index_outline.specs.Outlines.{Outlines};
+ghost use Rattle.index_format.specs.Answer.{IsAnswer};
+ghost use Rattle.index_outline.specs.Outlines.{IsAnswerBehind, IsDeclaredBy, IsFaultBy, IsOutlineBehind};
+ghost use Rattle.index_outline.specs.Outlines.{OutlineIdsAreOf, marked};
 ghost use Rattle.index_parts.specs.Limit.{is_within};
-ghost use Rattle.index_state.specs.State.{PathsInStorage, contents};
+ghost use Rattle.index_state.specs.State.{PathsInStorage};
 
 use index_entries::Version;
 use index_entries::list::EntryList;
@@ -56,11 +55,9 @@ pub fn declared_by(
     object_hash: Kind,
     options: decode::Options,
 ) -> Result<(Version, u32, &[u8]), decode::Error>
-    ensures behind { IfOk result (λ x. (answer : Answer)
-        → IsBehindHeader object_hash timestamp options x.0 x.1 x.2.now answer
-        ↔ IsAnswer object_hash timestamp options «data».now answer) }
+    ensures behind { IfOk result (IsDeclaredBy object_hash timestamp options «data».now) }
     ensures fault { IfErr result
-        (λ e. SaysFault e (IsAnswer object_hash timestamp options «data».now)) }
+        (IsFaultBy (IsAnswer object_hash timestamp options «data».now)) }
 {
     let (version, count, rest) = header::decode(data, object_hash)?;
     let len = data.len();
@@ -85,9 +82,7 @@ pub fn declared_by(
 
 /// The parts, marked as those of a sparse index where this says so.
 fn marked(mut parts: Parts, sparse: bool) -> Parts
-    ensures { result ≡ record parts {
-      extensions = record parts.extensions { is_sparse = parts.extensions.is_sparse || sparse };
-    } }
+    ensures { result ≡ marked parts sparse }
 {
     parts.extensions.is_sparse |= sparse;
     parts
@@ -100,14 +95,10 @@ pub fn outline_behind_header(
     count: u32,
     bytes: &[u8],
 ) -> Result<Outline<'_>, decode::Error>
-    ensures outlined { IfOk result (λ o. (v : Contents) × Outlines v o
-        × IsBehindHeader read_as.object_hash read_as.timestamp read_as.options read_as.version
-        count bytes.now (Ok (v, o.checksum))) }
-    ensures fault { IfErr result (λ e. SaysFault e (IsBehindHeader read_as.object_hash
-        read_as.timestamp read_as.options read_as.version count bytes.now)) }
+    ensures outlined { IfOk result (IsOutlineBehind read_as count bytes.now) }
+    ensures fault { IfErr result (IsFaultBy (IsAnswerBehind read_as count bytes.now)) }
     ensures placed { IfOk result (λ o. PathsInStorage o.bare) }
-    ensures extension_ids { IfOk result
-        (λ o. ExtensionIdsAreOf read_as.object_hash (contents o.bare).extensions) }
+    ensures extension_ids { IfOk result (OutlineIdsAreOf read_as.object_hash) }
 {
     let passed = match pass_entries(read_as.version, read_as.object_hash, count, bytes) {
         Ok(passed) => passed,
