@@ -1,12 +1,10 @@
 //! An index in the bytes of its file of which no entry is kept: they are only counted.
 #![tactic(auto)]
 
-ghost use Rattle.std.specs.Prelude.{◌≡◌, ◌||◌, IfErr, IfOk, Ok};
-ghost use Rattle.index_format.specs.Answer.{IsBehindHeader};
-ghost use Rattle.index_format.specs.Contents.{Contents, ExtensionIdsAreOf};
-ghost use Rattle.index_format.specs.DecodeErrors.{SaysFault};
-ghost use Rattle.index_outline.specs.Outlines.{Outlines};
-ghost use Rattle.index_state.specs.State.{PathsInStorage, contents};
+ghost use Rattle.std.specs.Prelude.{◌≡◌, IfErr, IfOk};
+ghost use Rattle.index_outline.specs.Outlines.{IsAnswerBehind, IsFaultBy, IsOutlineBehind};
+ghost use Rattle.index_outline.specs.Outlines.{OutlineIdsAreOf, marked};
+ghost use Rattle.index_state.specs.State.{PathsInStorage};
 
 use index_entries::list::EntryList;
 use index_entry_reading::entries::Read;
@@ -34,9 +32,7 @@ pub struct Outline<'a> {
 
 /// The parts, marked as those of a sparse index where this says so.
 fn marked(mut parts: Parts, sparse: bool) -> Parts
-    ensures { result ≡ record parts {
-      extensions = record parts.extensions { is_sparse = parts.extensions.is_sparse || sparse };
-    } }
+    ensures { result ≡ marked parts sparse }
 {
     parts.extensions.is_sparse |= sparse;
     parts
@@ -49,14 +45,10 @@ pub fn outline_behind_header(
     count: u32,
     bytes: &[u8],
 ) -> Result<Outline<'_>, decode::Error>
-    ensures outlined { IfOk result (λ o. (v : Contents) × Outlines v o
-        × IsBehindHeader read_as.object_hash read_as.timestamp read_as.options read_as.version
-        count bytes.now (Ok (v, o.checksum))) }
-    ensures fault { IfErr result (λ e. SaysFault e (IsBehindHeader read_as.object_hash
-        read_as.timestamp read_as.options read_as.version count bytes.now)) }
+    ensures outlined { IfOk result (IsOutlineBehind read_as count bytes.now) }
+    ensures fault { IfErr result (IsFaultBy (IsAnswerBehind read_as count bytes.now)) }
     ensures placed { IfOk result (λ o. PathsInStorage o.bare) }
-    ensures extension_ids { IfOk result
-        (λ o. ExtensionIdsAreOf read_as.object_hash (contents o.bare).extensions) }
+    ensures extension_ids { IfOk result (OutlineIdsAreOf read_as.object_hash) }
 {
     let passed = match pass_entries(read_as.version, read_as.object_hash, count, bytes) {
         Ok(passed) => passed,

@@ -93,8 +93,8 @@ pieces-preserved g c =
       works = c.in_ok-next.ensures.works ∙ c.pieces.invariant.works;
     }
 
-pub returns-then-rest-eq0-clause-passed : goal.returns-then-rest-eq0-clause-passed
-returns-then-rest-eq0-clause-passed g c =
+pub returns-then-rest-eq0 : goal.returns-then-rest-eq0
+returns-then-rest-eq0 g c =
     let b = c.args.extension.is_held in
     let so-far = c.pieces.invariant.passed in
     let w = c.pieces.window.items in
@@ -114,23 +114,28 @@ returns-then-rest-eq0-clause-passed g c =
     let slice : take (start + len - start) (drop start c.deref.result.now) ≡ piece =
     let same : start + len - start ≡ len = omega arith in
     ap (λ (n : ℕ). take n (drop start c.deref.result.now)) same
-    ∙ ap (λ (l : List ℕ). take len (drop start l)) c.deref.ensures.value in (
-      so-far.0 + 0,
-      omega (arith, so-far.1),
-      xs ++ piece,
-      omega (
-        arith,
-        so-far.3,
-        length-append xs piece,
-        length-take len (drop start w),
-        length-drop start w,
-        least,
-        c.min-len.ensures,
-        c.if-rest-eq0.true,
-      ),
-      c.in_ok-hold.ensures ∙ ap (λ (l : List ℕ). c.pieces.held.items ++ (if b then l else [])) slice
-          ∙ ap (λ (l : List ℕ). l ++ (if b then piece else [])) so-far.4
-          ∙ held_more b c.args.held.now.items xs piece,
-      pass_trans c.args.plan _ old _ so-far.0 0 xs piece so-far.5
-          (pass_piece c.args.plan old.left old.hasher w start len [] (omega (arith, inside, least))),
-    )
+    ∙ ap (λ (l : List ℕ). take len (drop start l)) c.deref.ensures.value in
+    record {
+      passed = (
+        so-far.0 + 0,
+        omega (arith, so-far.1),
+        xs ++ piece,
+        omega (
+          arith,
+          so-far.3,
+          length-append xs piece,
+          length-take len (drop start w),
+          length-drop start w,
+          least,
+          c.min-len.ensures,
+          c.if-rest-eq0.true,
+        ),
+        c.in_ok-hold.ensures ∙ ap (λ (l : List ℕ). c.pieces.held.items ++ (if b then l else [])) slice
+            ∙ ap (λ (l : List ℕ). l ++ (if b then piece else [])) so-far.4
+            ∙ held_more b c.args.held.now.items xs piece,
+        pass_trans c.args.plan _ old _ so-far.0 0 xs piece so-far.5
+            (pass_piece c.args.plan old.left old.hasher w start len [] (omega (arith, inside, least))),
+      );
+      stored = search rules;
+      works = search rules;
+    }

@@ -1,6 +1,7 @@
-use Rattle.std.proofs.Common.{◌≡◌, ◌+◌, ◌-◌, ◌++◌, ℕ, List, [], length, take, drop, refl, sym, ap, subst, ◌∙◌, arith}
+use Rattle.std.proofs.Common.{rules, ◌≡◌, ◌≤◌, ◌+◌, ◌-◌, ◌++◌, ℕ, List, [], length, take, drop, refl, sym, ap, subst, ◌∙◌, arith}
 use Rattle.std.proofs.Common.{length-drop, take_all}
-use Rattle.std.specs.Prelude.{if◌then◌else◌}
+use Rattle.std.specs.Prelude.{if◌then◌else◌, vec_len}
+use Rattle.index_parts.specs.Id.{id_len}
 use Rattle.index_window.specs.Windowed.{Moment}
 use Rattle.index_parts.specs.Digest.{Holds}
 use Rattle.index_window.proofs.Abridging.{abridged_none, abridged_on, abridged_more, head_of}
@@ -82,14 +83,31 @@ extensions-preserved g c =
       works = c.in_ok-behind.ensures.works ∙ c.in_ok-next.ensures.works ∙ c.extensions.invariant.works;
     }
 
-pub returns-then-before-extension-clause-abridged : goal.returns-then-before-extension-clause-abridged
-returns-then-before-extension-clause-abridged g c =
+pub returns-then-before-extension : goal.returns-then-before-extension
+returns-then-before-extension g c =
     let so-far = c.extensions.invariant.abridged in
-    let on = rw c.in-Some-2.is at c.in_ok-next.ensures.passed in (
-      so-far.0 + on.0,
-      omega (arith, so-far.1, on.1),
-      abridged_on c.args.plan _ _ _ so-far.0 on.0 c.extensions.held.bytes.items c.extensions.held.heads so-far.2 on.2,
-    )
+    let on = rw c.in-Some-2.is at c.in_ok-next.ensures.passed in
+    let next = c.in-Some-2.next in
+    let trailer : id_len c.args.plan.kind ≤ vec_len c.read_on.new.window - next.start + next.left =
+    omega (
+      arith,
+      pass_len c.args.plan _ _ on.0 [] on.2,
+      on.1,
+      c.in-Some.ensures,
+      c.extensions.window.ok.0,
+      c.read_on.new.window.ok.0,
+    ) in
+    record {
+      abridged = (
+        so-far.0 + on.0,
+        omega (arith, so-far.1, on.1),
+        abridged_on c.args.plan _ _ _ so-far.0 on.0 c.extensions.held.bytes.items c.extensions.held.heads so-far.2
+            on.2,
+      );
+      trailer = trailer;
+      stored = search rules;
+      works = search rules;
+    }
 
 pub extensions-smaller : goal.extensions-smaller
 extensions-smaller g c =

@@ -19,7 +19,7 @@ use Rattle.index_window.specs.Marked.{HasPassed}
 use Rattle.index_window.specs.Windowed.{Moment, IsMovedOn, IsReadOn}
 use Rattle.index_window.specs.declared.plan.Plan.{Plan}
 use Rattle.index_window.proofs.Abridging.{ending_whole}
-use Rattle.index_window.proofs.Wholes.{answer_of_windows, ending_of_windows, some_then, some_two}
+use Rattle.index_window.proofs.Wholes.{answer_of_windows, ending_of_windows, some_then}
 use Rattle.index_window.proofs.Wholes.{behind_passed, bytes_of_passed, whole_of_windows}
 use Rattle.index_window.proofs.windows.windowed.Goals as goal
 
@@ -188,24 +188,29 @@ returns-clause-read g c =
     let marker : IsMarker kind (step.moved.taken ++ all) c.args.offset =
     c.is_sound.ensures.marker is-sound (step.moved.taken ++ all) has-passed in
     let answer = answer_of_windows plan a b r.0 all more reading.timestamp reading.options c.args.offset c.args.len in
-    some_two c.ending_of.result _ _ _ c.ending_of.ensures.ending c.ending_of.ensures.behind (λ x ending behind-is. (
-      step.moved.taken ++ all,
-      whole_of_windows plan a b r.0 all more (g.S.Source.remaining c.args.file.now) end step refl front
-          (Consumes-trans b.left passed.left end p.more rest p.consumed t.3) t.4,
-      are-bytes,
-      intact,
-      answer (x.parts, x.checksum) header counted c.in-Ok.ensures.declared.fits c.in-Ok.ensures.declared.small refl none whole step
-          refl size marker (rw behind (ending_whole kind reading.timestamp reading.options declared.version records
-          h.items h.passed held (drop at tail) (parts_contents x.parts, x.checksum) h.are
-          h.held_are room (subst (λ (l : List ℕ). IsEnding kind reading.timestamp reading.options declared.version
-          records l (Ok (parts_contents x.parts, x.checksum))) held-is ending))),
-      λ keeps. subst (FollowEntries kind (step.moved.taken ++ all))
-          (behind ∙ ap (λ (l : List ℕ). l ++ drop at tail) (sym (h.whole keeps)) ∙ sym held-is ∙ sym behind-is)
-          (ending_of_windows plan a b r.0 all more header counted refl none whole step refl),
-    ))
-
-pub returns-clause-storable : goal.returns-clause-storable
-returns-clause-storable g c =
-    let reading = c.args.reading in
-    some_then c.ending_of.result _ _ (λ x h. says_storable reading.object_hash reading.timestamp reading.options h.0
-    (Ok (x.parts, x.checksum)) h.2 h.4) (returns-clause-read g c)
+    some_then c.ending_of.result _ _ (λ x ended.
+    let are = answer (x.parts, x.checksum) header counted c.in-Ok.ensures.declared.fits c.in-Ok.ensures.declared.small refl none whole
+    step refl size marker (rw behind (ending_whole kind reading.timestamp reading.options declared.version records
+    h.items h.passed held (drop at tail) (parts_contents x.parts, x.checksum) h.are h.held_are room
+    (subst (λ (l : List ℕ). IsEnding kind reading.timestamp reading.options declared.version records l
+    (Ok (parts_contents x.parts, x.checksum))) held-is ended.ending))) in
+    record {
+      read = (
+        step.moved.taken ++ all,
+        (
+          whole_of_windows plan a b r.0 all more (g.S.Source.remaining c.args.file.now) end step refl front
+              (Consumes-trans b.left passed.left end p.more rest p.consumed t.3) t.4,
+          are-bytes,
+        ),
+        intact,
+        are,
+        λ keeps. subst (FollowEntries kind (step.moved.taken ++ all))
+            (behind ∙ ap (λ (l : List ℕ). l ++ drop at tail) (sym (h.whole keeps)) ∙ sym held-is ∙ sym ended.behind)
+            (ending_of_windows plan a b r.0 all more header counted refl none whole step refl),
+      );
+      placed = ended.placed;
+      ids = ended.ids;
+      storable = says_storable kind reading.timestamp reading.options (step.moved.taken ++ all)
+          (Ok (x.parts, x.checksum)) are-bytes are;
+      extension_ids = ended.extension_ids;
+    }) c.ending_of.ensures
