@@ -45,17 +45,18 @@ TellsOf entry path s es told =
     → IsToldOf (with_path path entry) (records_in s.items es.items) told
 
 -- an entry is staged at a path
-abbrev pub Stages : {T E : Type 0} → Pathless → List ℕ → Storage → Entries → Storage → Entries → Result T E → Type 0
-Stages entry path s es t ds r = PutsEntry (IsStagedInto (with_path path entry)) path s es t ds r
+abbrev pub StagesEntry : {T E : Type 0} → Pathless → List ℕ → Storage → Entries → Storage → Entries → Result T E
+    → Type 0
+StagesEntry entry path s es t ds r = PutsEntry (IsStagedInto (with_path path entry)) path s es t ds r
 
 -- the same, and it is told what went
-pub record Settles {E : Type 0} (entry : Pathless) (path : List ℕ) (s : Storage) (es : Entries) (t : Storage)
+pub record SettlesEntry {E : Type 0} (entry : Pathless) (path : List ℕ) (s : Storage) (es : Entries) (t : Storage)
     (ds : Entries) (r : Result Displaced E) : Type 0 where
-  pub staged : Stages entry path s es t ds r
+  pub staged : StagesEntry entry path s es t ds r
   pub told : IfOk r (TellsOf entry path s es)
 
 -- a merged entry is put in place of all stages of a path, and it is told what went
-pub record Resolves {E : Type 0} (entry : Pathless) (path : List ℕ) (s : Storage) (es : Entries) (t : Storage)
+pub record ResolvesEntry {E : Type 0} (entry : Pathless) (path : List ℕ) (s : Storage) (es : Entries) (t : Storage)
     (ds : Entries) (r : Result Displaced E) : Type 0 where
   pub resolved : PutsEntry (IsResolvedInto (with_path path (merged entry))) path s es t ds r
   pub told : IfOk r (TellsOf (merged entry) path s es)
@@ -74,7 +75,7 @@ CountsAt path s es count =
     IsStrictlyOrdered (records_in s es.items) → count ≡ count_by (is_at path) (records_in s es.items)
 
 -- the entries at a path are taken out, and it is told how many there were
-pub record Unstages (path s : List ℕ) (es ds : Entries) (told : ℕ) : Type 0 where
+pub record UnstagesPath (path s : List ℕ) (es ds : Entries) (told : ℕ) : Type 0 where
   pub unstaged : ChangesOrdered (IsUnstagedFrom path) s es.items s ds.items
   pub count : CountsAt path s es told
   pub placed : All (IsPlaced (length s)) ds.items

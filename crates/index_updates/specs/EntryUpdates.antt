@@ -9,7 +9,7 @@ use Rattle.index_entries.specs.declared.Entry.{Entry}
 use Rattle.index_entries.specs.declared.Pathless.{Pathless}
 use Rattle.index_edits.specs.Changes.{IsAppliedTo}
 use Rattle.index_edits.specs.Edits.{IsUnstagedFrom, merged}
-use Rattle.index_edits.specs.EntryEdits.{ChangesOrdered, CountsAt, Entries, Resolves, Settles, Storage}
+use Rattle.index_edits.specs.EntryEdits.{ChangesOrdered, CountsAt, Entries, ResolvesEntry, SettlesEntry, Storage}
 use Rattle.index_edits.specs.declared.change.Change.{Change}
 use Rattle.index_edits.specs.declared.change.Change.TheVariants.{Stage, Unstage}
 use Rattle.index_edits.specs.declared.stage.Displaced.{Displaced}
@@ -43,13 +43,13 @@ KeepsOne c s es old now r = KeepsAll (c ∷ []) s es old now r
 -- an entry is staged at a path, which is this one change
 pub record StagesOne {E : Type 0} (entry : Pathless) (path : Bor (List ℕ)) (s : Storage) (es : Entries) (t : Storage)
     (ds : Entries) (r : Result Displaced E) : Type 0 where
-  pub settled : Settles entry path.now s es t ds r
+  pub settled : SettlesEntry entry path.now s es t ds r
   pub applied : OnOk r (ChangesOrdered (IsAppliedTo (Stage entry path ∷ [])) s.items es.items t.items ds.items)
 
 -- a merged entry is put in place of all stages of a path, which is this one change
 pub record ResolvesOne {E : Type 0} (entry : Pathless) (path : Bor (List ℕ)) (s : Storage) (es : Entries) (t : Storage)
     (ds : Entries) (r : Result Displaced E) : Type 0 where
-  pub resolved : Resolves entry path.now s es t ds r
+  pub resolved : ResolvesEntry entry path.now s es t ds r
   pub applied : OnOk r (ChangesOrdered (IsAppliedTo (Stage (merged entry) path ∷ [])) s.items es.items t.items
       ds.items)
 

@@ -63,7 +63,7 @@ pub record AreUpdated (cs : List Change) (s t : Storage) (es : List Entry) (undo
   pub placed : All (IsPlaced (length t.items)) made.items
 
 -- so they are given, and the storage has more at its end
-pub record Updates {E : Type 0} (cs : List Change) (s t : Storage) (es : List Entry) (undo : Option Paths)
+pub record UpdatesEntries {E : Type 0} (cs : List Change) (s t : Storage) (es : List Entry) (undo : Option Paths)
     (r : Result Updated E) : Type 0 where
   pub made : IfOk r (λ m. AreUpdated cs s t es undo m.entries m.undo)
   pub storage : (more : List ℕ) × (t.items ≡ s.items ++ more)

@@ -3,7 +3,7 @@
 ghost use Rattle.std.specs.Prelude.{◌≡◌, ◌∷◌, [], All, IfOk, length};
 ghost use Rattle.index_entries.specs.Record.{IsPlaced};
 ghost use Rattle.index_edits.specs.Edits.{merged};
-ghost use Rattle.index_edits.specs.EntryEdits.{SaysWhy, Stages};
+ghost use Rattle.index_edits.specs.EntryEdits.{SaysWhy, StagesEntry};
 ghost use Rattle.index_edits.specs.declared.change.Change.TheVariants.{Stage, Unstage};
 ghost use Rattle.index_updates.specs.EntryUpdates.{KeepsOne, ResolvesOne, StagesOne, TakesPath, UnstagesOne};
 ghost use Rattle.index_updates.specs.UpdateSteps.{IsUndoneAfter, TellsCut, TellsSettled};
@@ -70,7 +70,7 @@ fn settle_watched(
     path: &[u8],
 ) -> Result<Settled, AllocError>
     requires placed { All (IsPlaced (length storage.old.items)) entries.old.items }
-    ensures staged { Stages entry path.now storage.old entries.old storage.new entries.new result }
+    ensures staged { StagesEntry entry path.now storage.old entries.old storage.new entries.new result }
     ensures settled { IfOk result (TellsSettled entry path.entry storage.old entries.old monitor.now) }
 {
     if monitor.is_none() {

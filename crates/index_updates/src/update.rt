@@ -6,7 +6,7 @@ ghost use Rattle.index_edits.specs.EntryEdits.{AppliesAll, SaysFirstRefused};
 ghost use Rattle.index_updates.specs.EntryUpdates.{KeepsAll};
 ghost use Rattle.index_updates.specs.Invalidated.{CountsNoMore, InvalidatesAll, UnlistsAll};
 ghost use Rattle.index_updates.specs.Undone.{undo_paths};
-ghost use Rattle.index_updates.specs.UpdateSteps.{AppliesNext, RecordsNext, Updates, UpdatesWatched};
+ghost use Rattle.index_updates.specs.UpdateSteps.{AppliesNext, RecordsNext, UpdatesEntries, UpdatesWatched};
 
 use crate::invalidating::{invalidate_all, unlist_all};
 use crate::kept::Kept;
@@ -92,7 +92,7 @@ fn update_each(
     changes: &[Change<'_>],
 ) -> Result<Updated, AllocError>
     requires placed { All (IsPlaced (length storage.old.items)) entries.now }
-    ensures { Updates changes.now storage.old storage.new entries.now undo.now result }
+    ensures { UpdatesEntries changes.now storage.old storage.new entries.now undo.now result }
 {
     let mut undo = copy_of(undo)?;
     let room = entries.len().saturating_add(changes.len());
@@ -118,7 +118,7 @@ fn update_all(
     changes: &[Change<'_>],
 ) -> Result<Updated, AllocError>
     requires placed { All (IsPlaced (length storage.old.items)) entries.now }
-    ensures { Updates changes.now storage.old storage.new entries.now undo.now result }
+    ensures { UpdatesEntries changes.now storage.old storage.new entries.now undo.now result }
 {
     match in_order(*storage.allocator(), changes)? {
         Some(ordered) => update_each(entries, storage, undo, &ordered),
