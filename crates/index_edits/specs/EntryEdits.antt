@@ -9,9 +9,10 @@ use Rattle.index_entries.specs.Record.{IsPlaced, Record, records_in, with_path}
 use Rattle.index_entries.specs.declared.Entry.{Entry}
 use Rattle.index_entries.specs.declared.Pathless.{Pathless}
 use Rattle.index_lookups.specs.Range.{is_at}
-use Rattle.index_edits.specs.Changes.{IsAppliedTo}
+use Rattle.index_edits.specs.Changes.{IsAppliedTo, SaysRefusal, refusal_of}
 use Rattle.index_edits.specs.Edits.{IsResolvedInto, IsStagedInto, IsToldOf, IsUnstagedFrom, merged}
 use Rattle.index_edits.specs.Refusals.{Check, SaysReason, fault_of}
+use Rattle.index_edits.specs.declared.change.ApplyError.{ApplyError}
 use Rattle.index_edits.specs.declared.change.Change.{Change}
 use Rattle.index_edits.specs.declared.error.Error.{Error}
 use Rattle.index_edits.specs.declared.stage.Displaced.{Displaced}
@@ -38,30 +39,35 @@ pub record PutsEntry {T E : Type 0} (change : List Record → List Record → Ty
   pub err_storage : OnErr r (t.items ≡ s.items)
 
 -- where the records strictly increase, this is told of the entry that is staged at the path among them
-abbrev pub TellsDisplaced : Pathless → List ℕ → Storage → Entries → Displaced → Type 0
-TellsDisplaced entry path s es told =
+abbrev pub TellsOf : Pathless → List ℕ → Storage → Entries → Displaced → Type 0
+TellsOf entry path s es told =
     IsStrictlyOrdered (records_in s.items es.items)
     → IsToldOf (with_path path entry) (records_in s.items es.items) told
 
 -- an entry is staged at a path
-abbrev pub Stages : {T E : Type 0} → Pathless → List ℕ → Storage → Entries → Storage → Entries → Result T E → Type 0
-Stages entry path s es t ds r = PutsEntry (IsStagedInto (with_path path entry)) path s es t ds r
+abbrev pub StagesEntry : {T E : Type 0} → Pathless → List ℕ → Storage → Entries → Storage → Entries → Result T E
+    → Type 0
+StagesEntry entry path s es t ds r = PutsEntry (IsStagedInto (with_path path entry)) path s es t ds r
 
 -- the same, and it is told what went
-pub record Settles {E : Type 0} (entry : Pathless) (path : List ℕ) (s : Storage) (es : Entries) (t : Storage)
+pub record SettlesEntry {E : Type 0} (entry : Pathless) (path : List ℕ) (s : Storage) (es : Entries) (t : Storage)
     (ds : Entries) (r : Result Displaced E) : Type 0 where
-  pub staged : Stages entry path s es t ds r
-  pub told : IfOk r (TellsDisplaced entry path s es)
+  pub staged : StagesEntry entry path s es t ds r
+  pub told : IfOk r (TellsOf entry path s es)
 
 -- a merged entry is put in place of all stages of a path, and it is told what went
-pub record Resolves {E : Type 0} (entry : Pathless) (path : List ℕ) (s : Storage) (es : Entries) (t : Storage)
+pub record ResolvesEntry {E : Type 0} (entry : Pathless) (path : List ℕ) (s : Storage) (es : Entries) (t : Storage)
     (ds : Entries) (r : Result Displaced E) : Type 0 where
   pub resolved : PutsEntry (IsResolvedInto (with_path path (merged entry))) path s es t ds r
-  pub told : IfOk r (TellsDisplaced (merged entry) path s es)
+  pub told : IfOk r (TellsOf (merged entry) path s es)
 
 -- why an entry isn't staged at a path: what is at fault with it, or a want of room in the storage, or of memory
 abbrev pub SaysWhy : {T : Type 0} → Check → Kind → Pathless → List ℕ → Storage → Result T Error → Type 0
 SaysWhy refusal kind entry path s r = SaysReason (fault_of refusal kind entry path) (length s.items) path r
+
+-- why changes aren't made: the first that is refused, or a want of memory
+abbrev pub SaysFirstRefused : {T : Type 0} → Check → Kind → List Change → Storage → Result T ApplyError → Type 0
+SaysFirstRefused refusal kind cs s r = SaysRefusal (refusal_of refusal kind (length s.items) cs) r
 
 -- where the records strictly increase, so many of them have the path
 abbrev pub CountsAt : List ℕ → List ℕ → Entries → ℕ → Type 0
@@ -69,14 +75,16 @@ CountsAt path s es count =
     IsStrictlyOrdered (records_in s es.items) → count ≡ count_by (is_at path) (records_in s es.items)
 
 -- the entries at a path are taken out, and it is told how many there were
-pub record Unstages (path s : List ℕ) (es ds : Entries) (told : ℕ) : Type 0 where
+pub record UnstagesPath (path s : List ℕ) (es ds : Entries) (told : ℕ) : Type 0 where
   pub unstaged : ChangesOrdered (IsUnstagedFrom path) s es.items s ds.items
   pub count : CountsAt path s es told
   pub placed : All (IsPlaced (length s)) ds.items
 
--- the changes are made one after another, behind an error none or some of them; the storage has more at its end
+-- the changes are made one after another, and the storage has more at its end; after an error both are as they were
 pub record AppliesAll {T E : Type 0} (cs : List Change) (s : Storage) (es : Entries) (t : Storage) (ds : Entries)
     (r : Result T E) : Type 0 where
   pub applied : OnOk r (ChangesOrdered (IsAppliedTo cs) s.items es.items t.items ds.items)
   pub placed : All (IsPlaced (length t.items)) ds.items
   pub storage : (more : List ℕ) × (t.items ≡ s.items ++ more)
+  pub err_entries : OnErr r (ds.items ≡ es.items)
+  pub err_storage : OnErr r (t.items ≡ s.items)

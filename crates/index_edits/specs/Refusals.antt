@@ -86,8 +86,8 @@ abbrev pub IsReason : Option Error → ℕ → List ℕ → Error → Type 0
 IsReason fault len path error = MatchOption fault (IsWant len path error) (λ f. error ≡ f)
 
 -- nothing is at fault, or the error says what is
-abbrev pub SaysFault : {T E : Type 0} → Option E → Result T E → Type 0
-SaysFault fault r = MatchResult r (λ _. fault ≡ None) (λ e. fault ≡ Some e)
+abbrev pub AnswersFault : {T E : Type 0} → Option E → Result T E → Type 0
+AnswersFault fault r = MatchResult r (λ _. fault ≡ None) (λ e. fault ≡ Some e)
 
 -- nothing is at fault; or the error says what is, or where nothing is, a want of room or memory
 abbrev pub SaysReason : {T : Type 0} → Option Error → ℕ → List ℕ → Result T Error → Type 0

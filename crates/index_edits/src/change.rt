@@ -2,7 +2,7 @@
 
 ghost use Rattle.std.specs.Prelude.{◌≡◌, ◌+◌, ◌<◌, ◌^◌, IfOk, OnOk, length};
 ghost use Rattle.index_edits.specs.Changes.{added_len, change_fault, refusal_of, room_fault, path_of};
-ghost use Rattle.index_edits.specs.Refusals.{SaysFault};
+ghost use Rattle.index_edits.specs.Refusals.{AnswersFault};
 ghost use Rattle.index_edits.specs.declared.change.ApplyError.TheVariants.{Memory};
 
 use crate::error::Error;
@@ -74,7 +74,7 @@ const PATH_LIMIT: usize = 1 << 32;
 
 /// That a path has a place behind so many bytes.
 fn check_room(len: usize, path: &[u8]) -> Result<(), Error>
-    ensures none { SaysFault (room_fault len path.now) result }
+    ensures none { AnswersFault (room_fault len path.now) result }
     ensures fits { OnOk result (len + length path.now < 2 ^ 49) }
 {
     if len < STORAGE_LIMIT && path.len() < PATH_LIMIT {
@@ -91,7 +91,7 @@ fn check_change<C: ComponentCheck>(
     len: usize,
     change: &Change<'_>,
 ) -> Result<usize, Error>
-    ensures fault { SaysFault (change_fault (C.refusal check.now) kind len change.now) result }
+    ensures fault { AnswersFault (change_fault (C.refusal check.now) kind len change.now) result }
     ensures grown { IfOk result (λ grown. grown ≡ len + added_len change.now) }
 {
     match change {
@@ -112,7 +112,7 @@ pub fn check_changes<C: ComponentCheck>(
     len: usize,
     changes: &[Change<'_>],
 ) -> Result<(), ApplyError>
-    ensures { SaysFault (refusal_of (C.refusal check.now) kind len changes.now) result }
+    ensures { AnswersFault (refusal_of (C.refusal check.now) kind len changes.now) result }
 {
     let mut grown = len;
     for (at, change) in changes.iter().enumerate() {

@@ -2,7 +2,7 @@
 
 ghost use Rattle.std.specs.Prelude.{◌≡◌, ◌==◌, All, IfSome, IsNone, false, position};
 ghost use Rattle.index_edits.specs.EditSteps.{IsFirstAt};
-ghost use Rattle.index_edits.specs.Refusals.{SaysFault, fault_of, id_fault, name_fault, names_fault, names_of};
+ghost use Rattle.index_edits.specs.Refusals.{AnswersFault, fault_of, id_fault, name_fault, names_fault, names_of};
 ghost use Rattle.index_edits.specs.Refusals.{path_fault, whole_path_fault};
 
 use crate::error::Error;
@@ -22,7 +22,7 @@ fn first_of(bytes: &[u8], byte: u8) -> Option<usize>
 
 /// That the path has a byte, and no NUL.
 fn check_path(path: &[u8]) -> Result<(), Error>
-    ensures { SaysFault (path_fault path.now) result }
+    ensures { AnswersFault (path_fault path.now) result }
 {
     if path.is_empty() {
         return Err(Error::EmptyPath);
@@ -35,7 +35,7 @@ fn check_path(path: &[u8]) -> Result<(), Error>
 
 /// That the id is of the kind, and not null.
 fn check_id(kind: Kind, id: &ObjectId) -> Result<(), Error>
-    ensures { SaysFault (id_fault kind id.now) result }
+    ensures { AnswersFault (id_fault kind id.now) result }
 {
     let actual = id.kind();
     if actual != kind {
@@ -52,7 +52,7 @@ fn check_id(kind: Kind, id: &ObjectId) -> Result<(), Error>
 
 /// That a name of what is of a kind isn't empty, and passes the check.
 fn check_name<C: ComponentCheck>(check: &C, kind: EntryKind, name: &[u8]) -> Result<(), Error>
-    ensures { SaysFault (name_fault (C.refusal check.now) kind name.now) result }
+    ensures { AnswersFault (name_fault (C.refusal check.now) kind name.now) result }
 {
     if name.is_empty() {
         return Err(Error::EmptyName);
@@ -65,7 +65,7 @@ fn check_name<C: ComponentCheck>(check: &C, kind: EntryKind, name: &[u8]) -> Res
 
 /// That each name of a path passes, the last one as that of what is of the kind.
 fn check_names<C: ComponentCheck>(check: &C, kind: EntryKind, path: &[u8]) -> Result<(), Error>
-    ensures { SaysFault (names_fault (C.refusal check.now) kind (names_of path.now)) result }
+    ensures { AnswersFault (names_fault (C.refusal check.now) kind (names_of path.now)) result }
 {
     let mut rest = path;
     while let Some(at) = first_of(rest, b'/') {
@@ -79,7 +79,7 @@ fn check_names<C: ComponentCheck>(check: &C, kind: EntryKind, path: &[u8]) -> Re
 
 /// The same of a whole path, which has a slash at the end where it is that of a directory.
 fn check_whole<C: ComponentCheck>(check: &C, kind: EntryKind, path: &[u8]) -> Result<(), Error>
-    ensures { SaysFault (whole_path_fault (C.refusal check.now) kind path.now) result }
+    ensures { AnswersFault (whole_path_fault (C.refusal check.now) kind path.now) result }
 {
     if !matches!(kind, EntryKind::Tree) {
         return check_names(check, kind, path);
@@ -98,7 +98,7 @@ pub(crate) fn check_entry<C: ComponentCheck>(
     entry: Pathless,
     path: &[u8],
 ) -> Result<(), Error>
-    ensures { SaysFault (fault_of (C.refusal check.now) kind entry path.now) result }
+    ensures { AnswersFault (fault_of (C.refusal check.now) kind entry path.now) result }
 {
     check_path(path)?;
     let Some(mode) = entry.mode.to_tree_entry_mode() else {

@@ -3,7 +3,7 @@
 ghost use Rattle.std.specs.Prelude.{◌≡◌, All, length};
 ghost use Rattle.index_entries.specs.Record.{IsPlaced};
 ghost use Rattle.index_edits.specs.Edits.{merged};
-ghost use Rattle.index_edits.specs.EntryEdits.{Resolves, SaysWhy};
+ghost use Rattle.index_edits.specs.EntryEdits.{ResolvesEntry, SaysWhy};
 
 use crate::error::Error;
 use crate::stage::{Displaced, stage};
@@ -37,7 +37,7 @@ pub fn resolve<C: ComponentCheck>(
 ) -> Result<Displaced, Error>
     requires placed { All (IsPlaced (length storage.old.items)) entries.old.items }
     ensures reason { SaysWhy (C.refusal check.now) kind (merged entry) path.now storage.old result }
-    ensures made { Resolves entry path.now storage.old entries.old storage.new entries.new result }
+    ensures made { ResolvesEntry entry path.now storage.old entries.old storage.new entries.new result }
 {
     stage(entries, storage, check, kind, merged(entry), path)
 }

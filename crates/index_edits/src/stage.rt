@@ -4,7 +4,7 @@ ghost use Rattle.std.specs.Prelude.{◌≡◌, ◌++◌, ◌∷◌, [], All, len
 ghost use Rattle.index_entries.specs.Order.{IsStrictlyOrdered};
 ghost use Rattle.index_entries.specs.Record.{IsPlaced};
 ghost use Rattle.index_edits.specs.EditSteps.{TellsInTheWay, ends_conflict};
-ghost use Rattle.index_edits.specs.EntryEdits.{SaysWhy, Settles};
+ghost use Rattle.index_edits.specs.EntryEdits.{SaysWhy, SettlesEntry};
 ghost use Rattle.index_edits.specs.Refusals.{SaysReason, fault_of};
 
 use crate::error::Error;
@@ -72,7 +72,7 @@ pub fn settle(
     path: &[u8],
 ) -> Result<Displaced, AllocError>
     requires placed { All (IsPlaced (length storage.old.items)) entries.old.items }
-    ensures { Settles entry path.now storage.old entries.old storage.new entries.new result }
+    ensures { SettlesEntry entry path.now storage.old entries.old storage.new entries.new result }
 {
     let folder = folder_of(*storage.allocator(), path)?;
     let way = in_the_way(&EntrySlice::new(entries, storage), entry, path, &folder);
@@ -130,7 +130,7 @@ pub fn stage<C: ComponentCheck>(
 ) -> Result<Displaced, Error>
     requires placed { All (IsPlaced (length storage.old.items)) entries.old.items }
     ensures reason { SaysWhy (C.refusal check.now) kind entry path.now storage.old result }
-    ensures made { Settles entry path.now storage.old entries.old storage.new entries.new result }
+    ensures made { SettlesEntry entry path.now storage.old entries.old storage.new entries.new result }
 {
     check_stage(check, kind, storage.len(), entry, path)?;
     let told = settle(entries, storage, entry, path)?;

@@ -2,7 +2,7 @@
 
 ghost use Rattle.std.specs.Prelude.{◌≡◌, ◌≤◌, ◌++◌, All, drop, length, take};
 ghost use Rattle.index_entries.specs.Record.{IsPlaced};
-ghost use Rattle.index_edits.specs.EntryEdits.{Unstages};
+ghost use Rattle.index_edits.specs.EntryEdits.{UnstagesPath};
 
 use index_entries::Entry;
 use index_entries::slice::EntrySlice;
@@ -26,7 +26,7 @@ fn cut(entries: &mut Vec<Entry>, start: usize, end: usize)
 /// Over entries whose paths fall somewhere nothing is said of which go.
 pub fn unstage(entries: &mut Vec<Entry>, storage: &[u8], path: &[u8]) -> usize
     requires { All (IsPlaced (length storage.now)) entries.old.items }
-    ensures { Unstages path.now storage.now entries.old entries.new result }
+    ensures { UnstagesPath path.now storage.now entries.old entries.new result }
 {
     let Some(places) = entry_range(&EntrySlice::new(entries, storage), path) else {
         return 0;

@@ -1,11 +1,11 @@
 -- What making changes of a state answers, and what it leaves (git-update-index, "--add", "--replace", "--force-remove" and
 -- "--index-info"). All but the reasons and the places is promised over entries that strictly increase.
-use Rattle.std.specs.Prelude.{◌≡◌, ℕ, List, [], ◌∷◌, All, length, count_by, None, Result, IfOk, MatchResult}
-use Rattle.std.specs.Prelude.{OnErr, OnOk}
+use Rattle.std.specs.Prelude.{◌≡◌, ℕ, List, [], ◌∷◌, All, count_by, Result, IfOk, OnErr, OnOk}
 use Rattle.std.specs.Borrow.{Bor}
-use Rattle.index_edits.specs.Changes.{IsAppliedTo, IsApplyReason, refusal_of}
+use Rattle.index_edits.specs.Changes.{IsAppliedTo}
 use Rattle.index_edits.specs.Edits.{IsResolvedInto, IsStagedInto, IsToldOf, IsUnstagedFrom, merged}
-use Rattle.index_edits.specs.Refusals.{Check, IsReason, fault_of}
+use Rattle.index_edits.specs.EntryEdits.{SaysFirstRefused, SaysWhy}
+use Rattle.index_edits.specs.Refusals.{Check}
 use Rattle.index_edits.specs.declared.change.ApplyError.{ApplyError}
 use Rattle.index_edits.specs.declared.change.Change.{Change}
 use Rattle.index_edits.specs.declared.change.Change.TheVariants.{Stage, Unstage}
@@ -24,9 +24,7 @@ use Rattle.index_state.specs.declared.State.{State}
 -- the changes are made, or refused at the first that is at fault
 pub record Applies (refusal : Check) (changes : List Change) (old new : State) (r : Result (Unit {0}) ApplyError)
     : Type 0 where
-  pub reason : MatchResult r
-      (λ _. refusal_of refusal (contents old).kind (length (storage_of old)) changes ≡ None)
-      (IsApplyReason (refusal_of refusal (contents old).kind (length (storage_of old)) changes))
+  pub reason : SaysFirstRefused refusal (contents old).kind changes old.parts.path_backing r
   pub updated : OnOk r (IsStrictlyOrdered (records old) → contents new ≡ updated_by changes (contents old))
   pub applied : OnOk r (IsStrictlyOrdered (records old) → IsAppliedTo changes (records old) (records new))
   pub storable : OnOk r (IsStrictlyOrdered (records old) → All StagesSized changes
@@ -34,16 +32,10 @@ pub record Applies (refusal : Check) (changes : List Change) (old new : State) (
   pub placed : PathsInStorage new
   pub err : OnErr r (IsUnchanged old new)
 
--- nothing is wrong with the entry at the path, or the error says what is
-abbrev pub SaysReason : {T : Type 0} → Check → Pathless → List ℕ → State → Result T Error → Type 0
-SaysReason refusal entry path s r =
-    MatchResult r (λ _. fault_of refusal (contents s).kind entry path ≡ None)
-    (IsReason (fault_of refusal (contents s).kind entry path) (length (storage_of s)) path)
-
 -- an entry is staged at a path
 pub record Stages (refusal : Check) (entry : Pathless) (path : Bor (List ℕ)) (old new : State)
     (r : Result Displaced Error) : Type 0 where
-  pub reason : SaysReason refusal entry path.now old r
+  pub reason : SaysWhy refusal (contents old).kind entry path.now old.parts.path_backing r
   pub updated : OnOk r (IsStrictlyOrdered (records old)
       → contents new ≡ updated_by (Stage entry path ∷ []) (contents old))
   pub staged : OnOk r (IsStrictlyOrdered (records old)
@@ -57,7 +49,7 @@ pub record Stages (refusal : Check) (entry : Pathless) (path : Bor (List ℕ)) (
 -- a merged entry is put in place of all stages of a path
 pub record Resolves (refusal : Check) (entry : Pathless) (path : Bor (List ℕ)) (old new : State)
     (r : Result Displaced Error) : Type 0 where
-  pub reason : SaysReason refusal (merged entry) path.now old r
+  pub reason : SaysWhy refusal (contents old).kind (merged entry) path.now old.parts.path_backing r
   pub updated : OnOk r (IsStrictlyOrdered (records old)
       → contents new ≡ updated_by (Stage (merged entry) path ∷ []) (contents old))
   pub resolved : OnOk r (IsStrictlyOrdered (records old)

@@ -15,6 +15,8 @@ returns-in_ok-settle-in-Stage c =
           (c.in_ok-settle-in-Stage.ensures.staged.made o);
       placed = search rules;
       storage = search rules;
+      err_entries = search rules;
+      err_storage = search rules;
     }
 
 pub returns-in-Unstage : goal.returns-in-Unstage
@@ -30,4 +32,6 @@ returns-in-Unstage c =
           (subst (λ t. ChangesOrdered (IsUnstagedFrom path) t es t ds) c.deref.ensures.value c.unstage.ensures.unstaged o);
       placed = search rules;
       storage = ([], sym (append-nil s));
+      err_entries = search rules;
+      err_storage = search rules;
     }

@@ -3,7 +3,7 @@ use Rattle.index_entries.specs.Order.{IsStrictlyOrdered}
 use Rattle.index_entries.specs.Record.{records_in, with_path}
 use Rattle.index_entries.specs.declared.Pathless.{Pathless}
 use Rattle.index_edits.specs.Edits.{IsResolvedInto, IsStagedInto, merged}
-use Rattle.index_edits.specs.EntryEdits.{Settles}
+use Rattle.index_edits.specs.EntryEdits.{SettlesEntry}
 use Rattle.index_edits.proofs.Resolvings.{no_stage, on_ok, resolved_into}
 use Rattle.index_edits.proofs.resolve.resolve.Goals as goal
 
@@ -13,7 +13,7 @@ returns-clause-made g c =
     let old = records_in c.args.storage.now.items c.args.entries.now.items in
     let now = records_in c.stage.new.storage.items c.stage.new.entries.items in
     let P : Pathless → Type 0 = λ e.
-    Settles e path c.args.storage.now c.args.entries.now c.stage.new.storage c.stage.new.entries c.stage.result in
+    SettlesEntry e path c.args.storage.now c.args.entries.now c.stage.new.storage c.stage.new.entries c.stage.result in
     let settled = subst P c.merged.ensures c.stage.ensures.made in
     record {
       resolved = record {
