@@ -1,15 +1,11 @@
 -- What an outline tells of an index whose entries it counts and doesn't keep (the library's own).
-use denote.Ref.{Bor}
-use Rattle.std.specs.Prelude.{◌≡◌, ◌↔◌, ◌||◌, ℕ, Bool, List, [], length, None, Ok}
+use Rattle.std.specs.Prelude.{◌≡◌, ◌||◌, ℕ, Bool, List, [], length, None, Ok}
 use Rattle.index_entries.specs.Entries.{AreEntries}
-use Rattle.index_entries.specs.declared.Version.{Version}
-use Rattle.index_format.specs.Answer.{Answer, IsAnswer, IsBehindHeader}
+use Rattle.index_format.specs.Answer.{Answer, IsBehindHeader}
 use Rattle.index_format.specs.Contents.{Contents, ExtensionIdsAreOf}
 use Rattle.index_format.specs.DecodeErrors.{SaysFault}
 use Rattle.index_format.specs.declared.Parts.{Parts}
-use Rattle.index_format.specs.declared.decode.Options.{Options}
 use Rattle.index_format.specs.declared.error.Error.{Error}
-use Rattle.index_metadata.specs.declared.entry.stat.FileTime.{FileTime}
 use Rattle.index_parts.specs.declared.hash.Kind.{Kind}
 use Rattle.index_reading.specs.declared.decode.ReadAs.{ReadAs}
 use Rattle.index_state.specs.Edits.{with_records}
