@@ -6,6 +6,8 @@ ghost use Rattle.index_state.specs.State.{PathsInStorage, contents};
 ghost use Rattle.index_window.specs.Intact.{IsIntact};
 ghost use Rattle.gix_index.specs.Checked.{IsFileAnswer, SaysFile};
 ghost use Rattle.gix_index.specs.Outlined.{IsOutlined};
+ghost use Rattle.gix_index.specs.OnDisk.{IsFileFault, NeedsIntact};
+ghost use Rattle.index_outline.specs.Outlines.{OutlineIdsAreOf};
 
 use super::File;
 use super::init::{Error, check};
@@ -33,13 +35,11 @@ impl File {
     ) -> Result<Outline<'_>, Error>
         ensures outlined { IfOk result
             (IsOutlined skip_hash object_hash timestamp options «data».now) }
-        ensures fault { IfErr result (λ e. SaysFile (Err e)
-            (IsFileAnswer skip_hash object_hash timestamp options «data».now)) }
-        ensures intact { IfErr result (λ e. e ≡ Error.Memory
-            → IsIntact skip_hash object_hash «data».now) }
+        ensures fault { IfErr result (IsFileFault skip_hash object_hash timestamp options «data».now) }
+        ensures intact { IfErr result (NeedsIntact skip_hash object_hash «data».now) }
         ensures placed { IfOk result (λ o. PathsInStorage o.bare) }
         ensures extension_ids { IfOk result
-            (λ o. ExtensionIdsAreOf object_hash (contents o.bare).extensions) }
+            (OutlineIdsAreOf object_hash) }
     {
         check(data, None, object_hash, skip_hash)?;
         let declared = declared_in(data, object_hash, options)?;
