@@ -1,8 +1,7 @@
 -- What each call that edits a list of entries answers, and what it leaves of the list and of the storage of the paths (the
 -- library's own). Of the records it is promised where they strictly increase.
 use Rattle.std.specs.Prelude.{◌≡◌, ◌⊎◌, ℕ, List, ◌++◌, All, count_by, length, Result, IfOk, OnErr, OnOk}
-use Rattle.std.specs.Global.{Global}
-use Rattle.std.specs.declared.vec.Vec.{Vec}
+use Rattle.std.specs.Global.{Vec}
 use Rattle.index_parts.specs.declared.hash.Kind.{Kind}
 use Rattle.index_entries.specs.Order.{IsStrictlyOrdered}
 use Rattle.index_entries.specs.Record.{IsPlaced, Record, records_in, with_path}
@@ -19,10 +18,10 @@ use Rattle.index_edits.specs.declared.stage.Displaced.{Displaced}
 
 -- entries in memory, and the bytes of their paths
 abbrev pub Entries : Type 0
-Entries = Vec Entry Global
+Entries = Vec Entry
 
 abbrev pub Storage : Type 0
-Storage = Vec ℕ Global
+Storage = Vec ℕ
 
 -- where the records of the old entries strictly increase, the new ones come of them by this change
 abbrev pub ChangesOrdered : (List Record → List Record → Type 0) → List ℕ → List Entry → List ℕ → List Entry → Type 0
@@ -61,11 +60,12 @@ pub record ResolvesEntry {E : Type 0} (entry : Pathless) (path : List ℕ) (s : 
   pub resolved : PutsEntry (IsResolvedInto (with_path path (merged entry))) path s es t ds r
   pub told : IfOk r (TellsOf (merged entry) path s es)
 
--- why an entry isn't staged at a path: what is at fault with it, or a want of room in the storage, or of memory
+-- nothing is at fault with an entry that is staged at a path; or the error says what is, or else a want of room in the
+-- storage, or of memory
 abbrev pub SaysWhy : {T : Type 0} → Check → Kind → Pathless → List ℕ → Storage → Result T Error → Type 0
 SaysWhy refusal kind entry path s r = SaysReason (fault_of refusal kind entry path) (length s.items) path r
 
--- why changes aren't made: the first that is refused, or a want of memory
+-- no change is refused; or the error says the first that is, or else a want of memory
 abbrev pub SaysFirstRefused : {T : Type 0} → Check → Kind → List Change → Storage → Result T ApplyError → Type 0
 SaysFirstRefused refusal kind cs s r = SaysRefusal (refusal_of refusal kind (length s.items) cs) r
 

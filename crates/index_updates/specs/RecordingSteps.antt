@@ -2,12 +2,11 @@
 -- clauses cite none of these.
 use Rattle.std.specs.Prelude.{◌≡◌, ◌≢◌, ℕ, ◌<◌, ◌≤◌, true, false, List, [], All, length, map, take, MatchOption, Option}
 use Rattle.std.specs.Prelude.{Some}
-use Rattle.std.specs.Global.{Global}
+use Rattle.std.specs.Global.{Vec}
 use Rattle.std.specs.List.{HoldsAt}
 use Rattle.std.specs.Option.{unwrap_or}
 use Rattle.std.specs.Ordering.{is_lt}
 use Rattle.std.specs.declared.ops.Range.{Range}
-use Rattle.std.specs.declared.vec.Vec.{Vec}
 use Rattle.index_entries.specs.Order.{IsStrictlyOrdered, path_cmp}
 use Rattle.index_entries.specs.Record.{Record}
 use Rattle.index_entries.specs.declared.Entry.{Entry}
@@ -22,7 +21,7 @@ use Rattle.index_updates.specs.Undone.{all_recorded, lost, undo_paths}
 
 -- the recorded paths in memory
 abbrev pub Paths : Type 0
-Paths = Vec ResolvePath Global
+Paths = Vec ResolvePath
 
 -- ---- the place of a path among those that are recorded, each seen as a path with its stages
 
