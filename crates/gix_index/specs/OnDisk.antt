@@ -2,6 +2,8 @@
 -- (the library's own).
 pub use Rattle.index_folder.specs.Folders
 pub use Rattle.index_folder.specs.Sources
+pub use Rattle.index_folder.specs.declared.folder.Folder as FolderTrait
+pub use Rattle.index_folder.specs.declared.folder.Source as SourceTrait
 use Rattle.std.specs.Prelude.{◌≡◌, ℕ, Bool, Err, List, [], Option, Result, Some, IfErr, IfOk, IfSome, OnErr, true}
 use Rattle.std.specs.Path.{path_buf_bytes}
 use Rattle.std.specs.Global.{Global}
@@ -83,8 +85,8 @@ SaysOfSharedIn folder now path id r e = SaysOfShared (folder.works now) (folder.
 abbrev pub SaysOfFollowingIn : {D F M : Type 0} → Ghosts D F M → D → ReadOptions → File → Error → Type 0
 SaysOfFollowingIn folder now r own e = SaysOfFollowing (folder.works now) (folder.known now) r own e
 
-abbrev pub IsFoundIn : {D F M : Type 0} → Ghosts D F M → D → Path → PathBuf Global → ReadOptions → Bool → Bool → File → Type 0
-IsFoundIn folder now at path r or_default has_time f = IsFound (folder.known now) at path r or_default has_time f
+abbrev pub FindsIn : {D F M : Type 0} → Ghosts D F M → D → Path → PathBuf Global → ReadOptions → Bool → Bool → File → Type 0
+FindsIn folder now at path r or_default has_time f = IsFound (folder.known now) at path r or_default has_time f
 
 abbrev pub SaysOfFindingIn : {D F M : Type 0} → Ghosts D F M → D → Path → PathBuf Global → ReadOptions → Bool → Error → Type 0
 SaysOfFindingIn folder now at path r has_time e = SaysOfFinding (folder.works now) (folder.known now) at path r has_time e
@@ -119,8 +121,8 @@ IsReadBehind folder new path skip kind options or_default x =
 abbrev pub IsLockedWhole : {M : Type 0} → List ℕ → Kind → Locked M → Type 0
 IsLockedWhole path kind x = IsWholeFile path kind x.file
 
-abbrev pub SaysOfLockingIn : {D F M : Type 0} → Ghosts D F M → D → PathBuf Global → Bool → Kind → Options → LockingError → Type 0
-SaysOfLockingIn folder old path skip kind options e =
+abbrev pub SaysOfLockIn : {D F M : Type 0} → Ghosts D F M → D → PathBuf Global → Bool → Kind → Options → LockingError → Type 0
+SaysOfLockIn folder old path skip kind options e =
     SaysOfLocking (path_buf_bytes path) (folder.works old) (folder.guards old) (folder.known old) skip kind options e
 
 -- The lock was made beside the file that a path leads to; or what is known of paths is as it was, but where the place

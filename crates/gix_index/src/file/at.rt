@@ -11,7 +11,7 @@ ghost use Rattle.gix_index.specs.File.{IsFileOf, IsWholeFile};
 ghost use Rattle.gix_index.specs.ReadFile.{FollowsTo, IsFileRead, IsFound, IsReadOf, IsSharedRead, Loads, Opens, Reads};
 ghost use Rattle.gix_index.specs.ReadFile.{SaysOfAny, SaysOfFileBy, SaysOfFinding, SaysOfFollowing, SaysOfShared};
 ghost use Rattle.index_state.specs.State.{IsWellFormed};
-ghost use Rattle.gix_index.specs.OnDisk.{IsFoundIn, IsSharedPath, LoadsIn, OpensIn, ReadsIn, SaysOfFindingIn, SaysOfFollowingIn};
+ghost use Rattle.gix_index.specs.OnDisk.{FindsIn, IsSharedPath, LoadsIn, OpensIn, ReadsIn, SaysOfFindingIn, SaysOfFollowingIn};
 ghost use Rattle.gix_index.specs.OnDisk.{SaysOfSharedIn, SaysOfSource};
 
 use super::File;
@@ -148,7 +148,7 @@ pub(super) fn read_from<D: Folder>(
     has_time: bool,
 ) -> Result<File, Error>
     ensures read { IfOk result
-        (IsFoundIn D.Folder folder.now at.entry path reading or_default has_time) }
+        (FindsIn D.Folder folder.now at.entry path reading or_default has_time) }
     ensures whole { IfOk result (IsWholeFile (path_buf_bytes path) reading.object_hash) }
     ensures fault { IfErr result
         (SaysOfFindingIn D.Folder folder.now at.entry path reading has_time) }

@@ -13,7 +13,7 @@ ghost use Rattle.gix_index.specs.File.{IsWholeFile};
 ghost use Rattle.gix_index.specs.ReadFile.{IsReadUnder};
 ghost use Rattle.gix_index.specs.WrittenFile.{SaysOfCommittingFile};
 ghost use Rattle.gix_index.specs.WrittenFile.{IsWrittenTo};
-ghost use Rattle.gix_index.specs.OnDisk.{IsLockedWhole, IsReadBehind, LocksFile, SaysOfLockingIn};
+ghost use Rattle.gix_index.specs.OnDisk.{IsLockedWhole, IsReadBehind, LocksFile, SaysOfLockIn};
 ghost use Rattle.gix_index.specs.WrittenFile.{ReleasesLock, SavesFile, SavesLocked};
 
 use super::File;
@@ -61,7 +61,7 @@ impl File {
         ensures whole { IfOk result (IsLockedWhole (path_buf_bytes path) object_hash) }
         ensures lock { LocksFile D.Folder D.Made.contents folder.old folder.new path result }
         ensures fault { IfErr result
-            (SaysOfLockingIn D.Folder folder.old path skip_hash object_hash options) }
+            (SaysOfLockIn D.Folder folder.old path skip_hash object_hash options) }
     {
         let asked = match path.clone() {
             Ok(asked) => asked,

@@ -127,12 +127,7 @@ impl File {
         timestamp: FileTime,
         options: decode::Options,
     ) -> Result<Unfollowed, Error>
-        ensures read { IfOk result (IsReadAlone (D.known folder.now (path_buf_bytes path))
-            skip_hash object_hash timestamp options) }
-        ensures formed { IfOk result
-            (λ read. IsFileOf (path_buf_bytes path) object_hash read.index) }
-        ensures fault { IfErr result (SaysOfFile (path_buf_bytes path) (D.works folder.now)
-            (D.known folder.now (path_buf_bytes path)) skip_hash object_hash timestamp options) }
+        ensures { ReadsAloneAt D.Folder folder.now path skip_hash object_hash timestamp options result }
     {
         let reading = ReadOptions {
             object_hash,
