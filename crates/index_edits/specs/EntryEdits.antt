@@ -1,5 +1,6 @@
 -- What each call that edits a list of entries answers, and what it leaves of the list and of the storage of the paths (the
--- library's own). Of the records it is promised where they strictly increase.
+-- library's own). Of the records it is promised where they strictly increase. `s` is the storage of the old entries `es`,
+-- and `t` that of the new ones `ds`.
 use Rattle.std.specs.Prelude.{◌≡◌, ◌⊎◌, ℕ, List, ◌++◌, All, count_by, length, Result, IfOk, OnErr, OnOk}
 use Rattle.std.specs.Global.{Vec}
 use Rattle.index_parts.specs.declared.hash.Kind.{Kind}

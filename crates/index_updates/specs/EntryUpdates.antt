@@ -1,5 +1,6 @@
 -- What each call that changes entries answers, and what it leaves of them and of what speaks of them (the library's own).
--- It is promised over records that strictly increase.
+-- It is promised over records that strictly increase. `s` is the storage of the old entries `es`, and `t` that of the new
+-- ones `ds`.
 use Rattle.std.specs.Prelude.{◌≡◌, ℕ, List, [], ◌∷◌, All, length, Option, Result, IfOk, OnErr, OnOk}
 use Rattle.std.specs.Borrow.{Bor}
 use Rattle.std.specs.Option.{option_map}

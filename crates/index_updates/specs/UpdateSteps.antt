@@ -1,4 +1,5 @@
--- Entries and resolve-undo between the changes of a list (the library's own). Public clauses cite none of these.
+-- Entries and resolve-undo between the changes of a list (the library's own). Public clauses cite none of these. `s` is the
+-- storage before, and `t` that afterwards.
 use Rattle.std.specs.Prelude.{◌≡◌, ℕ, ◌≤◌, List, [], ◌∷◌, ◌++◌, All, drop, length, Option, Result, IfOk, OnOk}
 use Rattle.std.specs.Borrow.{Bor}
 use Rattle.index_entries.specs.Order.{IsStrictlyOrdered}
