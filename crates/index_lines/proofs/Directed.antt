@@ -131,8 +131,10 @@ children_all style {u} {v} front ts i {waited} {waiting} le a =
     (take_all i ts le) a
 
 -- the last lines of a whole tree go out
-pub all_of_last : (style : Lines) {u v : Option (List ℕ)} (w : Option (List ℕ)) {lines front waiting : List ℕ} (n : Node) → lines ≡ [] → front ≡ []
-    → LetsOut u v lines (subtree_lines style front n) waiting → Appends v w waiting → Appends u w (subtree_lines style [] n)
+pub all_of_last : (style : Lines) {u v : Option (List ℕ)} (w : Option (List ℕ)) {lines front waiting : List ℕ}
+    (n : Node) → lines ≡ [] → front ≡ []
+    → LetsOut u v lines (subtree_lines style front n) waiting → Appends v w waiting
+    → Appends u w (subtree_lines style [] n)
 all_of_last style {u} {v} w {lines} {front} {waiting} n none root a b =
     let all : LetsOut u v [] (subtree_lines style [] n) waiting =
     subst (λ (l : List ℕ). LetsOut u v l (subtree_lines style [] n) waiting) none

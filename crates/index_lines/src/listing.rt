@@ -4,8 +4,8 @@ ghost use Rattle.std.specs.Prelude.{◌≡◌, ◌<◌, length, OnOk, ◌++◌, 
 ghost use Rattle.index_parts.specs.Id.{id_bytes};
 ghost use Rattle.index_text.specs.Blocks.{PutsText};
 ghost use Rattle.index_state.specs.State.{PathsInStorage, contents, storage_of};
-ghost use Rattle.index_entries.specs.Record.{IsPlaced, record_in};
-ghost use Rattle.index_lines.specs.Line.{line_of_parts, line_of, listing};
+ghost use Rattle.index_entries.specs.Record.{IsPlaced};
+ghost use Rattle.index_lines.specs.Line.{entry_line, line_of_parts, listing};
 
 use bitflags::Flags as _;
 use index_entries::Entry;
@@ -44,9 +44,7 @@ fn append_parts(
 /// Appends an entry's line.
 fn append_line(lines: &mut Vec<u8>, style: Lines, state: &State, entry: &Entry) -> Appended
     requires { IsPlaced (length (storage_of state.now)) entry.now }
-    ensures { OnOk result
-        (lines.new.items ≡ lines.old.items
-        ++ line_of style (record_in (storage_of state.now) entry.now)) }
+    ensures { OnOk result (lines.new.items ≡ lines.old.items ++ entry_line style state.now entry.now) }
 {
     let path = entry.path(state);
     append_parts(

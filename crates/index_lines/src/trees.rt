@@ -5,8 +5,7 @@ ghost use Rattle.std.specs.List.{flat_map};
 ghost use Rattle.index_text.specs.Blocks.{PutsText};
 ghost use Rattle.index_cached_tree.specs.Tree.{node_of};
 ghost use Rattle.index_cached_tree.specs.TreeImage.{count_bytes};
-ghost use Rattle.index_cached_tree.specs.declared.Tree.TheViews.{out-Tree};
-ghost use Rattle.index_lines.specs.Directories.{directory_line, subtree_lines, front_of};
+ghost use Rattle.index_lines.specs.Directories.{front_of, subtree_lines, tree_line};
 ghost use Rattle.index_lines.specs.DirectorySteps.{PutsLines};
 
 use index_cached_tree::Tree;
@@ -32,8 +31,7 @@ fn append_count(lines: &mut Vec<u8>, count: Option<u32>) -> Appended
 
 /// Appends the line of a directory alone.
 fn append_line(lines: &mut Vec<u8>, style: Lines, path: &[u8], tree: &Tree) -> Appended
-    ensures { OnOk result (lines.new.items ≡ lines.old.items
-        ++ directory_line style path.now (out-Tree tree.now).id (out-Tree tree.now).num_entries) }
+    ensures { OnOk result (lines.new.items ≡ lines.old.items ++ tree_line style path.now tree.now) }
 {
     append_hex(lines, &tree.id)?;
     lines.extend_from_slice(b" ")?;

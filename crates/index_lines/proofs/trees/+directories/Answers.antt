@@ -10,13 +10,16 @@ use Rattle.index_lines.proofs.Directed.{children_all, children_more, front_let_o
 use Rattle.index_lines.proofs.Directed.{let_out_then, line_let_out, lines_at, none_let_out}
 use Rattle.index_lines.proofs.trees.+directories.Goals as goal
 
-pub append_directories-returns-in_err-append_directory-clause-written : goal.append_directories-returns-in_err-append_directory-clause-written
+pub append_directories-returns-in_err-append_directory-clause-written
+    : goal.append_directories-returns-in_err-append_directory-clause-written
 append_directories-returns-in_err-append_directory-clause-written g t c =
     record {
       lines = search rules;
       err = rw (err_from_is_err_and c.from_residual.result c.from_residual.ensures.1).1
-          (front_of_children c.args.style c.args.front.now.items c.loop-tree.front.items c.args.trees.now c.loop-tree.tree-index
-          c.tree-item.result c.loop-tree-test.true c.tree-item.is c.loop-tree.invariant.front c.loop-tree.invariant.lines
+          (front_of_children c.args.style c.args.front.now.items c.loop-tree.front.items c.args.trees.now
+          c.loop-tree.tree-index
+          c.tree-item.result c.loop-tree-test.true c.tree-item.is c.loop-tree.invariant.front
+          c.loop-tree.invariant.lines
           c.in_err-append_directory.ensures.written.err);
       going = search rules;
       cause = search rules;
@@ -44,7 +47,8 @@ append_directories-returns-clause-written g t c =
       loan = search rules;
     }
 
-pub append_directory-returns-in_err-put_block-clause-written : goal.append_directory-returns-in_err-put_block-clause-written
+pub append_directory-returns-in_err-put_block-clause-written
+    : goal.append_directory-returns-in_err-put_block-clause-written
 append_directory-returns-in_err-put_block-clause-written g t c =
     record {
       lines = search rules;
@@ -53,7 +57,8 @@ append_directory-returns-in_err-put_block-clause-written g t c =
           let children = (out-Tree c.args.tree.now).children.items in
           let whole = lines_at c.args.style c.args.tree.now front path (front_of path) children
           (c.in_ok-extend_from_slice.ensures.items ∙ ap (λ (n : List ℕ). front ++ n) c.as_slice.ensures) refl refl in
-          rw (err_from_is_err_and c.from_residual-in_err-put_block.result c.from_residual-in_err-put_block.ensures.1).1
+          rw (err_from_is_err_and c.from_residual-in_err-put_block.result
+          c.from_residual-in_err-put_block.ensures.1).1
           (front_of_line _ _ _ _ (flat_map (λ u. subtree_lines c.args.style (front_of path) (node_of u)) children)
           (rw c.deref.ensures.value at c.in_ok-append_line.ensures) whole c.in_err-put_block.ensures.err);
       going = search rules;
@@ -75,20 +80,23 @@ append_directory-returns-in_err-go_in-clause-written g t c =
           let P : List ℕ → Type 0 = λ l. AppendsPrefix (g.W.Out.taken c.args.out.now)
           (g.W.Out.taken c.put_block.new.out) (c.args.lines.now.items ++ l) in
           rw (err_from_is_err_and c.from_residual-in_err-go_in.result c.from_residual-in_err-go_in.ensures.1).1
-          (subst P whole (none_let_out own (flat_map (λ u. subtree_lines c.args.style (front_of path) (node_of u)) children)));
+          (subst P whole (none_let_out own (flat_map (λ u. subtree_lines c.args.style (front_of path) (node_of u))
+          children)));
       going = search rules;
       cause = search rules;
       loan = search rules;
     }
 
-pub append_directory-returns-in_err-append_directories-clause-written : goal.append_directory-returns-in_err-append_directories-clause-written
+pub append_directory-returns-in_err-append_directories-clause-written
+    : goal.append_directory-returns-in_err-append_directories-clause-written
 append_directory-returns-in_err-append_directories-clause-written g t c =
     record {
       lines = search rules;
       err = let front = c.args.front.now.items in
           let path = c.extend_from_slice.new.self.items in
           let whole = lines_at c.args.style c.args.tree.now front path c.go_in.new.path.items c.deref-2.result.now
-          (c.in_ok-extend_from_slice.ensures.items ∙ ap (λ (n : List ℕ). front ++ n) c.as_slice.ensures) c.in_ok-go_in.ensures
+          (c.in_ok-extend_from_slice.ensures.items ∙ ap (λ (n : List ℕ). front ++ n) c.as_slice.ensures)
+          c.in_ok-go_in.ensures
           c.deref-2.ensures.value in
           let own = line_let_out _ _ _ _ _ (rw c.deref.ensures.value at c.in_ok-append_line.ensures)
           c.in_ok-put_block.ensures.ok.1 c.in_ok-put_block.ensures.ok.2 in
@@ -108,12 +116,14 @@ append_directory-returns-clause-written g t c =
       lines = let front = c.args.front.now.items in
           let path = c.extend_from_slice.new.self.items in
           let whole = lines_at c.args.style c.args.tree.now front path c.go_in.new.path.items c.deref-2.result.now
-          (c.in_ok-extend_from_slice.ensures.items ∙ ap (λ (n : List ℕ). front ++ n) c.as_slice.ensures) c.in_ok-go_in.ensures
+          (c.in_ok-extend_from_slice.ensures.items ∙ ap (λ (n : List ℕ). front ++ n) c.as_slice.ensures)
+          c.in_ok-go_in.ensures
           c.deref-2.ensures.value in
           let own = line_let_out _ _ _ _ _ (rw c.deref.ensures.value at c.in_ok-append_line.ensures)
           c.in_ok-put_block.ensures.ok.1 c.in_ok-put_block.ensures.ok.2 in
           let P : List ℕ → Type 0 = λ l. LetsOut (g.W.Out.taken c.args.out.now)
-          (g.W.Out.taken c.append_directories.new.out) c.args.lines.now.items l c.append_directories.new.lines.items in
+          (g.W.Out.taken c.append_directories.new.out) c.args.lines.now.items l c.append_directories.new.lines.items
+          in
           subst P whole (let_out_then own c.in_ok-append_directories.ensures.written.lines);
       err = search rules;
       going = search rules;

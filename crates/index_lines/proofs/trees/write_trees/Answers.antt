@@ -12,12 +12,14 @@ returns g c =
       ok = let Q : List ℕ → Type 0 =
           λ l. Appends (g.W.Out.taken c.append_directory.new.out) (g.W.Out.taken c.put_text.new.out) l in
           on_ok_weaker c.put_text.result
-          (λ h. all_of_last c.args.style _ (node_of c.args.tree.now) c.new-lines.ensures.items c.new-front.ensures.items
+          (λ h. all_of_last c.args.style _ (node_of c.args.tree.now) c.new-lines.ensures.items
+          c.new-front.ensures.items
           c.in_ok-append_directory.ensures.written.lines (subst Q c.as_slice.ensures.value h)) c.put_text.ensures.ok;
       err = let Q : List ℕ → Type 0 =
           λ l. AppendsPrefix (g.W.Out.taken c.append_directory.new.out) (g.W.Out.taken c.put_text.new.out) l in
           on_err_weaker c.put_text.result
-          (λ h. front_of_last c.args.style (node_of c.args.tree.now) c.new-lines.ensures.items c.new-front.ensures.items
+          (λ h. front_of_last c.args.style (node_of c.args.tree.now) c.new-lines.ensures.items
+          c.new-front.ensures.items
           c.in_ok-append_directory.ensures.written.lines (subst Q c.as_slice.ensures.value h)) c.put_text.ensures.err;
       going = search rules;
       cause = search rules;

@@ -36,9 +36,11 @@ returns-in_err-put_block g c =
     record {
       ok = search rules;
       err = let f : Part → List ℕ = box c.args.each c.args.entries.now c.args.len in
-          rw (err_from_is_err_and c.from_residual-in_err-put_block.result c.from_residual-in_err-put_block.ensures.1).1
+          rw (err_from_is_err_and c.from_residual-in_err-put_block.result
+          c.from_residual-in_err-put_block.ensures.1).1
           (front_of_block f _ _ _ c.args.boxes.now c.loop-part.part-index _ _ _ _ c.loop-part-test.true
-          c.loop-part.invariant.lines.1 c.loop-part.invariant.lines.2 c.in_ok-append_box.ensures c.in_err-put_block.ensures.err);
+          c.loop-part.invariant.lines.1 c.loop-part.invariant.lines.2 c.in_ok-append_box.ensures
+          c.in_err-put_block.ensures.err);
       going = search rules;
       cause = search rules;
       loan = search rules;
@@ -51,13 +53,15 @@ returns g c =
           let Q : List ℕ → Type 0 =
           λ t. Appends (g.W.Out.taken c.loop-part.out) (g.W.Out.taken c.put_text.new.out) t in
           on_ok_weaker c.put_text.result
-          (λ h. listed_all f _ _ _ c.args.boxes.now c.loop-part.part-index _ _ c.loop-part-test.false c.loop-part.invariant.lines.1
+          (λ h. listed_all f _ _ _ c.args.boxes.now c.loop-part.part-index _ _ c.loop-part-test.false
+          c.loop-part.invariant.lines.1
           c.loop-part.invariant.lines.2 (subst Q c.as_slice.ensures.value h)) c.put_text.ensures.ok;
       err = let f : Part → List ℕ = box c.args.each c.args.entries.now c.args.len in
           let Q : List ℕ → Type 0 =
           λ t. AppendsPrefix (g.W.Out.taken c.loop-part.out) (g.W.Out.taken c.put_text.new.out) t in
           on_err_weaker c.put_text.result (λ h. front_of_rest f _ _ _ c.args.boxes.now c.loop-part.part-index _ _
-          c.loop-part.invariant.lines.1 c.loop-part.invariant.lines.2 (subst Q c.as_slice.ensures.value h)) c.put_text.ensures.err;
+          c.loop-part.invariant.lines.1 c.loop-part.invariant.lines.2 (subst Q c.as_slice.ensures.value h))
+          c.put_text.ensures.err;
       going = search rules;
       cause = search rules;
       loan = search rules;

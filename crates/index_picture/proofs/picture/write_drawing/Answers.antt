@@ -19,7 +19,8 @@ returns-in_err-write_front g c =
           let middle = middle_text each c.args.parts.now in
           let rows = flat_map (row each rs) c.args.boxes.now in
           rw (err_from_is_err_and c.from_residual.result c.from_residual.ensures.1).1
-          (prefix_before (prefix_before (prefix_before (prefix_before c.in_err-write_front.ensures.err boxes) middle) rows)
+          (prefix_before (prefix_before (prefix_before (prefix_before c.in_err-write_front.ensures.err boxes)
+          middle) rows)
           svg_end);
       going = search rules;
       cause = search rules;
@@ -40,7 +41,8 @@ returns-in_err-write_boxes g c =
           (g.W.Out.taken c.write_boxes.new.out) (flat_map (box each rs n) c.args.boxes.now) in
           let one : Appends (g.W.Out.taken c.args.out.now) (g.W.Out.taken c.write_front.new.out) front =
           c.in_ok-write_front.ensures.ok in
-          rw (err_from_is_err_and c.from_residual-in_err-write_boxes.result c.from_residual-in_err-write_boxes.ensures.1).1
+          rw (err_from_is_err_and c.from_residual-in_err-write_boxes.result
+          c.from_residual-in_err-write_boxes.ensures.1).1
           (prefix_before (prefix_before (prefix_before (prefix_after (g.W.Out.taken c.args.out.now)
           (g.W.Out.taken c.write_front.new.out) (g.W.Out.taken c.write_boxes.new.out) front boxes one
           (subst P c.drawn_len.ensures.value c.in_err-write_boxes.ensures.err)) middle) rows) svg_end);
@@ -67,7 +69,8 @@ returns-in_err-write_middle g c =
           Appends-trans (g.W.Out.taken c.args.out.now) (g.W.Out.taken c.write_front.new.out)
           (g.W.Out.taken c.write_boxes.new.out) front boxes one
           (subst P c.drawn_len.ensures.value c.in_ok-write_boxes.ensures.ok) in
-          rw (err_from_is_err_and c.from_residual-in_err-write_middle.result c.from_residual-in_err-write_middle.ensures.1).1
+          rw (err_from_is_err_and c.from_residual-in_err-write_middle.result
+          c.from_residual-in_err-write_middle.ensures.1).1
           (prefix_before (prefix_before (prefix_after (g.W.Out.taken c.args.out.now)
           (g.W.Out.taken c.write_boxes.new.out) (g.W.Out.taken c.write_middle.new.out) (front ++ boxes) middle two
           c.in_err-write_middle.ensures.err) rows) svg_end);
@@ -97,7 +100,8 @@ returns-in_err-write_rows g c =
           let three : Appends (g.W.Out.taken c.args.out.now) (g.W.Out.taken c.write_middle.new.out) (front ++ boxes
           ++ middle) = Appends-trans (g.W.Out.taken c.args.out.now) (g.W.Out.taken c.write_boxes.new.out)
           (g.W.Out.taken c.write_middle.new.out) (front ++ boxes) middle two c.in_ok-write_middle.ensures.ok in
-          rw (err_from_is_err_and c.from_residual-in_err-write_rows.result c.from_residual-in_err-write_rows.ensures.1).1
+          rw (err_from_is_err_and c.from_residual-in_err-write_rows.result
+          c.from_residual-in_err-write_rows.ensures.1).1
           (prefix_before (prefix_after (g.W.Out.taken c.args.out.now) (g.W.Out.taken c.write_middle.new.out)
           (g.W.Out.taken c.write_rows.new.out) (front ++ boxes ++ middle) rows three c.in_err-write_rows.ensures.err)
           svg_end);
