@@ -1,0 +1,31 @@
+-- What a call says that writes extensions, one behind another.
+use Rattle.std.specs.Prelude.{ℕ, Bool, List, Result}
+use Rattle.std.specs.List.{flat_map}
+use Rattle.index_parts.specs.Puts.{Puts}
+use Rattle.index_parts.specs.declared.hash.Kind.{Kind}
+use Rattle.index_parts.specs.declared.hash.io.Out.{Ghosts}
+use Rattle.index_cached_tree.specs.GitOrder.{ordered_if}
+use Rattle.index_cached_tree.specs.Tree.{node_of}
+use Rattle.index_cached_tree.specs.TreeImage.{tree_item}
+use Rattle.index_cached_tree.specs.declared.Tree.{Tree}
+use Rattle.index_extensions.specs.EndMarker.{heads}
+use Rattle.index_extensions.specs.Encoding.{item_bytes, marker_item}
+use Rattle.index_extensions.specs.Walk.{Item}
+use Rattle.index_extension_list.specs.Chosen.{extensions_of, items}
+use Rattle.index_extension_list.specs.declared.Chosen.{Chosen}
+
+-- their bytes are written
+abbrev pub PutsItems : {S T E : Type 0} → Ghosts S → S → S → Result T E → List Item → Type 0
+PutsItems writer old new answer written = Puts writer old new answer (flat_map item_bytes written)
+
+-- the bytes of a cached tree, as it stands or as git orders it
+abbrev pub tree_bytes : Bool → Tree → List ℕ
+tree_bytes in_git_order tree = item_bytes (tree_item (ordered_if in_git_order (node_of tree)))
+
+-- the bytes of all that are chosen
+abbrev pub chosen_bytes : Kind → Chosen → List ℕ
+chosen_bytes kind chosen = flat_map item_bytes (items kind (extensions_of chosen))
+
+-- the bytes of the end marker behind them, where they begin at this offset
+abbrev pub marker_bytes : Kind → ℕ → Chosen → List ℕ
+marker_bytes kind offset chosen = item_bytes (marker_item kind offset (heads (items kind (extensions_of chosen))))
