@@ -48,17 +48,3 @@ unfoldable pub items : Kind → Extensions → List Item
 items kind e =
     item_if tree_item e.tree ++ (item_if resolve_undo_item e.resolve_undo
     ++ (item_if (cache_item kind) e.untracked ++ (item_if monitor_item e.fs_monitor ++ sparse_items e.sparse)))
-
--- ---- those that are written last
-
--- what a file system monitor said, and the mark of a sparse index
-abbrev pub last_items : Extensions → List Item
-last_items e = item_if monitor_item e.fs_monitor ++ sparse_items e.sparse
-
--- the untracked cache, and what is behind it
-abbrev pub items_behind_undo : Kind → Extensions → List Item
-items_behind_undo kind e = item_if (cache_item kind) e.untracked ++ last_items e
-
--- resolve-undo, and what is behind it
-abbrev pub items_behind_tree : Kind → Extensions → List Item
-items_behind_tree kind e = item_if resolve_undo_item e.resolve_undo ++ items_behind_undo kind e

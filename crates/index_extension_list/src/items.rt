@@ -8,12 +8,12 @@ ghost use Rattle.index_cached_tree.specs.TreeImage.{node_bytes, tree_item};
 ghost use Rattle.index_extension_writing.specs.MonitorImage.{monitor_item};
 ghost use Rattle.index_extension_writing.specs.ResolveUndoImage.{resolve_undo_item};
 ghost use Rattle.index_extension_writing.specs.UntrackedImage.{cache_item};
-ghost use Rattle.index_extension_list.specs.Chosen.{extensions_of, item_if, items_behind_tree, items_behind_undo};
-ghost use Rattle.index_extension_list.specs.Chosen.{last_items, sparse_items};
+ghost use Rattle.index_extension_list.specs.Chosen.{extensions_of, sparse_items};
 ghost use Rattle.index_extension_list.specs.Lent.{lent_cache, lent_cache_len, lent_monitor, lent_monitor_len, lent_tree};
 ghost use Rattle.index_extension_list.specs.Lent.{lent_tree_len, lent_undo, lent_undo_len};
 ghost use Rattle.index_extension_list.specs.Listing.{AreLens};
-ghost use Rattle.index_extension_list.specs.PutsItems.{PutsItems, chosen_bytes, tree_bytes};
+ghost use Rattle.index_extension_list.specs.PutsItems.{PutsIf, PutsItems, chosen_bytes, items_behind_tree};
+ghost use Rattle.index_extension_list.specs.PutsItems.{items_behind_undo, last_items, tree_bytes};
 
 use crate::{Chosen, Lens};
 use index_cached_tree::write::put_item;
@@ -49,8 +49,7 @@ fn put_tree<W: Out>(
 ) -> io::Result<()>
     requires len { len ≡ lent_tree_len in_git_order tree }
     requires unfailed { W.failed out.old ≡ false }
-    ensures { PutsItems W.Out out.old out.new result
-        (item_if tree_item (lent_tree in_git_order tree.entry)) }
+    ensures { PutsIf W.Out out.old out.new result tree_item (lent_tree in_git_order tree.entry) }
 {
     match (tree, len) {
         (Some(tree), Some(len)) => put_tree_item(tree, in_git_order, len, out),
@@ -66,8 +65,7 @@ fn put_resolve_undo<W: Out>(
 ) -> io::Result<()>
     requires len { len ≡ lent_undo_len paths }
     requires unfailed { W.failed out.old ≡ false }
-    ensures { PutsItems W.Out out.old out.new result
-        (item_if resolve_undo_item (lent_undo paths.entry)) }
+    ensures { PutsIf W.Out out.old out.new result resolve_undo_item (lent_undo paths.entry) }
 {
     match (paths, len) {
         (Some(paths), Some(len)) => resolve_undo::put_item(paths, len, out),
@@ -84,8 +82,7 @@ fn put_untracked<W: Out>(
 ) -> io::Result<()>
     requires len { len ≡ lent_cache_len kind cache }
     requires unfailed { W.failed out.old ≡ false }
-    ensures { PutsItems W.Out out.old out.new result
-        (item_if (cache_item kind) (lent_cache cache.entry)) }
+    ensures { PutsIf W.Out out.old out.new result (cache_item kind) (lent_cache cache.entry) }
 {
     match (cache, len) {
         (Some(cache), Some(len)) => untracked_cache::put_item(cache, kind, len, out),
@@ -97,8 +94,7 @@ fn put_untracked<W: Out>(
 fn put_monitor<W: Out>(monitor: Option<&FsMonitor>, len: Option<u32>, out: &mut W) -> io::Result<()>
     requires len { len ≡ lent_monitor_len monitor }
     requires unfailed { W.failed out.old ≡ false }
-    ensures { PutsItems W.Out out.old out.new result
-        (item_if monitor_item (lent_monitor monitor.entry)) }
+    ensures { PutsIf W.Out out.old out.new result monitor_item (lent_monitor monitor.entry) }
 {
     match (monitor, len) {
         (Some(monitor), Some(len)) => fs_monitor::put_item(monitor, len, out),
@@ -121,7 +117,7 @@ fn put_sparse<W: Out>(is_sparse: bool, out: &mut W) -> io::Result<()>
 fn put_last<W: Out>(chosen: Chosen<'_>, kind: Kind, lens: Lens, out: &mut W) -> io::Result<()>
     requires lens { AreLens kind (extensions_of chosen) lens }
     requires unfailed { W.failed out.old ≡ false }
-    ensures { PutsItems W.Out out.old out.new result (last_items (extensions_of chosen.entry)) }
+    ensures { PutsItems W.Out out.old out.new result (last_items chosen.entry) }
 {
     put_monitor(chosen.fs_monitor, lens.fs_monitor, out)?;
     put_sparse(chosen.is_sparse, out)
@@ -137,7 +133,7 @@ fn put_untracked_and_last<W: Out>(
     requires lens { AreLens kind (extensions_of chosen) lens }
     requires unfailed { W.failed out.old ≡ false }
     ensures { PutsItems W.Out out.old out.new result
-        (items_behind_undo kind (extensions_of chosen.entry)) }
+        (items_behind_undo kind chosen.entry) }
 {
     put_untracked(chosen.untracked, kind, lens.untracked, out)?;
     put_last(chosen, kind, lens, out)
@@ -153,7 +149,7 @@ fn put_behind_tree<W: Out>(
     requires lens { AreLens kind (extensions_of chosen) lens }
     requires unfailed { W.failed out.old ≡ false }
     ensures { PutsItems W.Out out.old out.new result
-        (items_behind_tree kind (extensions_of chosen.entry)) }
+        (items_behind_tree kind chosen.entry) }
 {
     put_resolve_undo(chosen.resolve_undo, lens.resolve_undo, out)?;
     put_untracked_and_last(chosen, kind, lens, out)

@@ -76,8 +76,9 @@ abbrev pub MarksBy : Ewah → List Entry → List Entry → Type 0
 MarksBy delete old new = RemovesAt (bitmap delete).words old new
 
 -- the records at no place of the bitmap are retained
-abbrev pub KeepsOthers : Ewah → List ℕ → List Entry → List Entry → Type 0
-KeepsOthers delete storage old new = Keeps (bitmap delete).words (records_in storage old) (records_in storage new)
+abbrev pub KeepsOthers : Ewah → List ℕ → Vec Entry → Vec Entry → Type 0
+KeepsOthers delete storage old new =
+    Keeps (bitmap delete).words (records_in storage old.items) (records_in storage new.items)
 
 -- what an error says of a bitmap's places over a list
 abbrev pub SaysDelete : {X : Type 0} → Ewah → List X → Error → Type 0

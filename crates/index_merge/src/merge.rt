@@ -235,7 +235,7 @@ fn drop_removed(entries: &mut Vec<Entry>)
 fn keep_others(entries: &mut Vec<Entry>, storage: &[u8], delete: &ewah::Vec) -> Result<(), Error>
     requires { All (IsPlaced (length storage.now)) entries.old.items }
     ensures retained { OnOk result
-        (KeepsOthers delete.now storage.now entries.old.items entries.new.items) }
+        (KeepsOthers delete.now storage.now entries.old entries.new) }
     ensures placed { OnOk result (All (IsPlaced (length storage.now)) entries.new.items) }
     ensures fault { IfErr result
         (SaysDelete delete.now (records_in storage.now entries.old.items)) }
