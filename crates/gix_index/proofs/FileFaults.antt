@@ -84,8 +84,8 @@ module _ (skip : Bool) (kind : Kind) (time : FileTime) (options : Options) where
       subst (λ (x : List ℕ). SaysOfFile path w (world x) skip kind time options e) same
       (fault_there path w fw (world at) stored e works o h)
 
-  pub alone_there : (at path : List ℕ) (world : World) (stored : Option Stored) (r : Result Unfollowed Error) → at ≡ path
-      → MayBe (world at) (λ there. stored ≡ Some there)
+  pub alone_there : (at path : List ℕ) (world : World) (stored : Option Stored) (r : Result Unfollowed Error)
+      → at ≡ path → MayBe (world at) (λ there. stored ≡ Some there)
       → IfOk r (IsReadAlone (known_of stored) skip kind time options)
       → IfOk r (IsReadAlone (world path) skip kind time options)
   alone_there at path world stored (Ok u) same o h = (

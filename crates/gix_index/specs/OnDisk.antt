@@ -29,8 +29,8 @@ use Rattle.gix_index.specs.Disk.{disk_in_hand, known_of, shared_path}
 use Rattle.gix_index.specs.File.{IsFileOf, IsWholeFile, checksum_of, path_of, state_of}
 use Rattle.gix_index.specs.FileFaults.{SaysOfFile, SaysOfLocking}
 use Rattle.gix_index.specs.Linked.{IsReadAlone}
-use Rattle.gix_index.specs.ReadFile.{IsFileOnDisk, IsFound, IsReadUnder, Loads, Opens, Reads, SaysOfBothBy, SaysOfFileBy}
-use Rattle.gix_index.specs.ReadFile.{SaysOfFinding, SaysOfFollowing, SaysOfShared}
+use Rattle.gix_index.specs.ReadFile.{IsFileOnDisk, IsFound, IsReadUnder, Loads, Opens, Reads, SaysOfBothBy}
+use Rattle.gix_index.specs.ReadFile.{SaysOfFileBy, SaysOfFinding, SaysOfFollowing, SaysOfShared}
 use Rattle.gix_index.specs.VerifiedFile.{FitsFile}
 use Rattle.gix_index.specs.declared.file.File.{File}
 use Rattle.gix_index.specs.declared.file.lock.Locked.{Locked}
@@ -78,28 +78,37 @@ IsSharedPath path id shared = path_buf_bytes shared ≡ shared_path path id
 abbrev pub FitsAtPath : {D F M : Type 0} → Ghosts D F M → D → File → Type 0
 FitsAtPath folder now f = IfSome (checksum_of f) (FitsFile (folder.known now (path_of f)))
 
--- the words of reading, of what is known of the place now
+-- why the shared index with an id isn't read, beside a path
 abbrev pub SaysOfSharedIn : {D F M : Type 0} → Ghosts D F M → D → Path → ObjectId → ReadOptions → Error → Type 0
 SaysOfSharedIn folder now path id r e = SaysOfShared (folder.works now) (folder.known now) path id r e
 
+-- why no shared index is merged into an index that was read by itself
 abbrev pub SaysOfFollowingIn : {D F M : Type 0} → Ghosts D F M → D → ReadOptions → File → Error → Type 0
 SaysOfFollowingIn folder now r own e = SaysOfFollowing (folder.works now) (folder.known now) r own e
 
-abbrev pub FindsIn : {D F M : Type 0} → Ghosts D F M → D → Path → PathBuf Global → ReadOptions → Bool → Bool → File → Type 0
+-- the index in the file at one path, whose own path is another; or why it isn't read
+abbrev pub FindsIn : {D F M : Type 0} → Ghosts D F M → D → Path → PathBuf Global → ReadOptions → Bool → Bool → File
+    → Type 0
 FindsIn folder now at path r or_default has_time f = IsFound (folder.known now) at path r or_default has_time f
 
-abbrev pub SaysOfFindingIn : {D F M : Type 0} → Ghosts D F M → D → Path → PathBuf Global → ReadOptions → Bool → Error → Type 0
-SaysOfFindingIn folder now at path r has_time e = SaysOfFinding (folder.works now) (folder.known now) at path r has_time e
+abbrev pub SaysOfFindingIn : {D F M : Type 0} → Ghosts D F M → D → Path → PathBuf Global → ReadOptions → Bool → Error
+    → Type 0
+SaysOfFindingIn folder now at path r has_time e =
+    SaysOfFinding (folder.works now) (folder.known now) at path r has_time e
 
+-- the index at a path is read, or an empty one in its place, or it is read with the time of its file
 abbrev pub ReadsIn : {D F M : Type 0} → Ghosts D F M → D → PathBuf Global → Bool → Kind → FileTime → Options
     → Result File Error → Type 0
-ReadsIn folder now path skip kind time options r = Reads (folder.works now) (folder.known now) path skip kind time options r
+ReadsIn folder now path skip kind time options r =
+    Reads (folder.works now) (folder.known now) path skip kind time options r
 
 abbrev pub LoadsIn : {D F M : Type 0} → Ghosts D F M → D → PathBuf Global → Bool → Kind → FileTime → Options
     → Result File Error → Type 0
-LoadsIn folder now path skip kind time options r = Loads (folder.works now) (folder.known now) path skip kind time options r
+LoadsIn folder now path skip kind time options r =
+    Loads (folder.works now) (folder.known now) path skip kind time options r
 
-abbrev pub OpensIn : {D F M : Type 0} → Ghosts D F M → D → PathBuf Global → Bool → Kind → Options → Result File Error → Type 0
+abbrev pub OpensIn : {D F M : Type 0} → Ghosts D F M → D → PathBuf Global → Bool → Kind → Options → Result File Error
+    → Type 0
 OpensIn folder now path skip kind options r = Opens (folder.works now) (folder.known now) path skip kind options r
 
 -- the index at a path, read by itself, or why it isn't read
@@ -113,7 +122,8 @@ pub record ReadsAloneAt {D F M : Type 0} (folder : Ghosts D F M) (now : D) (path
 -- ---- locking
 
 -- what was read behind the lock
-abbrev pub IsReadBehind : {D F M : Type 0} → Ghosts D F M → D → PathBuf Global → Bool → Kind → Options → Bool → Locked M → Type 0
+abbrev pub IsReadBehind : {D F M : Type 0} → Ghosts D F M → D → PathBuf Global → Bool → Kind → Options → Bool → Locked M
+    → Type 0
 IsReadBehind folder new path skip kind options or_default x =
     IsReadUnder (folder.known new) path skip kind options or_default x.lock.place x.file
 
@@ -121,7 +131,9 @@ IsReadBehind folder new path skip kind options or_default x =
 abbrev pub IsLockedWhole : {M : Type 0} → List ℕ → Kind → Locked M → Type 0
 IsLockedWhole path kind x = IsWholeFile path kind x.file
 
-abbrev pub SaysOfLockIn : {D F M : Type 0} → Ghosts D F M → D → PathBuf Global → Bool → Kind → Options → LockingError → Type 0
+-- why it isn't locked and read
+abbrev pub SaysOfLockIn : {D F M : Type 0} → Ghosts D F M → D → PathBuf Global → Bool → Kind → Options → LockingError
+    → Type 0
 SaysOfLockIn folder old path skip kind options e =
     SaysOfLocking (path_buf_bytes path) (folder.works old) (folder.guards old) (folder.known old) skip kind options e
 

@@ -1,6 +1,7 @@
 -- What becomes of a writer (`std::io::Write`), and of the answer, where an index is written with its digest
 -- (gitformat-index, "Hash checksum").
-use Rattle.std.specs.Prelude.{◌≡◌, ◌↔◌, ◌++◌, ℕ, Bool, true, List, [], Option, Some, None, Result, Err, IfErr, IfOk, OnErr, OnOk, codes}
+use Rattle.std.specs.Prelude.{◌≡◌, ◌↔◌, ◌++◌, ℕ, Bool, true, List, [], Option, Some, None, Result, Err, IfErr, IfOk}
+use Rattle.std.specs.Prelude.{OnErr, OnOk, codes}
 use Rattle.std.specs.Io.KnownBytes.{Appends}
 use Rattle.std.specs.Global.{Global}
 use Rattle.std.specs.Path.{path_buf_bytes}
@@ -104,7 +105,8 @@ IsWritten old new options = IsWrittenTo (path_of old) old new options
 -- ---- what the calls answer that write an index to the disk, over all that is known of the writer or of the place
 
 -- all but the trailer of a value goes to a writer
-abbrev pub PutsBodyTo : {S : Type 0} → OutGhosts S → S → S → Result (Version × ObjectId) Error → Contents → Options → Type 0
+abbrev pub PutsBodyTo : {S : Type 0} → OutGhosts S → S → S → Result (Version × ObjectId) Error → Contents → Options
+    → Type 0
 PutsBodyTo w old new r v options = PutsBody w.taken w.failed w.hashed w.loan old new r v options
 
 -- all bytes of a file went to this writer
@@ -113,20 +115,25 @@ HoldsImage bytes_of writer f options x = Appends (bytes_of writer) (bytes_of x.f
 
 -- ---- by a lock that is made to write the index to its path
 
+-- where nothing else writes there, the file stands at its path
 abbrev pub StoresIn : {D F M : Type 0} → Ghosts D F M → D → D → File → Options → Type 0
 StoresIn folder old new f options = Stores (folder.alone old) (folder.known old) (folder.known new) f options
 
+-- where nothing else writes there, all stays, but the lock may be there where the place doesn't work
 abbrev pub LeavesLockOf : {D F M : Type 0} → Ghosts D F M → D → D → File → Type 0
 LeavesLockOf folder old new f =
-    folder.alone old ≡ true → LeavesLock (folder.works old) (folder.known old) (folder.known new) (path_of f ++ codes ".lock")
+    folder.alone old ≡ true
+    → LeavesLock (folder.works old) (folder.known old) (folder.known new) (path_of f ++ codes ".lock")
 
+-- why the file isn't written to its path
 abbrev pub SaysOfWritingIn : {D F M : Type 0} → Ghosts D F M → D → File → Options → WriteFault → Type 0
 SaysOfWritingIn folder old f options e = SaysOfWritingFile (folder.works old) (folder.known old) f options e
 
 -- ---- by a lock that was made before
 
 -- where nothing else writes there and the lock had no bytes, the index stands in the place of the file that was locked
-abbrev pub StoresByLock : {D F M : Type 0} → Ghosts D F M → (M → Option (List ℕ)) → D → D → Lock M → File → Options → Type 0
+abbrev pub StoresByLock : {D F M : Type 0} → Ghosts D F M → (M → Option (List ℕ)) → D → D → Lock M → File → Options
+    → Type 0
 StoresByLock folder bytes_of old new lock f options =
     folder.alone old ≡ true → bytes_of lock.file ≡ Some []
     → IsPutSince (folder.known old) (folder.known new) lock.place (contents (state_of f)) options

@@ -1,6 +1,7 @@
 -- What a call on an open file or on a place for files answers, and what it leaves, by what is known of each of their
 -- states (the library's own).
-use Rattle.std.specs.Prelude.{◌≡◌, ◌⊎◌, ℕ, List, [], Bool, true, Option, Some, Result, IfErr, IfOk, IfSome, IsOk, OnErr, OnOk}
+use Rattle.std.specs.Prelude.{◌≡◌, ◌⊎◌, ℕ, List, [], Bool, true, Option, Some, Result, IfErr, IfOk, IfSome, IsOk}
+use Rattle.std.specs.Prelude.{OnErr, OnOk}
 use Rattle.std.specs.Io.{ReadsAtMost}
 use Rattle.std.specs.Io.KnownBytes.{ReadConsumes}
 use Rattle.std.specs.IoError.{error_kind}
@@ -11,8 +12,8 @@ use Rattle.std.specs.declared.io.ErrorKind.TheVariants.{AlreadyExists, NotFound,
 use Rattle.std.specs.declared.path.Path.{Path}
 use Rattle.std.specs.declared.path.buf.PathBuf.{PathBuf}
 use Rattle.index_metadata.specs.declared.entry.stat.FileTime.{FileTime}
-use Rattle.index_folder.specs.World.{IsFaultOf, IsSeen, IsStatusOf, Known, Makes, MayBe, MayBeMissing, MayBeNoLink, MayBeTaken}
-use Rattle.index_folder.specs.World.{MayLead, Removes, Stored, World, from_place}
+use Rattle.index_folder.specs.World.{IsFaultOf, IsSeen, IsStatusOf, Known, Makes, MayBe, MayBeMissing, MayBeNoLink}
+use Rattle.index_folder.specs.World.{MayBeTaken, MayLead, Removes, Stored, World, from_place}
 use Rattle.index_folder.specs.declared.folder.Standing.{Standing}
 use Rattle.index_folder.specs.declared.folder.Status.{Status}
 

@@ -1,5 +1,4 @@
--- What a call answers that works on a place for files, and what it leaves of it, over all that is known of the place (the
--- library's own).
+-- What a call on a place for files answers and leaves, over all that is known of the place (the library's own).
 use Rattle.std.specs.Prelude.{◌≡◌, ◌⊎◌, ◌++◌, ℕ, List, [], codes, true, Option, Some, Result, IfErr, IfOk, OnErr, OnOk}
 use Rattle.std.specs.IoError.{error_kind}
 use Rattle.std.specs.Path.{path_buf_bytes, path_bytes, path_with_file_name}
@@ -10,7 +9,8 @@ use Rattle.std.specs.declared.path.Path.{Path}
 use Rattle.std.specs.declared.path.buf.PathBuf.{PathBuf}
 use Rattle.index_metadata.specs.declared.entry.stat.FileTime.{FileTime}
 use Rattle.index_folder.specs.Calls.{FailsAs}
-use Rattle.index_folder.specs.Locks.{IsCommitted, IsReleased, LeadsTo, SaysOfCommit, SaysOfLock, asked_of, lock_of, target_of}
+use Rattle.index_folder.specs.Locks.{IsCommitted, IsReleased, LeadsTo, SaysOfCommit, SaysOfLock, asked_of, lock_of}
+use Rattle.index_folder.specs.Locks.{target_of}
 use Rattle.index_folder.specs.World.{Makes, MayBe, MayBeNoLink, MayLead, Stored}
 use Rattle.index_folder.specs.declared.folder.Folder.{Ghosts}
 use Rattle.index_folder.specs.declared.lock.CommitError.{CommitError}
@@ -33,7 +33,8 @@ pub record LeavesFolder {D F M : Type 0} (folder : Ghosts D F M) (old new : D) :
 -- ---- reading
 
 -- what is had of the file at a path is so of the one that is known to be there
-abbrev pub GivesOfFile : {D F M T : Type 0} → Ghosts D F M → D → Path → Result T IoError → (T → Stored → Type 0) → Type 0
+abbrev pub GivesOfFile : {D F M T : Type 0} → Ghosts D F M → D → Path → Result T IoError → (T → Stored → Type 0)
+    → Type 0
 GivesOfFile folder now path result P = IfOk result (λ read. MayBe (folder.known now (path_bytes path)) (P read))
 
 -- where the place works, a fault comes of what is known of the path

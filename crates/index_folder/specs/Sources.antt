@@ -1,5 +1,4 @@
--- What a call answers that reads an open file, and what it leaves of it, over all that is known of the file (the library's
--- own).
+-- What a call on an open file answers and leaves, over all that is known of the file (the library's own).
 use Rattle.std.specs.Prelude.{◌≡◌, ◌⊎◌, ◌<◌, ◌+◌, ℕ, List, length, true, Result, IfErr, IfOk, IfSome, OnOk}
 use Rattle.std.specs.Io.{StartsWith, appended_bytes}
 use Rattle.std.specs.Io.KnownBytes.{Consumes, IsAtEnd}

@@ -4,8 +4,8 @@ ghost use Rattle.std.specs.Prelude.{◌≡◌, ℕ, List, Bool, Option, true, If
 ghost use Rattle.std.specs.IoError.{error_kind};
 ghost use Rattle.std.specs.Path.{path_bytes};
 ghost use Rattle.index_metadata.specs.declared.entry.stat.FileTime.{FileTime as Time};
-ghost use Rattle.index_folder.specs.Calls.{FailsAs, GivesTime, GoesTo, KeepsMade, MakesFile, MayLack, OpensAs, ReadsSome, RemovesFile};
-ghost use Rattle.index_folder.specs.Calls.{Sees, TellsLink, TellsStatus};
+ghost use Rattle.index_folder.specs.Calls.{FailsAs, GivesTime, GoesTo, KeepsMade, MakesFile, MayLack, OpensAs};
+ghost use Rattle.index_folder.specs.Calls.{ReadsSome, RemovesFile, Sees, TellsLink, TellsStatus};
 ghost use Rattle.index_folder.specs.World.{Moves, Stored, World, whole_of};
 
 use index_metadata::entry::FileTime;

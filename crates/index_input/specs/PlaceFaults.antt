@@ -1,15 +1,17 @@
 -- Why no index is found where no words name one (the program's own).
-use Rattle.std.specs.Prelude.{◌≡◌, ◌≢◌, ◌⊎◌, ◌≤◌, ℕ, List, Bool, true, Option, Some, None, Result, IfErr, IfNone, IfOk, IfSome}
+use Rattle.std.specs.Prelude.{◌≡◌, ◌≢◌, ◌⊎◌, ◌≤◌, ℕ, List, Bool, true, Option, Some, None, Result, String}
+use Rattle.std.specs.Prelude.{IfErr, IfNone, IfOk, IfSome}
 use Rattle.std.specs.Global.{Global}
 use Rattle.std.specs.IoError.{error_kind}
 use Rattle.std.specs.Path.{path_buf_bytes, path_with_file_name}
 use Rattle.std.specs.Str.{IsUtf8}
+use Rattle.std.specs.String.{string_bytes}
 use Rattle.std.specs.declared.io.ErrorKind.TheVariants.{OutOfMemory}
 use Rattle.std.specs.declared.path.buf.PathBuf.{PathBuf}
 use Rattle.gix_index.specs.Disk.World.{IsFaultOf, Known, World}
 use Rattle.gix_index.specs.OnDisk.FolderTrait.{Ghosts}
-use Rattle.index_input.specs.Place.{IsFoundUpward, IsReached, LeadsToIndex, MayBeFile, MayBePassed, folder_given}
-use Rattle.index_input.specs.Place.{gitdir_of, git_above, index_given, index_in}
+use Rattle.index_input.specs.Place.{IsFoundUpward, IsIndexPath, IsReached, LeadsToIndex, MayBeFile, MayBePassed}
+use Rattle.index_input.specs.Place.{folder_given, gitdir_of, git_above, index_given, index_in}
 use Rattle.index_input.specs.declared.error.Error.{Error}
 use Rattle.index_input.specs.declared.error.Error.TheVariants as errors
 use Rattle.index_input.specs.declared.place.Surroundings.{Surroundings}
@@ -66,3 +68,7 @@ pub record FindsIndex {D F M : Type 0} (folder : Ghosts D F M) (now : D) (git : 
 -- the index to which the first `.git` upward leads
 abbrev pub IsUpward : {D F M : Type 0} → Ghosts D F M → D → ℕ → PathBuf Global → Type 0
 IsUpward folder now depth index = IsFoundUpward (folder.known now) depth (path_buf_bytes index)
+
+-- the index that the variables name, or else the one that is found
+abbrev pub IsPlaced : {D F M A : Type 0} → Ghosts D F M → D → Surroundings → String A → Type 0
+IsPlaced folder now around index = IsIndexPath (folder.known now) around (string_bytes index)

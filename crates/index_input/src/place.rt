@@ -4,8 +4,9 @@ ghost use Rattle.std.specs.Prelude.{◌≡◌, IfErr, IfOk};
 ghost use Rattle.std.specs.Option.{option_copied, option_map};
 ghost use Rattle.std.specs.Path.{path_buf_bytes};
 ghost use Rattle.std.specs.String.{string_bytes};
-ghost use Rattle.index_input.specs.Place.{IsIndexPath, MayBeOpened, gitdir_of, index_in, text_given, without_line_ends};
-ghost use Rattle.index_input.specs.PlaceFaults.{FindsIndex, IsUpward, LeadsByText, SaysOfPlace, SaysOfSearch, SaysOfText};
+ghost use Rattle.index_input.specs.Place.{MayBeOpened, gitdir_of, index_in, text_given, without_line_ends};
+ghost use Rattle.index_input.specs.PlaceFaults.{FindsIndex, IsPlaced, IsUpward, LeadsByText, SaysOfPlace};
+ghost use Rattle.index_input.specs.PlaceFaults.{SaysOfSearch, SaysOfText};
 
 use crate::error::Error;
 use gix_index::file::bytes_at;
@@ -152,7 +153,7 @@ pub fn index_path<D: Folder>(
     around: &Surroundings,
 ) -> Result<String, Error>
     ensures found { IfOk result
-        (λ index. IsIndexPath (D.known folder.now) around.now (string_bytes index)) }
+        (IsPlaced D.Folder folder.now around.now) }
     ensures fault { IfErr result
         (SaysOfPlace (D.works folder.now) (D.known folder.now) around.now) }
 {

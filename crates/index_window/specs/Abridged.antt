@@ -1,7 +1,7 @@
 -- What is held of the extensions of a file that is read in windows: those that aren't known, and may be skipped, are
 -- left out (gitformat-index, "Extensions": "extensions can be added without breaking existing readers").
-use Rattle.std.specs.Prelude.{◌≡◌, ◌<◌, ◌≤◌, ◌+◌, ◌-◌, ◌++◌, ℕ, nat_eq, ◌&&◌, ◌||◌, not, Bool, true, List, [], codes, filter}
-use Rattle.std.specs.Prelude.{if◌then◌else◌, length, Option, Result, IfOk, vec_len}
+use Rattle.std.specs.Prelude.{◌≡◌, ◌<◌, ◌≤◌, ◌+◌, ◌-◌, ◌++◌, ℕ, nat_eq, ◌&&◌, ◌||◌, not, Bool, true, List, []}
+use Rattle.std.specs.Prelude.{codes, filter, if◌then◌else◌, length, Option, Result, IfOk, vec_len}
 use Rattle.std.specs.Global.{Vec}
 use Rattle.std.specs.Io.KnownBytes.{Consumes, IsAtEnd}
 use Rattle.std.specs.declared.io.Error.{Error}
@@ -15,7 +15,7 @@ use Rattle.index_extensions.specs.EndMarker.{heads}
 use Rattle.index_extensions.specs.Walk.{Item, AreItems}
 use Rattle.index_format.specs.Outcome.{is_understood}
 use Rattle.index_folder.specs.declared.folder.Source.{Ghosts}
-use Rattle.index_window.specs.Windowed.{IfGiven, IsPassedOn, Moment, moment}
+use Rattle.index_window.specs.Windowed.{IfGiven, IsPassedOn, Moment, moment_of}
 use Rattle.index_window.specs.declared.extensions.Extension.{Extension}
 use Rattle.index_window.specs.declared.extensions.Held.{Held}
 use Rattle.index_window.specs.declared.extensions.Place.{Place}
@@ -64,8 +64,8 @@ held_part is_held bytes = if is_held then bytes else []
 pub record ReadsOn {S : Type 0} (source : Ghosts S) (plan : Plan) (place : Place) (file rest : S) (h i : Hasher)
     (old new : Vec ℕ) (result : Result (Option Place) Error) : Type 0 where
   pub passed : IfGiven result (λ x. (count : ℕ) × (count + x.left ≡ place.left)
-      × IsPassedOn plan (moment source file h old.items place.start []) (moment source rest i new.items x.start [])
-      count [])
+      × IsPassedOn plan (moment_of source file h old.items place.start [])
+      (moment_of source rest i new.items x.start []) count [])
   pub comes : IfGiven result (λ x. vec_len old < place.start + 8 → x.left < place.left)
   pub stored : source.stored rest ≡ source.stored file
   pub works : source.works rest ≡ source.works file
@@ -75,8 +75,8 @@ pub record PassesExtension {S : Type 0} (source : Ghosts S) (plan : Plan) (exten
     (file rest : S) (h i : Hasher) (old new before after : Vec ℕ) (result : Result (Option Place) Error) : Type 0 where
   pub passed : IfGiven result (λ x. (count : ℕ) × (count + x.left ≡ place.left) × (passed : List ℕ)
       × (length passed ≡ extension.len) × (after.items ≡ before.items ++ held_part extension.is_held passed)
-      × IsPassedOn plan (moment source file h old.items place.start []) (moment source rest i new.items x.start [])
-      count passed)
+      × IsPassedOn plan (moment_of source file h old.items place.start [])
+      (moment_of source rest i new.items x.start []) count passed)
   pub stored : source.stored rest ≡ source.stored file
   pub works : source.works rest ≡ source.works file
 
@@ -84,8 +84,8 @@ pub record PassesExtension {S : Type 0} (source : Ghosts S) (plan : Plan) (exten
 pub record PassesExtensions {S : Type 0} (source : Ghosts S) (plan : Plan) (place : Place) (file rest : S)
     (h i : Hasher) (old new : Vec ℕ) (held : Held) (result : Result (Option Place) Error) : Type 0 where
   pub abridged : IfGiven result (λ x. (count : ℕ) × (count + x.left ≡ place.left)
-      × IsAbridgedOn plan (moment source file h old.items place.start []) (moment source rest i new.items x.start [])
-      count held.bytes.items held.heads)
+      × IsAbridgedOn plan (moment_of source file h old.items place.start [])
+      (moment_of source rest i new.items x.start []) count held.bytes.items held.heads)
   pub trailer : IfGiven result (λ x. id_len plan.kind ≤ vec_len new - x.start + x.left)
   pub stored : source.stored rest ≡ source.stored file
   pub works : source.works rest ≡ source.works file

@@ -29,8 +29,8 @@ IsAllOf stored bytes = IfSome stored (λ whole. bytes ≡ whole.bytes)
 abbrev pub IsAllLeft : Option (List ℕ) → List ℕ → Type 0
 IsAllLeft remaining bytes = IfSome remaining (λ left. bytes ≡ left) × AreBytes bytes
 
--- The index is what is read of some bytes, of which this holds. Its parts stand in their storage, and can be stored; ids
--- are of its kind.
+-- The index is what is read of some bytes, of which this holds. Its parts stand in their storage, and can be stored;
+-- ids are of its kind.
 pub record IsWindowed (reading : ReadOptions) (keeps_ending : Bool) (Held : List ℕ → Type 0) (x : WindowedIndex)
     : Type 0 where
   pub read : (bytes : List ℕ) × Held bytes × IsIntact reading.skip_hash reading.object_hash bytes

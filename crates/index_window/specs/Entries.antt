@@ -1,5 +1,6 @@
 -- Entries that are read in windows, and those that are passed (the library's own).
-use Rattle.std.specs.Prelude.{◌≡◌, ◌≤◌, ◌+◌, ◌-◌, ℕ, All, List, length, None, Option, Result, IfOk, IfSome, OnOk, vec_len}
+use Rattle.std.specs.Prelude.{◌≡◌, ◌≤◌, ◌+◌, ◌-◌, ℕ, All, List, length, None, Option, Result, IfOk, IfSome, OnOk}
+use Rattle.std.specs.Prelude.{vec_len}
 use Rattle.std.specs.Global.{Vec}
 use Rattle.std.specs.declared.alloc.AllocError.{AllocError}
 use Rattle.std.specs.declared.io.Error.{Error}
@@ -12,7 +13,7 @@ use Rattle.index_parts.specs.Id.{id_kind}
 use Rattle.index_parts.specs.declared.hash.Hasher.{Hasher}
 use Rattle.index_parts.specs.declared.hash.Kind.{Kind}
 use Rattle.index_window.specs.Passed.{in_64_bits, paths_len}
-use Rattle.index_window.specs.Windowed.{IfGiven, IsReadOn, moment}
+use Rattle.index_window.specs.Windowed.{IfGiven, IsReadOn, moment_of}
 use Rattle.index_window.specs.declared.passed.Passed.{Passed}
 use Rattle.index_window.specs.declared.plan.Plan.{Plan}
 
@@ -37,8 +38,8 @@ pub record ReadsEntries {S : Type 0} (source : Ghosts S) (plan : Plan) (left : �
   pub fit : OnOk result (FitPlan plan after)
   pub whole : IfGiven result (λ _. length after.list.records ≡ plan.count)
   pub read : IfGiven result (λ x. (count : ℕ) × (count + x.1 ≡ left) × IsReadOn plan
-      (moment source file h old.items 12 before.list.records) (moment source rest i new.items x.0 after.list.records)
-      count)
+      (moment_of source file h old.items 12 before.list.records)
+      (moment_of source rest i new.items x.0 after.list.records) count)
   pub named : IfGiven result
       (λ x. IfSome plan.offset (λ place. place + (vec_len new - x.0) + x.1 ≡ plan.len))
   pub stored : source.stored rest ≡ source.stored file

@@ -18,8 +18,8 @@ pub record Moment : Type 0 where
   pub records : List Record
 
 -- the same, of an open file with what is at hand of it
-abbrev pub moment : {S : Type 0} → Ghosts S → S → Hasher → List ℕ → ℕ → List Record → Moment
-moment source file hasher window decoded records =
+abbrev pub moment_of : {S : Type 0} → Ghosts S → S → Hasher → List ℕ → ℕ → List Record → Moment
+moment_of source file hasher window decoded records =
     record { left = source.remaining file; hasher = hasher; window = window; decoded = decoded; records = records }
 
 -- it is so of what was given; nothing may have been given, or an error

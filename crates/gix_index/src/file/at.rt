@@ -11,8 +11,8 @@ ghost use Rattle.gix_index.specs.File.{IsFileOf, IsWholeFile};
 ghost use Rattle.gix_index.specs.ReadFile.{FollowsTo, IsFileRead, IsFound, IsReadOf, IsSharedRead, Loads, Opens, Reads};
 ghost use Rattle.gix_index.specs.ReadFile.{SaysOfAny, SaysOfFileBy, SaysOfFinding, SaysOfFollowing, SaysOfShared};
 ghost use Rattle.index_state.specs.State.{IsWellFormed};
-ghost use Rattle.gix_index.specs.OnDisk.{FindsIn, IsSharedPath, LoadsIn, OpensIn, ReadsIn, SaysOfFindingIn, SaysOfFollowingIn};
-ghost use Rattle.gix_index.specs.OnDisk.{SaysOfSharedIn, SaysOfSource};
+ghost use Rattle.gix_index.specs.OnDisk.{FindsIn, IsSharedPath, LoadsIn, OpensIn, ReadsIn, SaysOfFindingIn};
+ghost use Rattle.gix_index.specs.OnDisk.{SaysOfFollowingIn, SaysOfSharedIn, SaysOfSource};
 
 use super::File;
 use super::init::{Error, decoded};

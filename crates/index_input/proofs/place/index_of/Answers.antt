@@ -19,7 +19,8 @@ returns-in_ok-index_in-in-Ok-Folder g c =
       | Special ↦ λ h. absurd (cc)
     ] in
     record {
-      leads = by_folder _ (subst (λ (p : List ℕ). MayBeFolder (world p)) c.as_path.ensures (stands c.in-Ok-Folder.ensures.seen))
+      leads = by_folder _
+          (subst (λ (p : List ℕ). MayBeFolder (world p)) c.as_path.ensures (stands c.in-Ok-Folder.ensures.seen))
           c.in_ok-index_in-in-Ok-Folder.ensures;
       passed = tt;
       fault = tt;

@@ -1,14 +1,14 @@
 use Rattle.std.proofs.Common.{◌≡◌, ◌+◌, ℕ}
 use Rattle.index_window.specs.Entries.{FitPlan}
-use Rattle.index_window.specs.Windowed.{IsReadOn, moment}
+use Rattle.index_window.specs.Windowed.{IsReadOn, moment_of}
 use Rattle.index_window.proofs.windows.read_entries.Given as goal
 
 abbrev pub invariant-windows : goal.invariant-windows
 invariant-windows g l = record {
   fit : FitPlan l.plan l.first;
   read : (count : ℕ) × (count + l.left ≡ l.fn.left) × IsReadOn l.plan
-      (moment g.S.Source l.fn.file l.fn.hasher l.fn.window.items 12 l.fn.first.list.records)
-      (moment g.S.Source l.file l.hasher l.window.items l.start l.first.list.records)
+      (moment_of g.S.Source l.fn.file l.fn.hasher l.fn.window.items 12 l.fn.first.list.records)
+      (moment_of g.S.Source l.file l.hasher l.window.items l.start l.first.list.records)
       count;
   stored : g.S.Source.stored l.file ≡ g.S.Source.stored l.fn.file;
   works : g.S.Source.works l.file ≡ g.S.Source.works l.fn.file;

@@ -16,7 +16,7 @@ use Rattle.index_window.specs.Abridged.{IsAbridgedOn}
 use Rattle.index_window.specs.Behind.{FollowEntries}
 use Rattle.index_window.specs.Intact.{IsIntact}
 use Rattle.index_window.specs.Marked.{HasPassed}
-use Rattle.index_window.specs.Windowed.{Moment, IsMovedOn, IsReadOn}
+use Rattle.index_window.specs.Windowed.{Moment, IsMovedOn, IsReadOn, moment_of}
 use Rattle.index_window.specs.declared.plan.Plan.{Plan}
 use Rattle.index_window.proofs.Abridging.{ending_whole}
 use Rattle.index_window.proofs.Wholes.{answer_of_windows, ending_of_windows, some_then}
@@ -50,34 +50,11 @@ returns-clause-read g c =
     let trailer = rw c.in-Some-2.is at c.in_ok-place.ensures.trailer in
     let all-held : c.in_ok-read_rest.field-0 ≡ true = search rules in
     let t = c.in_ok-read_rest.ensures.rest all-held in
-    let a : Moment = record {
-      left = g.S.Source.remaining c.fill.new.file;
-      hasher = c.new-hasher.result;
-      window = first;
-      decoded = 12;
-      records = c.in_ok-first.first.list.records;
-    } in
-    let b : Moment = record {
-      left = g.S.Source.remaining c.read_entries.new.file;
-      hasher = c.read_entries.new.hasher;
-      window = w1;
-      decoded = start;
-      records = records;
-    } in
-    let entries : Moment = record {
-      left = g.S.Source.remaining c.read_entries.new.file;
-      hasher = c.read_entries.new.hasher;
-      window = w1;
-      decoded = start;
-      records = [];
-    } in
-    let passed : Moment = record {
-      left = g.S.Source.remaining c.pass_extensions.new.file;
-      hasher = c.pass_extensions.new.hasher;
-      window = w2;
-      decoded = at;
-      records = [];
-    } in
+    let a : Moment =
+    moment_of g.S.Source c.fill.new.file c.new-hasher.result first 12 c.in_ok-first.first.list.records in
+    let b : Moment = moment_of g.S.Source c.read_entries.new.file c.read_entries.new.hasher w1 start records in
+    let entries : Moment = moment_of g.S.Source c.read_entries.new.file c.read_entries.new.hasher w1 start [] in
+    let passed : Moment = moment_of g.S.Source c.pass_extensions.new.file c.pass_extensions.new.hasher w2 at [] in
     let end = g.S.Source.remaining c.read_rest.new.file in
     let held = c.pass_extensions.new.held.bytes.items in
     let heads = c.pass_extensions.new.held.heads in
