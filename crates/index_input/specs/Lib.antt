@@ -1,3 +1,4 @@
+pub mod Calls
 pub mod Config
 pub mod Digests
 pub mod Faults
