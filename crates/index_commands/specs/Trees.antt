@@ -118,8 +118,8 @@ pub record PutsTree (counts : Counts) (tree : Node) (old new : State) : Type 0 w
   pub placed : PathsInStorage old → PathsInStorage new
 
 -- the index in the file at a path of a folder with the cached tree of what it stages; or why there is none
-abbrev pub MakesTrees : {S F M : Type 0} → Counts → Folder S F M → S → Kind → List ℕ → Result File Failure → Type 0
-MakesTrees counts folder now kind path answer = GivesIndex
+abbrev pub GivesWithTrees : {S F M : Type 0} → Counts → Folder S F M → S → Kind → List ℕ → Result File Failure → Type 0
+GivesWithTrees counts folder now kind path answer = GivesIndex
     (λ index. IsMadeInFile counts (disk_at (folder.known now) path) kind (contents (state_of index)))
     (FailsToTree (folder.works now) (folder.known now) kind path) answer
 

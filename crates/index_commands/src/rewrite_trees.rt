@@ -1,7 +1,7 @@
 //! The command `rewrite-trees`.
 
 ghost use Rattle.gix_index.specs.Tree.{node_of};
-ghost use Rattle.index_commands.specs.Trees.{MakesTrees, PutsTree, RewritesTrees};
+ghost use Rattle.index_commands.specs.Trees.{GivesWithTrees, PutsTree, RewritesTrees};
 
 use crate::rewrite::{Form, choice};
 use crate::trees::tree_of;
@@ -41,7 +41,7 @@ fn made<'a, D: Folder>(
     kind: Kind,
     path: &'a str,
 ) -> Result<File, Failure<'a>>
-    ensures { MakesTrees counts D.Folder folder.now kind path.now result }
+    ensures { GivesWithTrees counts D.Folder folder.now kind path.now result }
 {
     let index = opened_at(folder, alloc, kind, path)?;
     let tree = tree_of(alloc, &index, path)?;
