@@ -13,7 +13,7 @@ use Rattle.gix_index.specs.SoundState.{AreSoundExtensions, SaysFall, extensions_
 use Rattle.gix_index.specs.TreeFaults.{SaysTree}
 use Rattle.gix_index.specs.TreeIds.{AreRight, SaysTreeIds}
 use Rattle.gix_index.specs.VerifiedFile.{FitsFile}
-use Rattle.index_failures.specs.Folder.{Ghosts as Folder}
+use Rattle.gix_index.specs.OnDisk.FolderTrait.{Ghosts as Folder}
 use Rattle.index_failures.specs.declared.failure.Failure.{Failure}
 use Rattle.index_failures.specs.declared.failure.Failure.TheVariants as failures
 use Rattle.index_failures.specs.Reading.{FailsReading, IsInFile, SaysOfIndex}

@@ -8,7 +8,7 @@ use Rattle.gix_index.specs.Contents.{Contents}
 use Rattle.index_lines.specs.Line.{listing}
 use Rattle.index_text.specs.declared.lines.Lines.{Lines}
 use Rattle.index_failures.specs.Calls.{FailsToRead}
-use Rattle.index_failures.specs.Folder.{Ghosts as Folder}
+use Rattle.gix_index.specs.OnDisk.FolderTrait.{Ghosts as Folder}
 use Rattle.index_failures.specs.declared.failure.Failure.{Failure}
 use Rattle.index_failures.specs.Reading.{IsInFile}
 use Rattle.index_failures.specs.Telling.{EndsTelling, NoText}

@@ -13,7 +13,7 @@ use Rattle.gix_index.specs.Disk.World.{World}
 use Rattle.gix_index.specs.WriteOptions.{Options}
 use Rattle.index_commands.specs.declared.rewrite.Form.{Form}
 use Rattle.index_commands.specs.declared.rewrite.Form.TheVariants as forms
-use Rattle.index_failures.specs.Folder.{Ghosts as Folder}
+use Rattle.gix_index.specs.OnDisk.FolderTrait.{Ghosts as Folder}
 use Rattle.index_failures.specs.declared.failure.Failure.{Failure}
 use Rattle.index_failures.specs.Reading.{FailsReading, IsInFileSince, SaysOfIndex}
 use Rattle.index_failures.specs.Options.{rewrite_options}

@@ -25,7 +25,7 @@ use Rattle.gix_index.specs.Disk.World.{World}
 use Rattle.index_lines.specs.Directories.{subtree_lines}
 use Rattle.index_text.specs.declared.lines.Lines.{Lines}
 use Rattle.index_failures.specs.Calls.{GivesIndex}
-use Rattle.index_failures.specs.Folder.{Ghosts as Folder}
+use Rattle.gix_index.specs.OnDisk.FolderTrait.{Ghosts as Folder}
 use Rattle.index_failures.specs.declared.failure.Failure.{Failure}
 use Rattle.index_failures.specs.declared.failure.Failure.TheVariants as failures
 use Rattle.index_failures.specs.Options.{unlimited_options}

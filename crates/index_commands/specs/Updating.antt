@@ -20,7 +20,7 @@ use Rattle.gix_index.specs.declared.file.File.{File}
 use Rattle.index_info.specs.Names as names
 use Rattle.index_info.specs.Text.{AreSaid, SaysOfText, change_value}
 use Rattle.index_failures.specs.Calls.{FailsToRead, GivesIndex}
-use Rattle.index_failures.specs.Folder.{Ghosts as Folder}
+use Rattle.gix_index.specs.OnDisk.FolderTrait.{Ghosts as Folder}
 use Rattle.index_failures.specs.declared.failure.Failure.{Failure}
 use Rattle.index_failures.specs.declared.failure.Failure.TheVariants as failures
 use Rattle.index_failures.specs.Options.{IsBeginOf1970}

@@ -12,10 +12,10 @@ use Rattle.gix_index.specs.State.{PathsInStorage, contents}
 use Rattle.gix_index.specs.VersionChoice.{VersionChoice}
 use Rattle.gix_index.specs.WrittenFile.{IsWrittenTo}
 use Rattle.gix_index.specs.declared.file.File.{File}
-use Rattle.index_folder.specs.declared.folder.Folder.{Ghosts}
-use Rattle.index_folder.specs.declared.lock.Lock.{Lock}
+use Rattle.gix_index.specs.OnDisk.FolderTrait.{Ghosts}
+use Rattle.gix_index.specs.InPlace.Lock.{Lock}
 use Rattle.index_failures.specs.declared.failure.Failure.{Failure}
-use Rattle.index_failures.specs.Folders.{KeepsManner}
+use Rattle.gix_index.specs.OnDisk.Folders.{KeepsManner}
 use Rattle.index_failures.specs.Options.{rewrite_options}
 use Rattle.index_failures.specs.Reading.{FailsReading, IsInFile, IsInFileSince, SaysOfBytes, SaysOfIndex}
 use Rattle.index_failures.specs.Storing.{FailsCommitting, FailsLocking, IsUnderLock}

@@ -11,7 +11,7 @@ use Rattle.gix_index.specs.declared.file.File.{File}
 use Rattle.gix_index.specs.InPlace.Locks.{LeadsTo, Restores, SaysOfLock, asked_of, lock_of, target_of}
 use Rattle.gix_index.specs.InPlace.Place.{Place}
 use Rattle.gix_index.specs.Disk.World.{Makes, World}
-use Rattle.index_folder.specs.declared.folder.Folder.{Ghosts}
+use Rattle.gix_index.specs.OnDisk.FolderTrait.{Ghosts}
 use Rattle.index_failures.specs.declared.failure.Failure.{Failure}
 use Rattle.index_failures.specs.declared.failure.Failure.TheVariants as failures
 

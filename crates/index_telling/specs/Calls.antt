@@ -14,7 +14,7 @@ use Rattle.gix_index.specs.Storable.{IsStorable}
 use Rattle.index_inspect.specs.Remains.{IsPlainIndex, Remain}
 use Rattle.index_inspect.specs.declared.remains.Remains.{Remains}
 use Rattle.index_inspect.specs.declared.salvage.Salvaged.{Salvaged}
-use Rattle.index_failures.specs.Folder.{Ghosts}
+use Rattle.gix_index.specs.OnDisk.FolderTrait.{Ghosts}
 use Rattle.index_failures.specs.declared.failure.Failure.{Failure}
 use Rattle.index_failures.specs.Reading.{FailsReading}
 use Rattle.index_failures.specs.Storing.{EndsStoring}

@@ -12,7 +12,7 @@ use Rattle.index_inspect.specs.Remains.{last_begin}
 use Rattle.index_text.specs.declared.lines.Lines.{Lines}
 use Rattle.index_map.specs.declared.part.Part.{Part}
 use Rattle.index_picture.specs.Picture.{picture_text}
-use Rattle.index_failures.specs.Folder.{Ghosts as Folder}
+use Rattle.gix_index.specs.OnDisk.FolderTrait.{Ghosts as Folder}
 use Rattle.index_failures.specs.declared.failure.Failure.{Failure}
 use Rattle.index_failures.specs.Reading.{FailsReading, SaysOfBytes}
 use Rattle.index_failures.specs.Telling.{EndsTelling}

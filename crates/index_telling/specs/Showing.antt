@@ -18,7 +18,7 @@ use Rattle.index_json.specs.Json.{json_text}
 use Rattle.index_marks.specs.Marks.{AreMarks}
 use Rattle.index_show.specs.Show.{show_lines}
 use Rattle.index_marks.specs.declared.Marks.{Marks}
-use Rattle.index_failures.specs.Folder.{Ghosts as Folder}
+use Rattle.gix_index.specs.OnDisk.FolderTrait.{Ghosts as Folder}
 use Rattle.index_failures.specs.declared.failure.Failure.{Failure}
 use Rattle.index_failures.specs.Options.{unlimited_options, IsBeginOf1970}
 use Rattle.index_failures.specs.Reading.{FailsReading}

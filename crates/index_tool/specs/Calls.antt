@@ -8,8 +8,8 @@ use Rattle.std.specs.declared.io.ErrorKind.{ErrorKind}
 use Rattle.std.specs.declared.io.ErrorKind.TheVariants.{OutOfMemory}
 use Rattle.gix_index.specs.Hashing.Out.{Ghosts as Output}
 use Rattle.gix_index.specs.Kind.{Kind}
-use Rattle.index_failures.specs.Folder.{Ghosts as Folder}
-use Rattle.index_failures.specs.Folders.{LeavesFolder}
+use Rattle.gix_index.specs.OnDisk.FolderTrait.{Ghosts as Folder}
+use Rattle.gix_index.specs.OnDisk.Folders.{LeavesFolder}
 use Rattle.index_failures.specs.Storing.{EndsStoring}
 use Rattle.index_failures.specs.Telling.{Tells}
 use Rattle.index_failures.specs.declared.failure.Failure.{Failure}

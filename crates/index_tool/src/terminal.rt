@@ -3,7 +3,7 @@
 ghost use Rattle.std.specs.Prelude.{false, None};
 ghost use Rattle.std.specs.Io.{ReadsAtMost};
 ghost use Rattle.gix_index.specs.Disk.World.{Unknown};
-ghost use Rattle.index_failures.specs.Folders.{LeavesFolder};
+ghost use Rattle.gix_index.specs.OnDisk.Folders.{LeavesFolder};
 
 use gix_index::entry::FileTime;
 use gix_index::file::System;
