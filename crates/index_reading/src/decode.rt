@@ -3,21 +3,18 @@
 pub mod entries;
 pub mod header;
 
-ghost use Rattle.std.specs.Prelude.{◌≡◌, ◌≤◌, ◌+◌, ◌*◌, ◌||◌, not, length, IfOk, IfErr};
-ghost use Rattle.std.specs.Prelude.{OnOk, All};
+ghost use Rattle.std.specs.Prelude.{◌≡◌, ◌≤◌, ◌+◌, ◌*◌, ◌||◌, not, length, IfOk, IfErr, OnOk, All};
 ghost use Rattle.index_parts.specs.Id.{id_kind, id_len};
 ghost use Rattle.index_format.specs.Outcome.{outcome_of};
-ghost use Rattle.index_format.specs.Answer.{Answer, IsVerified, IsAnswer, IsBehindHeader, IsEnding};
-ghost use Rattle.index_format.specs.DecodeErrors.{Says, SaysFault};
+ghost use Rattle.index_format.specs.Answer.{Answer, IsAnswer, IsVerified};
+ghost use Rattle.index_format.specs.DecodeErrors.{Says};
 ghost use Rattle.index_parts.specs.Limit.{is_within};
 ghost use Rattle.index_entries.specs.Limits.{entry_cost};
-ghost use Rattle.index_extensions.specs.EndMarker.{IsMarker};
-ghost use Rattle.index_format.specs.ExtensionSteps.{IsTaken};
 ghost use Rattle.index_format.specs.Storable.{IsStorable};
-ghost use Rattle.index_format.specs.Contents.{PartsInStorage, ExtensionIdsAreOf, parts_contents, parts_entries};
-ghost use Rattle.index_entries.specs.Record.{IdsAreOf, has_directory};
-ghost use Rattle.index_metadata.specs.declared.entry.stat.FileTime.{FileTime as Time};
+ghost use Rattle.index_format.specs.Contents.{ExtensionIdsAreOf, parts_contents};
+ghost use Rattle.index_entries.specs.Record.{has_directory};
 ghost use Rattle.index_reading.specs.Head.{IsDeclared, LooksAt};
+ghost use Rattle.index_reading.specs.ReadParts.{AreOfKind, IsAnswerBehind, IsEndingAs, IsTakenAs, SaysDigest, SaysWhole};
 
 use crate::{extension, trailer};
 use index_entries::Version;
@@ -37,8 +34,7 @@ const ENTRY_COST: usize = 96;
 /// Whether the ids, if there are two, agree.
 fn verify(expected: Option<ObjectId>, actual: Option<ObjectId>) -> Result<(), Error>
     ensures ok { OnOk result ((whole : Answer) → IsVerified expected actual whole whole) }
-    ensures err { IfErr result (λ e. (whole : Answer)
-        → SaysFault e (IsVerified expected actual whole)) }
+    ensures err { IfErr result (SaysDigest expected actual) }
 {
     let Some(expected) = expected else {
         return Ok(());
@@ -78,13 +74,9 @@ fn read_parts(
     requires sparse { read.sparse ≡ has_directory read.list.records }
     requires trailer { length trailer.now ≡ id_len read_as.object_hash }
     requires room { left + id_len read_as.object_hash ≤ 0xffffffffffffffff }
-    ensures taken { Says parts_contents result (IsTaken read_as.object_hash read_as.timestamp
-        read_as.options read_as.version read.entry.list.records (outcome_of outcome) left
-        trailer.now) }
-    ensures placed { IfOk result (λ x. PartsInStorage x.0) }
-    ensures ids { IfOk result (λ x. IdsAreOf read_as.object_hash (parts_entries x.0)) }
-    ensures extension_ids { IfOk result
-        (λ x. ExtensionIdsAreOf read_as.object_hash (parts_contents x.0).extensions) }
+    ensures taken { Says parts_contents result
+        (IsTakenAs read_as read.entry outcome left trailer.now) }
+    ensures parts { IfOk result (λ x. AreOfKind read_as.object_hash x.0) }
 {
     let ReadAs {
         timestamp,
@@ -124,12 +116,8 @@ pub fn read_ending(
 ) -> Result<(Parts, Option<ObjectId>), Error>
     requires ids { All (λ r. id_kind r.id ≡ read_as.object_hash) read.list.records }
     requires sparse { read.sparse ≡ has_directory read.list.records }
-    ensures ending { Says parts_contents result (IsEnding read_as.object_hash read_as.timestamp
-        read_as.options read_as.version read.entry.list.records read.entry.rest.now) }
-    ensures placed { IfOk result (λ x. PartsInStorage x.0) }
-    ensures ids { IfOk result (λ x. IdsAreOf read_as.object_hash (parts_entries x.0)) }
-    ensures extension_ids { IfOk result
-        (λ x. ExtensionIdsAreOf read_as.object_hash (parts_contents x.0).extensions) }
+    ensures ending { Says parts_contents result (IsEndingAs read_as read.entry) }
+    ensures parts { IfOk result (λ x. AreOfKind read_as.object_hash x.0) }
 {
     let expected = read_as.object_hash.len_in_bytes();
     let actual = read.rest.len();
@@ -173,9 +161,7 @@ pub fn declared_by(
 ) -> Result<Declared<'_>, Error>
     ensures declared { IfOk result (IsDeclared object_hash options head.now len offset) }
     // Where the head is all of the file.
-    ensures fault { IfErr result (λ e. len ≡ length head.now
-        → IsMarker object_hash head.now offset → (time : Time)
-        → SaysFault e (IsAnswer object_hash time options head.now)) }
+    ensures fault { IfErr result (SaysWhole object_hash options head.now len offset) }
 {
     let (version, count, rest) = header::decode(head, object_hash)?;
     if count as usize > entries::max_entries_possible(len, offset, object_hash, version) {
@@ -217,13 +203,8 @@ fn read_behind_header(
     paths: usize,
     bytes: &[u8],
 ) -> Result<(Parts, Option<ObjectId>), Error>
-    ensures behind { Says parts_contents result
-        (IsBehindHeader read_as.object_hash read_as.timestamp read_as.options read_as.version
-        count bytes.now) }
-    ensures placed { IfOk result (λ x. PartsInStorage x.0) }
-    ensures ids { IfOk result (λ x. IdsAreOf read_as.object_hash (parts_entries x.0)) }
-    ensures extension_ids { IfOk result
-        (λ x. ExtensionIdsAreOf read_as.object_hash (parts_contents x.0).extensions) }
+    ensures behind { Says parts_contents result (IsAnswerBehind read_as count bytes.now) }
+    ensures parts { IfOk result (λ x. AreOfKind read_as.object_hash x.0) }
 {
     let ReadAs {
         object_hash,
@@ -246,11 +227,8 @@ pub fn from_bytes(
     // The state or the first fault that the format gives these bytes.
     ensures answer { Says parts_contents result
         (IsAnswer object_hash timestamp options «data».now) }
-    ensures placed { IfOk result (λ x. PartsInStorage x.0) }
-    ensures ids { IfOk result (λ x. IdsAreOf object_hash (parts_entries x.0)) }
+    ensures parts { IfOk result (λ x. AreOfKind object_hash x.0) }
     ensures storable { IfOk result (λ x. IsStorable (parts_contents x.0)) }
-    ensures extension_ids { IfOk result
-        (λ x. ExtensionIdsAreOf object_hash (parts_contents x.0).extensions) }
 {
     let declared = declared_in(data, object_hash, options)?;
     let read_as = ReadAs {
