@@ -15,8 +15,8 @@ LacksSome version kind count bytes (errors.NoEntry i) = (i < count) × LacksEntr
 LacksSome version kind count bytes errors.Memory = Unit {0}
 
 -- whatever bytes the entries before were read from: these stand behind them, and the rest behind the new ones
-abbrev pub ReadsOn : Version → Kind → FirstEntries → List ℕ → FirstEntries → List ℕ → Type 0
-ReadsOn version kind old bytes new rest =
+abbrev pub Continues : Version → Kind → FirstEntries → List ℕ → FirstEntries → List ℕ → Type 0
+Continues version kind old bytes new rest =
     (all : List ℕ) → AreEntries version kind None all old.list.records bytes
     → AreEntries version kind None all new.list.records rest
 

@@ -3,7 +3,7 @@
 ghost use Rattle.std.specs.Prelude.{◌≡◌, ◌≤◌, ◌++◌, ℕ, List, length, None, IfOk, IfErr, OnOk, All};
 ghost use Rattle.index_parts.specs.Id.{id_kind};
 ghost use Rattle.index_entries.specs.Entries.{AreEntries};
-ghost use Rattle.index_entry_reading.specs.EntryFaults.{EndsEarly, LacksSome, ReadsOn};
+ghost use Rattle.index_entry_reading.specs.EntryFaults.{EndsEarly, LacksSome, Continues};
 ghost use Rattle.index_entries.specs.Record.{has_directory};
 ghost use Rattle.index_entry_reading.specs.declared.entries.Error.TheVariants.{Memory};
 
@@ -66,7 +66,7 @@ pub fn entries_in<'a>(
     requires sparse { first.old.sparse ≡ has_directory first.old.list.records }
     requires count { length first.old.list.records ≤ count }
     ensures read { IfOk result
-        (λ rest. ReadsOn version kind first.old bytes.now first.new rest.now) }
+        (λ rest. Continues version kind first.old bytes.now first.new rest.now) }
     ensures end { IfOk result (λ rest. (taken : List ℕ) × (bytes.now ≡ taken ++ rest.now)) }
     ensures ids { OnOk result (All (λ r. id_kind r.id ≡ kind) first.new.list.records) }
     ensures sparse { OnOk result (first.new.sparse ≡ has_directory first.new.list.records) }

@@ -20,28 +20,28 @@ use Rattle.index_untracked.specs.declared.UntrackedCache.{UntrackedCache}
 -- ---- the values
 
 -- the cached tree, as it stands or as git orders it
-abbrev pub lent_tree : Bool → Option (Bor Tree) → Option Node
-lent_tree in_git_order tree = option_map (λ t. ordered_if in_git_order (node_of t.now)) tree
+abbrev pub chosen_tree : Bool → Option (Bor Tree) → Option Node
+chosen_tree in_git_order tree = option_map (λ t. ordered_if in_git_order (node_of t.now)) tree
 
-abbrev pub lent_undo : Option (Bor (List ResolvePath)) → Option (List PathStages)
-lent_undo paths = option_map (λ it. map path_stages it.now) paths
+abbrev pub chosen_undo : Option (Bor (List ResolvePath)) → Option (List PathStages)
+chosen_undo paths = option_map (λ it. map path_stages it.now) paths
 
-abbrev pub lent_cache : Option (Bor UntrackedCache) → Option Cache
-lent_cache cache = option_map (λ it. cache_of it.now) cache
+abbrev pub chosen_cache : Option (Bor UntrackedCache) → Option Cache
+chosen_cache cache = option_map (λ it. cache_of it.now) cache
 
-abbrev pub lent_monitor : Option (Bor FsMonitor) → Option Monitor
-lent_monitor monitor = option_map (λ it. monitor_of it.now) monitor
+abbrev pub chosen_monitor : Option (Bor FsMonitor) → Option Monitor
+chosen_monitor monitor = option_map (λ it. monitor_of it.now) monitor
 
 -- ---- the lengths of their contents, where there is one
 
-abbrev pub lent_tree_len : Bool → Option (Bor Tree) → Option ℕ
-lent_tree_len in_git_order tree = option_map (λ t. length (node_bytes (ordered_if in_git_order (node_of t.now)))) tree
+abbrev pub chosen_tree_len : Bool → Option (Bor Tree) → Option ℕ
+chosen_tree_len in_git_order tree = option_map (λ t. length (node_bytes (ordered_if in_git_order (node_of t.now)))) tree
 
-abbrev pub lent_undo_len : Option (Bor (List ResolvePath)) → Option ℕ
-lent_undo_len paths = option_map (λ it. length (resolve_undo_bytes (map path_stages it.now))) paths
+abbrev pub chosen_undo_len : Option (Bor (List ResolvePath)) → Option ℕ
+chosen_undo_len paths = option_map (λ it. length (resolve_undo_bytes (map path_stages it.now))) paths
 
-abbrev pub lent_cache_len : Kind → Option (Bor UntrackedCache) → Option ℕ
-lent_cache_len kind cache = option_map (λ it. length (cache_bytes kind (cache_of it.now))) cache
+abbrev pub chosen_cache_len : Kind → Option (Bor UntrackedCache) → Option ℕ
+chosen_cache_len kind cache = option_map (λ it. length (cache_bytes kind (cache_of it.now))) cache
 
-abbrev pub lent_monitor_len : Option (Bor FsMonitor) → Option ℕ
-lent_monitor_len monitor = option_map (λ it. length (monitor_bytes (monitor_of it.now))) monitor
+abbrev pub chosen_monitor_len : Option (Bor FsMonitor) → Option ℕ
+chosen_monitor_len monitor = option_map (λ it. length (monitor_bytes (monitor_of it.now))) monitor

@@ -41,8 +41,8 @@ items_behind_tree kind chosen =
     item_if resolve_undo_item (extensions_of chosen).resolve_undo ++ items_behind_undo kind chosen
 
 -- the bytes of a cached tree, as it stands or as git orders it
-abbrev pub tree_bytes : Bool → Tree → List ℕ
-tree_bytes in_git_order tree = item_bytes (tree_item (ordered_if in_git_order (node_of tree)))
+abbrev pub ordered_tree_bytes : Bool → Tree → List ℕ
+ordered_tree_bytes in_git_order tree = item_bytes (tree_item (ordered_if in_git_order (node_of tree)))
 
 -- the bytes of all that are chosen
 abbrev pub chosen_bytes : Kind → Chosen → List ℕ

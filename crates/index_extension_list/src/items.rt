@@ -9,11 +9,11 @@ ghost use Rattle.index_extension_writing.specs.MonitorImage.{monitor_item};
 ghost use Rattle.index_extension_writing.specs.ResolveUndoImage.{resolve_undo_item};
 ghost use Rattle.index_extension_writing.specs.UntrackedImage.{cache_item};
 ghost use Rattle.index_extension_list.specs.Chosen.{extensions_of, sparse_items};
-ghost use Rattle.index_extension_list.specs.Lent.{lent_cache, lent_cache_len, lent_monitor, lent_monitor_len, lent_tree};
-ghost use Rattle.index_extension_list.specs.Lent.{lent_tree_len, lent_undo, lent_undo_len};
+ghost use Rattle.index_extension_list.specs.Lent.{chosen_cache, chosen_cache_len, chosen_monitor, chosen_monitor_len};
+ghost use Rattle.index_extension_list.specs.Lent.{chosen_tree, chosen_tree_len, chosen_undo, chosen_undo_len};
 ghost use Rattle.index_extension_list.specs.Listing.{AreLens};
 ghost use Rattle.index_extension_list.specs.PutsItems.{PutsIf, PutsItems, chosen_bytes, items_behind_tree};
-ghost use Rattle.index_extension_list.specs.PutsItems.{items_behind_undo, last_items, tree_bytes};
+ghost use Rattle.index_extension_list.specs.PutsItems.{items_behind_undo, last_items, ordered_tree_bytes};
 
 use crate::{Chosen, Lens};
 use index_cached_tree::write::put_item;
@@ -32,7 +32,7 @@ use std::io;
 fn put_tree_item<W: Out>(tree: &Tree, in_git_order: bool, len: u32, out: &mut W) -> io::Result<()>
     requires len { len ≡ length (node_bytes (ordered_if in_git_order (node_of tree.now))) }
     requires unfailed { W.failed out.old ≡ false }
-    ensures { Puts W.Out out.old out.new result (tree_bytes in_git_order tree.now) }
+    ensures { Puts W.Out out.old out.new result (ordered_tree_bytes in_git_order tree.now) }
 {
     if in_git_order {
         return git_order::put_item(tree, len, out);
@@ -47,9 +47,9 @@ fn put_tree<W: Out>(
     len: Option<u32>,
     out: &mut W,
 ) -> io::Result<()>
-    requires len { len ≡ lent_tree_len in_git_order tree }
+    requires len { len ≡ chosen_tree_len in_git_order tree }
     requires unfailed { W.failed out.old ≡ false }
-    ensures { PutsIf W.Out out.old out.new result tree_item (lent_tree in_git_order tree.entry) }
+    ensures { PutsIf W.Out out.old out.new result tree_item (chosen_tree in_git_order tree.entry) }
 {
     match (tree, len) {
         (Some(tree), Some(len)) => put_tree_item(tree, in_git_order, len, out),
@@ -63,9 +63,9 @@ fn put_resolve_undo<W: Out>(
     len: Option<u32>,
     out: &mut W,
 ) -> io::Result<()>
-    requires len { len ≡ lent_undo_len paths }
+    requires len { len ≡ chosen_undo_len paths }
     requires unfailed { W.failed out.old ≡ false }
-    ensures { PutsIf W.Out out.old out.new result resolve_undo_item (lent_undo paths.entry) }
+    ensures { PutsIf W.Out out.old out.new result resolve_undo_item (chosen_undo paths.entry) }
 {
     match (paths, len) {
         (Some(paths), Some(len)) => resolve_undo::put_item(paths, len, out),
@@ -80,9 +80,9 @@ fn put_untracked<W: Out>(
     len: Option<u32>,
     out: &mut W,
 ) -> io::Result<()>
-    requires len { len ≡ lent_cache_len kind cache }
+    requires len { len ≡ chosen_cache_len kind cache }
     requires unfailed { W.failed out.old ≡ false }
-    ensures { PutsIf W.Out out.old out.new result (cache_item kind) (lent_cache cache.entry) }
+    ensures { PutsIf W.Out out.old out.new result (cache_item kind) (chosen_cache cache.entry) }
 {
     match (cache, len) {
         (Some(cache), Some(len)) => untracked_cache::put_item(cache, kind, len, out),
@@ -92,9 +92,9 @@ fn put_untracked<W: Out>(
 
 /// Writes what a file system monitor said, where one did, whose content has this length.
 fn put_monitor<W: Out>(monitor: Option<&FsMonitor>, len: Option<u32>, out: &mut W) -> io::Result<()>
-    requires len { len ≡ lent_monitor_len monitor }
+    requires len { len ≡ chosen_monitor_len monitor }
     requires unfailed { W.failed out.old ≡ false }
-    ensures { PutsIf W.Out out.old out.new result monitor_item (lent_monitor monitor.entry) }
+    ensures { PutsIf W.Out out.old out.new result monitor_item (chosen_monitor monitor.entry) }
 {
     match (monitor, len) {
         (Some(monitor), Some(len)) => fs_monitor::put_item(monitor, len, out),

@@ -2,7 +2,8 @@
 
 ghost use Rattle.std.specs.Prelude.{◌≡◌, ◌≤◌, ◌<◌, ◌^◌, length, IfNone, IfSome};
 ghost use Rattle.index_extension_list.specs.Chosen.{extensions_of};
-ghost use Rattle.index_extension_list.specs.Lent.{lent_cache_len, lent_monitor_len, lent_tree_len, lent_undo_len};
+ghost use Rattle.index_extension_list.specs.Lent.{chosen_cache_len, chosen_monitor_len, chosen_tree_len};
+ghost use Rattle.index_extension_list.specs.Lent.{chosen_undo_len};
 ghost use Rattle.index_extension_list.specs.Listing.{AreLens, len_within_32, sparse_len, whole_len};
 ghost use Rattle.index_extension_list.specs.PutsItems.{chosen_bytes};
 
@@ -30,7 +31,7 @@ pub struct Lens {
 /// The length of a cached tree, where there is one, in git's order or not; None where 32 bits can't count it.
 #[tactic(auto, using(index_cached_tree::proofs::GitOrders::same_length_if))]
 fn tree_len(tree: Option<&Tree>, in_git_order: bool) -> Option<Option<u32>>
-    ensures { result ≡ len_within_32 (lent_tree_len in_git_order tree.entry) }
+    ensures { result ≡ len_within_32 (chosen_tree_len in_git_order tree.entry) }
 {
     match tree {
         None => Some(None),
@@ -43,7 +44,7 @@ fn tree_len(tree: Option<&Tree>, in_git_order: bool) -> Option<Option<u32>>
 
 /// The same of resolve-undo.
 fn resolve_undo_len(paths: Option<&[ResolvePath]>) -> Option<Option<u32>>
-    ensures { result ≡ len_within_32 (lent_undo_len paths.entry) }
+    ensures { result ≡ len_within_32 (chosen_undo_len paths.entry) }
 {
     match paths {
         None => Some(None),
@@ -56,7 +57,7 @@ fn resolve_undo_len(paths: Option<&[ResolvePath]>) -> Option<Option<u32>>
 
 /// The same of an untracked cache, with ids of this kind.
 fn untracked_len(cache: Option<&UntrackedCache>, kind: Kind) -> Option<Option<u32>>
-    ensures { result ≡ len_within_32 (lent_cache_len kind cache.entry) }
+    ensures { result ≡ len_within_32 (chosen_cache_len kind cache.entry) }
 {
     match cache {
         None => Some(None),
@@ -69,7 +70,7 @@ fn untracked_len(cache: Option<&UntrackedCache>, kind: Kind) -> Option<Option<u3
 
 /// The same of what a file system monitor said.
 fn monitor_len(monitor: Option<&FsMonitor>) -> Option<Option<u32>>
-    ensures { result ≡ len_within_32 (lent_monitor_len monitor.entry) }
+    ensures { result ≡ len_within_32 (chosen_monitor_len monitor.entry) }
 {
     match monitor {
         None => Some(None),

@@ -107,7 +107,8 @@ StoringTwiceIsOnce = (v : Contents) (options : WriteOptions) → stored (stored 
 
 -- what is read again has the same image
 abbrev pub RewriteIsCanonical : Type 0
-RewriteIsCanonical = (v w : Contents) (options : WriteOptions) → IsReread v options w → image w options ≡ image v options
+RewriteIsCanonical =
+    (v w : Contents) (options : WriteOptions) → IsReread v options w → image w options ≡ image v options
 
 -- the same by all options that choose the same extensions
 abbrev pub VersionLosesNothing : Type 0

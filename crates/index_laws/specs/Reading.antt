@@ -1,5 +1,6 @@
 -- What a store of objects has, and what is listed of it again (git-read-tree).
-use Rattle.std.specs.Prelude.{◌≡◌, ◌≢◌, ℕ, ◌≤◌, List, All, Bool, not, Option, Some, None, Result, Ok, filter, map, length}
+use Rattle.std.specs.Prelude.{◌≡◌, ◌≢◌, ℕ, ◌≤◌, List, All, Bool, not, Option, Some, None, Result, Ok, filter, map}
+use Rattle.std.specs.Prelude.{length}
 use Rattle.index_objects.specs.Mode.{mode_of_kind}
 use Rattle.index_objects.specs.NameCheck.{refusal_as}
 use Rattle.index_objects.specs.Object.{Found, object}

@@ -18,7 +18,8 @@ IsTreesAnswer check kind rs (Ok items) =
     (length rs < 2 ^ 31) × AreFit check kind rs × IsTreeOf kind (staged_in rs) items
 IsTreesAnswer check kind rs (Err refusal) = AreRefused check kind rs refusal
 
--- records that strictly increase, and whose ids have as many bytes as their kinds, have an answer, whatever a check says
+-- whatever a check says, records that strictly increase, and whose ids have as many bytes as their kinds, have an
+-- answer
 abbrev pub AllHaveTreesAnswer : Type 0
 AllHaveTreesAnswer =
     (check : Check) (kind : Kind) (rs : List Record) → IsStrictlyOrdered rs → All IsSized rs

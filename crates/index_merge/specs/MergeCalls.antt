@@ -18,8 +18,8 @@ use Rattle.index_merge.specs.MergeSteps.{SaysMerge, changed_at}
 -- ---- replacing
 
 -- the text is what is wrong with replacing an entry by another, if anything is
-abbrev pub TellsFault : Option (Bor (List ℕ)) → List ℕ → Entry → List ℕ → Entry → Type 0
-TellsFault text storage entry split_storage by =
+abbrev pub TellsReplaceFault : Option (Bor (List ℕ)) → List ℕ → Entry → List ℕ → Entry → Type 0
+TellsReplaceFault text storage entry split_storage by =
     option_map (λ t. t.now) text ≡ record_fault (record_in storage entry) (Some (record_in split_storage by))
 
 -- in each storage the record at the place is replaced by that of the entry, and the others stay
@@ -45,7 +45,8 @@ pub record TakesAt (storage : List ℕ) (old new : Vec Entry) (split_storage : L
   pub fault : IfErr result (λ e. SaysMerge e (λ fault. place_fault (slice_get (records_in storage old.items) place)
       (slice_get (records_in split_storage split) taken) ≡ Some fault))
 
--- The shared entries at the places of a bitmap took all but the paths of so many split ones, or this is the first fault.
+-- The shared entries at the places of a bitmap took all but the paths of so many split ones, or this is the first
+-- fault.
 pub record TakesBy (replace : Ewah) (storage : List ℕ) (old new : Vec Entry) (split_storage : List ℕ)
     (split : List Entry) (result : Result ℕ Error) : Type 0 where
   pub replaced : IfOk result (ReplacesEntries (bitmap replace).words (records_in storage old.items)
@@ -58,7 +59,7 @@ pub record TakesBy (replace : Ewah) (storage : List ℕ) (old new : Vec Entry) (
 -- ---- appending
 
 -- These split entries stand behind the others, and their paths behind theirs.
-pub record Adds (old new : Vec Entry) (storage new_storage : Vec ℕ) (split_storage : List ℕ) (split : List Entry)
+pub record Joins (old new : Vec Entry) (storage new_storage : Vec ℕ) (split_storage : List ℕ) (split : List Entry)
     (result : Result (Unit {0}) AllocError) : Type 0 where
   pub appended : OnOk result (records_in new_storage.items new.items
       ≡ records_in storage.items old.items ++ records_in split_storage split)

@@ -4,8 +4,8 @@ ghost use Rattle.std.specs.Prelude.{◌≡◌, ◌<◌, [], ◌∷◌, ℕ, List
 ghost use Rattle.index_entries.specs.EntryImage.{is_removed};
 ghost use Rattle.index_merge.specs.declared.merge.Error.TheVariants.{Memory};
 ghost use Rattle.index_merge.specs.Merge.{record_fault};
-ghost use Rattle.index_merge.specs.MergeCalls.{Adds, KeepsOthers, MarksAt, MarksBy, Merges, ReplacesAt};
-ghost use Rattle.index_merge.specs.MergeCalls.{SaysDelete, StayPlaced, TakesAt, TakesBy, TellsFault};
+ghost use Rattle.index_merge.specs.MergeCalls.{Joins, KeepsOthers, MarksAt, MarksBy, Merges, ReplacesAt};
+ghost use Rattle.index_merge.specs.MergeCalls.{SaysDelete, StayPlaced, TakesAt, TakesBy, TellsReplaceFault};
 ghost use Rattle.index_merge.specs.MergeSteps.{merge_error};
 ghost use Rattle.index_entries.specs.Record.{IsPlaced, record_in, records_in};
 
@@ -70,7 +70,7 @@ fn fault_between(
 ) -> Option<&'static str>
     requires placed { IsPlaced (length storage.now) entry.now }
     requires by_placed { IsPlaced (length split_storage.now) by.now }
-    ensures { TellsFault result storage.now entry.now split_storage.now by.now }
+    ensures { TellsReplaceFault result storage.now entry.now split_storage.now by.now }
 {
     if entry.is_removed() {
         return Some("entry is marked as both replace and delete");
@@ -162,7 +162,7 @@ fn append_entry(
 ) -> Result<(), AllocError>
     requires placed { All (IsPlaced (length storage.old.items)) entries.old.items }
     requires entry_placed { IsPlaced (length split_storage.now) entry.now }
-    ensures { Adds entries.old entries.new storage.old storage.new split_storage.now
+    ensures { Joins entries.old entries.new storage.old storage.new split_storage.now
         (entry.now ∷ []) result }
 {
     let path = entry.path_in(split_storage);
@@ -185,7 +185,7 @@ fn append_entries(
 ) -> Result<(), AllocError>
     requires placed { All (IsPlaced (length storage.old.items)) entries.old.items }
     requires split_placed { All (IsPlaced (length split_storage.now)) split.now }
-    ensures { Adds entries.old entries.new storage.old storage.new split_storage.now split.now
+    ensures { Joins entries.old entries.new storage.old storage.new split_storage.now split.now
         result }
 {
     for entry in split {

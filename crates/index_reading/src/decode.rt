@@ -14,7 +14,8 @@ ghost use Rattle.index_format.specs.Storable.{IsStorable};
 ghost use Rattle.index_format.specs.Contents.{ExtensionIdsAreOf, parts_contents};
 ghost use Rattle.index_entries.specs.Record.{has_directory};
 ghost use Rattle.index_reading.specs.Head.{IsDeclared, LooksAt};
-ghost use Rattle.index_reading.specs.ReadParts.{AreOfKind, IsAnswerBehind, IsEndingAs, IsTakenAs, SaysDigest, SaysWhole};
+ghost use Rattle.index_reading.specs.ReadParts.{AreOfKind, IsAnswerBehind, IsEndingAs, IsTakenAs};
+ghost use Rattle.index_reading.specs.ReadParts.{SaysDigest, SaysWhole};
 
 use crate::{extension, trailer};
 use index_entries::Version;

@@ -13,6 +13,7 @@ use Rattle.index_format.specs.Contents.{ExtensionIdsAreOf, PartsInStorage, parts
 use Rattle.index_format.specs.Storable.{IsStorable}
 use Rattle.index_parts.specs.declared.hash.Kind.{Kind}
 use Rattle.index_parts.specs.declared.hash.ObjectId.{ObjectId}
+use Rattle.index_reading.specs.ReadParts.{AreOfKind}
 use Rattle.index_window.specs.Behind.{FollowEntries}
 use Rattle.index_window.specs.Intact.{IsIntact, digest_id}
 use Rattle.index_window.specs.declared.ReadOptions.{ReadOptions}
@@ -47,9 +48,7 @@ pub record IsEndingBy (plan : Plan) (reading : ReadOptions) (records : List Reco
   pub ending : IsEnding plan.kind reading.timestamp reading.options plan.version records bytes
       (Ok (parts_contents x.parts, x.checksum))
   pub behind : x.ending.items ≡ bytes
-  pub placed : PartsInStorage x.parts
-  pub ids : IdsAreOf plan.kind (parts_entries x.parts)
-  pub extension_ids : ExtensionIdsAreOf plan.kind (parts_contents x.parts).extensions
+  pub parts : AreOfKind plan.kind x.parts
 
 -- ---- whole
 

@@ -10,7 +10,5 @@ returns-in-Ok c = record {
       c.args.plan.version c.args.first.list.records l (Ok (parts_contents c.in-Ok.parts, c.in-Ok.checksum)))
       c.deref.ensures.value c.in-Ok.ensures.ending;
   behind = search rules;
-  placed = search rules;
-  ids = search rules;
-  extension_ids = search rules;
+  parts = c.in-Ok.ensures.parts;
 }

@@ -185,9 +185,9 @@ returns-clause-read g c =
             (behind ∙ ap (λ (l : List ℕ). l ++ drop at tail) (sym (h.whole keeps)) ∙ sym held-is ∙ sym ended.behind)
             (ending_of_windows plan a b r.0 all more header counted refl none whole step refl),
       );
-      placed = ended.placed;
-      ids = ended.ids;
+      placed = ended.parts.placed;
+      ids = ended.parts.ids;
       storable = says_storable kind reading.timestamp reading.options (step.moved.taken ++ all)
           (Ok (x.parts, x.checksum)) are-bytes are;
-      extension_ids = ended.extension_ids;
+      extension_ids = ended.parts.extension_ids;
     }) c.ending_of.ensures
