@@ -1,12 +1,13 @@
 -- What an outline tells of an index whose entries it counts and doesn't keep (the library's own).
 use Rattle.std.specs.Prelude.{◌≡◌, ◌||◌, ℕ, Bool, List, [], length, None, Ok}
 use Rattle.index_entries.specs.Entries.{AreEntries}
-use Rattle.index_format.specs.Answer.{Answer, IsBehindHeader}
+use Rattle.index_format.specs.Answer.{Answer}
 use Rattle.index_format.specs.Contents.{Contents, ExtensionIdsAreOf}
 use Rattle.index_format.specs.DecodeErrors.{SaysFault}
 use Rattle.index_format.specs.declared.Parts.{Parts}
 use Rattle.index_format.specs.declared.error.Error.{Error}
 use Rattle.index_parts.specs.declared.hash.Kind.{Kind}
+use Rattle.index_reading.specs.ReadParts.{IsAnswerBehind}
 use Rattle.index_reading.specs.declared.decode.ReadAs.{ReadAs}
 use Rattle.index_state.specs.Edits.{with_records}
 use Rattle.index_state.specs.State.{contents}
@@ -32,16 +33,10 @@ OutlineIdsAreOf kind o = ExtensionIdsAreOf kind (contents o.bare).extensions
 abbrev pub IsFaultBy : (Answer → Type 0) → Error → Type 0
 IsFaultBy P e = SaysFault e P
 
--- what bytes behind a header of so many entries are read as
-abbrev pub IsAnswerBehind : ReadAs → ℕ → List ℕ → Answer → Type 0
-IsAnswerBehind r count bytes answer =
-    IsBehindHeader r.object_hash r.timestamp r.options r.version count bytes answer
-
--- those bytes are read as a value, and this is its outline
+-- bytes behind a header of so many entries are read as a value, and this is its outline
 abbrev pub IsOutlineBehind : ReadAs → ℕ → List ℕ → Outline → Type 0
 IsOutlineBehind r count bytes o =
-    (v : Contents) × Outlines v o
-    × IsBehindHeader r.object_hash r.timestamp r.options r.version count bytes (Ok (v, o.checksum))
+    (v : Contents) × Outlines v o × IsAnswerBehind r count bytes (Ok (v, o.checksum))
 
 -- marked as those of a sparse index where they were before, or this says so
 abbrev pub marked : Parts → Bool → Parts

@@ -2,8 +2,8 @@
 #![tactic(auto)]
 
 ghost use Rattle.std.specs.Prelude.{◌≡◌, IfErr, IfOk};
-ghost use Rattle.index_outline.specs.Outlines.{IsAnswerBehind, IsFaultBy, IsOutlineBehind};
-ghost use Rattle.index_outline.specs.Outlines.{OutlineIdsAreOf, marked};
+ghost use Rattle.index_outline.specs.Outlines.{IsFaultBy, IsOutlineBehind, OutlineIdsAreOf, marked};
+ghost use Rattle.index_reading.specs.ReadParts.{IsAnswerBehind};
 ghost use Rattle.index_state.specs.State.{PathsInStorage};
 
 use index_entries::list::EntryList;
