@@ -59,7 +59,7 @@ OpensIndex folder now kind path answer = GivesIndex
 
 -- The lock of the file that a path leads to, beside that file, and empty where nobody else changes files, by what is
 -- known of a file that was made; or why it can't be locked.
-pub record LocksFile {S F M : Type 0} (folder : Ghosts S F M) (made : M → Option (List ℕ)) (old new : S) (to : List ℕ)
+pub record LocksTarget {S F M : Type 0} (folder : Ghosts S F M) (made : M → Option (List ℕ)) (old new : S) (to : List ℕ)
     (answer : Result (Lock M) Failure) : Type 0 where
   pub locked : IfOk answer
       (λ lock. IsUnderLock (folder.guards old) (folder.known old) (folder.known new) to lock.place)
@@ -71,7 +71,7 @@ pub record LocksFile {S F M : Type 0} (folder : Ghosts S F M) (made : M → Opti
 
 -- The index was written in the place of the file that was locked, with all extensions that it has and that fit, in this
 -- version; or the lock was given up, and why.
-pub record Commits {S F M : Type 0} (folder : Ghosts S F M) (made : M → Option (List ℕ)) (old new : S) (lock : Lock M)
+pub record CommitsIndex {S F M : Type 0} (folder : Ghosts S F M) (made : M → Option (List ℕ)) (old new : S) (lock : Lock M)
     (index : File) (version : VersionChoice) (to : List ℕ) (answer : Result (Unit {0}) Failure) : Type 0 where
   pub written : OnOk answer ((written : File) × IsWrittenTo (asked_of lock.place) index written (rewrite_options version))
   pub put : OnOk answer (folder.alone old ≡ true → made lock.file ≡ Some []

@@ -2,7 +2,7 @@
 
 ghost use Rattle.gix_index.specs.File.{state_of};
 ghost use Rattle.gix_index.specs.State.{PathsInStorage};
-ghost use Rattle.index_failures.specs.Calls.{Commits, LocksFile};
+ghost use Rattle.index_failures.specs.Calls.{CommitsIndex, LocksTarget};
 
 use crate::failure::Failure;
 use gix_index::File;
@@ -19,7 +19,7 @@ pub fn lock_at<'a, D: Folder>(
     alloc: Global,
     to: &'a str,
 ) -> Result<Lock<D::Made>, Failure<'a>>
-    ensures { LocksFile D.Folder D.Made.contents folder.old folder.new to.now result }
+    ensures { LocksTarget D.Folder D.Made.contents folder.old folder.new to.now result }
 {
     let Ok(path) = PathBuf::from_str(alloc, to) else {
         let fault = Fault::Memory;
@@ -43,7 +43,7 @@ pub fn commit_at<'a, D: Folder>(
     to: &'a str,
 ) -> Result<(), Failure<'a>>
     requires placed { PathsInStorage (state_of index) }
-    ensures { Commits D.Folder D.Made.contents folder.old folder.new lock index version to.now result }
+    ensures { CommitsIndex D.Folder D.Made.contents folder.old folder.new lock index version to.now result }
 {
     let options = Options {
         extensions: Extensions::Kept,
