@@ -43,7 +43,8 @@ pub fn commit_at<'a, D: Folder>(
     to: &'a str,
 ) -> Result<(), Failure<'a>>
     requires placed { PathsInStorage (state_of index) }
-    ensures { CommitsIndex D.Folder D.Made.contents folder.old folder.new lock index version to.now result }
+    ensures { CommitsIndex D.Folder D.Made.contents folder.old folder.new lock index version
+        to.now result }
 {
     let options = Options {
         extensions: Extensions::Kept,

@@ -44,7 +44,8 @@ fn append_parts(
 /// Appends an entry's line.
 fn append_line(lines: &mut Vec<u8>, style: Lines, state: &State, entry: &Entry) -> Appended
     requires { IsPlaced (length (storage_of state.now)) entry.now }
-    ensures { OnOk result (lines.new.items ≡ lines.old.items ++ entry_line style state.now entry.now) }
+    ensures { OnOk result (lines.new.items ≡ lines.old.items ++ entry_line style state.now
+        entry.now) }
 {
     let path = entry.path(state);
     append_parts(

@@ -98,7 +98,8 @@ fn dirty_after(
     monitor: &FsMonitor,
     changes: &[Change<'_>],
 ) -> Result<Option<ewah::Vec>, AllocError>
-    ensures is { IfOk result (IsDirtyAfter changes.now old.now entries.now (monitor_of monitor.now)) }
+    ensures is { IfOk result (IsDirtyAfter changes.now old.now entries.now (monitor_of
+        monitor.now)) }
     ensures spellable { IfOk result (λ made. IfSome made (λ b. IsSpellableDirty (bitmap b))) }
 {
     if !is_within(monitor, old.len() as u64) {

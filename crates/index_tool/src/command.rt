@@ -232,7 +232,8 @@ fn run_command<'a, D: Folder, O: Out>(
     out: &mut O,
 ) -> Result<Option<Report<'a>>, Failure<'a>>
     requires unfailed { O.failed out.old ≡ false }
-    ensures { Acts command.entry index.now D.Folder folder.old folder.new O.Out out.old out.new result }
+    ensures { Acts command.entry index.now D.Folder folder.old folder.new O.Out out.old out.new
+        result }
 {
     match command {
         Command::Read { what, .. } => {
@@ -255,7 +256,8 @@ fn run_on<D: Folder, O: Out, E: io::Write>(
     requires unfailed { O.failed out.old ≡ false }
     ensures ends { EndsByStatus command.entry index.now D.Folder folder.old folder.new
         O.Out out.old out.new result }
-    ensures no_fault { KeepsFaults (reports_by command.entry) E.contents faults.old faults.new result }
+    ensures no_fault { KeepsFaults (reports_by command.entry) E.contents faults.old faults.new
+        result }
 {
     match run_command(folder, alloc, command, index, out) {
         Ok(None) => DONE,

@@ -88,7 +88,8 @@ pub fn answer<D: Console, O: Out, E: io::Write>(
     faults: &mut E,
 ) -> ExitCode
     requires unfailed { O.failed out.old ≡ false }
-    ensures { EndsCall call D.Folder folder.old folder.new O.Out out.old out.new (exit_status result) }
+    ensures { EndsCall call D.Folder folder.old folder.new O.Out out.old out.new (exit_status
+        result) }
 {
     match call {
         Ok(Call { words, around }) => {

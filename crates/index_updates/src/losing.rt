@@ -101,7 +101,8 @@ fn record_if_lost(
     entry: &Entry,
     change: &Change<'_>,
 ) -> Result<(), AllocError>
-    ensures { OnOk result (AddsLost change.now (record_at path.now entry.now ∷ []) undo.old undo.new) }
+    ensures { OnOk result (AddsLost change.now (record_at path.now entry.now ∷ []) undo.old
+        undo.new) }
 {
     if is_lost(change, entry, path) {
         record_among(undo, alloc, path, entry)?;

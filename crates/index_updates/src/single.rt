@@ -70,8 +70,10 @@ fn settle_watched(
     path: &[u8],
 ) -> Result<Settled, AllocError>
     requires placed { All (IsPlaced (length storage.old.items)) entries.old.items }
-    ensures staged { StagesEntry entry path.now storage.old entries.old storage.new entries.new result }
-    ensures settled { IfOk result (TellsSettled entry path.entry storage.old entries.old monitor.now) }
+    ensures staged { StagesEntry entry path.now storage.old entries.old storage.new entries.new
+        result }
+    ensures settled { IfOk result (TellsSettled entry path.entry storage.old entries.old
+        monitor.now) }
 {
     if monitor.is_none() {
         return Ok(Settled {
@@ -149,8 +151,10 @@ pub fn stage<C: ComponentCheck>(
 ) -> Result<Displaced, Error>
     requires placed { All (IsPlaced (length storage.old.items)) entries.old.items }
     ensures reason { SaysWhy (C.refusal check.now) kind entry path.now storage.old result }
-    ensures made { StagesOne entry path.entry storage.old entries.old storage.new entries.new result }
-    ensures kept { KeepsOne (Stage entry path.entry) storage.old entries.old kept.old kept.new result }
+    ensures made { StagesOne entry path.entry storage.old entries.old storage.new entries.new
+        result }
+    ensures kept { KeepsOne (Stage entry path.entry) storage.old entries.old kept.old kept.new
+        result }
 {
     check_stage(check, kind, storage.len(), entry, path)?;
     let change = Change::Stage { entry, path };
@@ -173,8 +177,10 @@ pub fn resolve<C: ComponentCheck>(
 ) -> Result<Displaced, Error>
     requires placed { All (IsPlaced (length storage.old.items)) entries.old.items }
     ensures reason { SaysWhy (C.refusal check.now) kind (merged entry) path.now storage.old result }
-    ensures made { ResolvesOne entry path.entry storage.old entries.old storage.new entries.new result }
-    ensures kept { KeepsOne (Stage (merged entry) path.entry) storage.old entries.old kept.old kept.new
+    ensures made { ResolvesOne entry path.entry storage.old entries.old storage.new entries.new
+        result }
+    ensures kept { KeepsOne (Stage (merged entry) path.entry) storage.old entries.old kept.old
+        kept.new
         result }
 {
     stage(entries, storage, kept, check, kind, merged(entry), path)

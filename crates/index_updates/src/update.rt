@@ -34,7 +34,8 @@ fn update_next(
 ) -> Result<usize, AllocError>
     requires placed { All (IsPlaced (length storage.old.items)) done.old.items }
     requires rest_placed { All (IsPlaced (length storage.old.items)) rest.now }
-    ensures applied { AppliesNext change.now rest.now storage.old done.old storage.new done.new result }
+    ensures applied { AppliesNext change.now rest.now storage.old done.old storage.new done.new
+        result }
     ensures undone { RecordsNext change.now rest.now storage.old done.old undo.old undo.new result }
 {
     let count = pass(done, storage, rest, change.path())?;
@@ -193,7 +194,8 @@ pub fn update<C: ComponentCheck>(
 ) -> Result<(), ApplyError>
     requires placed { All (IsPlaced (length storage.old.items)) entries.old.items }
     ensures reason { SaysFirstRefused (C.refusal check.now) kind changes.now storage.old result }
-    ensures applied { AppliesAll changes.now storage.old entries.old storage.new entries.new result }
+    ensures applied { AppliesAll changes.now storage.old entries.old storage.new entries.new
+        result }
     ensures tree { OnOk result (InvalidatesAll changes.now kept.old.tree kept.new.tree) }
     ensures untracked { OnOk result (UnlistsAll changes.now kept.old.untracked kept.new.untracked) }
     ensures counts { CountsNoMore kept.old.tree kept.new.tree }

@@ -50,7 +50,8 @@ fn take_entries(
 ) -> Result<usize, AllocError>
     requires first { FitPlan plan first.old }
     requires start { start ≤ vec_len window.old }
-    ensures { Scans plan start hasher.old hasher.new window.old window.new first.old first.new result }
+    ensures { Scans plan start hasher.old hasher.new window.old window.new first.old first.new
+        result }
 {
     let rest = entries_in(plan.version, plan.kind, plan.count, first, &window[start..])?;
     let end = window.len().saturating_sub(rest.len());

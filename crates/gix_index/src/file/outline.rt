@@ -35,7 +35,8 @@ impl File {
     ) -> Result<Outline<'_>, Error>
         ensures outlined { IfOk result
             (IsOutlined skip_hash object_hash timestamp options «data».now) }
-        ensures fault { IfErr result (IsFileFault skip_hash object_hash timestamp options «data».now) }
+        ensures fault { IfErr result (IsFileFault skip_hash object_hash timestamp options
+            «data».now) }
         ensures intact { IfErr result (NeedsIntact skip_hash object_hash «data».now) }
         ensures placed { IfOk result (λ o. PathsInStorage o.bare) }
         ensures extension_ids { IfOk result

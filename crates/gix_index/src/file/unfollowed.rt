@@ -127,7 +127,8 @@ impl File {
         timestamp: FileTime,
         options: decode::Options,
     ) -> Result<Unfollowed, Error>
-        ensures { ReadsAloneAt D.Folder folder.now path skip_hash object_hash timestamp options result }
+        ensures { ReadsAloneAt D.Folder folder.now path skip_hash object_hash timestamp options
+            result }
     {
         let reading = ReadOptions {
             object_hash,
