@@ -125,8 +125,7 @@ fn put_fit(
     room: &mut [u8],
 ) -> Replacement
     requires placed { PathsInStorage state }
-    requires table { IsFitTable format.now.kind (contents state).extensions.sparse paths.now
-        rows.now }
+    requires table { IsFitTable format.now.kind (contents state).extensions.sparse paths.now rows.now }
     ensures { PutsInPlace format.now paths.now rows.now (contents state) room.old room.new result }
 {
     if let Err(_) = replace(&mut state, rows, paths) {
