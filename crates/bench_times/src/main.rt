@@ -16,6 +16,9 @@
 //! the index that it shares; `sort`, `remove` (each second entry), `verify` and `copy` work on an index that was read
 //! before.
 //!
+//! `edit CALL INDEX NAMES` prints the nanoseconds of processor time that it takes to put an entry for each name into the
+//! index, and how many entries there are then: `apply` stages them, `sort` pushes them and sorts.
+//!
 //! `list-tree ROOT FILE` makes an index of a tree, which is no measurement. FILE has trees as `git cat-file --batch`
 //! prints them: the one with the id ROOT, and all below it. For each entry are printed its mode in six octal digits, a
 //! space, its id, a tab, its path and a NUL; and in a line at the end, whether the entries are in order.
@@ -24,6 +27,7 @@
 #![tactic(auto)]
 
 mod clock;
+mod edits;
 mod lookups;
 mod tree;
 mod whole;
@@ -112,6 +116,14 @@ fn lookup(rt: &HostRuntime, alloc: Global, call: &str, index: &str, names: &str)
     put_found(rt, found)
 }
 
+/// Times an edit.
+fn edit(rt: &HostRuntime, alloc: Global, call: &str, index: &str, names: &str) -> io::Result<()> {
+    let (bytes, text) = (fs::read(rt, index)?, fs::read_to_string(rt, names)?);
+    let (mut file, names) = (index_of(alloc, &bytes)?, names_of(alloc, &text)?);
+    let (nanoseconds, count) = edits::run(Some(rt), alloc, call, &mut file, &names)?;
+    println!(rt; "{nanoseconds} {count}")
+}
+
 /// Times reading and writing.
 fn write(rt: &HostRuntime, alloc: Global, index: &str) -> io::Result<()> {
     let clock: Clock<'_> = Some(rt);
@@ -143,6 +155,7 @@ fn main(rt: HostRuntime) -> anyhow::Result<()> {
     let words: Vec<&str> = args.iter().map(|word| word.as_str()).collect(alloc)?;
     match words.as_slice() {
         ["check", index, names] => check(&rt, alloc, index, names)?,
+        ["edit", call, index, names] => edit(&rt, alloc, call, index, names)?,
         ["list-tree", root, file] => tree::list(&rt, alloc, root, file)?,
         ["lookup", call, index, names] => lookup(&rt, alloc, call, index, names)?,
         ["whole", call, index] => on_whole(&rt, alloc, call, index)?,

@@ -27,7 +27,7 @@ const MALFORMED: &str = "the file isn't made of trees as `git cat-file --batch` 
 
 /// Lets all names pass.
 #[derive(Clone, Copy)]
-struct AnyName;
+pub struct AnyName;
 
 impl ComponentCheck for AnyName {
     ghost refusal = { λ _ _ _. None };

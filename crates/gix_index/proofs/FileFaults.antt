@@ -21,7 +21,8 @@ use Rattle.gix_index.specs.Checked.{IsFileAnswer, SaysFile}
 use Rattle.index_file_faults.specs.ReadErrors.{link_error_of}
 use Rattle.gix_index.specs.Disk.{Disk, MayHave, known_of, shared_path}
 use Rattle.gix_index.specs.FileFaults.{IsOfFile, SaysOfBoth, SaysOfFile, SaysOfFiles}
-use Rattle.gix_index.specs.Linked.{IsOnDisk, IsReadAs, IsSplit, expecting, own, joined}
+use Rattle.gix_index.specs.Linked.{IsOnDisk, IsReadAlone, IsReadAs, IsSplit, expecting, own, joined}
+use Rattle.gix_index.specs.declared.file.unfollowed.Unfollowed.{Unfollowed}
 use Rattle.index_file_faults.specs.declared.init.Error.{Error}
 use Rattle.index_file_faults.specs.declared.init.Error.TheVariants as errors
 
@@ -82,6 +83,17 @@ module _ (skip : Bool) (kind : Kind) (time : FileTime) (options : Options) where
   fault_read at path w fw world stored (Err e) same works o h =
       subst (λ (x : List ℕ). SaysOfFile path w (world x) skip kind time options e) same
       (fault_there path w fw (world at) stored e works o h)
+
+  pub alone_there : (at path : List ℕ) (world : World) (stored : Option Stored) (r : Result Unfollowed Error)
+      → at ≡ path → MayBe (world at) (λ there. stored ≡ Some there)
+      → IfOk r (IsReadAlone (known_of stored) skip kind time options)
+      → IfOk r (IsReadAlone (world path) skip kind time options)
+  alone_there at path world stored (Ok u) same o h = (
+    h.0,
+    subst (λ (x : List ℕ). MayHave (world x) h.0) same (opened_so (world at) stored (λ file. h.0 ≡ file.bytes) o h.1),
+    h.2,
+  )
+  alone_there at path world stored (Err e) same o h = tt
 
   split_there : (k : Known) (stored : Option Stored) (split : Contents) (c : Option ObjectId) (link : LinkValue)
       → MayBe k (λ there. stored ≡ Some there) → IsSplit (known_of stored) skip kind time options split c link

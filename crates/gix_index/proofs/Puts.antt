@@ -1,12 +1,11 @@
 -- A file of known bytes that took the place of another, as the image of an index.
-use Rattle.std.proofs.Common.{◌≡◌, ℕ, List, [], ◌++◌, length, Bool, true, Option, Some, None, inl, inr, sym, ap}
-use Rattle.std.proofs.Common.{subst, ◌∙◌, arith}
+use Rattle.std.proofs.Common.{◌≡◌, ℕ, List, [], ◌++◌, Bool, true, Option, Some, None, inl, inr, sym, ap}
+use Rattle.std.proofs.Common.{subst, ◌∙◌}
 use Rattle.std.specs.Prelude.{◌⊎◌, IfSome, codes}
 use Rattle.std.specs.Io.KnownBytes.{Appends}
-use Rattle.std.proofs.lemmas.List.{length-append}
 use Rattle.index_folder.specs.Locks.{IsCommitted}
 use Rattle.index_folder.specs.Times.{is_told}
-use Rattle.index_folder.specs.World.{Absent, Holds, Known, Makes, Moves, Stays, World}
+use Rattle.index_folder.specs.World.{Absent, Holds, Makes, Moves, World}
 use Rattle.index_folder.specs.declared.lock.Place.{Place}
 use Rattle.index_format.specs.Contents.{Contents}
 use Rattle.index_format.specs.Image.{image}

@@ -6,6 +6,7 @@ pub use Rattle.index_edits.specs.Refusals
 pub use Rattle.index_invalidation.specs.Invalidation
 pub use Rattle.index_monitor.specs.Dirty
 pub use Rattle.index_updates.specs.Invalidated
+pub use Rattle.index_updates.specs.PartsUpdates
 pub use Rattle.index_updates.specs.Recorded
 pub use Rattle.index_updates.specs.StillStorable
 pub use Rattle.index_updates.specs.Undone

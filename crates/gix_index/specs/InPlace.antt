@@ -1,6 +1,7 @@
 -- An index that was put in the place of a file by way of a lock (the library's own).
 pub use Rattle.index_folder.specs.Locks
 pub use Rattle.index_folder.specs.Times as FileTimes
+pub use Rattle.index_folder.specs.declared.lock.Lock
 pub use Rattle.index_folder.specs.declared.lock.Place
 use Rattle.std.specs.Prelude.{◌≡◌, ◌≢◌, ◌⊎◌, ℕ, List, Bool, true}
 use Rattle.index_folder.specs.Locks.{lock_of, target_of}

@@ -9,6 +9,7 @@ pub mod Hashing
 pub mod InPlace
 pub mod Keeping
 pub mod Linked
+pub mod OnDisk
 pub mod Outlined
 pub mod ReadFile
 pub mod Searching

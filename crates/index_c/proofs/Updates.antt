@@ -8,7 +8,7 @@ use Rattle.index_c.specs.Written.{IsImageTold, Tells, fault_told}
 use Rattle.index_c.specs.declared.write.Written.{Written}
 use Rattle.index_table.specs.Joining.{FailBoth}
 use Rattle.index_table.specs.Reading.{LacksMemory}
-use Rattle.index_table.specs.Updating.{IsUnupdated}
+use Rattle.index_table.specs.Refusing.{IsUnupdated}
 use Rattle.index_table.specs.Writing.{IfPassed, IfRefused, IfUnwritten}
 use Rattle.index_table.specs.declared.fault.Failure.{Failure}
 use Rattle.index_table.specs.declared.over.CachedTree.TheVariants.{Absent}

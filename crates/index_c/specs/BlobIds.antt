@@ -1,9 +1,12 @@
 -- The id of a file's bytes (the book "Pro Git", "Git Objects").
-use Rattle.std.specs.Prelude.{ℕ, List, ◌∷◌, ◌++◌, length, codes, decimal}
+use Rattle.std.specs.Prelude.{◌≡◌, ◌↔◌, ℕ, List, ◌∷◌, ◌++◌, length, codes, decimal, None, IfSome}
 use Rattle.gix_index.specs.Hashing.Digest.{digest}
 use Rattle.gix_index.specs.Id.{make_id}
 use Rattle.gix_index.specs.Kind.{Kind}
 use Rattle.gix_index.specs.ObjectId.{ObjectId}
+use Rattle.index_numbers.specs.Numbers.{kind_numbered}
+use Rattle.index_numbers.specs.declared.status.TheConstants.{DONE, WRONG_NUMBER}
+use Rattle.index_table.specs.Table.{padded_id}
 
 -- what is hashed: the kind of object, a space, how many bytes it has, a NUL, and those
 abbrev pub blob_message : List ℕ → List ℕ
@@ -11,3 +14,10 @@ blob_message bytes = codes "blob " ++ (decimal (length bytes) ++ 0 ∷ bytes)
 
 unfoldable pub blob_id : Kind → List ℕ → ObjectId
 blob_id kind bytes = make_id kind (digest kind (blob_message bytes))
+
+-- The id of the blob is given for a kind that is known, with zeros behind one of SHA-1. For another number it is as it
+-- was.
+pub record GivesBlobId (number : ℕ) (bytes old new : List ℕ) (status : ℕ) : Type 0 where
+  pub known : IfSome (kind_numbered number) (λ k. (status ≡ DONE) × (new ≡ padded_id (blob_id k bytes)))
+  pub wrong : (status ≡ WRONG_NUMBER) ↔ (kind_numbered number ≡ None)
+  pub unwritten : status ≡ WRONG_NUMBER → new ≡ old

@@ -3,5 +3,7 @@ pub mod Checking
 pub mod Comparing
 pub mod Finding
 pub mod Giving
+pub mod Reads
 pub mod Updated
+pub mod Writes
 pub mod Written

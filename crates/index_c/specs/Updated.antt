@@ -6,7 +6,7 @@ use Rattle.index_numbers.specs.Summaries.{TellsFailure, fault_told}
 use Rattle.index_c.specs.Written.{IsFaultTold, Tells}
 use Rattle.index_numbers.specs.declared.summary.Summary.{Summary}
 use Rattle.index_c.specs.declared.write.Written.{Written}
-use Rattle.index_table.specs.Updating.{IsUnupdated}
+use Rattle.index_table.specs.Refusing.{IsUnupdated}
 use Rattle.index_table.specs.declared.fault.Failure.{Failure}
 use Rattle.index_table.specs.declared.over.CachedTree.TheVariants.{Absent}
 use Rattle.index_table.specs.declared.row.Row.{Row}
@@ -24,7 +24,11 @@ IsRefusedUpdate kind bytes shared paths rows told =
     AreRefusedBoth false kind bytes shared (as_read told)
     ⊎ IsFaultTold told Absent (IsUnupdated kind bytes shared paths rows)
 
+-- why the bytes of the index, or of its shared one, aren't read is told so
+abbrev pub TellsOfBoth : Failure → ℕ → Written → Type 0
+TellsOfBoth failure status told = TellsFailure failure status (as_read told)
+
 -- what comes of changing an index is told so
 abbrev pub TellsUpdated : Result (Result Image Unwritten) Failure → ℕ → Written → Type 0
 TellsUpdated (Ok written) status told = Tells written Absent status told
-TellsUpdated (Err failure) status told = TellsFailure failure status (as_read told)
+TellsUpdated (Err failure) status told = TellsOfBoth failure status told

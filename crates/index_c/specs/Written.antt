@@ -1,5 +1,5 @@
 -- What a call that writes a table tells beside its status (the library's own; c/gix_index.h has it field by field).
-use Rattle.std.specs.Prelude.{◌≡◌, ◌≢◌, ℕ, ◌⊎◌, false, List, None, Some, IsSomeAnd, Result, Ok, Err}
+use Rattle.std.specs.Prelude.{◌≡◌, ◌≢◌, ℕ, ◌≤◌, ◌⊎◌, false, List, None, Some, IsSomeAnd, Result, Ok, Err}
 use Rattle.gix_index.specs.Answer.{Fault}
 use Rattle.gix_index.specs.EntryImage.{version_code}
 use Rattle.gix_index.specs.FileFaults.ReadError.{Error as ReadError}
@@ -107,6 +107,12 @@ pub record LeavesBlank (status : ℕ) (told : Written) : Type 0 where
   pub whose : status ≢ REFUSED → status ≢ MEMORY → told.of_shared ≡ OWN
 
 -- ---- what calls tell
+
+-- the status is one up to a number, this holds of it and of what is told, and it leaves blank what it says nothing of
+pub record TellsWritten (most : ℕ) (Told : ℕ → Written → Type 0) (status : ℕ) (said : Written) : Type 0 where
+  pub at_most : status ≤ most
+  pub told : Told status said
+  pub blank : LeavesBlank status said
 
 -- what comes of writing a table is told so
 abbrev pub Tells : Result Image Unwritten → CachedTree → ℕ → Written → Type 0

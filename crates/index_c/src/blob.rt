@@ -1,10 +1,7 @@
 //! The id of a file's bytes.
 
-ghost use Rattle.std.specs.Prelude.{◌≡◌, ◌↔◌, IfSome, None};
-ghost use Rattle.gix_index.specs.Kind.{Kind};
-ghost use Rattle.index_c.specs.BlobIds.{blob_id};
-ghost use Rattle.index_numbers.specs.Numbers.{kind_numbered};
-ghost use Rattle.index_table.specs.Table.{padded_id};
+ghost use Rattle.std.specs.Prelude.{◌≡◌};
+ghost use Rattle.index_c.specs.BlobIds.{GivesBlobId, blob_id};
 
 use gix_index::hash::{Hasher, Kind, ObjectId};
 use index_numbers::number::kind_of;
@@ -32,10 +29,7 @@ fn id_of(kind: Kind, bytes: &[u8]) -> ObjectId
 /// `DONE`: the id is written. `WRONG_NUMBER`: the kind is none, and the id is as it was.
 #[unsafe(no_mangle)]
 pub extern "C" fn gix_index_blob_id(kind: u32, bytes: &[u8], id: &mut [u8; 32]) -> u32
-    ensures known { IfSome (kind_numbered kind)
-        (λ (k : Kind). (result ≡ DONE) × (id.new ≡ padded_id (blob_id k bytes.now))) }
-    ensures wrong { (result ≡ WRONG_NUMBER) ↔ (kind_numbered kind ≡ None) }
-    ensures unwritten { result ≡ WRONG_NUMBER → id.new ≡ id.old }
+    ensures { GivesBlobId kind bytes.now id.old id.new result }
 {
     let Some(kind) = kind_of(kind) else {
         return WRONG_NUMBER;

@@ -1,14 +1,11 @@
 //! Checking that an index is in order and that its cached tree holds together, with its shared index or without.
 
-ghost use Rattle.std.specs.Prelude.{◌≡◌, ◌↔◌, ◌≤◌, ◌⊎◌, IfErr, IfOk, IsSomeAnd, None};
+ghost use Rattle.std.specs.Prelude.{◌≡◌};
 ghost use Rattle.gix_index.specs.State.{PathsInStorage, contents};
-ghost use Rattle.index_c.specs.Checking.{AreSoundBoth, AreUnsoundBoth, IsFound, IsJudged, IsSoundIndex, IsUnsoundIndex, TellsCheck, TellsFlaw, flaw_number, flaw_place, order_place, tree_place};
-ghost use Rattle.index_numbers.specs.Joined.{AreRefusedBoth, LackMemory};
-ghost use Rattle.index_numbers.specs.Numbers.{kind_numbered};
-ghost use Rattle.index_numbers.specs.Summaries.{HasText, IsRefusedIndex, IsUnread, blank};
-ghost use Rattle.index_numbers.specs.declared.status.TheConstants.{WRONG_NUMBER};
-ghost use Rattle.index_table.specs.Joining.{AreReadSo, FailBoth};
-ghost use Rattle.index_table.specs.Reading.{FailsOwn, IsReadSo};
+ghost use Rattle.index_c.specs.Checking.{IsFound, IsJudged, TellsCheck, TellsFlaw, flaw_number, flaw_place, order_place, tree_place};
+ghost use Rattle.index_c.specs.Reads.{ChecksIndex, ChecksSplit, FindsOfBoth, FindsOfIndex};
+ghost use Rattle.index_numbers.specs.Statuses.{TellsSummary};
+ghost use Rattle.index_numbers.specs.Summaries.{HasText};
 
 use gix_index::State;
 use gix_index::extension::tree;
@@ -119,8 +116,7 @@ fn found_of(alloc: Global, state: &State) -> Found
 
 /// Checks the index of these bytes.
 fn checked(alloc: Global, bytes: &[u8], kind: Kind, skip_hash: bool) -> Result<Found, Failure>
-    ensures found { IfOk result (λ found. IsReadSo skip_hash kind bytes.now (IsFound found)) }
-    ensures failed { IfErr result (FailsOwn skip_hash kind bytes.now) }
+    ensures { FindsOfIndex skip_hash kind bytes.now result }
 {
     match index_of(alloc, bytes, kind, skip_hash, None) {
         Ok(state) => Ok(found_of(alloc, &state)),
@@ -139,9 +135,7 @@ fn checked_both(
     kind: Kind,
     skip_hash: bool,
 ) -> Result<Found, Failure>
-    ensures found { IfOk result
-        (λ found. AreReadSo skip_hash kind bytes.now shared.now (IsFound found)) }
-    ensures failed { IfErr result (FailBoth skip_hash kind bytes.now shared.now) }
+    ensures { FindsOfBoth skip_hash kind bytes.now shared.now result }
 {
     match both_of(alloc, bytes, shared, kind, skip_hash) {
         Ok(state) => Ok(found_of(alloc, &state)),
@@ -157,9 +151,8 @@ fn tell_flaw(
     text: &mut [u8],
     summary: &mut Summary,
 ) -> u32
-    ensures status { result ≤ MEMORY }
-    ensures told { TellsFlaw flaw.now sizes.now result summary.new }
-    ensures text { HasText summary.new.text_bytes text.old text.new }
+    ensures { TellsSummary MEMORY (TellsFlaw flaw.now sizes.now) result summary.new text.old
+        text.new }
 {
     let text_bytes = put_flaw(alloc, flaw, text);
     let Some(fault_place) = flaw_place(flaw) else {
@@ -185,9 +178,7 @@ fn tell(
     text: &mut [u8],
     summary: &mut Summary,
 ) -> u32
-    ensures status { result ≤ MEMORY }
-    ensures told { TellsCheck checked.now result summary.new }
-    ensures text { HasText summary.new.text_bytes text.old text.new }
+    ensures { TellsSummary MEMORY (TellsCheck checked.now) result summary.new text.old text.new }
 {
     let found = match checked {
         Ok(found) => found,
@@ -217,17 +208,7 @@ pub extern "C" fn gix_index_check(
     text: &mut [u8],
     summary: &mut Summary,
 ) -> u32
-    ensures status { (result ≤ MEMORY) ⊎ (result ≡ WRONG_NUMBER) }
-    ensures done { result ≡ DONE → IsSomeAnd (kind_numbered kind)
-        (λ k. IsSoundIndex skip_hash k bytes.now summary.new) }
-    ensures refused { result ≡ REFUSED → IsSomeAnd (kind_numbered kind)
-        (λ k. IsRefusedIndex skip_hash k bytes.now summary.new
-        ⊎ IsUnsoundIndex skip_hash k bytes.now summary.new) }
-    ensures memory { result ≡ MEMORY → IsSomeAnd (kind_numbered kind)
-        (λ k. IsUnread skip_hash k bytes.now summary.new) }
-    ensures wrong_number { (result ≡ WRONG_NUMBER) ↔ (kind_numbered kind ≡ None) }
-    ensures blank { result ≡ WRONG_NUMBER → summary.new ≡ blank }
-    ensures text { HasText summary.new.text_bytes text.old text.new }
+    ensures { ChecksIndex kind skip_hash bytes.now summary.new text.old text.new result }
 {
     let Some(kind) = kind_of(kind) else {
         return tell_wrong_number(summary);
@@ -254,17 +235,7 @@ pub extern "C" fn gix_index_check_split(
     text: &mut [u8],
     summary: &mut Summary,
 ) -> u32
-    ensures status { (result ≤ MEMORY) ⊎ (result ≡ WRONG_NUMBER) }
-    ensures done { result ≡ DONE → IsSomeAnd (kind_numbered kind)
-        (λ k. AreSoundBoth skip_hash k bytes.now shared.now summary.new) }
-    ensures refused { result ≡ REFUSED → IsSomeAnd (kind_numbered kind)
-        (λ k. AreRefusedBoth skip_hash k bytes.now shared.now summary.new
-        ⊎ AreUnsoundBoth skip_hash k bytes.now shared.now summary.new) }
-    ensures memory { result ≡ MEMORY → IsSomeAnd (kind_numbered kind)
-        (λ k. LackMemory skip_hash k bytes.now shared.now summary.new) }
-    ensures wrong_number { (result ≡ WRONG_NUMBER) ↔ (kind_numbered kind ≡ None) }
-    ensures blank { result ≡ WRONG_NUMBER → summary.new ≡ blank }
-    ensures text { HasText summary.new.text_bytes text.old text.new }
+    ensures { ChecksSplit kind skip_hash bytes.now shared.now summary.new text.old text.new result }
 {
     let Some(kind) = kind_of(kind) else {
         return tell_wrong_number(summary);

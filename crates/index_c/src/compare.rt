@@ -1,10 +1,8 @@
 //! Whether the file of a row is as it was: its stat, and its mode.
 
-ghost use Rattle.std.specs.Prelude.{◌≡◌, ◌<◌, ◌≤◌, true};
-ghost use Rattle.gix_index.specs.FileTime.{FileTime};
-ghost use Rattle.gix_index.specs.Stat.{nanoseconds_of, seconds_of};
-ghost use Rattle.gix_index.specs.StatMatch.{is_match, is_racy};
-ghost use Rattle.index_c.specs.Comparing.{mode_for, options_of, seen_of};
+ghost use Rattle.std.specs.Prelude.{◌≡◌};
+ghost use Rattle.gix_index.specs.StatMatch.{is_match};
+ghost use Rattle.index_c.specs.Comparing.{TellsRacy, mode_for, options_of, seen_of};
 ghost use Rattle.index_table.specs.Table.{row_stat};
 
 use gix_index::BitFlags as _;
@@ -73,10 +71,7 @@ pub extern "C" fn gix_index_is_racy(
     nsecs: u32,
     comparison: &Comparison,
 ) -> bool
-    ensures racy { nsecs < 1000000000
-        → (time : FileTime) → seconds_of time ≡ secs → nanoseconds_of time ≡ nsecs
-        → result ≡ is_racy (row_stat row.now) time (options_of comparison.now) }
-    ensures no_time { 1000000000 ≤ nsecs → result ≡ true }
+    ensures { TellsRacy row.now secs nsecs comparison.now result }
 {
     match FileTime::new(secs, nsecs) {
         Some(time) => stat_of(row).is_racy(time, options_of(comparison)),

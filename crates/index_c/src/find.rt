@@ -1,10 +1,8 @@
 //! Searches among the rows of a table.
 
-ghost use Rattle.std.specs.List.{HoldsAt};
-ghost use Rattle.std.specs.Prelude.{◌≡◌, ◌≤◌, ◌<◌, length, map};
-ghost use Rattle.gix_index.specs.Lookup.{IsKeyAt, insertion_of, place_of};
-ghost use Rattle.gix_index.specs.Order.{IsStrictlyOrdered, key_cmp};
-ghost use Rattle.index_c.specs.Finding.{place_among};
+ghost use Rattle.std.specs.Prelude.{◌<◌, length, map};
+ghost use Rattle.gix_index.specs.Order.{key_cmp};
+ghost use Rattle.index_c.specs.Finding.{RowGives, TellsBound, TellsKey};
 ghost use Rattle.index_table.specs.Table.{records_of};
 
 use index_search::ordered::{Ordered, part, search_within};
@@ -14,8 +12,7 @@ use std::cmp::Ordering;
 /// How the row at a place stands to a path and a stage.
 fn compare(rows: &[Row], paths: &[u8], place: usize, path: &[u8], stage: u32) -> Ordering
     requires { place < length rows.now }
-    ensures { HoldsAt (λ r. key_cmp path.now stage r ≡ result)
-        (records_of paths.now rows.now) place }
+    ensures { RowGives (key_cmp path.now stage) paths.now rows.now place result }
 {
     let row = rows[place];
     path_of(&row, paths)
@@ -51,12 +48,7 @@ impl Ordered for ByKey<'_> {
 /// at as the number of rows has binary digits.
 #[unsafe(no_mangle)]
 pub extern "C" fn gix_index_find(rows: &[Row], paths: &[u8], path: &[u8], stage: u32) -> usize
-    ensures in_range { result ≤ length rows.now }
-    ensures found { result < length rows.now
-        → IsKeyAt path.now stage (records_of paths.now rows.now) result }
-    ensures answer { IsStrictlyOrdered (records_of paths.now rows.now)
-        → place_among (length rows.now) result
-        ≡ place_of path.now stage (records_of paths.now rows.now) }
+    ensures { TellsKey path.now stage paths.now rows.now result }
 {
     let places = ByKey {
         rows,
@@ -81,9 +73,7 @@ pub extern "C" fn gix_index_lower_bound(
     path: &[u8],
     stage: u32,
 ) -> usize
-    ensures in_range { result ≤ length rows.now }
-    ensures answer { IsStrictlyOrdered (records_of paths.now rows.now)
-        → result ≡ insertion_of path.now stage (records_of paths.now rows.now) }
+    ensures { TellsBound path.now stage paths.now rows.now result }
 {
     let places = ByKey {
         rows,

@@ -1,9 +1,6 @@
 //! Searching the rows of a table for a directory with the case of ASCII letters ignored.
 
-ghost use Rattle.std.specs.Prelude.{◌≡◌, ◌≤◌, length, true};
-ghost use Rattle.gix_index.specs.Searching.Folded.{folded_closest};
-ghost use Rattle.index_c.specs.Finding.{place_among};
-ghost use Rattle.index_table.specs.Table.{records_of};
+ghost use Rattle.index_c.specs.Finding.{TellsFolded};
 
 use index_table::folded::closest_folded;
 use index_table::row::Row;
@@ -12,9 +9,7 @@ use index_table::row::Row;
 /// ASCII letters ignored; and the number of rows where none does. The rows may be in any order.
 #[unsafe(no_mangle)]
 pub extern "C" fn gix_index_closest_icase(rows: &[Row], paths: &[u8], directory: &[u8]) -> usize
-    ensures in_range { result ≤ length rows.now }
-    ensures answer { place_among (length rows.now) result
-        ≡ folded_closest true directory.now (records_of paths.now rows.now) }
+    ensures { TellsFolded directory.now paths.now rows.now result }
 {
     match closest_folded(rows, paths, directory) {
         Some(place) => place,

@@ -1,12 +1,9 @@
 //! Searches among the rows of a table by what their paths begin with.
 
-ghost use Rattle.std.specs.List.{HoldsAt};
-ghost use Rattle.std.specs.Prelude.{◌≡◌, ◌≢◌, ◌≤◌, ◌<◌, ◌⊎◌, ◌++◌, IfSome, length};
-ghost use Rattle.gix_index.specs.Order.{IsOrderedByPath};
-ghost use Rattle.gix_index.specs.Range.{IsPrefixRange, LiesWithin};
-ghost use Rattle.index_c.specs.Finding.{range_of, range_told};
+ghost use Rattle.std.specs.Prelude.{◌<◌, ◌++◌, IfSome, length};
+ghost use Rattle.gix_index.specs.Range.{LiesWithin};
+ghost use Rattle.index_c.specs.Finding.{IsPrefixed, RowGives, TellsPrefixed, record_prefix_cmp};
 ghost use Rattle.index_lookups.specs.SearchSteps.{prefix_answers};
-ghost use Rattle.index_search.specs.Prefix.{prefix_cmp};
 ghost use Rattle.index_table.specs.Table.{records_of};
 
 use index_numbers::status::{DONE, NONE};
@@ -29,8 +26,7 @@ pub struct Places {
 /// Where the path of the row at a place stands to a prefix in two pieces: equal where it begins with it.
 fn compare(rows: &[Row], paths: &[u8], place: usize, prefix: &[u8], tail: &[u8]) -> Ordering
     requires { place < length rows.now }
-    ensures { HoldsAt (λ r. prefix_cmp (prefix.now ++ tail.now) r.path ≡ result)
-        (records_of paths.now rows.now) place }
+    ensures { RowGives (record_prefix_cmp (prefix.now ++ tail.now)) paths.now rows.now place result }
 {
     let row = rows[place];
     compare_pieces(path_of(&row, paths), prefix, tail)
@@ -61,10 +57,7 @@ impl Ordered for ByPrefix<'_> {
 /// The places of the rows whose paths begin with a prefix, where there are any.
 fn prefixed(rows: &[Row], paths: &[u8], prefix: &[u8]) -> Option<Range<usize>>
     ensures in_range { IfSome result (LiesWithin (records_of paths.now rows.now)) }
-    ensures exactly { IsOrderedByPath (records_of paths.now rows.now)
-        → IsPrefixRange prefix.now (records_of paths.now rows.now) result }
-    ensures empty { length prefix.now ≡ 0
-        → IsPrefixRange prefix.now (records_of paths.now rows.now) result }
+    ensures prefixed { IsPrefixed prefix.now paths.now rows.now result }
 {
     if prefix.is_empty() {
         return Some(0..rows.len());
@@ -93,14 +86,7 @@ pub extern "C" fn gix_index_find_prefix(
     prefix: &[u8],
     places: &mut Places,
 ) -> u32
-    ensures status { (result ≡ DONE) ⊎ (result ≡ NONE) }
-    ensures in_range { result ≡ DONE
-        → LiesWithin (records_of paths.now rows.now) (range_of places.new) }
-    ensures exactly { IsOrderedByPath (records_of paths.now rows.now) → IsPrefixRange prefix.now
-        (records_of paths.now rows.now) (range_told result places.new) }
-    ensures empty { length prefix.now ≡ 0 → IsPrefixRange prefix.now
-        (records_of paths.now rows.now) (range_told result places.new) }
-    ensures kept { result ≢ DONE → places.new ≡ places.old }
+    ensures { TellsPrefixed prefix.now paths.now rows.now places.old places.new result }
 {
     match prefixed(rows, paths, prefix) {
         Some(range) => {

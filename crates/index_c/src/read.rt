@@ -1,12 +1,8 @@
 //! Reading an index into a caller's table.
 
-ghost use Rattle.std.specs.Prelude.{◌≡◌, ◌≢◌, ◌≤◌, ◌↔◌, IsSomeAnd, None};
-ghost use Rattle.index_numbers.specs.Joined.{AreRefusedBoth, LackMemory};
-ghost use Rattle.index_numbers.specs.Numbers.{kind_numbered};
-ghost use Rattle.index_numbers.specs.Summaries.{HasText, IsFilled, IsRefusedIndex, IsToldWith, IsUnread, LacksRoom, Tells, blank};
-ghost use Rattle.index_numbers.specs.declared.status.TheConstants.{MEMORY, REFUSED, WRONG_NUMBER};
-ghost use Rattle.index_table.specs.Joining.{AreReadSo};
-ghost use Rattle.index_table.specs.Reading.{Fills, IsTooSmall};
+ghost use Rattle.index_c.specs.Reads.{ReadsSplit, ReadsTable};
+ghost use Rattle.index_numbers.specs.Statuses.{TellsSummary};
+ghost use Rattle.index_numbers.specs.Summaries.{HasText, Tells};
 
 use index_numbers::number::kind_of;
 use index_numbers::status::{DONE, NO_ROOM};
@@ -18,9 +14,7 @@ use std::alloc::Global;
 
 /// Tells what comes of reading bytes into a table.
 fn tell(alloc: Global, read: Result<Sizes, Unread>, text: &mut [u8], summary: &mut Summary) -> u32
-    ensures status { result ≤ NO_ROOM }
-    ensures told { Tells read result summary.new }
-    ensures text { HasText summary.new.text_bytes text.old text.new }
+    ensures { TellsSummary NO_ROOM (Tells read) result summary.new text.old text.new }
 {
     let (status, sizes) = match read {
         Ok(sizes) => (DONE, sizes),
@@ -50,19 +44,8 @@ pub extern "C" fn gix_index_read(
     text: &mut [u8],
     summary: &mut Summary,
 ) -> u32
-    ensures status { result ≤ WRONG_NUMBER }
-    ensures done { result ≡ DONE → IsSomeAnd (kind_numbered kind) (λ k. IsFilled skip_hash k bytes.now
-        summary.new rows.old rows.new paths.old paths.new) }
-    ensures refused { result ≡ REFUSED → IsSomeAnd (kind_numbered kind)
-        (λ k. IsRefusedIndex skip_hash k bytes.now summary.new) }
-    ensures memory { result ≡ MEMORY → IsSomeAnd (kind_numbered kind)
-        (λ k. IsUnread skip_hash k bytes.now summary.new) }
-    ensures no_room { result ≡ NO_ROOM → IsSomeAnd (kind_numbered kind)
-        (λ k. LacksRoom skip_hash k bytes.now summary.new rows.old paths.old) }
-    ensures wrong_number { (result ≡ WRONG_NUMBER) ↔ (kind_numbered kind ≡ None) }
-    ensures blank { result ≡ WRONG_NUMBER → summary.new ≡ blank }
-    ensures rows { result ≢ DONE → rows.new ≡ rows.old }
-    ensures paths { result ≢ DONE → paths.new ≡ paths.old }
+    ensures table { ReadsTable kind skip_hash bytes.now summary.new rows.old rows.new paths.old
+        paths.new result }
     ensures text { HasText summary.new.text_bytes text.old text.new }
 {
     let Some(kind) = kind_of(kind) else {
@@ -92,21 +75,8 @@ pub extern "C" fn gix_index_read_split(
     text: &mut [u8],
     summary: &mut Summary,
 ) -> u32
-    ensures status { result ≤ WRONG_NUMBER }
-    ensures done { result ≡ DONE → IsSomeAnd (kind_numbered kind)
-        (λ k. AreReadSo skip_hash k bytes.now shared.now
-        (IsToldWith summary.new (λ v. Fills v rows.old rows.new paths.old paths.new))) }
-    ensures refused { result ≡ REFUSED → IsSomeAnd (kind_numbered kind)
-        (λ k. AreRefusedBoth skip_hash k bytes.now shared.now summary.new) }
-    ensures memory { result ≡ MEMORY → IsSomeAnd (kind_numbered kind)
-        (λ k. LackMemory skip_hash k bytes.now shared.now summary.new) }
-    ensures no_room { result ≡ NO_ROOM → IsSomeAnd (kind_numbered kind)
-        (λ k. AreReadSo skip_hash k bytes.now shared.now
-        (IsToldWith summary.new (λ v. IsTooSmall v rows.old paths.old))) }
-    ensures wrong_number { (result ≡ WRONG_NUMBER) ↔ (kind_numbered kind ≡ None) }
-    ensures blank { result ≡ WRONG_NUMBER → summary.new ≡ blank }
-    ensures rows { result ≢ DONE → rows.new ≡ rows.old }
-    ensures paths { result ≢ DONE → paths.new ≡ paths.old }
+    ensures table { ReadsSplit kind skip_hash bytes.now shared.now summary.new rows.old rows.new
+        paths.old paths.new result }
     ensures text { HasText summary.new.text_bytes text.old text.new }
 {
     let Some(kind) = kind_of(kind) else {

@@ -1,11 +1,8 @@
 //! Giving the trees of a caller's table.
 
-ghost use Rattle.std.specs.Prelude.{◌≡◌, ◌≢◌, ◌≤◌, ◌↔◌, IsSomeAnd, None, true};
-ghost use Rattle.index_c.specs.Giving.{AreCountsTold, IsFaultTold, Tells, counts_told, fault_told, nothing_told};
-ghost use Rattle.index_numbers.specs.Numbers.{kind_numbered};
-ghost use Rattle.index_table.specs.Fitting.{IsFitTable};
-ghost use Rattle.index_table_trees.specs.Blaming.{HasNoTrees};
-ghost use Rattle.index_table_trees.specs.Trees.{HoldTrees, MakesTrees, PassRoom};
+ghost use Rattle.std.specs.Prelude.{◌≡◌, ◌≤◌};
+ghost use Rattle.index_c.specs.Giving.{Tells, counts_told, fault_told};
+ghost use Rattle.index_c.specs.Writes.{GivesTrees};
 
 use index_numbers::fault::number_of_table;
 use index_numbers::number::kind_of;
@@ -93,20 +90,8 @@ pub extern "C" fn gix_index_trees(
     bytes: &mut [u8],
     told: &mut Given,
 ) -> u32
-    ensures status { result ≤ WRONG_NUMBER }
-    ensures done { result ≡ DONE → IsSomeAnd (kind_numbered kind) (λ k. AreCountsTold told.new
-        (λ counts. MakesTrees k paths.now rows.now
-        (HoldTrees counts trees.old trees.new bytes.old bytes.new))) }
-    ensures refused { result ≡ REFUSED → IsSomeAnd (kind_numbered kind)
-        (λ k. IsFaultTold told.new (HasNoTrees k paths.now rows.now)) }
-    ensures memory { result ≡ MEMORY → IsSomeAnd (kind_numbered kind)
-        (λ k. IsFitTable k true paths.now rows.now × (told.new ≡ nothing_told)) }
-    ensures no_room { result ≡ NO_ROOM → IsSomeAnd (kind_numbered kind) (λ k. AreCountsTold told.new
-        (λ counts. MakesTrees k paths.now rows.now (PassRoom counts trees.old bytes.old))) }
-    ensures wrong_number { (result ≡ WRONG_NUMBER) ↔ (kind_numbered kind ≡ None) }
-    ensures blank { result ≡ WRONG_NUMBER → told.new ≡ nothing_told }
-    ensures trees { result ≢ DONE → trees.new ≡ trees.old }
-    ensures bytes { result ≢ DONE → bytes.new ≡ bytes.old }
+    ensures { GivesTrees kind paths.now rows.now trees.old trees.new bytes.old bytes.new told.new
+        result }
 {
     let Some(kind) = kind_of(kind) else {
         *told = told_of_fault(0, 0);

@@ -1,15 +1,11 @@
 //! Changing an index by the rows of a caller's table.
 
-ghost use Rattle.std.specs.Prelude.{◌≡◌, ◌≢◌, ◌≤◌, ◌↔◌, IsSomeAnd, None, false};
-ghost use Rattle.index_numbers.specs.Joined.{LackMemory};
-ghost use Rattle.index_numbers.specs.Numbers.{kind_numbered};
-ghost use Rattle.index_numbers.specs.Summaries.{TellsFailure};
-ghost use Rattle.index_c.specs.Updated.{IsRefusedUpdate, TellsUpdated, as_read};
-ghost use Rattle.index_c.specs.Written.{IsImageTold, LeavesBlank};
+ghost use Rattle.std.specs.Prelude.{◌≡◌};
+ghost use Rattle.index_c.specs.Updated.{TellsOfBoth, TellsUpdated};
+ghost use Rattle.index_c.specs.Writes.{Changes};
+ghost use Rattle.index_c.specs.Written.{TellsWritten};
 ghost use Rattle.index_numbers.specs.declared.number.TheConstants.{NO_TREE};
-ghost use Rattle.index_numbers.specs.declared.status.TheConstants.{DONE, MEMORY, NO_ROOM, REFUSED, WRONG_NUMBER};
-ghost use Rattle.index_table.specs.Updating.{HasKeptImage, PassesRoomKept, Updates};
-ghost use Rattle.index_table.specs.declared.over.CachedTree.TheVariants.{Absent};
+ghost use Rattle.index_numbers.specs.declared.status.TheConstants.{MEMORY, NO_ROOM};
 
 use crate::write::{Written, tell, tell_wrong_number, told_of_fault};
 use index_numbers::fault::{number_of_error, status_of_error};
@@ -23,10 +19,8 @@ use std::alloc::Global;
 
 /// Tells why the bytes of the index, or of its shared one, aren't read.
 fn tell_unread(failure: &Failure, told: &mut Written) -> u32
-    ensures status { result ≤ MEMORY }
-    ensures told { TellsFailure failure.now result (as_read told.new) }
+    ensures written { TellsWritten MEMORY (TellsOfBoth failure.now) result told.new }
     ensures tree { told.new.tree ≡ NO_TREE }
-    ensures blank { LeavesBlank result told.new }
 {
     let fault = number_of_error(&failure.error);
     *told = Written {
@@ -38,10 +32,8 @@ fn tell_unread(failure: &Failure, told: &mut Written) -> u32
 
 /// Tells what comes of changing an index.
 fn tell_updated(updated: &Result<Result<Image, Unwritten>, Failure>, told: &mut Written) -> u32
-    ensures status { result ≤ NO_ROOM }
-    ensures told { TellsUpdated updated.now result told.new }
+    ensures written { TellsWritten NO_ROOM (TellsUpdated updated.now) result told.new }
     ensures tree { told.new.tree ≡ NO_TREE }
-    ensures blank { LeavesBlank result told.new }
 {
     match updated {
         Ok(written) => tell(written, CachedTree::Absent, told),
@@ -73,23 +65,8 @@ pub extern "C" fn gix_index_update(
     bytes: &mut [u8],
     told: &mut Written,
 ) -> u32
-    ensures status { result ≤ WRONG_NUMBER }
-    ensures done { result ≡ DONE → IsSomeAnd (kind_numbered kind)
-        (λ k. IsImageTold told.new Absent
-        (λ image. Updates k index.now shared.now paths.now rows.now
-        (HasKeptImage image bytes.old bytes.new))) }
-    ensures refused { result ≡ REFUSED → IsSomeAnd (kind_numbered kind)
-        (λ k. IsRefusedUpdate k index.now shared.now paths.now rows.now told.new) }
-    ensures memory { result ≡ MEMORY → IsSomeAnd (kind_numbered kind)
-        (λ k. LackMemory false k index.now shared.now (as_read told.new)) }
-    ensures no_room { result ≡ NO_ROOM → IsSomeAnd (kind_numbered kind)
-        (λ k. IsImageTold told.new Absent
-        (λ image. Updates k index.now shared.now paths.now rows.now
-        (PassesRoomKept image bytes.old))) }
-    ensures wrong_number { (result ≡ WRONG_NUMBER) ↔ (kind_numbered kind ≡ None) }
-    ensures tree { told.new.tree ≡ NO_TREE }
-    ensures blank { LeavesBlank result told.new }
-    ensures bytes { result ≢ DONE → bytes.new ≡ bytes.old }
+    ensures { Changes kind index.now shared.now paths.now rows.now bytes.old bytes.new told.new
+        result }
 {
     let Some(kind) = kind_of(kind) else {
         return tell_wrong_number(told);

@@ -1,13 +1,8 @@
 //! Writing a caller's table as an index.
 
-ghost use Rattle.std.specs.Prelude.{◌≡◌, ◌≢◌, ◌≤◌, ◌↔◌, IfSome, None, false};
-ghost use Rattle.index_numbers.specs.Numbers.{tree_number};
-ghost use Rattle.index_c.specs.Written.{Asks, HasWrongNumber, IsAsked, IsFaultTold, IsImageTold, IsImageToldOver, IsRefusedOver, LeavesBlank, Tells, TellsOver, TellsUnread, fault_told, image_told};
-ghost use Rattle.index_table.specs.Fitting.{IsFitTable};
-ghost use Rattle.index_table.specs.Overwriting.{WritesOver, full_options};
-ghost use Rattle.index_table.specs.Reading.{LacksMemory};
-ghost use Rattle.index_table.specs.Writing.{HasImage, IsUnwritten, PassesRoom, Spells, plain_options};
-ghost use Rattle.index_table.specs.declared.over.CachedTree.TheVariants.{Absent};
+ghost use Rattle.std.specs.Prelude.{◌≡◌, ◌↔◌, IfSome, None};
+ghost use Rattle.index_c.specs.Writes.{WritesForm, WritesInPlace};
+ghost use Rattle.index_c.specs.Written.{Asks, HasWrongNumber, LeavesBlank, Tells, TellsOver, TellsUnread, TellsWritten, fault_told, image_told};
 
 use gix_index::file;
 use index_numbers::fault::{number_of_error, number_of_table, status_of_error};
@@ -90,9 +85,7 @@ pub(crate) fn told_of_fault(fault: u32, fault_place: usize, tree: CachedTree) ->
 
 /// Tells what comes of writing a table, and of a cached tree.
 pub(crate) fn tell(written: &Result<Image, Unwritten>, tree: CachedTree, told: &mut Written) -> u32
-    ensures status { result ≤ NO_ROOM }
-    ensures told { Tells written.now tree result told.new }
-    ensures blank { LeavesBlank result told.new }
+    ensures { TellsWritten NO_ROOM (Tells written.now tree) result told.new }
 {
     let (status, said) = match written {
         Ok(image) => (DONE, told_of_image(image, tree)),
@@ -109,9 +102,7 @@ pub(crate) fn tell(written: &Result<Image, Unwritten>, tree: CachedTree, told: &
 
 /// Tells why the bytes of the index that is written over aren't read.
 fn tell_unread(e: &file::init::Error, told: &mut Written) -> u32
-    ensures status { result ≤ MEMORY }
-    ensures told { TellsUnread e.now result told.new }
-    ensures blank { LeavesBlank result told.new }
+    ensures { TellsWritten MEMORY (TellsUnread e.now) result told.new }
 {
     let fault = number_of_error(e);
     *told = told_of_fault(fault.number, fault.place, CachedTree::Absent);
@@ -120,9 +111,7 @@ fn tell_unread(e: &file::init::Error, told: &mut Written) -> u32
 
 /// Tells what comes of writing a table over an index.
 fn tell_over(over: &Result<Replacement, file::init::Error>, told: &mut Written) -> u32
-    ensures status { result ≤ NO_ROOM }
-    ensures told { TellsOver over.now result told.new }
-    ensures blank { LeavesBlank result told.new }
+    ensures { TellsWritten NO_ROOM (TellsOver over.now) result told.new }
 {
     match over {
         Ok(replaced) => tell(&replaced.written, replaced.tree, told),
@@ -156,22 +145,7 @@ pub extern "C" fn gix_index_write(
     bytes: &mut [u8],
     told: &mut Written,
 ) -> u32
-    ensures status { result ≤ WRONG_NUMBER }
-    ensures done { result ≡ DONE → IsAsked form.now (λ format. IsImageTold told.new Absent
-        (λ image. Spells format.kind paths.now rows.now
-        (HasImage (plain_options format) image bytes.old bytes.new))) }
-    ensures refused { result ≡ REFUSED → IsAsked form.now
-        (λ format. IsFaultTold told.new Absent (IsUnwritten format paths.now rows.now)) }
-    ensures memory { result ≡ MEMORY → IsAsked form.now
-        (λ format. IsFitTable format.kind false paths.now rows.now) }
-    ensures no_room { result ≡ NO_ROOM → IsAsked form.now (λ format. IsImageTold told.new Absent
-        (λ image. Spells format.kind paths.now rows.now
-        (PassesRoom (plain_options format) image bytes.old))) }
-    ensures wrong_number { (result ≡ WRONG_NUMBER) ↔ HasWrongNumber form.now }
-    ensures tree { told.new.tree ≡ NO_TREE }
-    ensures whose { told.new.of_shared ≡ OWN }
-    ensures blank { LeavesBlank result told.new }
-    ensures bytes { result ≢ DONE → bytes.new ≡ bytes.old }
+    ensures { WritesForm form.now paths.now rows.now bytes.old bytes.new told.new result }
 {
     let Some(format) = format_of(form) else {
         return tell_wrong_number(told);
@@ -200,21 +174,8 @@ pub extern "C" fn gix_index_write_over(
     bytes: &mut [u8],
     told: &mut Written,
 ) -> u32
-    ensures status { result ≤ WRONG_NUMBER }
-    ensures done { result ≡ DONE → IsAsked form.now (λ format. IsImageToldOver told.new
-        (λ tree image. WritesOver format.kind index.now paths.now rows.now tree
-        (HasImage (full_options format) image bytes.old bytes.new))) }
-    ensures refused { result ≡ REFUSED → IsAsked form.now
-        (λ format. IsRefusedOver format index.now paths.now rows.now told.new) }
-    ensures memory { result ≡ MEMORY → IsAsked form.now
-        (λ format. LacksMemory None false format.kind index.now) }
-    ensures no_room { result ≡ NO_ROOM → IsAsked form.now (λ format. IsImageToldOver told.new
-        (λ tree image. WritesOver format.kind index.now paths.now rows.now tree
-        (PassesRoom (full_options format) image bytes.old))) }
-    ensures wrong_number { (result ≡ WRONG_NUMBER) ↔ HasWrongNumber form.now }
-    ensures whose { told.new.of_shared ≡ OWN }
-    ensures blank { LeavesBlank result told.new }
-    ensures bytes { result ≢ DONE → bytes.new ≡ bytes.old }
+    ensures { WritesInPlace form.now index.now paths.now rows.now bytes.old bytes.new told.new
+        result }
 {
     let Some(format) = format_of(form) else {
         return tell_wrong_number(told);

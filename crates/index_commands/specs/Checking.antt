@@ -1,7 +1,9 @@
 -- What the program checks of an index, and what it prints then (the program's own).
-use Rattle.std.specs.Prelude.{◌≡◌, ◌⊎◌, ℕ, Bool, true, List, length, MatchOption, None, Option, IfSome, codes}
+use Rattle.std.specs.Prelude.{◌≡◌, ◌⊎◌, ℕ, Bool, true, List, length, MatchOption, None, Option, IfSome, codes, Result}
+use Rattle.std.specs.Prelude.{IfErr, OnOk}
 use Rattle.gix_index.specs.Disk.{Disk, disk_at}
 use Rattle.gix_index.specs.Disk.World.{World}
+use Rattle.gix_index.specs.Hashing.Out.{Ghosts as Output}
 use Rattle.gix_index.specs.Kind.{Kind}
 use Rattle.gix_index.specs.ObjectId.{ObjectId}
 use Rattle.gix_index.specs.Order.{IsStrictlyOrdered}
@@ -11,9 +13,11 @@ use Rattle.gix_index.specs.SoundState.{AreSoundExtensions, SaysFall, extensions_
 use Rattle.gix_index.specs.TreeFaults.{SaysTree}
 use Rattle.gix_index.specs.TreeIds.{AreRight, SaysTreeIds}
 use Rattle.gix_index.specs.VerifiedFile.{FitsFile}
+use Rattle.gix_index.specs.OnDisk.FolderTrait.{Ghosts as Folder}
 use Rattle.index_failures.specs.declared.failure.Failure.{Failure}
 use Rattle.index_failures.specs.declared.failure.Failure.TheVariants as failures
 use Rattle.index_failures.specs.Reading.{FailsReading, IsInFile, SaysOfIndex}
+use Rattle.index_failures.specs.Telling.{EndsTelling, NoText}
 
 abbrev pub ok_line : List ℕ
 ok_line = codes "ok\n"
@@ -68,3 +72,23 @@ abbrev pub FailsToPass : Bool → Bool → World → Kind → List ℕ → Failu
 FailsToPass ids works world kind path failure =
     FailsReading (SaysOfIndex works world kind path) path failure
     ⊎ IsOfCheckIn ids (disk_at world path) kind path failure
+
+-- the cached tree is compared with the entries where that is asked for, or what else these give is the failure
+pub record ComparesTrees (ids : Bool) (value : Contents) (path : List ℕ) (answer : Result (Unit {0}) Failure)
+    : Type 0 where
+  pub right : OnOk answer (ids ≡ true → HasRightTrees value)
+  pub fault : IfErr answer (IsOfCheck ids value path)
+
+-- the entries are in order, and the cached tree is sound, and compared so; or what is wrong is the failure
+pub record Verifies (ids : Bool) (value : Contents) (path : List ℕ) (answer : Result (Unit {0}) Failure) : Type 0 where
+  pub ordered : OnOk answer (IsStrictlyOrdered value.records)
+  pub tree : OnOk answer (AreSoundExtensions (length value.records) value.extensions.tree)
+  pub right : OnOk answer (ids ≡ true → HasRightTrees value)
+  pub fault : IfErr answer (IsOfCheck ids value path)
+
+-- the line of an index that passed all checks is told of the file at a path of a folder, or why it isn't
+abbrev pub ChecksIndex : {S F M T : Type 0} → Bool → Folder S F M → S → Kind → List ℕ → Output T → T → T
+    → Result (Unit {0}) Failure → Type 0
+ChecksIndex ids folder now kind path writer old new answer = EndsTelling writer old new
+    (IsPassed ids (disk_at (folder.known now) path) kind) NoText
+    (FailsToPass ids (folder.works now) (folder.known now) kind path) path answer

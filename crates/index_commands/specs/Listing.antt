@@ -1,12 +1,17 @@
 -- Which lines the program prints of an index in a file (the program's own).
-use Rattle.std.specs.Prelude.{◌≡◌, ℕ, List, Option}
-use Rattle.gix_index.specs.Disk.{Disk}
+use Rattle.std.specs.Prelude.{◌≡◌, ℕ, List, Option, Result}
+use Rattle.gix_index.specs.Disk.{Disk, disk_at}
+use Rattle.gix_index.specs.Hashing.Out.{Ghosts as Output}
 use Rattle.gix_index.specs.Kind.{Kind}
 use Rattle.gix_index.specs.ObjectId.{ObjectId}
 use Rattle.gix_index.specs.Contents.{Contents}
 use Rattle.index_lines.specs.Line.{listing}
 use Rattle.index_text.specs.declared.lines.Lines.{Lines}
+use Rattle.index_failures.specs.Calls.{FailsToRead}
+use Rattle.gix_index.specs.OnDisk.FolderTrait.{Ghosts as Folder}
+use Rattle.index_failures.specs.declared.failure.Failure.{Failure}
 use Rattle.index_failures.specs.Reading.{IsInFile}
+use Rattle.index_failures.specs.Telling.{EndsTelling, NoText}
 
 -- the lines of the index in a file, in a style
 pub record IsListing (style : Lines) (disk : Disk) (kind : Kind) (text : List ℕ) : Type 0 where
@@ -14,3 +19,9 @@ pub record IsListing (style : Lines) (disk : Disk) (kind : Kind) (text : List �
   pub checksum : Option ObjectId
   pub read : IsInFile disk kind value checksum
   pub is : text ≡ listing style value.records
+
+-- they are told of the index in the file at a path of a folder, or why they aren't
+abbrev pub ListsIndex : {S F M T : Type 0} → Lines → Folder S F M → S → Kind → List ℕ → Output T → T → T
+    → Result (Unit {0}) Failure → Type 0
+ListsIndex style folder now kind path writer old new answer = EndsTelling writer old new
+    (IsListing style (disk_at (folder.known now) path) kind) NoText (FailsToRead folder now kind path) path answer

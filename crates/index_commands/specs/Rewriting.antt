@@ -1,5 +1,5 @@
 -- What the program writes of an index (the program's own).
-use Rattle.std.specs.Prelude.{ℕ, Bool, List}
+use Rattle.std.specs.Prelude.{ℕ, Bool, List, Result}
 use Rattle.gix_index.specs.Disk.{disk_at}
 use Rattle.gix_index.specs.Kind.{Kind}
 use Rattle.gix_index.specs.Version.{Version}
@@ -13,10 +13,11 @@ use Rattle.gix_index.specs.Disk.World.{World}
 use Rattle.gix_index.specs.WriteOptions.{Options}
 use Rattle.index_commands.specs.declared.rewrite.Form.{Form}
 use Rattle.index_commands.specs.declared.rewrite.Form.TheVariants as forms
+use Rattle.gix_index.specs.OnDisk.FolderTrait.{Ghosts as Folder}
 use Rattle.index_failures.specs.declared.failure.Failure.{Failure}
 use Rattle.index_failures.specs.Reading.{FailsReading, IsInFileSince, SaysOfIndex}
 use Rattle.index_failures.specs.Options.{rewrite_options}
-use Rattle.index_failures.specs.Storing.{FailsStoring, IsReplaced}
+use Rattle.index_failures.specs.Storing.{EndsStoring, FailsStoring, IsReplaced}
 
 -- the version that a form has for an index of a version
 abbrev pub chosen : Form → Version → VersionChoice
@@ -39,3 +40,10 @@ Rewrites alone guards form kind old new path to = IsReplaced alone guards old ne
 abbrev pub FailsToRewrite : Bool → Bool → Kind → World → List ℕ → List ℕ → Failure → Type 0
 FailsToRewrite works guards kind old path to failure =
     FailsStoring works guards old to (λ world. FailsReading (SaysOfIndex works world kind path) path) failure
+
+-- the index in the file at one path of a folder is written so to another one, or why it isn't
+abbrev pub RewritesIndex : {S F M : Type 0} → Form → Folder S F M → S → S → Kind → List ℕ → List ℕ
+    → Result (Unit {0}) Failure → Type 0
+RewritesIndex form folder old new kind path to answer = EndsStoring folder old new to
+    (λ done. Rewrites (folder.alone old) (folder.guards old) form kind (folder.known old) (folder.known new) path to)
+    (FailsToRewrite (folder.works old) (folder.guards old) kind (folder.known old) path to) answer

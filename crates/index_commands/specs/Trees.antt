@@ -1,11 +1,12 @@
 -- The trees of an index in a file: their lines, and the index that is written with them (the program's own).
-use Rattle.std.specs.Prelude.{◌≡◌, ◌⊎◌, ℕ, Bool, false, List, [], Option}
+use Rattle.std.specs.Prelude.{◌≡◌, ◌⊎◌, ℕ, Bool, false, List, [], Option, Result}
 use Rattle.gix_index.specs.Cached.{IsCached}
 use Rattle.gix_index.specs.Contents.{Contents}
 use Rattle.gix_index.specs.Disk.{Disk, disk_at}
 use Rattle.gix_index.specs.Edits.{with_cached_tree}
 use Rattle.gix_index.specs.File.{state_of}
 use Rattle.gix_index.specs.FileTime.{FileTime}
+use Rattle.gix_index.specs.Hashing.Out.{Ghosts as Output}
 use Rattle.gix_index.specs.Kind.{Kind}
 use Rattle.gix_index.specs.Linked.{IsOnDisk}
 use Rattle.gix_index.specs.ObjectId.{ObjectId}
@@ -13,7 +14,9 @@ use Rattle.gix_index.specs.Order.{IsStrictlyOrdered}
 use Rattle.gix_index.specs.Refusals.{AreRefused, SaysTreesFault}
 use Rattle.gix_index.specs.SoundState.{SaysFall}
 use Rattle.gix_index.specs.Staged.{staged_in}
-use Rattle.gix_index.specs.State.{contents}
+use Rattle.gix_index.specs.State.{PathsInStorage, contents}
+use Rattle.gix_index.specs.StateType.{State}
+use Rattle.gix_index.specs.declared.file.File.{File}
 use Rattle.gix_index.specs.Tree.{Node}
 use Rattle.gix_index.specs.TreeDirectory.{Items, IsTreeOf}
 use Rattle.gix_index.specs.TreeIds.{any_name}
@@ -21,11 +24,14 @@ use Rattle.gix_index.specs.Trees.Kept.{KeepsCounts}
 use Rattle.gix_index.specs.Disk.World.{World}
 use Rattle.index_lines.specs.Directories.{subtree_lines}
 use Rattle.index_text.specs.declared.lines.Lines.{Lines}
+use Rattle.index_failures.specs.Calls.{GivesIndex}
+use Rattle.gix_index.specs.OnDisk.FolderTrait.{Ghosts as Folder}
 use Rattle.index_failures.specs.declared.failure.Failure.{Failure}
 use Rattle.index_failures.specs.declared.failure.Failure.TheVariants as failures
 use Rattle.index_failures.specs.Options.{unlimited_options}
 use Rattle.index_failures.specs.Reading.{FailsReading, IsInFile, IsInFileSince, SaysOfIndex}
-use Rattle.index_failures.specs.Storing.{FailsStoring, IsReplaced}
+use Rattle.index_failures.specs.Storing.{EndsStoring, FailsStoring, IsReplaced}
+use Rattle.index_failures.specs.Telling.{EndsTelling, NoText}
 use Rattle.index_commands.specs.Rewriting.{chosen_options}
 use Rattle.index_commands.specs.declared.rewrite.Form.TheVariants.{AsRead}
 use Rattle.index_commands.specs.declared.rewrite_trees.Counts.{Counts}
@@ -96,3 +102,30 @@ Retrees alone guards counts kind old new path to = IsReplaced alone guards old n
 abbrev pub FailsToRetree : Bool → Bool → Kind → World → List ℕ → List ℕ → Failure → Type 0
 FailsToRetree works guards kind old path to failure =
     FailsStoring works guards old to (λ world. FailsToTree works world kind path) failure
+
+-- ---- what each call answers
+
+-- the lines of the trees are told of the index in the file at a path of a folder, or why they aren't
+abbrev pub ListsTrees : {S F M T : Type 0} → Lines → Folder S F M → S → Kind → List ℕ → Output T → T → T
+    → Result (Unit {0}) Failure → Type 0
+ListsTrees style folder now kind path writer old new answer = EndsTelling writer old new
+    (AreTrees style (disk_at (folder.known now) path) kind) NoText
+    (FailsToTree (folder.works now) (folder.known now) kind path) path answer
+
+-- the state has the cached tree that was made, and its paths lie in its storage as before
+pub record PutsTree (counts : Counts) (tree : Node) (old new : State) : Type 0 where
+  pub put : IsTreePut counts (contents old) tree (contents new)
+  pub placed : PathsInStorage old → PathsInStorage new
+
+-- the index in the file at a path of a folder with the cached tree of what it stages; or why there is none
+abbrev pub GivesWithTrees : {S F M : Type 0} → Counts → Folder S F M → S → Kind → List ℕ → Result File Failure → Type 0
+GivesWithTrees counts folder now kind path answer = GivesIndex
+    (λ index. IsMadeInFile counts (disk_at (folder.known now) path) kind (contents (state_of index)))
+    (FailsToTree (folder.works now) (folder.known now) kind path) answer
+
+-- it is written so to another path, or why it isn't
+abbrev pub RewritesTrees : {S F M : Type 0} → Counts → Folder S F M → S → S → Kind → List ℕ → List ℕ
+    → Result (Unit {0}) Failure → Type 0
+RewritesTrees counts folder old new kind path to answer = EndsStoring folder old new to
+    (λ done. Retrees (folder.alone old) (folder.guards old) counts kind (folder.known old) (folder.known new) path to)
+    (FailsToRetree (folder.works old) (folder.guards old) kind (folder.known old) path to) answer

@@ -1,5 +1,5 @@
 -- What the program makes of an index by the changes that a text says (the program's own).
-use Rattle.std.specs.Prelude.{◌≡◌, ℕ, Bool, List, Option, Some, None, map}
+use Rattle.std.specs.Prelude.{◌≡◌, ℕ, Bool, List, Option, Some, None, map, Result, IfErr, OnOk}
 use Rattle.gix_index.specs.Changing.Changes.{IsAppliedTo, refusal_of}
 use Rattle.gix_index.specs.Changing.Updates.{updated}
 use Rattle.gix_index.specs.Changing.Change.{Change}
@@ -14,14 +14,18 @@ use Rattle.gix_index.specs.FileTime.{FileTime}
 use Rattle.gix_index.specs.Kind.{Kind}
 use Rattle.gix_index.specs.ObjectId.{ObjectId}
 use Rattle.gix_index.specs.Order.{IsStrictlyOrdered}
-use Rattle.gix_index.specs.State.{contents}
+use Rattle.gix_index.specs.State.{PathsInStorage, contents}
+use Rattle.gix_index.specs.StateType.{State}
+use Rattle.gix_index.specs.declared.file.File.{File}
 use Rattle.index_info.specs.Names as names
 use Rattle.index_info.specs.Text.{AreSaid, SaysOfText, change_value}
+use Rattle.index_failures.specs.Calls.{FailsToRead, GivesIndex}
+use Rattle.gix_index.specs.OnDisk.FolderTrait.{Ghosts as Folder}
 use Rattle.index_failures.specs.declared.failure.Failure.{Failure}
 use Rattle.index_failures.specs.declared.failure.Failure.TheVariants as failures
 use Rattle.index_failures.specs.Options.{IsBeginOf1970}
 use Rattle.index_failures.specs.Reading.{FailsReading, IsInFileSince, SaysOfBytes, SaysOfIndex}
-use Rattle.index_failures.specs.Storing.{FailsStoring, IsReplaced}
+use Rattle.index_failures.specs.Storing.{EndsStoring, FailsStoring, IsReplaced}
 use Rattle.index_commands.specs.Checking.{IsOfEntries}
 use Rattle.index_commands.specs.Rewriting.{chosen_options}
 use Rattle.index_commands.specs.declared.rewrite.Form.TheVariants.{AsRead}
@@ -97,3 +101,32 @@ Updates alone guards nul kind old new from path to = IsReplaced alone guards old
 abbrev pub FailsToStoreUpdate : Bool → Bool → Bool → Kind → World → List ℕ → List ℕ → List ℕ → Failure → Type 0
 FailsToStoreUpdate nul works guards kind old from path to failure =
     FailsStoring works guards old to (λ world. FailsToUpdate nul works world kind from path) failure
+
+-- ---- what each call answers
+
+-- the index in the file at a path of a folder, or one that is begun; or why it can't be read
+abbrev pub BeginsIndex : {S F M : Type 0} → Folder S F M → S → Kind → List ℕ → Result File Failure → Type 0
+BeginsIndex folder now kind path answer = GivesIndex
+    (λ index. IsBegun (folder.known now) path kind (contents (state_of index))) (FailsToRead folder now kind path) answer
+
+-- the state has the changes that a text in a file says, and its paths lie in its storage; or what is wrong with the text
+-- is the failure
+pub record ChangesState (nul : Bool) (kind : Kind) (text from : List ℕ) (old new : State)
+    (answer : Result (Unit {0}) Failure) : Type 0 where
+  pub updated : OnOk answer (IsUpdatedBy nul kind text (contents old) (contents new))
+  pub placed : PathsInStorage new
+  pub fault : IfErr answer (IsOfText nul kind text from)
+
+-- such an index with the changes that the text in a file says; or why there is none
+abbrev pub GivesUpdated : {S F M : Type 0} → Bool → Folder S F M → S → Kind → List ℕ → List ℕ → Result File Failure
+    → Type 0
+GivesUpdated nul folder now kind from path answer = GivesIndex
+    (λ index. IsUpdatedIn nul (folder.known now) from path kind (contents (state_of index)))
+    (FailsToUpdate nul (folder.works now) (folder.known now) kind from path) answer
+
+-- it is written in its place, or why it isn't
+abbrev pub UpdatesIndex : {S F M : Type 0} → Bool → Folder S F M → S → S → Kind → List ℕ → List ℕ → List ℕ
+    → Result (Unit {0}) Failure → Type 0
+UpdatesIndex nul folder old new kind from path to answer = EndsStoring folder old new to
+    (λ done. Updates (folder.alone old) (folder.guards old) nul kind (folder.known old) (folder.known new) from path to)
+    (FailsToStoreUpdate nul (folder.works old) (folder.guards old) kind (folder.known old) from path to) answer

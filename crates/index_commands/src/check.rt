@@ -1,13 +1,10 @@
 //! The commands `check` and `check-trees`.
 
-ghost use Rattle.std.specs.Prelude.{◌≡◌, true, IfErr, OnOk, length, false};
-ghost use Rattle.gix_index.specs.Disk.{disk_at};
+ghost use Rattle.std.specs.Prelude.{◌≡◌, false};
 ghost use Rattle.gix_index.specs.File.{state_of};
 ghost use Rattle.gix_index.specs.Order.{IsStrictlyOrdered};
-ghost use Rattle.gix_index.specs.SoundState.{AreSoundExtensions};
 ghost use Rattle.gix_index.specs.State.{PathsInStorage, contents};
-ghost use Rattle.index_failures.specs.Telling.{FailsTelling, NoText, Tells};
-ghost use Rattle.index_commands.specs.Checking.{FailsToPass, HasRightTrees, IsOfCheck, IsPassed};
+ghost use Rattle.index_commands.specs.Checking.{ChecksIndex, ComparesTrees, Verifies};
 
 use gix_index::File;
 use gix_index::file::folder::Folder;
@@ -31,8 +28,7 @@ fn compare_trees<'a>(
 ) -> Result<(), Failure<'a>>
     requires placed { PathsInStorage (state_of index.now) }
     requires ordered { IsStrictlyOrdered (contents (state_of index.now)).records }
-    ensures right { OnOk result (ids ≡ true → HasRightTrees (contents (state_of index.now))) }
-    ensures fault { IfErr result (IsOfCheck ids (contents (state_of index.now)) path.now) }
+    ensures { ComparesTrees ids (contents (state_of index.now)) path.now result }
 {
     if !ids {
         return Ok(());
@@ -52,11 +48,7 @@ fn verify_contents<'a>(
     path: &'a str,
 ) -> Result<(), Failure<'a>>
     requires { PathsInStorage (state_of index.now) }
-    ensures ordered { OnOk result (IsStrictlyOrdered (contents (state_of index.now)).records) }
-    ensures tree { OnOk result (AreSoundExtensions (length (contents (state_of index.now)).records)
-        (contents (state_of index.now)).extensions.tree) }
-    ensures right { OnOk result (ids ≡ true → HasRightTrees (contents (state_of index.now))) }
-    ensures fault { IfErr result (IsOfCheck ids (contents (state_of index.now)) path.now) }
+    ensures { Verifies ids (contents (state_of index.now)) path.now result }
 {
     if let Err(fault) = index.verify_entries() {
         return Err(Failure::Entries { path, fault });
@@ -83,13 +75,7 @@ pub fn check<'a, D: Folder, W: Out>(
     out: &mut W,
 ) -> Result<(), Failure<'a>>
     requires unfailed { W.failed out.old ≡ false }
-    ensures told { OnOk result
-        (Tells (IsPassed ids (disk_at (D.known folder.now) path.now) kind)
-        (W.taken out.old) (W.taken out.new)) }
-    ensures refused { IfErr result (λ failure.
-        FailsTelling (IsPassed ids (disk_at (D.known folder.now) path.now) kind) NoText
-        (FailsToPass ids (D.works folder.now) (D.known folder.now) kind path.now)
-        path.now failure (W.failed out.new) (W.taken out.old) (W.taken out.new)) }
+    ensures { ChecksIndex ids D.Folder folder.now kind path.now W.Out out.old out.new result }
 {
     let index = index_at(folder, alloc, kind, path)?;
     verify_contents(alloc, ids, &index, path)?;

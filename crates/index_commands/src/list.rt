@@ -1,10 +1,7 @@
 //! The command `list`.
 
-ghost use Rattle.std.specs.Prelude.{IfErr, OnOk, false, ◌≡◌};
-ghost use Rattle.gix_index.specs.Disk.{disk_at};
-ghost use Rattle.index_failures.specs.Reading.{FailsReading, SaysOfIndex};
-ghost use Rattle.index_failures.specs.Telling.{FailsTelling, NoText, Tells};
-ghost use Rattle.index_commands.specs.Listing.{IsListing};
+ghost use Rattle.std.specs.Prelude.{◌≡◌, false};
+ghost use Rattle.index_commands.specs.Listing.{ListsIndex};
 
 use gix_index::file::folder::Folder;
 use gix_index::hash::Kind;
@@ -28,12 +25,7 @@ pub fn list<'a, D: Folder, W: Out>(
     out: &mut W,
 ) -> Result<(), Failure<'a>>
     requires unfailed { W.failed out.old ≡ false }
-    ensures told { OnOk result (Tells (IsListing style (disk_at (D.known folder.now) path.now) kind)
-        (W.taken out.old) (W.taken out.new)) }
-    ensures refused { IfErr result
-        (λ failure. FailsTelling (IsListing style (disk_at (D.known folder.now) path.now) kind) NoText
-        (FailsReading (SaysOfIndex (D.works folder.now) (D.known folder.now) kind path.now) path.now)
-        path.now failure (W.failed out.new) (W.taken out.old) (W.taken out.new)) }
+    ensures { ListsIndex style D.Folder folder.now kind path.now W.Out out.old out.new result }
 {
     let index = index_at(folder, alloc, kind, path)?;
     match write_listing(alloc, &index, style, out) {

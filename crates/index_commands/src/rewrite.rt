@@ -1,8 +1,7 @@
 //! The commands `rewrite` and `rewrite4`.
 
-ghost use Rattle.std.specs.Prelude.{◌≡◌, true, IfErr, OnErr, OnOk};
-ghost use Rattle.gix_index.specs.InPlace.Locks.{Restores};
-ghost use Rattle.index_commands.specs.Rewriting.{FailsToRewrite, Rewrites, chosen};
+ghost use Rattle.std.specs.Prelude.{◌≡◌};
+ghost use Rattle.index_commands.specs.Rewriting.{RewritesIndex, chosen};
 
 use gix_index::Version;
 use gix_index::file::folder::Folder;
@@ -46,12 +45,7 @@ pub fn rewrite<'a, D: Folder>(
     path: &'a str,
     to: &'a str,
 ) -> Result<(), Failure<'a>>
-    ensures written { OnOk result (Rewrites (D.alone folder.old) (D.guards folder.old) form kind
-        (D.known folder.old) (D.known folder.new) path.now to.now) }
-    ensures restored { OnErr result (D.alone folder.old ≡ true → Restores (D.works folder.old)
-        (D.known folder.old) (D.known folder.new) to.now) }
-    ensures fault { IfErr result (FailsToRewrite (D.works folder.old) (D.guards folder.old) kind
-        (D.known folder.old) path.now to.now) }
+    ensures { RewritesIndex form D.Folder folder.old folder.new kind path.now to.now result }
 {
     let lock = lock_at(folder, alloc, to)?;
     match opened_at(folder, alloc, kind, path) {

@@ -1,12 +1,7 @@
 //! The command `rewrite-trees`.
 
-ghost use Rattle.std.specs.Prelude.{◌≡◌, true, IfErr, IfOk, OnErr, OnOk};
-ghost use Rattle.gix_index.specs.Disk.{disk_at};
-ghost use Rattle.gix_index.specs.InPlace.Locks.{Restores};
-ghost use Rattle.gix_index.specs.File.{state_of};
-ghost use Rattle.gix_index.specs.State.{PathsInStorage, contents};
 ghost use Rattle.gix_index.specs.Tree.{node_of};
-ghost use Rattle.index_commands.specs.Trees.{FailsToRetree, FailsToTree, IsMadeInFile, IsTreePut, Retrees};
+ghost use Rattle.index_commands.specs.Trees.{GivesWithTrees, PutsTree, RewritesTrees};
 
 use crate::rewrite::{Form, choice};
 use crate::trees::tree_of;
@@ -30,8 +25,7 @@ pub enum Counts {
 
 /// Puts a cached tree into an index that was made of its entries.
 fn put_tree(state: &mut State, counts: Counts, tree: Tree)
-    ensures put { IsTreePut counts (contents state.old) (node_of tree) (contents state.new) }
-    ensures placed { PathsInStorage state.old → PathsInStorage state.new }
+    ensures { PutsTree counts (node_of tree) state.old state.new }
 {
     match counts {
         Counts::Known => state.renew_tree(tree),
@@ -47,11 +41,7 @@ fn made<'a, D: Folder>(
     kind: Kind,
     path: &'a str,
 ) -> Result<File, Failure<'a>>
-    ensures made { IfOk result (λ index. IsMadeInFile counts (disk_at (D.known folder.now) path.now)
-        kind (contents (state_of index))) }
-    ensures placed { IfOk result (λ index. PathsInStorage (state_of index)) }
-    ensures fault { IfErr result
-        (FailsToTree (D.works folder.now) (D.known folder.now) kind path.now) }
+    ensures { GivesWithTrees counts D.Folder folder.now kind path.now result }
 {
     let index = opened_at(folder, alloc, kind, path)?;
     let tree = tree_of(alloc, &index, path)?;
@@ -76,12 +66,7 @@ pub fn rewrite_trees<'a, D: Folder>(
     path: &'a str,
     to: &'a str,
 ) -> Result<(), Failure<'a>>
-    ensures written { OnOk result (Retrees (D.alone folder.old) (D.guards folder.old) counts kind
-        (D.known folder.old) (D.known folder.new) path.now to.now) }
-    ensures restored { OnErr result (D.alone folder.old ≡ true → Restores (D.works folder.old)
-        (D.known folder.old) (D.known folder.new) to.now) }
-    ensures fault { IfErr result (FailsToRetree (D.works folder.old) (D.guards folder.old) kind
-        (D.known folder.old) path.now to.now) }
+    ensures { RewritesTrees counts D.Folder folder.old folder.new kind path.now to.now result }
 {
     let lock = lock_at(folder, alloc, to)?;
     match made(folder, alloc, counts, kind, path) {

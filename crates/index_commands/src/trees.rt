@@ -1,12 +1,10 @@
 //! The command `trees`, and the trees of an index.
 
-ghost use Rattle.std.specs.Prelude.{◌≡◌, IfErr, IfOk, None, OnOk, false};
-ghost use Rattle.gix_index.specs.Disk.{disk_at};
+ghost use Rattle.std.specs.Prelude.{◌≡◌, IfErr, IfOk, None, false};
 ghost use Rattle.gix_index.specs.File.{state_of};
 ghost use Rattle.gix_index.specs.State.{PathsInStorage, contents};
 ghost use Rattle.gix_index.specs.Tree.{node_of};
-ghost use Rattle.index_failures.specs.Telling.{FailsTelling, NoText, Tells};
-ghost use Rattle.index_commands.specs.Trees.{AreTrees, FailsToTree, IsOfTrees, IsTreeOfIndex};
+ghost use Rattle.index_commands.specs.Trees.{IsOfTrees, IsTreeOfIndex, ListsTrees};
 
 use gix_index::File;
 use gix_index::extension::Tree;
@@ -63,12 +61,7 @@ pub fn trees<'a, D: Folder, W: Out>(
     out: &mut W,
 ) -> Result<(), Failure<'a>>
     requires unfailed { W.failed out.old ≡ false }
-    ensures told { OnOk result (Tells (AreTrees style (disk_at (D.known folder.now) path.now) kind)
-        (W.taken out.old) (W.taken out.new)) }
-    ensures refused { IfErr result (λ failure.
-        FailsTelling (AreTrees style (disk_at (D.known folder.now) path.now) kind) NoText
-        (FailsToTree (D.works folder.now) (D.known folder.now) kind path.now)
-        path.now failure (W.failed out.new) (W.taken out.old) (W.taken out.new)) }
+    ensures { ListsTrees style D.Folder folder.now kind path.now W.Out out.old out.new result }
 {
     let index = index_at(folder, alloc, kind, path)?;
     let tree = tree_of(alloc, &index, path)?;

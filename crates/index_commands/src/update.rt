@@ -1,13 +1,8 @@
 //! The command `update`.
 
-ghost use Rattle.std.specs.Prelude.{◌≡◌, true, IfErr, IfOk, OnErr, OnOk};
-ghost use Rattle.gix_index.specs.File.{state_of};
-ghost use Rattle.gix_index.specs.InPlace.Locks.{Restores};
 ghost use Rattle.gix_index.specs.Order.{IsStrictlyOrdered};
 ghost use Rattle.gix_index.specs.State.{PathsInStorage, contents};
-ghost use Rattle.index_failures.specs.Reading.{FailsReading, SaysOfIndex};
-ghost use Rattle.index_commands.specs.Updating.{FailsToStoreUpdate, FailsToUpdate, IsBegun, IsOfText, IsUpdatedBy};
-ghost use Rattle.index_commands.specs.Updating.{IsUpdatedIn, Updates};
+ghost use Rattle.index_commands.specs.Updating.{BeginsIndex, ChangesState, GivesUpdated, UpdatesIndex};
 
 use crate::rewrite::{Form, choice};
 use gix_index::change::ApplyError;
@@ -32,11 +27,7 @@ fn begun_at<'a, D: Folder>(
     kind: Kind,
     path: &'a str,
 ) -> Result<File, Failure<'a>>
-    ensures begun { IfOk result
-        (λ index. IsBegun (D.known folder.now) path.now kind (contents (state_of index))) }
-    ensures placed { IfOk result (λ index. PathsInStorage (state_of index)) }
-    ensures fault { IfErr result (FailsReading (SaysOfIndex (D.works folder.now)
-        (D.known folder.now) kind path.now) path.now) }
+    ensures { BeginsIndex D.Folder folder.now kind path.now result }
 {
     match folder.open(Path::new(path)) {
         Err(e) if e.kind() == ErrorKind::NotFound => {
@@ -61,10 +52,7 @@ fn change<'a>(
 ) -> Result<(), Failure<'a>>
     requires placed { PathsInStorage state.old }
     requires ordered { IsStrictlyOrdered (contents state.old).records }
-    ensures updated { OnOk result
-        (IsUpdatedBy nul kind text.now (contents state.old) (contents state.new)) }
-    ensures placed { PathsInStorage state.new }
-    ensures fault { IfErr result (IsOfText nul kind text.now from.now) }
+    ensures { ChangesState nul kind text.now from.now state.old state.new result }
 {
     let lines = match read(alloc, nul, kind, text) {
         Ok(lines) => lines,
@@ -97,11 +85,7 @@ fn updated<'a, D: Folder>(
     from: &'a str,
     path: &'a str,
 ) -> Result<File, Failure<'a>>
-    ensures updated { IfOk result (λ index. IsUpdatedIn nul (D.known folder.now) from.now path.now
-        kind (contents (state_of index))) }
-    ensures placed { IfOk result (λ index. PathsInStorage (state_of index)) }
-    ensures fault { IfErr result (FailsToUpdate nul (D.works folder.now) (D.known folder.now) kind
-        from.now path.now) }
+    ensures { GivesUpdated nul D.Folder folder.now kind from.now path.now result }
 {
     let index = begun_at(folder, alloc, kind, path)?;
     if let Err(fault) = index.verify_entries() {
@@ -133,12 +117,7 @@ pub fn update<'a, D: Folder>(
     path: &'a str,
     to: &'a str,
 ) -> Result<(), Failure<'a>>
-    ensures written { OnOk result (Updates (D.alone folder.old) (D.guards folder.old) nul kind
-        (D.known folder.old) (D.known folder.new) from.now path.now to.now) }
-    ensures restored { OnErr result (D.alone folder.old ≡ true → Restores (D.works folder.old)
-        (D.known folder.old) (D.known folder.new) to.now) }
-    ensures fault { IfErr result (FailsToStoreUpdate nul (D.works folder.old) (D.guards folder.old)
-        kind (D.known folder.old) from.now path.now to.now) }
+    ensures { UpdatesIndex nul D.Folder folder.old folder.new kind from.now path.now to.now result }
 {
     let lock = lock_at(folder, alloc, to)?;
     match updated(folder, alloc, nul, kind, from, path) {

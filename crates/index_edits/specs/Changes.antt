@@ -1,7 +1,7 @@
 -- Several changes of a list of records, one after another, and why one of them isn't made (the library's own; the words
 -- of git-update-index, "--index-info" and "--force-remove").
 use Rattle.std.specs.Prelude.{◌≡◌, ℕ, ◌+◌, ◌^◌, ◌&&◌, Bool, false, List, [], ◌∷◌, length, Option, Some, None, nat_lt}
-use Rattle.std.specs.Prelude.{MatchOption, if◌then◌else◌}
+use Rattle.std.specs.Prelude.{MatchOption, MatchResult, Result, if◌then◌else◌}
 use Rattle.std.specs.List.{Contains, list_any}
 use Rattle.std.specs.Option.{option_or, option_map}
 use Rattle.index_parts.specs.declared.hash.Kind.{Kind}
@@ -76,3 +76,7 @@ refusal_of check kind len cs = refusal_from check kind len 0 cs
 -- it is the first refusal, or where there is none, a want of memory
 abbrev pub IsApplyReason : Option ApplyError → ApplyError → Type 0
 IsApplyReason refusal error = MatchOption refusal (error ≡ refusals.Memory) (λ r. error ≡ r)
+
+-- no change is refused; or the error says the first that is, or where there is none, a want of memory
+abbrev pub SaysRefusal : {T : Type 0} → Option ApplyError → Result T ApplyError → Type 0
+SaysRefusal refusal r = MatchResult r (λ _. refusal ≡ None) (IsApplyReason refusal)

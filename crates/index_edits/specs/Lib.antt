@@ -1,5 +1,6 @@
 pub mod Changes
 pub mod EditSteps
 pub mod Edits
+pub mod EntryEdits
 pub mod Refusals
 pub mod Reorders

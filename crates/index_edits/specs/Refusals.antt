@@ -1,7 +1,7 @@
 -- Why an entry isn't staged (git-update-index, "--cacheinfo"; gitformat-index, "Index entry"). What is named first
 -- decides.
 use Rattle.std.specs.Prelude.{◌⊎◌, ℕ, ◌≤◌, ◌^◌, ◌-◌, ◌==◌, Bool, List, [], ◌∷◌, length, take, Option, Some, None}
-use Rattle.std.specs.Prelude.{position}
+use Rattle.std.specs.Prelude.{MatchResult, Result, position}
 use Rattle.std.specs.Prelude.{slice_index, MatchOption, ◌≡◌, if◌then◌else◌}
 use Rattle.std.specs.List.{slice_split}
 use Rattle.std.specs.Option.{option_or, option_map}
@@ -84,3 +84,11 @@ IsWant len path error = ⊥
 -- it is what is wrong, or where nothing is, a want of room
 abbrev pub IsReason : Option Error → ℕ → List ℕ → Error → Type 0
 IsReason fault len path error = MatchOption fault (IsWant len path error) (λ f. error ≡ f)
+
+-- nothing is at fault, or the error says what is
+abbrev pub AnswersFault : {T E : Type 0} → Option E → Result T E → Type 0
+AnswersFault fault r = MatchResult r (λ _. fault ≡ None) (λ e. fault ≡ Some e)
+
+-- nothing is at fault; or the error says what is, or where nothing is, a want of room or memory
+abbrev pub SaysReason : {T : Type 0} → Option Error → ℕ → List ℕ → Result T Error → Type 0
+SaysReason fault len path r = MatchResult r (λ _. fault ≡ None) (IsReason fault len path)

@@ -1,6 +1,6 @@
 -- Changes in another order (the library's own): those of one path stay in theirs, and no path is a folder that another
 -- lies in.
-use Rattle.std.specs.Prelude.{◌≡◌, ℕ, nat_eq, Bool, false, List, [], ◌∷◌, ◌++◌}
+use Rattle.std.specs.Prelude.{◌≡◌, ◌⊎◌, ℕ, nat_eq, Bool, true, false, List, [], ◌∷◌, ◌++◌}
 use Rattle.std.specs.List.{Contains, list_any, starts_with}
 use Rattle.std.specs.List.Sorted.{IsPermutation, IsSortedBy, IsStableBy}
 use Rattle.std.specs.Ordering.{is_lt}
@@ -33,3 +33,7 @@ pub record IsReorderedTo (cs ds : List Change) : Type 0 where
   pub same : IsPermutation cs ds
   pub stable : IsStableBy is_change_before cs ds
   pub unnested : AreUnnested ds
+
+-- the paths never fall, or one is a folder that another lies in: the order in which the changes are given is kept
+abbrev pub StayAsTheyAre : List Change → Type 0
+StayAsTheyAre cs = AreInOrder cs ⊎ (are_nested cs ≡ true)

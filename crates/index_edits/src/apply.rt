@@ -1,10 +1,9 @@
 //! Making one change of several, over entries that are copied on the way to its path.
 
-ghost use Rattle.std.specs.Prelude.{◌≡◌, ◌≤◌, ◌++◌, ◌∷◌, [], ℕ, List, All, IfOk, OnOk, drop, length, take};
-ghost use Rattle.index_entries.specs.Order.{IsOrderedByPath, IsStrictlyOrdered};
+ghost use Rattle.std.specs.Prelude.{◌≡◌, ◌≤◌, ◌++◌, ◌∷◌, [], All, IfOk, length, take};
 ghost use Rattle.index_entries.specs.Record.{IsPlaced, records_in};
-ghost use Rattle.index_edits.specs.Changes.{IsAppliedTo};
-ghost use Rattle.index_edits.specs.EditSteps.{IsBeyond};
+ghost use Rattle.index_edits.specs.EditSteps.{AreBeyond};
+ghost use Rattle.index_edits.specs.EntryEdits.{AppliesAll};
 
 use crate::change::Change;
 use crate::stage::settle;
@@ -23,12 +22,7 @@ pub fn apply_one(
     change: &Change<'_>,
 ) -> Result<(), AllocError>
     requires placed { All (IsPlaced (length storage.old.items)) entries.old.items }
-    ensures applied { OnOk result
-        (IsStrictlyOrdered (records_in storage.old.items entries.old.items)
-        → IsAppliedTo (change.now ∷ []) (records_in storage.old.items entries.old.items)
-        (records_in storage.new.items entries.new.items)) }
-    ensures placed { All (IsPlaced (length storage.new.items)) entries.new.items }
-    ensures storage { (more : List ℕ) × (storage.new.items ≡ storage.old.items ++ more) }
+    ensures { AppliesAll (change.now ∷ []) storage.old entries.old storage.new entries.new result }
 {
     match change {
         Change::Stage { entry, path } => {
@@ -44,7 +38,7 @@ pub fn apply_one(
 /// How many of the entries are passed by on the way to a path: those in front of it, and all that begin with it.
 fn passed(rest: &EntrySlice<'_>, path: &[u8]) -> usize
     ensures inside { result ≤ length rest.now }
-    ensures beyond { IsOrderedByPath rest.now → All (IsBeyond path.now) (drop result rest.now) }
+    ensures beyond { AreBeyond path.now rest.now result }
 {
     let low = search_prefix(rest, path).0;
     match prefixed_entries_range(rest, path) {
@@ -64,8 +58,7 @@ pub fn pass(
     requires { All (IsPlaced (length storage.now)) rest.now }
     ensures inside { IfOk result (λ count. count ≤ length rest.now) }
     ensures copied { IfOk result (λ count. done.new.items ≡ done.old.items ++ take count rest.now) }
-    ensures beyond { IfOk result (λ count. IsOrderedByPath (records_in storage.now rest.now)
-        → All (IsBeyond path.now) (drop count (records_in storage.now rest.now))) }
+    ensures beyond { IfOk result (AreBeyond path.now (records_in storage.now rest.now)) }
 {
     let count = passed(&EntrySlice::new(rest, storage), path);
     let (near, _) = rest.split_at(count);

@@ -1,7 +1,8 @@
 //! Changes of an index that are made together, and why they aren't.
 
-ghost use Rattle.std.specs.Prelude.{◌≡◌, ◌+◌, ◌<◌, ◌^◌, IfOk, MatchResult, OnOk, Some, None, length};
-ghost use Rattle.index_edits.specs.Changes.{added_len, change_fault, refusal_from, refusal_of, room_fault, path_of};
+ghost use Rattle.std.specs.Prelude.{◌≡◌, ◌+◌, ◌<◌, ◌^◌, IfOk, OnOk, length};
+ghost use Rattle.index_edits.specs.Changes.{added_len, change_fault, refusal_of, room_fault, path_of};
+ghost use Rattle.index_edits.specs.Refusals.{AnswersFault};
 ghost use Rattle.index_edits.specs.declared.change.ApplyError.TheVariants.{Memory};
 
 use crate::error::Error;
@@ -73,8 +74,7 @@ const PATH_LIMIT: usize = 1 << 32;
 
 /// That a path has a place behind so many bytes.
 fn check_room(len: usize, path: &[u8]) -> Result<(), Error>
-    ensures none { MatchResult result (λ _. room_fault len path.now ≡ None)
-        (λ e. room_fault len path.now ≡ Some e) }
+    ensures none { AnswersFault (room_fault len path.now) result }
     ensures fits { OnOk result (len + length path.now < 2 ^ 49) }
 {
     if len < STORAGE_LIMIT && path.len() < PATH_LIMIT {
@@ -91,9 +91,7 @@ fn check_change<C: ComponentCheck>(
     len: usize,
     change: &Change<'_>,
 ) -> Result<usize, Error>
-    ensures fault { MatchResult result
-        (λ _. change_fault (C.refusal check.now) kind len change.now ≡ None)
-        (λ e. change_fault (C.refusal check.now) kind len change.now ≡ Some e) }
+    ensures fault { AnswersFault (change_fault (C.refusal check.now) kind len change.now) result }
     ensures grown { IfOk result (λ grown. grown ≡ len + added_len change.now) }
 {
     match change {
@@ -114,9 +112,7 @@ pub fn check_changes<C: ComponentCheck>(
     len: usize,
     changes: &[Change<'_>],
 ) -> Result<(), ApplyError>
-    ensures { MatchResult result
-        (λ _. refusal_of (C.refusal check.now) kind len changes.now ≡ None)
-        (λ e. refusal_of (C.refusal check.now) kind len changes.now ≡ Some e) }
+    ensures { AnswersFault (refusal_of (C.refusal check.now) kind len changes.now) result }
 {
     let mut grown = len;
     for (at, change) in changes.iter().enumerate() {

@@ -1,13 +1,11 @@
 //! What stands in the way of an entry, told without looking at all others.
 
-ghost use Rattle.std.specs.Prelude.{◌≡◌, ◌==◌, ◌&&◌, ◌++◌, ◌∷◌, [], IfSome, not};
+ghost use Rattle.std.specs.Prelude.{◌≡◌, ◌++◌, ◌∷◌, [], IfSome};
 ghost use Rattle.std.specs.List.{list_any};
-ghost use Rattle.index_entries.specs.Order.{IsOrderedByPath, IsStrictlyOrdered, record_stage};
-ghost use Rattle.index_entries.specs.Record.{with_path};
+ghost use Rattle.index_entries.specs.Order.{IsOrderedByPath, IsStrictlyOrdered};
 ghost use Rattle.index_lookups.specs.Range.{LiesWithin, part_of};
-ghost use Rattle.index_metadata.specs.Flags.{stage_code, stage_number};
-ghost use Rattle.index_edits.specs.EditSteps.{is_of_stage, is_side_at, stands_above, stands_below};
-ghost use Rattle.index_edits.specs.Edits.{are_at_odds};
+ghost use Rattle.index_metadata.specs.Flags.{stage_number};
+ghost use Rattle.index_edits.specs.EditSteps.{has_above, has_below, has_odds, has_stage, is_of_stage, is_side_at};
 
 use index_entries::slice::EntrySlice;
 use index_entries::{Entry, Pathless};
@@ -33,8 +31,7 @@ fn has_stage(
     same: bool,
 ) -> bool
     requires { IfSome places (LiesWithin entries.now) }
-    ensures { result ≡ list_any (λ r. is_of_stage same stage (record_stage r))
-        (part_of entries.now places) }
+    ensures { result ≡ has_stage same stage (part_of entries.now places) }
 {
     let Some(places) = places else {
         return false;
@@ -57,8 +54,7 @@ pub fn has_sides(entries: &EntrySlice<'_>, path: &[u8]) -> bool
 
 /// Whether entries of the stage lie below the folder, whose path is given with the slash at its end.
 fn has_below(entries: &EntrySlice<'_>, folder: &[u8], stage: StageRaw) -> bool
-    ensures { IsOrderedByPath entries.now
-        → result ≡ list_any (stands_below folder.now stage) entries.now }
+    ensures { IsOrderedByPath entries.now → result ≡ has_below folder.now stage entries.now }
 {
     let places = prefixed_entries_range(entries, folder);
     has_stage(entries, places, stage, true)
@@ -66,8 +62,7 @@ fn has_below(entries: &EntrySlice<'_>, folder: &[u8], stage: StageRaw) -> bool
 
 /// Whether an entry of the stage is a file where the path needs a folder.
 fn has_above(entries: &EntrySlice<'_>, path: &[u8], stage: Stage) -> bool
-    ensures { IsStrictlyOrdered entries.now
-        → result ≡ list_any (stands_above path.now (stage_code stage)) entries.now }
+    ensures { IsStrictlyOrdered entries.now → result ≡ has_above path.now stage entries.now }
 {
     for (at, byte) in path.iter().enumerate() {
         if *byte == b'/' && entry_index_by_path_and_stage(entries, &path[..at], stage).is_some() {
@@ -81,8 +76,7 @@ fn has_above(entries: &EntrySlice<'_>, path: &[u8], stage: Stage) -> bool
 /// slash at its end.
 pub fn has_odds(entries: &EntrySlice<'_>, entry: Pathless, path: &[u8], folder: &[u8]) -> bool
     requires { folder.now ≡ path.now ++ 47 ∷ [] }
-    ensures { IsStrictlyOrdered entries.now
-        → result ≡ list_any (are_at_odds (with_path path.now entry)) entries.now }
+    ensures { IsStrictlyOrdered entries.now → result ≡ has_odds path.now entry entries.now }
 {
     has_below(entries, folder, entry.flags.stage_raw())
         || has_above(entries, path, entry.flags.stage())

@@ -1,9 +1,9 @@
 //! Changes in the order of their paths, where the order makes no difference.
 
-ghost use Rattle.std.specs.Prelude.{◌≡◌, ◌⊎◌, IsNone, true, ◌++◌, ◌∷◌, [], IfOk, IfSome, IsTrue, map};
+ghost use Rattle.std.specs.Prelude.{◌≡◌, IsNone, ◌++◌, ◌∷◌, [], IfOk, IfSome, IsTrue, map};
 ghost use Rattle.std.specs.List.{list_any};
 ghost use Rattle.index_edits.specs.Changes.{path_of};
-ghost use Rattle.index_edits.specs.Reorders.{AreInOrder, IsReorderedTo, are_nested, lies_in};
+ghost use Rattle.index_edits.specs.Reorders.{AreInOrder, IsReorderedTo, StayAsTheyAre, are_nested, lies_in};
 ghost use Rattle.index_search.specs.Prefix.{prefix_cmp};
 
 use crate::change::Change;
@@ -65,8 +65,7 @@ pub fn in_order<'a>(
     changes: &[Change<'a>],
 ) -> Result<Option<Vec<Change<'a>>>, AllocError>
     ensures same { IfOk result (λ made. IfSome made (λ ds. IsReorderedTo changes.now ds.items)) }
-    ensures none { IfOk result (λ made. IsNone made
-        → AreInOrder changes.now ⊎ (are_nested changes.now ≡ true)) }
+    ensures none { IfOk result (λ made. IsNone made → StayAsTheyAre changes.now) }
 {
     if are_in_order(changes) {
         return Ok(None);

@@ -1,9 +1,9 @@
 //! Taking out what stands in the way of an entry.
 
-ghost use Rattle.std.specs.Prelude.{◌≡◌, ◌≤◌, ◌++◌, ◌∷◌, [], All, filter, length, nat_eq, not};
+ghost use Rattle.std.specs.Prelude.{◌≡◌, ◌++◌, ◌∷◌, [], All, length, nat_eq};
 ghost use Rattle.std.specs.List.{starts_with};
-ghost use Rattle.index_entries.specs.Record.{IsPlaced, records_in, with_path};
-ghost use Rattle.index_edits.specs.EditSteps.{is_other};
+ghost use Rattle.index_entries.specs.Record.{IsPlaced, with_path};
+ghost use Rattle.index_edits.specs.EditSteps.{RemovesOthers, is_other, record_at};
 
 use index_entries::remove::remove_entries;
 use index_entries::{Entry, Pathless};
@@ -18,13 +18,7 @@ fn is_below(folder: &[u8], path: &[u8]) -> bool
 
 /// Whether another entry, with its path, goes where the new one comes, but has another path or another stage.
 pub fn is_other(entry: Pathless, path: &[u8], other: &Entry, other_path: &[u8]) -> bool
-    ensures { result ≡ is_other (with_path path.now entry) (record {
-      path = other_path.now;
-      stat = other.now.stat;
-      id = other.now.id;
-      flags = other.now.flags.0;
-      mode = other.now.mode.0;
-    }) }
+    ensures { result ≡ is_other (with_path path.now entry) (record_at other_path.now other.now) }
 {
     let stage = entry.flags.stage_raw();
     let other_stage = other.stage_raw();
@@ -37,11 +31,7 @@ pub fn is_other(entry: Pathless, path: &[u8], other: &Entry, other_path: &[u8]) 
 /// Takes those entries out. The new one stays where it stands among them. Each is looked at.
 pub(crate) fn remove_others(entries: &mut Vec<Entry>, storage: &[u8], entry: Pathless, path: &[u8])
     requires { All (IsPlaced (length storage.now)) entries.old.items }
-    ensures left { records_in storage.now entries.new.items
-        ≡ filter (λ r. not (is_other (with_path path.now entry) r))
-        (records_in storage.now entries.old.items) }
-    ensures fewer { length entries.new.items ≤ length entries.old.items }
-    ensures placed { All (IsPlaced (length storage.now)) entries.new.items }
+    ensures { RemovesOthers (with_path path.now entry) storage.now entries.old entries.new }
 {
     remove_entries(
         entries,

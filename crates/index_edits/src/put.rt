@@ -1,11 +1,8 @@
 //! Putting an entry at its place among others.
 
-ghost use Rattle.std.specs.Prelude.{◌⊎◌, ◌≡◌, ◌+◌, ◌<◌, ◌≤◌, ◌∷◌, ◌++◌, [], List, All, length, OnErr, OnOk, IfOk};
-ghost use Rattle.std.specs.List.{insert};
-ghost use Rattle.index_entries.specs.Order.{IsStrictlyOrdered};
-ghost use Rattle.index_entries.specs.Record.{IsPlaced, made_entry, records_in, with_path};
-ghost use Rattle.index_entries.specs.declared.Entry.{Entry};
-ghost use Rattle.index_edits.specs.EditSteps.{IsPutInto};
+ghost use Rattle.std.specs.Prelude.{◌≡◌, ◌+◌, ◌<◌, ◌≤◌, All, length};
+ghost use Rattle.index_entries.specs.Record.{IsPlaced, made_entry};
+ghost use Rattle.index_edits.specs.EditSteps.{MovesLast, Puts};
 
 use index_entries::list::append;
 use index_entries::slice::EntrySlice;
@@ -26,8 +23,7 @@ fn overwrite(slot: &mut Entry, entry: Pathless)
 /// Moves the last entry to a place in front of the others.
 fn move_last(entries: &mut [Entry], place: usize)
     requires { place < length entries.old }
-    ensures { (es : List Entry) (e : Entry) → entries.old ≡ es ++ e ∷ []
-        → entries.new ≡ insert es place e }
+    ensures { MovesLast place entries.old entries.new }
 {
     let (_, back) = entries.split_at_mut(place);
     back.rotate_right(1);
@@ -42,15 +38,8 @@ pub(crate) fn put(
     path: &[u8],
 ) -> Result<(), AllocError>
     requires placed { All (IsPlaced (length storage.old.items)) entries.old.items }
-    ensures put { OnOk result (IsStrictlyOrdered (records_in storage.old.items entries.old.items)
-        → IsPutInto (with_path path.now entry) (records_in storage.old.items entries.old.items)
-        (records_in storage.new.items entries.new.items)) }
+    ensures put { Puts entry path.now storage.old entries.old storage.new entries.new result }
     ensures more { length entries.new.items ≤ length entries.old.items + 1 }
-    ensures placed { All (IsPlaced (length storage.new.items)) entries.new.items }
-    ensures storage { (storage.new.items ≡ storage.old.items)
-        ⊎ (storage.new.items ≡ storage.old.items ++ path.now) }
-    ensures err_entries { OnErr result (entries.new.items ≡ entries.old.items) }
-    ensures err_storage { OnErr result (storage.new.items ≡ storage.old.items) }
 {
     let there = EntrySlice::new(entries, storage);
     match search_path_and_stage(&there, path, entry.flags.stage()).0 {

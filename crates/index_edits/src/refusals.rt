@@ -1,10 +1,9 @@
 //! What an entry that is to be staged has to fulfil.
 
-ghost use Rattle.std.specs.Prelude.{◌≡◌, ◌==◌, ◌<◌, All, IfSome, IsNone, MatchResult, false, length, position};
-ghost use Rattle.std.specs.Prelude.{slice_index};
-ghost use Rattle.std.specs.Prelude.{take};
-ghost use Rattle.index_edits.specs.Refusals.{fault_of, id_fault, name_fault, names_fault, names_of, path_fault};
-ghost use Rattle.index_edits.specs.Refusals.{whole_path_fault};
+ghost use Rattle.std.specs.Prelude.{◌≡◌, ◌==◌, All, IfSome, IsNone, false, position};
+ghost use Rattle.index_edits.specs.EditSteps.{IsFirstAt};
+ghost use Rattle.index_edits.specs.Refusals.{AnswersFault, fault_of, id_fault, name_fault, names_fault, names_of};
+ghost use Rattle.index_edits.specs.Refusals.{path_fault, whole_path_fault};
 
 use crate::error::Error;
 use index_entries::Pathless;
@@ -16,17 +15,14 @@ use index_parts::hash::{Kind, ObjectId};
 fn first_of(bytes: &[u8], byte: u8) -> Option<usize>
     ensures value { result ≡ position (λ b. b == byte) bytes.now }
     ensures none { IsNone result → All (λ b. (b == byte) ≡ false) bytes.now }
-    ensures some { IfSome result (λ at. (at < length bytes.now)
-        × (slice_index bytes.now at ≡ byte)
-        × All (λ b. (b == byte) ≡ false) (take at bytes.now)) }
+    ensures some { IfSome result (IsFirstAt byte bytes.now) }
 {
     bytes.iter().position(|b| *b == byte)
 }
 
 /// That the path has a byte, and no NUL.
 fn check_path(path: &[u8]) -> Result<(), Error>
-    ensures { MatchResult result (λ _. path_fault path.now ≡ None)
-        (λ e. path_fault path.now ≡ Some e) }
+    ensures { AnswersFault (path_fault path.now) result }
 {
     if path.is_empty() {
         return Err(Error::EmptyPath);
@@ -39,8 +35,7 @@ fn check_path(path: &[u8]) -> Result<(), Error>
 
 /// That the id is of the kind, and not null.
 fn check_id(kind: Kind, id: &ObjectId) -> Result<(), Error>
-    ensures { MatchResult result (λ _. id_fault kind id.now ≡ None)
-        (λ e. id_fault kind id.now ≡ Some e) }
+    ensures { AnswersFault (id_fault kind id.now) result }
 {
     let actual = id.kind();
     if actual != kind {
@@ -57,9 +52,7 @@ fn check_id(kind: Kind, id: &ObjectId) -> Result<(), Error>
 
 /// That a name of what is of a kind isn't empty, and passes the check.
 fn check_name<C: ComponentCheck>(check: &C, kind: EntryKind, name: &[u8]) -> Result<(), Error>
-    ensures { MatchResult result
-        (λ _. name_fault (C.refusal check.now) kind name.now ≡ None)
-        (λ e. name_fault (C.refusal check.now) kind name.now ≡ Some e) }
+    ensures { AnswersFault (name_fault (C.refusal check.now) kind name.now) result }
 {
     if name.is_empty() {
         return Err(Error::EmptyName);
@@ -72,9 +65,7 @@ fn check_name<C: ComponentCheck>(check: &C, kind: EntryKind, name: &[u8]) -> Res
 
 /// That each name of a path passes, the last one as that of what is of the kind.
 fn check_names<C: ComponentCheck>(check: &C, kind: EntryKind, path: &[u8]) -> Result<(), Error>
-    ensures { MatchResult result
-        (λ _. names_fault (C.refusal check.now) kind (names_of path.now) ≡ None)
-        (λ e. names_fault (C.refusal check.now) kind (names_of path.now) ≡ Some e) }
+    ensures { AnswersFault (names_fault (C.refusal check.now) kind (names_of path.now)) result }
 {
     let mut rest = path;
     while let Some(at) = first_of(rest, b'/') {
@@ -88,9 +79,7 @@ fn check_names<C: ComponentCheck>(check: &C, kind: EntryKind, path: &[u8]) -> Re
 
 /// The same of a whole path, which has a slash at the end where it is that of a directory.
 fn check_whole<C: ComponentCheck>(check: &C, kind: EntryKind, path: &[u8]) -> Result<(), Error>
-    ensures { MatchResult result
-        (λ _. whole_path_fault (C.refusal check.now) kind path.now ≡ None)
-        (λ e. whole_path_fault (C.refusal check.now) kind path.now ≡ Some e) }
+    ensures { AnswersFault (whole_path_fault (C.refusal check.now) kind path.now) result }
 {
     if !matches!(kind, EntryKind::Tree) {
         return check_names(check, kind, path);
@@ -109,9 +98,7 @@ pub(crate) fn check_entry<C: ComponentCheck>(
     entry: Pathless,
     path: &[u8],
 ) -> Result<(), Error>
-    ensures { MatchResult result
-        (λ _. fault_of (C.refusal check.now) kind entry path.now ≡ None)
-        (λ e. fault_of (C.refusal check.now) kind entry path.now ≡ Some e) }
+    ensures { AnswersFault (fault_of (C.refusal check.now) kind entry path.now) result }
 {
     check_path(path)?;
     let Some(mode) = entry.mode.to_tree_entry_mode() else {

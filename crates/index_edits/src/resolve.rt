@@ -1,10 +1,9 @@
 //! Ending a conflict.
 
-ghost use Rattle.std.specs.Prelude.{◌++◌, ◌⊎◌, ◌≡◌, All, None, length, IfOk, MatchResult, OnErr, OnOk};
-ghost use Rattle.index_entries.specs.Order.{IsStrictlyOrdered};
-ghost use Rattle.index_entries.specs.Record.{IsPlaced, records_in, with_path};
-ghost use Rattle.index_edits.specs.Edits.{IsResolvedInto, IsToldOf, merged};
-ghost use Rattle.index_edits.specs.Refusals.{IsReason, fault_of};
+ghost use Rattle.std.specs.Prelude.{◌≡◌, All, length};
+ghost use Rattle.index_entries.specs.Record.{IsPlaced};
+ghost use Rattle.index_edits.specs.Edits.{merged};
+ghost use Rattle.index_edits.specs.EntryEdits.{ResolvesEntry, SaysWhy};
 
 use crate::error::Error;
 use crate::stage::{Displaced, stage};
@@ -37,23 +36,8 @@ pub fn resolve<C: ComponentCheck>(
     path: &[u8],
 ) -> Result<Displaced, Error>
     requires placed { All (IsPlaced (length storage.old.items)) entries.old.items }
-    ensures reason { MatchResult result
-        (λ _. fault_of (C.refusal check.now) kind (merged entry) path.now ≡ None)
-        (IsReason (fault_of (C.refusal check.now) kind (merged entry) path.now)
-        (length storage.old.items) path.now) }
-    ensures resolved { OnOk result (IsStrictlyOrdered (records_in storage.old.items entries.old.items)
-        → IsResolvedInto (with_path path.now (merged entry))
-        (records_in storage.old.items entries.old.items)
-        (records_in storage.new.items entries.new.items)) }
-    ensures told { IfOk result (λ told.
-        IsStrictlyOrdered (records_in storage.old.items entries.old.items)
-        → IsToldOf (with_path path.now (merged entry))
-        (records_in storage.old.items entries.old.items) told) }
-    ensures placed { All (IsPlaced (length storage.new.items)) entries.new.items }
-    ensures storage { (storage.new.items ≡ storage.old.items)
-        ⊎ (storage.new.items ≡ storage.old.items ++ path.now) }
-    ensures err_entries { OnErr result (entries.new.items ≡ entries.old.items) }
-    ensures err_storage { OnErr result (storage.new.items ≡ storage.old.items) }
+    ensures reason { SaysWhy (C.refusal check.now) kind (merged entry) path.now storage.old result }
+    ensures made { ResolvesEntry entry path.now storage.old entries.old storage.new entries.new result }
 {
     stage(entries, storage, check, kind, merged(entry), path)
 }

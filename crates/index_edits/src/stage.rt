@@ -1,14 +1,11 @@
 //! Staging an entry.
 
-ghost use Rattle.std.specs.List.{list_any};
-ghost use Rattle.std.specs.Prelude.{◌⊎◌, ◌≡◌, ◌==◌, ◌&&◌, ◌||◌, ◌++◌, ◌∷◌, [], All, Contains, None, false, length, IfOk};
-ghost use Rattle.std.specs.Prelude.{MatchResult, OnErr, OnOk};
+ghost use Rattle.std.specs.Prelude.{◌≡◌, ◌++◌, ◌∷◌, [], All, length, IfOk};
 ghost use Rattle.index_entries.specs.Order.{IsStrictlyOrdered};
-ghost use Rattle.index_entries.specs.Record.{IsPlaced, Record, records_in, with_path};
-ghost use Rattle.index_edits.specs.Edits.{IsStagedInto, IsToldOf};
-ghost use Rattle.index_metadata.specs.Flags.{stage_number};
-ghost use Rattle.index_edits.specs.EditSteps.{is_other, is_side_at};
-ghost use Rattle.index_edits.specs.Refusals.{IsReason, fault_of};
+ghost use Rattle.index_entries.specs.Record.{IsPlaced};
+ghost use Rattle.index_edits.specs.EditSteps.{TellsInTheWay, ends_conflict};
+ghost use Rattle.index_edits.specs.EntryEdits.{SaysWhy, SettlesEntry};
+ghost use Rattle.index_edits.specs.Refusals.{SaysReason, fault_of};
 
 use crate::error::Error;
 use crate::odds::{has_odds, has_sides};
@@ -43,8 +40,7 @@ pub fn folder_of(alloc: Global, path: &[u8]) -> Result<Vec<u8>, AllocError>
 
 /// Whether the entry is merged, and sides of a conflict stand at its path.
 fn ends_conflict(entries: &EntrySlice<'_>, entry: Pathless, path: &[u8]) -> bool
-    ensures { IsStrictlyOrdered entries.now
-        → result ≡ ((stage_number entry.flags.0 == 0) && list_any (is_side_at path.now) entries.now) }
+    ensures { IsStrictlyOrdered entries.now → result ≡ ends_conflict path.now entry entries.now }
 {
     entry.flags.stage_raw() == 0 && has_sides(entries, path)
 }
@@ -61,11 +57,7 @@ struct InTheWay {
 /// Tells what is in the way.
 fn in_the_way(entries: &EntrySlice<'_>, entry: Pathless, path: &[u8], folder: &[u8]) -> InTheWay
     requires { folder.now ≡ path.now ++ 47 ∷ [] }
-    ensures sides { IsStrictlyOrdered entries.now
-        → result.sides
-        ≡ ((stage_number entry.flags.0 == 0) && list_any (is_side_at path.now) entries.now) }
-    ensures others { IsStrictlyOrdered entries.now
-        → result.others ≡ list_any (is_other (with_path path.now entry)) entries.now }
+    ensures { TellsInTheWay path.now entry entries.now result.sides result.others }
 {
     let sides = ends_conflict(entries, entry, path);
     let others = sides || has_odds(entries, entry, path, folder);
@@ -80,19 +72,7 @@ pub fn settle(
     path: &[u8],
 ) -> Result<Displaced, AllocError>
     requires placed { All (IsPlaced (length storage.old.items)) entries.old.items }
-    ensures staged { OnOk result (IsStrictlyOrdered (records_in storage.old.items entries.old.items)
-        → IsStagedInto (with_path path.now entry)
-        (records_in storage.old.items entries.old.items)
-        (records_in storage.new.items entries.new.items)) }
-    ensures told { IfOk result (λ told.
-        IsStrictlyOrdered (records_in storage.old.items entries.old.items)
-        → IsToldOf (with_path path.now entry)
-        (records_in storage.old.items entries.old.items) told) }
-    ensures placed { All (IsPlaced (length storage.new.items)) entries.new.items }
-    ensures storage { (storage.new.items ≡ storage.old.items)
-        ⊎ (storage.new.items ≡ storage.old.items ++ path.now) }
-    ensures err_entries { OnErr result (entries.new.items ≡ entries.old.items) }
-    ensures err_storage { OnErr result (storage.new.items ≡ storage.old.items) }
+    ensures { SettlesEntry entry path.now storage.old entries.old storage.new entries.new result }
 {
     let folder = folder_of(*storage.allocator(), path)?;
     let way = in_the_way(&EntrySlice::new(entries, storage), entry, path, &folder);
@@ -119,9 +99,7 @@ pub fn check_stage<C: ComponentCheck>(
     entry: Pathless,
     path: &[u8],
 ) -> Result<(), Error>
-    ensures { MatchResult result
-        (λ _. fault_of (C.refusal check.now) kind entry path.now ≡ None)
-        (IsReason (fault_of (C.refusal check.now) kind entry path.now) len path.now) }
+    ensures { SaysReason (fault_of (C.refusal check.now) kind entry path.now) len path.now result }
 {
     check_entry(check, kind, entry, path)?;
     if PathRange::new(len, path.len()).is_none() {
@@ -151,23 +129,8 @@ pub fn stage<C: ComponentCheck>(
     path: &[u8],
 ) -> Result<Displaced, Error>
     requires placed { All (IsPlaced (length storage.old.items)) entries.old.items }
-    ensures reason { MatchResult result
-        (λ _. fault_of (C.refusal check.now) kind entry path.now ≡ None)
-        (IsReason (fault_of (C.refusal check.now) kind entry path.now)
-        (length storage.old.items) path.now) }
-    ensures staged { OnOk result (IsStrictlyOrdered (records_in storage.old.items entries.old.items)
-        → IsStagedInto (with_path path.now entry)
-        (records_in storage.old.items entries.old.items)
-        (records_in storage.new.items entries.new.items)) }
-    ensures told { IfOk result (λ told.
-        IsStrictlyOrdered (records_in storage.old.items entries.old.items)
-        → IsToldOf (with_path path.now entry)
-        (records_in storage.old.items entries.old.items) told) }
-    ensures placed { All (IsPlaced (length storage.new.items)) entries.new.items }
-    ensures storage { (storage.new.items ≡ storage.old.items)
-        ⊎ (storage.new.items ≡ storage.old.items ++ path.now) }
-    ensures err_entries { OnErr result (entries.new.items ≡ entries.old.items) }
-    ensures err_storage { OnErr result (storage.new.items ≡ storage.old.items) }
+    ensures reason { SaysWhy (C.refusal check.now) kind entry path.now storage.old result }
+    ensures made { SettlesEntry entry path.now storage.old entries.old storage.new entries.new result }
 {
     check_stage(check, kind, storage.len(), entry, path)?;
     let told = settle(entries, storage, entry, path)?;

@@ -1,10 +1,8 @@
 //! Taking a path out of the index.
 
-ghost use Rattle.std.specs.Prelude.{◌≡◌, ◌≤◌, ◌++◌, All, count_by, drop, length, take};
-ghost use Rattle.index_entries.specs.Order.{IsStrictlyOrdered};
-ghost use Rattle.index_entries.specs.Record.{IsPlaced, records_in};
-ghost use Rattle.index_lookups.specs.Range.{is_at};
-ghost use Rattle.index_edits.specs.Edits.{IsUnstagedFrom};
+ghost use Rattle.std.specs.Prelude.{◌≡◌, ◌≤◌, ◌++◌, All, drop, length, take};
+ghost use Rattle.index_entries.specs.Record.{IsPlaced};
+ghost use Rattle.index_edits.specs.EntryEdits.{UnstagesPath};
 
 use index_entries::Entry;
 use index_entries::slice::EntrySlice;
@@ -28,12 +26,7 @@ fn cut(entries: &mut Vec<Entry>, start: usize, end: usize)
 /// Over entries whose paths fall somewhere nothing is said of which go.
 pub fn unstage(entries: &mut Vec<Entry>, storage: &[u8], path: &[u8]) -> usize
     requires { All (IsPlaced (length storage.now)) entries.old.items }
-    ensures unstaged { IsStrictlyOrdered (records_in storage.now entries.old.items)
-        → IsUnstagedFrom path.now (records_in storage.now entries.old.items)
-        (records_in storage.now entries.new.items) }
-    ensures count { IsStrictlyOrdered (records_in storage.now entries.old.items)
-        → result ≡ count_by (is_at path.now) (records_in storage.now entries.old.items) }
-    ensures placed { All (IsPlaced (length storage.now)) entries.new.items }
+    ensures { UnstagesPath path.now storage.now entries.old entries.new result }
 {
     let Some(places) = entry_range(&EntrySlice::new(entries, storage), path) else {
         return 0;

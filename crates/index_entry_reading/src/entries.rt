@@ -1,11 +1,10 @@
 //! The entries behind the header.
 
-ghost use Rattle.std.specs.Prelude.{◌≡◌, ◌<◌, ◌≤◌, ◌++◌, ℕ, List, length, None, IfOk, IfErr, OnOk, All};
+ghost use Rattle.std.specs.Prelude.{◌≡◌, ◌≤◌, ◌++◌, ℕ, List, length, None, IfOk, IfErr, OnOk, All};
 ghost use Rattle.index_parts.specs.Id.{id_kind};
-ghost use Rattle.index_entries.specs.Entries.{AreEntries, last_path};
-ghost use Rattle.index_entries.specs.Entry.{IsEntry};
-ghost use Rattle.index_entry_reading.specs.EntryFaults.{LacksSome};
-ghost use Rattle.index_entries.specs.Record.{Record, has_directory};
+ghost use Rattle.index_entries.specs.Entries.{AreEntries};
+ghost use Rattle.index_entry_reading.specs.EntryFaults.{EndsEarly, LacksSome, Continues};
+ghost use Rattle.index_entries.specs.Record.{has_directory};
 ghost use Rattle.index_entry_reading.specs.declared.entries.Error.TheVariants.{Memory};
 
 use crate::entry::entry_of;
@@ -66,17 +65,13 @@ pub fn entries_in<'a>(
     requires ids { All (λ r. id_kind r.id ≡ kind) first.old.list.records }
     requires sparse { first.old.sparse ≡ has_directory first.old.list.records }
     requires count { length first.old.list.records ≤ count }
-    // Whatever bytes the entries before were read from: these stand behind them.
-    ensures read { IfOk result (λ rest. (all : List ℕ)
-        → AreEntries version kind None all first.old.list.records bytes.now
-        → AreEntries version kind None all first.new.list.records rest.now) }
+    ensures read { IfOk result
+        (λ rest. Continues version kind first.old bytes.now first.new rest.now) }
     ensures end { IfOk result (λ rest. (taken : List ℕ) × (bytes.now ≡ taken ++ rest.now)) }
     ensures ids { OnOk result (All (λ r. id_kind r.id ≡ kind) first.new.list.records) }
     ensures sparse { OnOk result (first.new.sparse ≡ has_directory first.new.list.records) }
     ensures count { OnOk result (length first.new.list.records ≤ count) }
-    ensures none { IfOk result (λ rest. length first.new.list.records < count
-        → (r : Record) (after : List ℕ)
-        → IsEntry version kind (last_path None first.new.list.records) rest.now r after → ⊥) }
+    ensures none { IfOk result (λ rest. EndsEarly version kind count first.new rest.now) }
 {
     let mut rest = bytes;
     'entries: for index in first.list.len()..count as usize {

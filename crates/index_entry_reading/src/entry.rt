@@ -1,18 +1,15 @@
 //! One entry at the front of bytes, as lent pieces: for a reader that walks over a file's entries and keeps none of
 //! them.
 
-ghost use Rattle.std.specs.Prelude.{◌≡◌, ◌+◌, ◌*◌, ◌≤◌, ℕ, List, length, Option, Some, IfSome, IfNone, drop, take};
-ghost use Rattle.std.specs.Prelude.{unwrap_or, [], ◌++◌};
+ghost use Rattle.std.specs.Prelude.{◌≡◌, ◌≤◌, drop, length, take, unwrap_or, IfNone, IfSome};
 ghost use Rattle.std.specs.Option.{option_map};
 ghost use Rattle.index_metadata.specs.Flags.{stored_flags, joined_words};
 ghost use Rattle.index_parts.specs.Id.{id_kind};
 ghost use Rattle.index_metadata.specs.Stat.{stat_of};
-ghost use Rattle.index_entries.specs.Entry.{IsEntry23, IsEntry4, IsEntry};
-ghost use Rattle.index_entry_reading.specs.Lent.{lent_record};
-ghost use Rattle.index_entry_reading.specs.LentSteps.{lent_head};
-ghost use Rattle.index_entries.specs.EntrySteps.{IsLong, record_from, second_at, head_at, path_at, entry23_at};
-ghost use Rattle.index_entries.specs.EntrySteps.{shared_of, entry4_at};
-ghost use Rattle.index_entries.specs.Record.{Record};
+ghost use Rattle.index_entry_reading.specs.Lent.{HasNoEntry, IsLentEntry};
+ghost use Rattle.index_entry_reading.specs.LentSteps.{HasNoEntry23, HasNoEntry4, HasRecordOf, IsLentEntry23};
+ghost use Rattle.index_entry_reading.specs.LentSteps.{IsLentEntry4, lent_head, lent_pieces23, lent_pieces4};
+ghost use Rattle.index_entries.specs.EntrySteps.{IsLong, second_at, head_at, path_at, entry23_at, shared_of, entry4_at};
 
 use bitflags::Flags as _;
 use index_entries::sizes::{ENTRY_ALIGN, FLAGS_LEN, NUMBERS_LEN};
@@ -99,8 +96,7 @@ fn path_of(field: u16, bytes: &[u8]) -> Option<(&[u8], &[u8])>
 
 #[tactic(auto, unfolding(index_entries::specs::EntrySteps::entry23_at))]
 fn pieces23_of(kind: Kind, bytes: &[u8]) -> Option<((EntryHead<'_>, &[u8]), &[u8])>
-    ensures { option_map (λ x. ((lent_head x.0.0, x.0.1.now), x.1.now)) result
-        ≡ entry23_at kind bytes.now }
+    ensures { option_map lent_pieces23 result ≡ entry23_at kind bytes.now }
 {
     let (head, rest) = head_of(kind, bytes)?;
     let (path, rest) = path_of(head.flags & 0x0fff, rest)?;
@@ -129,9 +125,7 @@ fn lent_of<'a>(kind: Kind, head: EntryHead<'a>, shared: usize, path: &'a [u8]) -
     requires { IsLong kind (lent_head head) }
     ensures shared { result.shared ≡ shared }
     ensures kind { id_kind result.entry.id ≡ kind }
-    ensures record { (previous : Option (List ℕ)) → lent_record previous result
-        ≡ record_from kind (lent_head head.entry)
-        (take shared (unwrap_or previous []) ++ path.now) }
+    ensures record { HasRecordOf kind (lent_head head.entry) shared path.now result }
 {
     Lent {
         shared,
@@ -147,10 +141,8 @@ fn lent_of<'a>(kind: Kind, head: EntryHead<'a>, shared: usize, path: &'a [u8]) -
 
 /// The entry of version 2 or 3 at the front, and the bytes behind its padding.
 fn entry23_of(kind: Kind, bytes: &[u8]) -> Option<(Lent<'_>, &[u8])>
-    ensures found { IfSome result (λ x. (previous : Option (List ℕ))
-        → IsEntry23 kind bytes.now (lent_record previous x.0) x.1.now) }
-    ensures none { IfNone result ((r : Record) (rest : List ℕ) → IsEntry23 kind bytes.now r rest
-        → ⊥) }
+    ensures found { IfSome result (λ x. IsLentEntry23 kind bytes.now x.0 x.1.now) }
+    ensures none { IfNone result (HasNoEntry23 kind bytes.now) }
     ensures shared { IfSome result (λ x. x.0.shared ≡ 0) }
     ensures kind { IfSome result (λ x. id_kind x.0.entry.id ≡ kind) }
 {
@@ -177,8 +169,7 @@ fn pieces4_of(
     room: Option<usize>,
     bytes: &[u8],
 ) -> Option<((EntryHead<'_>, usize, &[u8]), &[u8])>
-    ensures { option_map (λ x. ((lent_head x.0.0, x.0.1, x.0.2.now), x.1.now)) result
-        ≡ entry4_at kind room bytes.now }
+    ensures { option_map lent_pieces4 result ≡ entry4_at kind room bytes.now }
 {
     let (head, rest) = head_of(kind, bytes)?;
     let (stripped, rest) = read::offset(rest)?;
@@ -189,12 +180,8 @@ fn pieces4_of(
 
 /// The entry of version 4 at the front, behind a path of so many bytes or none, and the bytes behind it.
 fn entry4_of(kind: Kind, room: Option<usize>, bytes: &[u8]) -> Option<(Lent<'_>, &[u8])>
-    ensures found { IfSome result (λ x. (previous : Option (List ℕ))
-        → option_map length previous ≡ room
-        → IsEntry4 kind previous bytes.now (lent_record previous x.0) x.1.now) }
-    ensures none { IfNone result ((previous : Option (List ℕ)) (r : Record) (rest : List ℕ)
-        → option_map length previous ≡ room
-        → IsEntry4 kind previous bytes.now r rest → ⊥) }
+    ensures found { IfSome result (λ x. IsLentEntry4 kind room bytes.now x.0 x.1.now) }
+    ensures none { IfNone result (HasNoEntry4 kind room bytes.now) }
     ensures shared { IfSome result (λ x. x.0.shared ≤ unwrap_or room 0) }
     ensures kind { IfSome result (λ x. id_kind x.0.entry.id ≡ kind) }
 {
@@ -210,12 +197,8 @@ pub fn entry_of(
     room: Option<usize>,
     bytes: &[u8],
 ) -> Option<(Lent<'_>, &[u8])>
-    ensures found { IfSome result (λ x. (previous : Option (List ℕ))
-        → option_map length previous ≡ room
-        → IsEntry version kind previous bytes.now (lent_record previous x.0) x.1.now) }
-    ensures none { IfNone result ((previous : Option (List ℕ)) (r : Record) (rest : List ℕ)
-        → option_map length previous ≡ room
-        → IsEntry version kind previous bytes.now r rest → ⊥) }
+    ensures found { IfSome result (λ x. IsLentEntry version kind room bytes.now x.0 x.1.now) }
+    ensures none { IfNone result (HasNoEntry version kind room bytes.now) }
     ensures shared { IfSome result (λ x. x.0.shared ≤ unwrap_or room 0) }
     ensures kind { IfSome result (λ x. id_kind x.0.entry.id ≡ kind) }
 {

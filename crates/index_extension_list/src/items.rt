@@ -1,22 +1,19 @@
 //! Writing extensions, and the end marker behind them.
 
-ghost use Rattle.std.specs.Prelude.{◌≡◌, ◌++◌, ◌<◌, ◌+◌, false, length, map, take};
-ghost use Rattle.std.specs.List.{flat_map};
-ghost use Rattle.std.specs.Option.{option_map};
+ghost use Rattle.std.specs.Prelude.{◌≡◌, false, length};
 ghost use Rattle.index_parts.specs.Puts.{Puts};
-ghost use Rattle.index_extensions.specs.EndMarker.{heads};
-ghost use Rattle.index_extensions.specs.Encoding.{heads_bytes, item_bytes, marker_item};
 ghost use Rattle.index_cached_tree.specs.GitOrder.{ordered_if};
 ghost use Rattle.index_cached_tree.specs.Tree.{node_of};
 ghost use Rattle.index_cached_tree.specs.TreeImage.{node_bytes, tree_item};
-ghost use Rattle.index_small_extensions.specs.FsMonitor.{monitor_of};
-ghost use Rattle.index_small_extensions.specs.ResolveUndo.{path_stages};
-ghost use Rattle.index_untracked.specs.Untracked.{cache_of};
-ghost use Rattle.index_extension_writing.specs.MonitorImage.{monitor_bytes, monitor_item};
-ghost use Rattle.index_extension_writing.specs.ResolveUndoImage.{resolve_undo_bytes, resolve_undo_item};
-ghost use Rattle.index_extension_writing.specs.UntrackedImage.{cache_bytes, cache_item};
-ghost use Rattle.index_extension_list.specs.Chosen.{extensions_of, item_if, items, sparse_items};
-ghost use Rattle.index_extension_list.specs.Listing.{AreLens, head_if};
+ghost use Rattle.index_extension_writing.specs.MonitorImage.{monitor_item};
+ghost use Rattle.index_extension_writing.specs.ResolveUndoImage.{resolve_undo_item};
+ghost use Rattle.index_extension_writing.specs.UntrackedImage.{cache_item};
+ghost use Rattle.index_extension_list.specs.Chosen.{extensions_of, sparse_items};
+ghost use Rattle.index_extension_list.specs.Lent.{chosen_cache, chosen_cache_len, chosen_monitor, chosen_monitor_len};
+ghost use Rattle.index_extension_list.specs.Lent.{chosen_tree, chosen_tree_len, chosen_undo, chosen_undo_len};
+ghost use Rattle.index_extension_list.specs.Listing.{AreLens};
+ghost use Rattle.index_extension_list.specs.PutsItems.{PutsIf, PutsItems, chosen_bytes, items_behind_tree};
+ghost use Rattle.index_extension_list.specs.PutsItems.{items_behind_undo, last_items, ordered_tree_bytes};
 
 use crate::{Chosen, Lens};
 use index_cached_tree::write::put_item;
@@ -35,8 +32,7 @@ use std::io;
 fn put_tree_item<W: Out>(tree: &Tree, in_git_order: bool, len: u32, out: &mut W) -> io::Result<()>
     requires len { len ≡ length (node_bytes (ordered_if in_git_order (node_of tree.now))) }
     requires unfailed { W.failed out.old ≡ false }
-    ensures { Puts W.Out out.old out.new result
-        (item_bytes (tree_item (ordered_if in_git_order (node_of tree.now)))) }
+    ensures { Puts W.Out out.old out.new result (ordered_tree_bytes in_git_order tree.now) }
 {
     if in_git_order {
         return git_order::put_item(tree, len, out);
@@ -51,11 +47,9 @@ fn put_tree<W: Out>(
     len: Option<u32>,
     out: &mut W,
 ) -> io::Result<()>
-    requires len { len ≡ option_map
-        (λ t. length (node_bytes (ordered_if in_git_order (node_of t.now)))) tree }
+    requires len { len ≡ chosen_tree_len in_git_order tree }
     requires unfailed { W.failed out.old ≡ false }
-    ensures { Puts W.Out out.old out.new result (flat_map item_bytes
-        (item_if tree_item (option_map (λ t. ordered_if in_git_order (node_of t.now)) tree.entry))) }
+    ensures { PutsIf W.Out out.old out.new result tree_item (chosen_tree in_git_order tree.entry) }
 {
     match (tree, len) {
         (Some(tree), Some(len)) => put_tree_item(tree, in_git_order, len, out),
@@ -69,10 +63,9 @@ fn put_resolve_undo<W: Out>(
     len: Option<u32>,
     out: &mut W,
 ) -> io::Result<()>
-    requires len { len ≡ option_map (λ it. length (resolve_undo_bytes (map path_stages it.now))) paths }
+    requires len { len ≡ chosen_undo_len paths }
     requires unfailed { W.failed out.old ≡ false }
-    ensures { Puts W.Out out.old out.new result (flat_map item_bytes
-        (item_if resolve_undo_item (option_map (λ it. map path_stages it.now) paths.entry))) }
+    ensures { PutsIf W.Out out.old out.new result resolve_undo_item (chosen_undo paths.entry) }
 {
     match (paths, len) {
         (Some(paths), Some(len)) => resolve_undo::put_item(paths, len, out),
@@ -87,10 +80,9 @@ fn put_untracked<W: Out>(
     len: Option<u32>,
     out: &mut W,
 ) -> io::Result<()>
-    requires len { len ≡ option_map (λ it. length (cache_bytes kind (cache_of it.now))) cache }
+    requires len { len ≡ chosen_cache_len kind cache }
     requires unfailed { W.failed out.old ≡ false }
-    ensures { Puts W.Out out.old out.new result (flat_map item_bytes
-        (item_if (cache_item kind) (option_map (λ it. cache_of it.now) cache.entry))) }
+    ensures { PutsIf W.Out out.old out.new result (cache_item kind) (chosen_cache cache.entry) }
 {
     match (cache, len) {
         (Some(cache), Some(len)) => untracked_cache::put_item(cache, kind, len, out),
@@ -100,10 +92,9 @@ fn put_untracked<W: Out>(
 
 /// Writes what a file system monitor said, where one did, whose content has this length.
 fn put_monitor<W: Out>(monitor: Option<&FsMonitor>, len: Option<u32>, out: &mut W) -> io::Result<()>
-    requires len { len ≡ option_map (λ it. length (monitor_bytes (monitor_of it.now))) monitor }
+    requires len { len ≡ chosen_monitor_len monitor }
     requires unfailed { W.failed out.old ≡ false }
-    ensures { Puts W.Out out.old out.new result (flat_map item_bytes
-        (item_if monitor_item (option_map (λ it. monitor_of it.now) monitor.entry))) }
+    ensures { PutsIf W.Out out.old out.new result monitor_item (chosen_monitor monitor.entry) }
 {
     match (monitor, len) {
         (Some(monitor), Some(len)) => fs_monitor::put_item(monitor, len, out),
@@ -114,7 +105,7 @@ fn put_monitor<W: Out>(monitor: Option<&FsMonitor>, len: Option<u32>, out: &mut 
 /// Writes the mark of a sparse index, where it is one.
 fn put_sparse<W: Out>(is_sparse: bool, out: &mut W) -> io::Result<()>
     requires { W.failed out.old ≡ false }
-    ensures { Puts W.Out out.old out.new result (flat_map item_bytes (sparse_items is_sparse)) }
+    ensures { PutsItems W.Out out.old out.new result (sparse_items is_sparse) }
 {
     if is_sparse {
         return sparse::write_to(out);
@@ -126,9 +117,7 @@ fn put_sparse<W: Out>(is_sparse: bool, out: &mut W) -> io::Result<()>
 fn put_last<W: Out>(chosen: Chosen<'_>, kind: Kind, lens: Lens, out: &mut W) -> io::Result<()>
     requires lens { AreLens kind (extensions_of chosen) lens }
     requires unfailed { W.failed out.old ≡ false }
-    ensures { Puts W.Out out.old out.new result (flat_map item_bytes
-        (item_if monitor_item (extensions_of chosen.entry).fs_monitor
-        ++ sparse_items chosen.entry.is_sparse)) }
+    ensures { PutsItems W.Out out.old out.new result (last_items chosen.entry) }
 {
     put_monitor(chosen.fs_monitor, lens.fs_monitor, out)?;
     put_sparse(chosen.is_sparse, out)
@@ -143,10 +132,8 @@ fn put_untracked_and_last<W: Out>(
 ) -> io::Result<()>
     requires lens { AreLens kind (extensions_of chosen) lens }
     requires unfailed { W.failed out.old ≡ false }
-    ensures { Puts W.Out out.old out.new result (flat_map item_bytes
-        (item_if (cache_item kind) (extensions_of chosen.entry).untracked
-        ++ (item_if monitor_item (extensions_of chosen.entry).fs_monitor
-        ++ sparse_items chosen.entry.is_sparse))) }
+    ensures { PutsItems W.Out out.old out.new result
+        (items_behind_undo kind chosen.entry) }
 {
     put_untracked(chosen.untracked, kind, lens.untracked, out)?;
     put_last(chosen, kind, lens, out)
@@ -161,11 +148,8 @@ fn put_behind_tree<W: Out>(
 ) -> io::Result<()>
     requires lens { AreLens kind (extensions_of chosen) lens }
     requires unfailed { W.failed out.old ≡ false }
-    ensures { Puts W.Out out.old out.new result (flat_map item_bytes
-        (item_if resolve_undo_item (extensions_of chosen.entry).resolve_undo
-        ++ (item_if (cache_item kind) (extensions_of chosen.entry).untracked
-        ++ (item_if monitor_item (extensions_of chosen.entry).fs_monitor
-        ++ sparse_items chosen.entry.is_sparse)))) }
+    ensures { PutsItems W.Out out.old out.new result
+        (items_behind_tree kind chosen.entry) }
 {
     put_resolve_undo(chosen.resolve_undo, lens.resolve_undo, out)?;
     put_untracked_and_last(chosen, kind, lens, out)
@@ -178,8 +162,7 @@ fn put_behind_tree<W: Out>(
 pub fn put_items<W: Out>(chosen: Chosen<'_>, kind: Kind, lens: Lens, out: &mut W) -> io::Result<()>
     requires lens { AreLens kind (extensions_of chosen) lens }
     requires unfailed { W.failed out.old ≡ false }
-    ensures written { Puts W.Out out.old out.new result
-        (flat_map item_bytes (items kind (extensions_of chosen.entry))) }
+    ensures written { Puts W.Out out.old out.new result (chosen_bytes kind chosen.entry) }
 {
     put_tree(chosen.tree, chosen.in_git_order, lens.tree, out)?;
     put_behind_tree(chosen, kind, lens, out)

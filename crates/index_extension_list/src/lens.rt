@@ -1,20 +1,11 @@
 //! How long the contents of extensions are, before any of them is written.
 
-ghost use Rattle.std.specs.Prelude.{◌≡◌, ◌≤◌, ◌<◌, ◌^◌, length, map, IfNone, IfSome};
-ghost use Rattle.std.specs.List.{flat_map};
-ghost use Rattle.std.specs.Option.{option_map};
-ghost use Rattle.index_cached_tree.specs.GitOrder.{ordered_if};
-ghost use Rattle.index_cached_tree.specs.Tree.{node_of};
-ghost use Rattle.index_cached_tree.specs.TreeImage.{node_bytes};
-ghost use Rattle.index_extensions.specs.Encoding.{item_bytes};
-ghost use Rattle.index_small_extensions.specs.FsMonitor.{monitor_of};
-ghost use Rattle.index_small_extensions.specs.ResolveUndo.{path_stages};
-ghost use Rattle.index_untracked.specs.Untracked.{cache_of};
-ghost use Rattle.index_extension_writing.specs.MonitorImage.{monitor_bytes};
-ghost use Rattle.index_extension_writing.specs.ResolveUndoImage.{resolve_undo_bytes};
-ghost use Rattle.index_extension_writing.specs.UntrackedImage.{cache_bytes};
-ghost use Rattle.index_extension_list.specs.Chosen.{extensions_of, items};
+ghost use Rattle.std.specs.Prelude.{◌≡◌, ◌≤◌, ◌<◌, ◌^◌, length, IfNone, IfSome};
+ghost use Rattle.index_extension_list.specs.Chosen.{extensions_of};
+ghost use Rattle.index_extension_list.specs.Lent.{chosen_cache_len, chosen_monitor_len, chosen_tree_len};
+ghost use Rattle.index_extension_list.specs.Lent.{chosen_undo_len};
 ghost use Rattle.index_extension_list.specs.Listing.{AreLens, len_within_32, sparse_len, whole_len};
+ghost use Rattle.index_extension_list.specs.PutsItems.{chosen_bytes};
 
 use crate::Chosen;
 use index_cached_tree::Tree;
@@ -40,8 +31,7 @@ pub struct Lens {
 /// The length of a cached tree, where there is one, in git's order or not; None where 32 bits can't count it.
 #[tactic(auto, using(index_cached_tree::proofs::GitOrders::same_length_if))]
 fn tree_len(tree: Option<&Tree>, in_git_order: bool) -> Option<Option<u32>>
-    ensures { result ≡ len_within_32
-        (option_map (λ t. length (node_bytes (ordered_if in_git_order (node_of t.now)))) tree.entry) }
+    ensures { result ≡ len_within_32 (chosen_tree_len in_git_order tree.entry) }
 {
     match tree {
         None => Some(None),
@@ -54,8 +44,7 @@ fn tree_len(tree: Option<&Tree>, in_git_order: bool) -> Option<Option<u32>>
 
 /// The same of resolve-undo.
 fn resolve_undo_len(paths: Option<&[ResolvePath]>) -> Option<Option<u32>>
-    ensures { result ≡ len_within_32 (option_map
-        (λ it. length (resolve_undo_bytes (map path_stages it.now))) paths.entry) }
+    ensures { result ≡ len_within_32 (chosen_undo_len paths.entry) }
 {
     match paths {
         None => Some(None),
@@ -68,8 +57,7 @@ fn resolve_undo_len(paths: Option<&[ResolvePath]>) -> Option<Option<u32>>
 
 /// The same of an untracked cache, with ids of this kind.
 fn untracked_len(cache: Option<&UntrackedCache>, kind: Kind) -> Option<Option<u32>>
-    ensures { result ≡ len_within_32
-        (option_map (λ it. length (cache_bytes kind (cache_of it.now))) cache.entry) }
+    ensures { result ≡ len_within_32 (chosen_cache_len kind cache.entry) }
 {
     match cache {
         None => Some(None),
@@ -82,8 +70,7 @@ fn untracked_len(cache: Option<&UntrackedCache>, kind: Kind) -> Option<Option<u3
 
 /// The same of what a file system monitor said.
 fn monitor_len(monitor: Option<&FsMonitor>) -> Option<Option<u32>>
-    ensures { result ≡ len_within_32
-        (option_map (λ it. length (monitor_bytes (monitor_of it.now))) monitor.entry) }
+    ensures { result ≡ len_within_32 (chosen_monitor_len monitor.entry) }
 {
     match monitor {
         None => Some(None),
@@ -117,8 +104,7 @@ impl Lens {
     /// 2^32 - 1 bytes. No memory is taken.
     pub fn of(chosen: Chosen<'_>, kind: Kind) -> Option<Lens>
         ensures some { IfSome result (AreLens kind (extensions_of chosen.entry)) }
-        ensures none { IfNone result
-            (2 ^ 32 ≤ length (flat_map item_bytes (items kind (extensions_of chosen.entry)))) }
+        ensures none { IfNone result (2 ^ 32 ≤ length (chosen_bytes kind chosen.entry)) }
     {
         let Some(tree) = tree_len(chosen.tree, chosen.in_git_order) else {
             return None;
@@ -143,7 +129,7 @@ impl Lens {
     /// How many bytes all of these extensions have, and the mark of a sparse index.
     pub fn total(&self, chosen: Chosen<'_>, kind: Kind) -> u64
         requires { AreLens kind (extensions_of chosen) self.now }
-        ensures len { result ≡ length (flat_map item_bytes (items kind (extensions_of chosen.entry))) }
+        ensures len { result ≡ length (chosen_bytes kind chosen.entry) }
         ensures small { result < 0x800000000 }
     {
         whole_len(self.tree)

@@ -2,10 +2,9 @@
 
 ghost use Rattle.std.specs.Prelude.{◌≡◌, ◌≤◌, ◌<◌, ◌+◌, ◌++◌, [], false, take};
 ghost use Rattle.index_parts.specs.Puts.{Puts};
-ghost use Rattle.index_extensions.specs.EndMarker.{heads};
-ghost use Rattle.index_extensions.specs.Encoding.{item_bytes, marker_item};
-ghost use Rattle.index_extension_list.specs.Chosen.{extensions_of, items};
+ghost use Rattle.index_extension_list.specs.Chosen.{extensions_of};
 ghost use Rattle.index_extension_list.specs.Listing.{AreLens, head_if, listed_heads, sparse_head_len};
+ghost use Rattle.index_extension_list.specs.PutsItems.{marker_bytes};
 
 use crate::{Chosen, Lens};
 use index_cached_tree as tree;
@@ -86,8 +85,7 @@ pub fn put_marker<W: Out>(
 ) -> io::Result<()>
     requires lens { AreLens kind (extensions_of chosen) lens }
     requires unfailed { W.failed out.old ≡ false }
-    ensures written { Puts W.Out out.old out.new result
-        (item_bytes (marker_item kind offset (heads (items kind (extensions_of chosen.entry))))) }
+    ensures written { Puts W.Out out.old out.new result (marker_bytes kind offset chosen.entry) }
 {
     let heads = heads_of(lens, chosen.is_sparse);
     let (list, _) = heads.list.split_at(heads.count);

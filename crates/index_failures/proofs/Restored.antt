@@ -57,3 +57,7 @@ module _ (guards works : Bool) (old mid new : World) (to : List ℕ) (place : Pl
   restored_so alone works-then before (Ok x) same still h = h
   restored_so alone works-then before (Err e) same still h = λ is.
       restores (subst (λ (b : Bool). IsReleased b mid new (lock_of place)) still (h (same ∙ is)))
+
+-- where nothing was made, all stays
+pub restores_unmade : (works : Bool) (old new : World) (to : List ℕ) → new ≡ old → Restores works old new to
+restores_unmade works old new to same = λ p out stays. ap (λ (w : World). w p) same

@@ -1,3 +1,4 @@
+pub mod Calls
 pub mod Options
 pub mod Reading
 pub mod Storing

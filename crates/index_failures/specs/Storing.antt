@@ -1,5 +1,5 @@
 -- How a command locks and replaces what it writes, and how it fails that writes (the program's own).
-use Rattle.std.specs.Prelude.{◌≡◌, ℕ, List, Bool, true}
+use Rattle.std.specs.Prelude.{◌≡◌, ℕ, List, Bool, true, Result, IfErr, IfOk, OnErr}
 use Rattle.gix_index.specs.Contents.{Contents}
 use Rattle.gix_index.specs.File.{state_of}
 use Rattle.gix_index.specs.InPlace.{IsPutSince}
@@ -8,9 +8,10 @@ use Rattle.gix_index.specs.WriteFaults.{SaysOfCommitting}
 use Rattle.gix_index.specs.WriteOptions.{Options}
 use Rattle.gix_index.specs.WrittenFile.{IsWrittenTo}
 use Rattle.gix_index.specs.declared.file.File.{File}
-use Rattle.gix_index.specs.InPlace.Locks.{LeadsTo, SaysOfLock, asked_of, lock_of, target_of}
+use Rattle.gix_index.specs.InPlace.Locks.{LeadsTo, Restores, SaysOfLock, asked_of, lock_of, target_of}
 use Rattle.gix_index.specs.InPlace.Place.{Place}
 use Rattle.gix_index.specs.Disk.World.{Makes, World}
+use Rattle.gix_index.specs.OnDisk.FolderTrait.{Ghosts}
 use Rattle.index_failures.specs.declared.failure.Failure.{Failure}
 use Rattle.index_failures.specs.declared.failure.Failure.TheVariants as failures
 
@@ -53,3 +54,12 @@ pub data FailsStoring (works guards : Bool) (old : World) (to : List ℕ) (Fault
       → FailsStoring works guards old to Fault failure
   unread : (place : Place) (mid : World) → IsUnderLock guards old mid to place → Fault mid failure
       → FailsStoring works guards old to Fault failure
+
+-- How a command ends that writes to a path: this was written; or, where nobody else changes files, what was there is
+-- there as before, and the failure is one of these.
+pub record EndsStoring {S F M A : Type 0} (folder : Ghosts S F M) (old new : S) (to : List ℕ) (Written : A → Type 0)
+    (Fault : Failure → Type 0) (answer : Result A Failure) : Type 0 where
+  pub written : IfOk answer Written
+  pub restored : OnErr answer (folder.alone old ≡ true
+      → Restores (folder.works old) (folder.known old) (folder.known new) to)
+  pub fault : IfErr answer Fault

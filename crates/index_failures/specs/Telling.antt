@@ -1,11 +1,12 @@
 -- What a command tells of a file, and how it fails that tells (the program's own).
-use Rattle.std.specs.Prelude.{◌≡◌, ◌≢◌, ◌⊎◌, ℕ, Bool, true, List, Option}
+use Rattle.std.specs.Prelude.{◌≡◌, ◌≢◌, ◌⊎◌, ℕ, Bool, true, List, Option, Result, IfErr, OnOk}
 use Rattle.std.specs.Borrow.{Bor}
 use Rattle.std.specs.Io.KnownBytes.{Appends, Keeps}
 use Rattle.std.specs.IoError.{error_kind}
 use Rattle.std.specs.declared.io.Error.{Error as IoError}
 use Rattle.std.specs.declared.io.ErrorKind.TheVariants.{OutOfMemory}
 use Rattle.gix_index.specs.DecodeError.{Error}
+use Rattle.gix_index.specs.Hashing.Out.{Ghosts}
 use Rattle.gix_index.specs.Taking.{AppendsPrefix}
 use Rattle.index_failures.specs.declared.failure.Failure.{Failure}
 use Rattle.index_failures.specs.declared.failure.Failure.TheVariants as failures
@@ -41,3 +42,12 @@ pub data FailsTelling (Text : List ℕ → Type 0) (Damaged : ℕ → Error → 
   whole : (file : Bor (List ℕ)) (offset : ℕ) (e : Error) → failure ≡ failures.Damaged file offset e → file.now ≡ path
       → Tells (Damaged offset e) old new → FailsTelling Text Damaged Fault path failure failed old new
   untold : Fault failure → Keeps old new → FailsTelling Text Damaged Fault path failure failed old new
+
+-- How a command ends that tells of the file at a path: the output took such a text; or the failure is one of these, and
+-- the output took what it says.
+pub record EndsTelling {T : Type 0} (writer : Ghosts T) (old new : T) (Text : List ℕ → Type 0)
+    (Damaged : ℕ → Error → List ℕ → Type 0) (Fault : Failure → Type 0) (path : List ℕ)
+    (answer : Result (Unit {0}) Failure) : Type 0 where
+  pub told : OnOk answer (Tells Text (writer.taken old) (writer.taken new))
+  pub refused : IfErr answer (λ failure. FailsTelling Text Damaged Fault path failure (writer.failed new)
+      (writer.taken old) (writer.taken new))

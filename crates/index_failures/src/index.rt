@@ -1,14 +1,10 @@
 //! The index in a file that a command's words name.
 
-ghost use Rattle.std.specs.Prelude.{◌≡◌, Bool, IfErr, IfOk, true};
+ghost use Rattle.std.specs.Prelude.{◌≡◌};
 ghost use Rattle.std.specs.Path.{path_buf_bytes};
-ghost use Rattle.gix_index.specs.Disk.{MayHave, disk_at};
-ghost use Rattle.gix_index.specs.Disk.World.{IsFaultOf, MayBe, World};
-ghost use Rattle.gix_index.specs.File.{checksum_of, path_of, state_of};
-ghost use Rattle.gix_index.specs.State.{PathsInStorage, contents};
 ghost use Rattle.gix_index.specs.FileFaults.ReadError.TheVariants.{Memory};
-ghost use Rattle.index_failures.specs.Reading.{FailsReading, IsInFile, IsInFileSince, SaysOfBytes, SaysOfIndex};
-ghost use Rattle.index_failures.specs.Reading.{failure_of};
+ghost use Rattle.index_failures.specs.Calls.{OpensIndex, ReadsBytes, ReadsIndex};
+ghost use Rattle.index_failures.specs.Reading.{SaysOfAnyBytes, failure_of};
 
 use crate::failure::Failure;
 use gix_index::entry::FileTime;
@@ -41,9 +37,7 @@ pub fn out_of_memory(path: &str) -> Failure<'_>
 
 /// Why the bytes of the file at a path can't be had, by what opening or reading it answered.
 fn fault_of(path: PathBuf, error: io::Error) -> file::init::Error
-    ensures { (works : Bool) (world : World)
-        → (works ≡ true → IsFaultOf (world (path_buf_bytes path)) error)
-        → SaysOfBytes works world (path_buf_bytes path) result }
+    ensures { SaysOfAnyBytes (path_buf_bytes path) error result }
 {
     if error.kind() == ErrorKind::OutOfMemory {
         return file::init::Error::Memory;
@@ -58,11 +52,7 @@ pub fn bytes_at<'a, D: Folder>(
     alloc: Global,
     path: &'a str,
 ) -> Result<(Vec<u8>, FileTime), Failure<'a>>
-    ensures held { IfOk result (λ read. MayHave (D.known folder.now path.now) read.0.items) }
-    ensures since { IfOk result
-        (λ read. MayBe (D.known folder.now path.now) (λ file. read.1 ≡ file.time)) }
-    ensures fault { IfErr result
-        (FailsReading (SaysOfBytes (D.works folder.now) (D.known folder.now) path.now) path.now) }
+    ensures { ReadsBytes D.Folder folder.now path.now result }
 {
     let Ok(file) = PathBuf::from_str(alloc, path) else {
         return Err(out_of_memory(path));
@@ -83,13 +73,7 @@ pub fn index_at<'a, D: Folder>(
     kind: Kind,
     path: &'a str,
 ) -> Result<File, Failure<'a>>
-    ensures read { IfOk result
-        (λ index. IsInFile (disk_at (D.known folder.now) path.now) kind
-        (contents (state_of index)) (checksum_of index)) }
-    ensures path { IfOk result (λ index. path_of index ≡ path.now) }
-    ensures placed { IfOk result (λ index. PathsInStorage (state_of index)) }
-    ensures fault { IfErr result (FailsReading (SaysOfIndex (D.works folder.now)
-        (D.known folder.now) kind path.now) path.now) }
+    ensures { ReadsIndex D.Folder folder.now kind path.now result }
 {
     let Ok(file) = PathBuf::from_str(alloc, path) else {
         return Err(out_of_memory(path));
@@ -109,12 +93,7 @@ pub fn opened_at<'a, D: Folder>(
     kind: Kind,
     path: &'a str,
 ) -> Result<File, Failure<'a>>
-    ensures read { IfOk result
-        (λ index. IsInFileSince (disk_at (D.known folder.now) path.now) kind
-        (contents (state_of index)) (checksum_of index)) }
-    ensures placed { IfOk result (λ index. PathsInStorage (state_of index)) }
-    ensures fault { IfErr result (FailsReading (SaysOfIndex (D.works folder.now)
-        (D.known folder.now) kind path.now) path.now) }
+    ensures { OpensIndex D.Folder folder.now kind path.now result }
 {
     let Ok(file) = PathBuf::from_str(alloc, path) else {
         return Err(out_of_memory(path));

@@ -62,3 +62,17 @@ MayFail steps.Lock (Some there) works lock path at e =
     (at ≡ lock) × (works ≡ true → (error_kind e ≡ OutOfMemory) ⊎ MayBeTaken there)
 MayFail steps.Put before works lock path at e = at ≡ lock
 MayFail steps.Commit before works lock path at e = (at ≡ path) × (works ≡ true → error_kind e ≡ OutOfMemory)
+
+-- ---- what an error says of whatever was to be written
+
+-- that a step failed so, of each lock, path and index for which it may
+abbrev pub SaysOfStep : Step → List ℕ → IoError → Error → Type 0
+SaysOfStep step at error e =
+    (before : Option Known) (works : Bool) (lock target : List ℕ) (v : Contents) (options : Options)
+    → MayFail step before works lock target at error → SaysOfReplacing before works lock target v options e
+
+-- that the bytes didn't go to this lock, of each path and index for which the writing may fail so
+abbrev pub SaysOfPutting : List ℕ → PutError → Error → Type 0
+SaysOfPutting lock error e =
+    (before : Option Known) (works : Bool) (target : List ℕ) (v : Contents) (options : Options)
+    → SaysOfPut v options error → SaysOfReplacing before works lock target v options e

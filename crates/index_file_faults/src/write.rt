@@ -1,11 +1,8 @@
 //! Why an index wasn't written to its path.
 
-ghost use Rattle.std.specs.Prelude.{◌≡◌, ℕ, List, Bool, Option};
+ghost use Rattle.std.specs.Prelude.{◌≡◌};
 ghost use Rattle.std.specs.Path.{path_buf_bytes};
-ghost use Rattle.index_folder.specs.World.{Known};
-ghost use Rattle.index_format.specs.Contents.{Contents};
-ghost use Rattle.index_format.specs.declared.write.Options.{Options as WriteOptions};
-ghost use Rattle.index_file_faults.specs.WriteFaults.{MayFail, SaysOfPut, SaysOfReplacing};
+ghost use Rattle.index_file_faults.specs.WriteFaults.{SaysOfPutting, SaysOfStep};
 ghost use Rattle.index_file_faults.specs.declared.write.Error.TheVariants.{Memory};
 
 use index_folder::fault::PathError;
@@ -63,9 +60,7 @@ pub enum Step {
 
 /// What it says that a step failed, with the file that it concerns.
 pub fn fault_of(step: Step, path: PathBuf, error: io::Error) -> Error
-    ensures { (before : Option Known) (works : Bool) (lock target : List ℕ) (v : Contents)
-        (options : WriteOptions) → MayFail step before works lock target (path_buf_bytes path) error
-        → SaysOfReplacing before works lock target v options result }
+    ensures { SaysOfStep step (path_buf_bytes path) error result }
 {
     if error.kind() == ErrorKind::OutOfMemory {
         return Error::Memory;
@@ -80,9 +75,7 @@ pub fn fault_of(step: Step, path: PathBuf, error: io::Error) -> Error
 
 /// What it says that the bytes didn't go to the lock file.
 pub fn put_fault(lock: PathBuf, error: PutError) -> Error
-    ensures { (before : Option Known) (works : Bool) (target : List ℕ) (v : Contents)
-        (options : WriteOptions) → SaysOfPut v options error
-        → SaysOfReplacing before works (path_buf_bytes lock) target v options result }
+    ensures { SaysOfPutting (path_buf_bytes lock) error result }
 {
     match error {
         PutError::Io(e) => fault_of(Step::Put, lock, e),

@@ -5,7 +5,9 @@ use Rattle.std.proofs.lemmas.List.{drop-take, take-append-le}
 use Rattle.std.proofs.Transfers.{starts_with_length}
 use Rattle.std.specs.Prelude.{Option, Result, Ok, Err}
 use Rattle.std.specs.Io.{StartsWith, appended_bytes}
-use Rattle.std.specs.Io.KnownBytes.{Consumes, Keeps, ReadConsumes}
+use Rattle.std.specs.Io.KnownBytes.{Consumes, IsAtEnd, Keeps, ReadConsumes}
+use Rattle.index_folder.specs.Sources.{AppendsFrom}
+use Rattle.index_folder.specs.declared.folder.Source.{Ghosts}
 use Rattle.std.proofs.KnownBytes.{Consumes-kept, Consumes-nil, Consumes-trans, Keeps-trans, starts_with_rest}
 
 -- a read behind others that gave nothing
@@ -35,3 +37,19 @@ pub starts_trans : (old mid new : List ℕ) → StartsWith mid old → StartsWit
 starts_trans old mid new p q =
     ap (take (length old)) (starts_with_rest new mid q)
     ∙ take-append-le (length old) mid (drop (length mid) new) (starts_with_length mid old p) ∙ p
+
+-- so many bytes that a file gave stand behind what was there
+pub came_behind : {S : Type 0} {source : Ghosts S} {old new : S} {before after : List ℕ} {Ends : ℕ → Type 0} (count : ℕ)
+    → StartsWith after before → length after ≡ length before + count
+    → Consumes (source.remaining old) (source.remaining new) (appended_bytes before after)
+    → (Ends count → IsAtEnd (source.remaining new)) → source.stored new ≡ source.stored old
+    → source.works new ≡ source.works old → AppendsFrom source old new before after Ends (Ok count)
+came_behind count appends len consumes end stored works = record {
+  appends = appends;
+  len = len;
+  consumes = consumes;
+  end = end;
+  stored = stored;
+  works = works;
+  fault = λ _. tt;
+}

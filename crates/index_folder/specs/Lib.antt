@@ -1,3 +1,6 @@
+pub mod Calls
+pub mod Folders
 pub mod Locks
+pub mod Sources
 pub mod Times
 pub mod World

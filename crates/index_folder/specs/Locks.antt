@@ -2,6 +2,7 @@
 use Rattle.std.specs.Prelude.{◌≡◌, ◌≢◌, ◌⊎◌, ◌<◌, ◌≤◌, ℕ, zero, suc, List, [], ◌++◌, codes, Bool, true, Option, IfSome}
 use Rattle.std.specs.IoError.{error_kind}
 use Rattle.std.specs.Path.{path_buf_bytes, path_with_file_name}
+use Rattle.std.specs.declared.io.Error.{Error as IoError}
 use Rattle.std.specs.declared.io.ErrorKind.TheVariants.{OutOfMemory}
 use Rattle.index_folder.specs.Times.{is_told}
 use Rattle.index_folder.specs.World.{Known, World, Unknown, Absent, Holds, Leads, Directory, Special, IsSeen, MayBeTaken}
@@ -90,6 +91,15 @@ SaysOfLock works world path (errors.LeadsNowhere at) = (path_buf_bytes at ≡ pa
 SaysOfLock works world path (errors.TooManyLinks at) = (path_buf_bytes at ≡ path)
     × ((end : List ℕ) × Follows world path 6 end)
 SaysOfLock works world path errors.Memory = Unit {0}
+
+-- It says of each place and path that a call failed so for a file: one that the path leads to, or its lock. Where the
+-- place works, that came of want of memory, or what is there isn't known.
+abbrev pub SaysOfFault : List ℕ → IoError → Error → Type 0
+SaysOfFault at error e =
+    (works : Bool) (world : World) (path : List ℕ)
+    → ((links : ℕ) × Follows world path links at) ⊎ IsLockOf world path at
+    → (works ≡ true → (error_kind error ≡ OutOfMemory) ⊎ ((path ≡ []) ⊎ (world at ≡ Unknown)))
+    → SaysOfLock works world path e
 
 -- Why what was written to a lock isn't at the path of its file: a fault of the disk for the lock, or for that path; and
 -- of a place that works want of memory alone.

@@ -1,13 +1,12 @@
 //! What is asked of a place where files are by their paths.
 
-ghost use Rattle.std.specs.Prelude.{◌≡◌, ◌⊎◌, [], ℕ, List, Bool, Option, true, IfErr, IfOk, IfSome, IsOk, OnErr, OnOk, Some};
-ghost use Rattle.std.specs.Io.{ReadsAtMost};
-ghost use Rattle.std.specs.Io.KnownBytes.{ReadConsumes};
+ghost use Rattle.std.specs.Prelude.{◌≡◌, ℕ, List, Bool, Option, true, IfErr, IfOk, OnErr, OnOk};
 ghost use Rattle.std.specs.IoError.{error_kind};
-ghost use Rattle.std.specs.Path.{path_buf_bytes, path_bytes};
+ghost use Rattle.std.specs.Path.{path_bytes};
 ghost use Rattle.index_metadata.specs.declared.entry.stat.FileTime.{FileTime as Time};
-ghost use Rattle.index_folder.specs.World.{IsFaultOf, IsSeen, IsStatusOf, Makes, MayBe, MayBeMissing, MayBeNoLink, MayBeTaken, MayLead, Moves};
-ghost use Rattle.index_folder.specs.World.{Removes, Stored, World, from_place, whole_of};
+ghost use Rattle.index_folder.specs.Calls.{FailsAs, GivesTime, GoesTo, KeepsMade, MakesFile, MayLack, OpensAs};
+ghost use Rattle.index_folder.specs.Calls.{ReadsSome, RemovesFile, Sees, TellsLink, TellsStatus};
+ghost use Rattle.index_folder.specs.World.{Moves, Stored, World, whole_of};
 
 use index_metadata::entry::FileTime;
 use std::alloc::Global;
@@ -54,24 +53,15 @@ pub trait Source: Drop {
 
     /// Reads some of the bytes that come next; none only at the end, or where there is no room.
     fn read(&mut self, room: &mut [u8]) -> io::Result<usize>
-        ensures bound { ReadsAtMost result room.new }
-        ensures bytes { ReadConsumes (remaining self.old) (remaining self.new) result room.new }
-        ensures stored { stored self.new ≡ stored self.old }
-        ensures works { works self.new ≡ works self.old }
-        ensures succeeds { works self.old ≡ true → IsOk result };
+        ensures { ReadsSome remaining stored works self.old self.new result room.new };
 
     /// Goes to a place, counted in bytes from the start.
     fn go_to(&mut self, place: u64) -> io::Result<()>
-        ensures remaining { OnOk result
-            (remaining self.new ≡ from_place place (stored self.new)) }
-        ensures stored { stored self.new ≡ stored self.old }
-        ensures works { works self.new ≡ works self.old }
-        ensures succeeds { works self.old ≡ true → IsOk result };
+        ensures { GoesTo place remaining stored works self.old self.new result };
 
     /// What it says of itself.
     fn status(&self) -> io::Result<Status>
-        ensures told { IfOk result (λ status. IfSome (stored self.now) (IsStatusOf status)) }
-        ensures succeeds { works self.now ≡ true → IsOk result };
+        ensures { TellsStatus (stored self.now) (works self.now) result };
 }
 
 /// A file that was made new, and is open to be written.
@@ -103,63 +93,41 @@ pub trait Folder {
 
     /// What is at a path, where no link is followed.
     fn look(&self, path: Path<'_>) -> io::Result<Standing>
-        ensures seen { IfOk result (IsSeen (known self.now (path_bytes path.entry))) }
-        ensures succeeds { works self.now ≡ true → IsOk result };
+        ensures { Sees (works self.now) (known self.now (path_bytes path.entry)) result };
 
     /// The text of the symbolic link at a path.
     fn read_link(&self, alloc: Global, path: Path<'_>) -> io::Result<PathBuf>
-        ensures leads { IfOk result
-            (λ to. MayLead (known self.now (path_bytes path.entry)) (path_buf_bytes to)) }
-        ensures fault { works self.now ≡ true → IfErr result
-            (λ e. (error_kind e ≡ ErrorKind.OutOfMemory)
-            ⊎ MayBeNoLink (known self.now (path_bytes path.entry))) };
+        ensures { TellsLink (works self.now) (known self.now (path_bytes path.entry)) result };
 
     /// Opens the file that a path leads to, which then stands at its start.
     fn open(&self, path: Path<'_>) -> io::Result<Self::File>
-        ensures opened { IfOk result (λ file. MayBe (known self.now (path_bytes path.entry))
-            (λ there. Self.File.stored file ≡ Some there)) }
+        ensures opened { OpensAs (known self.now (path_bytes path.entry)) Self.File.stored result }
         ensures start { IfOk result
             (λ file. Self.File.remaining file ≡ whole_of (Self.File.stored file)) }
-        ensures missing { IfErr result (λ e. error_kind e ≡ ErrorKind.NotFound
-            → MayBeMissing (known self.now (path_bytes path.entry))) }
-        ensures fault { works self.now ≡ true
-            → IfErr result (IsFaultOf (known self.now (path_bytes path.entry))) }
+        ensures missing { IfErr result (MayLack (known self.now (path_bytes path.entry))) }
+        ensures fault { FailsAs (works self.now) (known self.now (path_bytes path.entry)) result }
         ensures works { works self.now ≡ true
             → IfOk result (λ file. Self.File.works file ≡ true) };
 
     /// Makes a new file at a path, where there is none.
     fn make(&mut self, path: Path<'_>) -> io::Result<Self::Made>
-        ensures made { OnOk result
-            (Makes (guards self.old) (known self.old) (known self.new) (path_bytes path.entry)) }
-        ensures empty { IfOk result
-            (λ made. alone self.old ≡ true → Self.Made.contents made ≡ Some []) }
-        ensures unmade { OnErr result (known self.new ≡ known self.old) }
-        ensures taken { IfErr result (λ e. error_kind e ≡ ErrorKind.AlreadyExists
-            → MayBeTaken (known self.old (path_bytes path.entry))) }
-        ensures fault { works self.old ≡ true → IfErr result
-            (λ e. (error_kind e ≡ ErrorKind.OutOfMemory) ⊎ (error_kind e ≡ ErrorKind.AlreadyExists)) }
-        ensures alone { alone self.new ≡ alone self.old }
-        ensures works { works self.new ≡ works self.old };
+        ensures { MakesFile known alone guards works Self.Made.contents self.old self.new path.entry
+            result };
 
     /// Gives a file that was made the permissions of the one at a path, where there is one.
     fn copy_permissions(&self, made: &mut Self::Made, path: Path<'_>) -> io::Result<()>
-        ensures contents { Self.Made.contents made.new ≡ Self.Made.contents made.old }
-        ensures given { (time : Time) → Self.Made.given made.old time
-            → Self.Made.given made.new time }
-        ensures succeeds { works self.now ≡ true → IsOk result };
+        ensures { KeepsMade Self.Made.contents Self.Made.given made.old made.new (works self.now)
+            result };
 
     /// Gives a file that was made the time of its last change.
     fn set_time(&self, made: &mut Self::Made, time: FileTime) -> io::Result<()>
-        ensures contents { Self.Made.contents made.new ≡ Self.Made.contents made.old }
-        ensures given { OnOk result (Self.Made.given made.new time) }
-        ensures succeeds { works self.now ≡ true → IsOk result };
+        ensures { GivesTime Self.Made.contents Self.Made.given made.old made.new (works self.now)
+            time result };
 
     /// Has all bytes of a file that was made, and what is told of it, brought to the disk.
     fn sync(&self, made: &mut Self::Made) -> io::Result<()>
-        ensures contents { Self.Made.contents made.new ≡ Self.Made.contents made.old }
-        ensures given { (time : Time) → Self.Made.given made.old time
-            → Self.Made.given made.new time }
-        ensures succeeds { works self.now ≡ true → IsOk result };
+        ensures { KeepsMade Self.Made.contents Self.Made.given made.old made.new (works self.now)
+            result };
 
     /// Closes a file that was made at one path, and moves it to another, in place of what is there.
     fn put(&mut self, made: Self::Made, from: Path<'_>, to: Path<'_>) -> io::Result<()>
@@ -174,10 +142,5 @@ pub trait Folder {
 
     /// Removes the file at a path.
     fn remove(&mut self, path: Path<'_>) -> io::Result<()>
-        ensures removed { OnOk result (alone self.old ≡ true
-            → Removes (known self.old) (known self.new) (path_bytes path.entry)) }
-        ensures unmoved { OnErr result (known self.new ≡ known self.old) }
-        ensures succeeds { works self.old ≡ true → IsOk result }
-        ensures alone { alone self.new ≡ alone self.old }
-        ensures works { works self.new ≡ works self.old };
+        ensures { RemovesFile known alone works self.old self.new path.entry result };
 }

@@ -1,12 +1,10 @@
 //! The lock under which a file is replaced: a file beside it, made new, which takes its place or is removed.
 
-ghost use Rattle.std.specs.Prelude.{◌≡◌, ◌⊎◌, ◌++◌, codes, ℕ, List, [], Bool, Some, true, IfErr, IfOk, IsOk, OnErr, OnOk};
-ghost use Rattle.std.specs.IoError.{error_kind};
+ghost use Rattle.std.specs.Prelude.{◌≡◌, ◌++◌, codes, true, IfOk, IsOk, OnOk};
 ghost use Rattle.std.specs.Path.{path_buf_bytes, path_bytes};
-ghost use Rattle.index_folder.specs.Locks.{Follows, IsCommitted, IsLockOf, IsReleased, LeadsTo, SaysOfCommit, SaysOfLock};
-ghost use Rattle.index_folder.specs.Locks.{asked_of, lock_of, target_of};
+ghost use Rattle.index_folder.specs.Folders.{Acquires, Commits, Releases};
+ghost use Rattle.index_folder.specs.Locks.{SaysOfFault, asked_of, lock_of, target_of};
 ghost use Rattle.index_folder.specs.Times.{is_told};
-ghost use Rattle.index_folder.specs.World.{Makes, Unknown, World};
 
 use crate::fault::{OneLine, PathError};
 use crate::folder::{Folder, Made};
@@ -50,12 +48,7 @@ pub enum Error {
 impl Error {
     /// What it says that a call of the system failed for a file.
     pub(crate) fn of(path: PathBuf, error: io::Error) -> Error
-        ensures fault { (works : Bool) (world : World) (from : List ℕ)
-            → ((links : ℕ) × Follows world from links (path_buf_bytes path))
-            ⊎ IsLockOf world from (path_buf_bytes path)
-            → (works ≡ true → (error_kind error ≡ ErrorKind.OutOfMemory)
-            ⊎ ((from ≡ []) ⊎ (world (path_buf_bytes path) ≡ Unknown)))
-            → SaysOfLock works world from result }
+        ensures fault { SaysOfFault (path_buf_bytes path) error result }
     {
         if error.kind() == ErrorKind::OutOfMemory {
             return Error::Memory;
@@ -95,11 +88,7 @@ pub struct Lock<M: Made> {
 impl<M: Made> Lock<M> {
     /// Gives the lock up, as [`Place::release`] does, once its file is closed.
     pub fn release<D: Folder<Made = M>>(self, folder: &mut D) -> PathBuf
-        ensures path { path_buf_bytes result ≡ lock_of self.place }
-        ensures released { D.alone folder.old ≡ true → IsReleased (D.works folder.old)
-            (D.known folder.old) (D.known folder.new) (lock_of self.place) }
-        ensures alone { D.alone folder.new ≡ D.alone folder.old }
-        ensures works { D.works folder.new ≡ D.works folder.old }
+        ensures { Releases D.Folder folder.old folder.new (lock_of self.place) result }
     {
         let Lock { place, file } = self;
         drop(file);
@@ -173,14 +162,7 @@ impl Place {
         time: FileTime,
         is_synced: bool,
     ) -> Result<PathBuf, CommitError>
-        ensures asked { IfOk result (λ path. path_buf_bytes path ≡ asked_of self) }
-        ensures committed { OnOk result (D.alone folder.old ≡ true
-            → IsCommitted (D.known folder.old) (D.known folder.new) self (D.Made.contents file) time) }
-        ensures released { OnErr result (D.alone folder.old ≡ true → IsReleased (D.works folder.old)
-            (D.known folder.old) (D.known folder.new) (lock_of self)) }
-        ensures fault { IfErr result (SaysOfCommit (D.works folder.old) self) }
-        ensures alone { D.alone folder.new ≡ D.alone folder.old }
-        ensures works { D.works folder.new ≡ D.works folder.old }
+        ensures { Commits D.Folder folder.old folder.new self (D.Made.contents file) time result }
     {
         if let Err(error) = self.finish(folder, &mut file, time, is_synced) {
             drop(file);
@@ -207,11 +189,7 @@ impl Place {
     /// Gives the lock up, whose file is closed: it is tried to remove it. The locked file is as it was. Gives the
     /// lock's path.
     pub fn release<D: Folder>(self, folder: &mut D) -> PathBuf
-        ensures path { path_buf_bytes result ≡ lock_of self }
-        ensures released { D.alone folder.old ≡ true → IsReleased (D.works folder.old)
-            (D.known folder.old) (D.known folder.new) (lock_of self) }
-        ensures alone { D.alone folder.new ≡ D.alone folder.old }
-        ensures works { D.works folder.new ≡ D.works folder.old }
+        ensures { Releases D.Folder folder.old folder.new (lock_of self) result }
     {
         let _ = folder.remove(self.path.as_path());
         self.path
@@ -229,20 +207,7 @@ pub fn acquire<D: Folder>(
     alloc: Global,
     path: PathBuf,
 ) -> Result<Lock<D::Made>, Error>
-    ensures asked { IfOk result (λ lock. asked_of lock.place ≡ path_buf_bytes path) }
-    ensures target { IfOk result (λ lock. LeadsTo (D.known folder.old) 5 (path_buf_bytes path)
-        (target_of lock.place)) }
-    ensures lock { IfOk result
-        (λ lock. lock_of lock.place ≡ target_of lock.place ++ codes ".lock") }
-    ensures made { IfOk result (λ lock. Makes (D.guards folder.old) (D.known folder.old)
-        (D.known folder.new) (lock_of lock.place)) }
-    ensures empty { IfOk result
-        (λ lock. D.alone folder.old ≡ true → D.Made.contents lock.file ≡ Some []) }
-    ensures unmade { OnErr result (D.known folder.new ≡ D.known folder.old) }
-    ensures fault { IfErr result
-        (SaysOfLock (D.works folder.old) (D.known folder.old) (path_buf_bytes path)) }
-    ensures alone { D.alone folder.new ≡ D.alone folder.old }
-    ensures works { D.works folder.new ≡ D.works folder.old }
+    ensures { Acquires D.Folder D.Made.contents folder.old folder.new (path_buf_bytes path) result }
 {
     if path.as_path().as_str().is_empty() {
         return Err(Error::of(path, io::Error::from(ErrorKind::NotFound)));

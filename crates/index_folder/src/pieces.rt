@@ -1,9 +1,8 @@
 //! Bytes of an open file, piece by piece, into room that is used again.
 
-ghost use Rattle.std.specs.Prelude.{◌≡◌, ◌≤◌, ◌<◌, ◌+◌, drop, vec_len, true, IfErr, IfOk, IsOk, OnOk};
-ghost use Rattle.std.specs.IoError.{error_kind};
-ghost use Rattle.std.specs.Io.{ReadsAtMost, StartsWith, appended_bytes};
-ghost use Rattle.std.specs.Io.KnownBytes.{Consumes, IsAtEnd, ReadConsumes};
+ghost use Rattle.std.specs.Prelude.{◌≡◌, ◌≤◌, drop, vec_len};
+ghost use Rattle.index_folder.specs.Calls.{ReadsSome};
+ghost use Rattle.index_folder.specs.Sources.{AppendsPiece, Fills};
 
 use crate::folder::Source;
 use std::alloc::AllocError;
@@ -20,11 +19,7 @@ const MAX_TRIES: u32 = u32::MAX;
 /// One read into a room, tried again where a signal interrupted it. It gives up with [`ErrorKind::TimedOut`] where
 /// signals interrupt 2^32 - 1 reads in a row.
 fn read_once<S: Source>(file: &mut S, room: &mut [u8]) -> io::Result<usize>
-    ensures bound { ReadsAtMost result room.new }
-    ensures bytes { ReadConsumes (S.remaining file.old) (S.remaining file.new) result room.new }
-    ensures stored { S.stored file.new ≡ S.stored file.old }
-    ensures works { S.works file.new ≡ S.works file.old }
-    ensures succeeds { S.works file.old ≡ true → IsOk result }
+    ensures { ReadsSome S.remaining S.stored S.works file.old file.new result room.new }
 {
     for _ in 0..MAX_TRIES {
         match file.read(room) {
@@ -38,15 +33,7 @@ fn read_once<S: Source>(file: &mut S, room: &mut [u8]) -> io::Result<usize>
 /// Appends what a file gives at once, at most a piece, and no more than there is room for, if there is room. None
 /// comes only at its end.
 pub fn append_piece<S: Source>(file: &mut S, bytes: &mut Vec<u8>) -> io::Result<usize>
-    ensures appends { OnOk result (StartsWith bytes.new.items bytes.old.items) }
-    ensures len { IfOk result (λ count. vec_len bytes.new ≡ vec_len bytes.old + count) }
-    ensures consumes { OnOk result (Consumes (S.remaining file.old) (S.remaining file.new)
-        (appended_bytes bytes.old.items bytes.new.items)) }
-    ensures end { IfOk result (λ count. count ≡ 0 → IsAtEnd (S.remaining file.new)) }
-    ensures stored { S.stored file.new ≡ S.stored file.old }
-    ensures works { S.works file.new ≡ S.works file.old }
-    ensures fault { S.works file.old ≡ true
-        → IfErr result (λ e. error_kind e ≡ ErrorKind.OutOfMemory) }
+    ensures { AppendsPiece S.Source file.old file.new bytes.old.items bytes.new.items result }
 {
     let filled = bytes.len();
     let spare = bytes.capacity() - filled;
@@ -64,15 +51,7 @@ pub fn append_piece<S: Source>(file: &mut S, bytes: &mut Vec<u8>) -> io::Result<
 
 /// Reads on until there are so many bytes, or the file is at its end. Gives how many came.
 pub fn fill<S: Source>(file: &mut S, bytes: &mut Vec<u8>, len: usize) -> io::Result<usize>
-    ensures appends { OnOk result (StartsWith bytes.new.items bytes.old.items) }
-    ensures len { IfOk result (λ count. vec_len bytes.new ≡ vec_len bytes.old + count) }
-    ensures consumes { OnOk result (Consumes (S.remaining file.old) (S.remaining file.new)
-        (appended_bytes bytes.old.items bytes.new.items)) }
-    ensures end { OnOk result (vec_len bytes.new < len → IsAtEnd (S.remaining file.new)) }
-    ensures stored { S.stored file.new ≡ S.stored file.old }
-    ensures works { S.works file.new ≡ S.works file.old }
-    ensures fault { S.works file.old ≡ true
-        → IfErr result (λ e. error_kind e ≡ ErrorKind.OutOfMemory) }
+    ensures { Fills S.Source file.old file.new bytes.old.items bytes.new.items len result }
 {
     let start = bytes.len();
     'pieces: loop {

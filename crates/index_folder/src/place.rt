@@ -1,10 +1,7 @@
 //! Which file a path leads to.
 
-ghost use Rattle.std.specs.Prelude.{◌≡◌, ◌⊎◌, ℕ, List, true, IfErr, IfOk};
-ghost use Rattle.std.specs.IoError.{error_kind};
-ghost use Rattle.std.specs.Path.{path_buf_bytes, path_bytes, path_with_file_name};
-ghost use Rattle.index_folder.specs.Locks.{LeadsTo, SaysOfLock};
-ghost use Rattle.index_folder.specs.World.{MayBeNoLink, MayLead};
+ghost use Rattle.std.specs.Path.{path_buf_bytes, path_bytes};
+ghost use Rattle.index_folder.specs.Folders.{FindsTarget, FollowsLink};
 
 use crate::folder::{Folder, Standing};
 use crate::lock::Error;
@@ -18,12 +15,7 @@ const MAX_LINKS: u32 = 5;
 
 /// Where the link at a path leads, seen from the folder that it is in.
 fn followed<D: Folder>(folder: &D, alloc: Global, link: Path<'_>) -> io::Result<PathBuf>
-    ensures next { IfOk result (λ next. (text : List ℕ)
-        × MayLead (D.known folder.now (path_bytes link.entry)) text
-        × (path_buf_bytes next ≡ path_with_file_name (path_bytes link.entry) text)) }
-    ensures fault { D.works folder.now ≡ true → IfErr result
-        (λ e. (error_kind e ≡ ErrorKind.OutOfMemory)
-        ⊎ MayBeNoLink (D.known folder.now (path_bytes link.entry))) }
+    ensures { FollowsLink D.Folder folder.now (path_bytes link.entry) result }
 {
     let to = folder.read_link(alloc, link)?;
     Ok(link.with_file_name(alloc, to.as_path().as_str())?)
@@ -34,10 +26,7 @@ fn followed<D: Folder>(folder: &D, alloc: Global, link: Path<'_>) -> io::Result<
 /// [`Error::IsFolder`] and [`Error::IsSpecial`] name what is there and is no regular file. [`Error::LeadsNowhere`] and
 /// [`Error::TooManyLinks`] name the path. [`Error::Io`] names what can't be looked at.
 pub fn target_of<D: Folder>(folder: &D, alloc: Global, path: PathBuf) -> Result<PathBuf, Error>
-    ensures leads { IfOk result
-        (λ target. LeadsTo (D.known folder.now) 5 (path_buf_bytes path) (path_buf_bytes target)) }
-    ensures fault { IfErr result
-        (SaysOfLock (D.works folder.now) (D.known folder.now) (path_buf_bytes path)) }
+    ensures { FindsTarget D.Folder folder.now (path_buf_bytes path) result }
 {
     let mut target = path.clone()?;
     for links in 0..MAX_LINKS + 1 {

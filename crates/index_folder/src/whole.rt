@@ -1,9 +1,9 @@
 //! All bytes of a file.
 
-ghost use Rattle.std.specs.Prelude.{◌≡◌, ◌⊎◌, ◌≤◌, ◌<◌, [], length, vec_len, true, IfErr, IfOk, IfSome, OnOk};
+ghost use Rattle.std.specs.Prelude.{◌≡◌, ◌≤◌, [], IfErr, IfOk};
 ghost use Rattle.std.specs.IoError.{error_kind};
-ghost use Rattle.std.specs.Path.{path_bytes};
-ghost use Rattle.index_folder.specs.World.{IsFaultOf, IsOwnFault, MayBe};
+ghost use Rattle.index_folder.specs.Folders.{ReadsBytesAt};
+ghost use Rattle.index_folder.specs.Sources.{IsRoomFault, ReadsToEnd};
 
 use crate::folder::{Folder, Source, Status};
 use crate::pieces::fill;
@@ -28,8 +28,7 @@ pub fn too_long() -> io::Error
 pub fn room_for(alloc: Global, status: Status) -> io::Result<Vec<u8>>
     ensures room { IfOk result (λ room. room.items ≡ []) }
     ensures bound { IfOk result (λ _. status.len ≤ 4294967328) }
-    ensures fault { IfErr result (λ e. error_kind e ≡ ErrorKind.OutOfMemory
-        ⊎ ((4294967328 < status.len) × (error_kind e ≡ ErrorKind.FileTooLarge))) }
+    ensures fault { IfErr result (IsRoomFault status.len) }
 {
     let len = status.len;
     if len > MAX_LEN {
@@ -41,10 +40,7 @@ pub fn room_for(alloc: Global, status: Status) -> io::Result<Vec<u8>>
 /// Reads a file to its end, behind no bytes. It is an error that there are more than [`MAX_LEN`].
 pub fn read_to_end<S: Source>(file: &mut S, bytes: &mut Vec<u8>) -> io::Result<()>
     requires { bytes.old.items ≡ [] }
-    ensures whole { OnOk result (IfSome (S.remaining file.old) (λ left. bytes.new.items ≡ left)) }
-    ensures stored { S.stored file.new ≡ S.stored file.old }
-    ensures works { S.works file.new ≡ S.works file.old }
-    ensures fault { S.works file.old ≡ true → IfErr result IsOwnFault }
+    ensures { ReadsToEnd S.Source file.old file.new bytes.new.items result }
 {
     let most = MAX_LEN as usize;
     fill(file, bytes, most + 1)?;
@@ -60,12 +56,7 @@ pub fn bytes_at<D: Folder>(
     alloc: Global,
     path: Path<'_>,
 ) -> io::Result<(Vec<u8>, FileTime)>
-    ensures held { IfOk result (λ read. MayBe (D.known folder.now (path_bytes path.entry))
-        (λ file. read.0.items ≡ file.bytes)) }
-    ensures since { IfOk result (λ read. MayBe (D.known folder.now (path_bytes path.entry))
-        (λ file. read.1 ≡ file.time)) }
-    ensures fault { D.works folder.now ≡ true
-        → IfErr result (IsFaultOf (D.known folder.now (path_bytes path.entry))) }
+    ensures { ReadsBytesAt D.Folder folder.now path.entry result }
 {
     let mut file = folder.open(path)?;
     let status = file.status()?;

@@ -34,6 +34,9 @@ begins_section content = starts_with nat_eq content (codes "[")
 abbrev pub section_name : List ℕ → List ℕ
 section_name content = before_first (λ b. b == byte "]") (drop 1 content)
 
+abbrev pub section_of : List ℕ → Option (List ℕ)
+section_of content = if begins_section content then Some (section_name content) else None
+
 -- whether the section `extensions` is in force from this line on, where it was so before
 abbrev pub is_in_extensions : Bool → List ℕ → Bool
 is_in_extensions before content =

@@ -1,13 +1,19 @@
 -- Which kind of ids the index at a path has, and why that isn't told (the program's own).
-use Rattle.std.specs.Prelude.{◌≡◌, ◌≢◌, ◌⊎◌, ℕ, List, [], codes, take, Bool, true, Option, Some, None}
+use Rattle.std.specs.Prelude.{◌≡◌, ◌≢◌, ◌⊎◌, ℕ, List, [], codes, take, Bool, true, Option, Some, None, Result}
+use Rattle.std.specs.Prelude.{IfNone, IfOk, IfSome}
+use Rattle.std.specs.Global.{Vec}
 use Rattle.std.specs.IoError.{error_kind}
-use Rattle.std.specs.Path.{path_buf_bytes, path_with_file_name}
+use Rattle.std.specs.Path.{path_buf_bytes, path_bytes, path_with_file_name}
+use Rattle.std.specs.declared.io.Error.{Error as IoError}
+use Rattle.std.specs.declared.path.Path.{Path}
 use Rattle.std.specs.declared.io.ErrorKind.TheVariants.{OutOfMemory}
 use Rattle.gix_index.specs.Disk.{MayHave}
 use Rattle.gix_index.specs.Disk.PathError.{PathError}
 use Rattle.gix_index.specs.Disk.World.{Absent, Directory, Holds, IsFaultOf, Known, Leads, MayBeMissing, Special, Unknown}
 use Rattle.gix_index.specs.Disk.World.{World}
 use Rattle.gix_index.specs.Kind.{Kind}
+use Rattle.gix_index.specs.OnDisk.Folders.{FailsAt}
+use Rattle.gix_index.specs.OnDisk.FolderTrait.{Ghosts}
 use Rattle.index_input.specs.Config.{format_of}
 use Rattle.index_input.specs.Digests.{HasSignature, IsKindOf}
 use Rattle.index_input.specs.declared.error.Error.{Error}
@@ -84,3 +90,21 @@ SaysOfKind works world path (errors.KindNotTold at) =
 SaysOfKind works world path (errors.NoGitDir at) = ⊥
 SaysOfKind works world path errors.NoRepository = ⊥
 SaysOfKind works world path errors.Memory = Unit {0}
+
+-- ---- what each look at a file answers
+
+-- all bytes of the regular file at a path; none where it may be another
+pub record ReadsRegular {D F M : Type 0} (folder : Ghosts D F M) (now : D) (path : Path)
+    (result : Result (Option (Vec ℕ)) IoError) : Type 0 where
+  pub held : IfOk result (λ read. IfSome read (λ bytes. MayHave (folder.known now (path_bytes path)) bytes.items))
+  pub irregular : IfOk result (λ read. IfNone read (MayBeIrregular (folder.known now (path_bytes path))))
+  pub fault : FailsAt folder now path result
+
+-- the kind that the `config` at a path says; none where it may be missing, or names no kind
+pub record ReadsConfig {D F M : Type 0} (folder : Ghosts D F M) (now : D) (path : Path)
+    (result : Result (Option Kind) IoError) : Type 0 where
+  pub told : IfOk result
+      (λ told. IfSome told (λ kind. SaysFormat (folder.known now (path_bytes path)) (Some kind)))
+  pub untold : IfOk result (λ told. IfNone told
+      (MayBeMissing (folder.known now (path_bytes path)) ⊎ SaysFormat (folder.known now (path_bytes path)) None))
+  pub fault : FailsAt folder now path result

@@ -1,11 +1,11 @@
 //! What a repository's file `config` says of the kind of its ids.
 
-ghost use Rattle.std.specs.Prelude.{◌≡◌, ◌==◌, map, Some, None, if◌then◌else◌};
+ghost use Rattle.std.specs.Prelude.{◌≡◌, ◌==◌, map};
 ghost use Rattle.std.specs.List.{after_first, before_first, position};
 ghost use Rattle.std.specs.Char.{to_ascii_lowercase};
 ghost use Rattle.std.specs.Option.{option_copied};
-ghost use Rattle.index_input.specs.Config.{begins_section, content_of, format_of, format_value, is_in_extensions};
-ghost use Rattle.index_input.specs.Config.{is_named, kind_named, line_value, section_name, setting_of, trimmed, unquoted};
+ghost use Rattle.index_input.specs.Config.{content_of, format_of, format_value, is_in_extensions, is_named};
+ghost use Rattle.index_input.specs.Config.{kind_named, line_value, section_of, setting_of, trimmed, unquoted};
 
 use gix_index::hash::Kind;
 
@@ -53,8 +53,7 @@ fn is_named(text: &[u8], name: &[u8]) -> bool
 
 /// The name of the section that begins on a line, if one does, and what is set behind it, or else on the line.
 fn section_of(content: &[u8]) -> (Option<&[u8]>, &[u8])
-    ensures name { option_copied result.0
-        ≡ (if begins_section content.now then Some (section_name content.now) else None) }
+    ensures name { option_copied result.0 ≡ section_of content.now }
     ensures setting { result.1.now ≡ setting_of content.now }
 {
     match content.strip_prefix(b"[") {

@@ -1,11 +1,8 @@
 //! Which kind of ids an index has.
 
-ghost use Rattle.std.specs.Prelude.{◌≡◌, ◌⊎◌, ◌↔◌, Some, None, true, IfErr, IfNone, IfOk, IfSome, IsTrue};
-ghost use Rattle.std.specs.Path.{path_bytes};
-ghost use Rattle.gix_index.specs.Disk.{MayHave};
-ghost use Rattle.gix_index.specs.Disk.World.{IsFaultOf, MayBeMissing};
+ghost use Rattle.std.specs.Prelude.{◌↔◌, IfErr, IfOk, IsTrue};
 ghost use Rattle.index_input.specs.Digests.{EndsWithDigest, IsKindOf};
-ghost use Rattle.index_input.specs.KindAt.{IsKindAt, MayBeIrregular, SaysFormat, SaysOfKind};
+ghost use Rattle.index_input.specs.KindAt.{IsKindAt, ReadsConfig, ReadsRegular, SaysOfKind};
 
 use crate::config::format_of;
 use crate::error::{Error, FirstBytes};
@@ -51,12 +48,7 @@ fn regular_bytes<D: Folder>(
     alloc: Global,
     path: Path<'_>,
 ) -> io::Result<Option<Vec<u8>>>
-    ensures held { IfOk result (λ read. IfSome read
-        (λ bytes. MayHave (D.known folder.now (path_bytes path.entry)) bytes.items)) }
-    ensures irregular { IfOk result (λ read. IfNone read
-        (MayBeIrregular (D.known folder.now (path_bytes path.entry)))) }
-    ensures fault { D.works folder.now ≡ true
-        → IfErr result (IsFaultOf (D.known folder.now (path_bytes path.entry))) }
+    ensures { ReadsRegular D.Folder folder.now path.entry result }
 {
     let mut file = folder.open(path)?;
     if file.status()?.is_plain {
@@ -69,13 +61,7 @@ fn regular_bytes<D: Folder>(
 
 /// The kind that the repository's `config` at a path says. None where it names another kind, or isn't there.
 fn kind_in_config<D: Folder>(folder: &D, alloc: Global, path: Path<'_>) -> io::Result<Option<Kind>>
-    ensures told { IfOk result (λ told. IfSome told
-        (λ kind. SaysFormat (D.known folder.now (path_bytes path.entry)) (Some kind))) }
-    ensures untold { IfOk result (λ told. IfNone told
-        (MayBeMissing (D.known folder.now (path_bytes path.entry))
-        ⊎ SaysFormat (D.known folder.now (path_bytes path.entry)) None)) }
-    ensures fault { D.works folder.now ≡ true
-        → IfErr result (IsFaultOf (D.known folder.now (path_bytes path.entry))) }
+    ensures { ReadsConfig D.Folder folder.now path.entry result }
 {
     match folder.open(path) {
         Ok(_) => {}

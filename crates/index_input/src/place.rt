@@ -1,13 +1,12 @@
 //! Which file the index is.
 
-ghost use Rattle.std.specs.Prelude.{◌≡◌, ℕ, List, Bool, Some, IfErr, IfNone, IfOk, IfSome};
+ghost use Rattle.std.specs.Prelude.{◌≡◌, IfErr, IfOk};
 ghost use Rattle.std.specs.Option.{option_copied, option_map};
-ghost use Rattle.std.specs.Path.{path_buf_bytes, path_with_file_name};
+ghost use Rattle.std.specs.Path.{path_buf_bytes};
 ghost use Rattle.std.specs.String.{string_bytes};
-ghost use Rattle.index_input.specs.Place.{IsFoundUpward, IsIndexPath, LeadsToIndex, MayBePassed, gitdir_of, text_given};
-ghost use Rattle.gix_index.specs.Disk.World.{Known};
-ghost use Rattle.index_input.specs.Place.{MayBeFile, MayBeOpened, index_in, without_line_ends};
-ghost use Rattle.index_input.specs.PlaceFaults.{SaysOfGit, SaysOfPlace, SaysOfSearch};
+ghost use Rattle.index_input.specs.Place.{MayBeOpened, gitdir_of, index_in, text_given, without_line_ends};
+ghost use Rattle.index_input.specs.PlaceFaults.{FindsIndex, IsPlaced, IsUpward, LeadsByText, SaysOfPlace};
+ghost use Rattle.index_input.specs.PlaceFaults.{SaysOfSearch, SaysOfText};
 
 use crate::error::Error;
 use gix_index::file::bytes_at;
@@ -70,10 +69,8 @@ fn index_in(dir: PathBuf) -> Result<PathBuf, AllocError>
 
 /// The index to which a `.git` file with this text leads. A relative path is seen from the file's folder.
 fn index_by_text(alloc: Global, git: PathBuf, text: &[u8]) -> Result<PathBuf, Error>
-    ensures leads { IfOk result (λ index. (dir : List ℕ) × (gitdir_of text.now ≡ Some dir)
-        × (path_buf_bytes index ≡ index_in (path_with_file_name (path_buf_bytes git) dir))) }
-    ensures fault { IfErr result (λ e. (works : Bool) (known : Known) → MayBeFile known text.now
-        → SaysOfGit works known (path_buf_bytes git) e) }
+    ensures leads { IfOk result (LeadsByText (path_buf_bytes git) text.now) }
+    ensures fault { IfErr result (SaysOfText (path_buf_bytes git) text.now) }
 {
     let Some(dir) = gitdir_of(text) else {
         return Err(Error::NoGitDir(git));
@@ -92,12 +89,7 @@ fn index_by_opening<D: Folder>(
     git: PathBuf,
 ) -> Result<Option<PathBuf>, Error>
     requires { MayBeOpened (D.known folder.now (path_buf_bytes git)) }
-    ensures leads { IfOk result (λ found. IfSome found (λ index.
-        LeadsToIndex (D.known folder.now) (path_buf_bytes git) (path_buf_bytes index))) }
-    ensures passed { IfOk result
-        (λ found. IfNone found (MayBePassed (D.known folder.now (path_buf_bytes git)))) }
-    ensures fault { IfErr result (SaysOfGit (D.works folder.now)
-        (D.known folder.now (path_buf_bytes git)) (path_buf_bytes git)) }
+    ensures { FindsIndex D.Folder folder.now (path_buf_bytes git) result }
 {
     let file = match folder.open(git.as_path()) {
         Ok(file) => file,
@@ -117,12 +109,7 @@ fn index_by_opening<D: Folder>(
 
 /// The index to which what stands at `git` leads. None where no file and no folder is there.
 fn index_of<D: Folder>(folder: &D, alloc: Global, git: PathBuf) -> Result<Option<PathBuf>, Error>
-    ensures leads { IfOk result (λ found. IfSome found (λ index.
-        LeadsToIndex (D.known folder.now) (path_buf_bytes git) (path_buf_bytes index))) }
-    ensures passed { IfOk result
-        (λ found. IfNone found (MayBePassed (D.known folder.now (path_buf_bytes git)))) }
-    ensures fault { IfErr result (SaysOfGit (D.works folder.now)
-        (D.known folder.now (path_buf_bytes git)) (path_buf_bytes git)) }
+    ensures { FindsIndex D.Folder folder.now (path_buf_bytes git) result }
 {
     match folder.look(git.as_path()) {
         Ok(Standing::Folder) => Ok(Some(index_in(git)?)),
@@ -134,8 +121,7 @@ fn index_of<D: Folder>(folder: &D, alloc: Global, git: PathBuf) -> Result<Option
 
 /// The index to which the first `.git` leads, in this folder or in one of so many above.
 fn index_upward<D: Folder>(folder: &D, alloc: Global, depth: usize) -> Result<PathBuf, Error>
-    ensures found { IfOk result
-        (λ index. IsFoundUpward (D.known folder.now) depth (path_buf_bytes index)) }
+    ensures found { IfOk result (IsUpward D.Folder folder.now depth) }
     ensures fault { IfErr result (SaysOfSearch (D.works folder.now) (D.known folder.now) depth) }
 {
     let mut upward = String::new(alloc);
@@ -167,7 +153,7 @@ pub fn index_path<D: Folder>(
     around: &Surroundings,
 ) -> Result<String, Error>
     ensures found { IfOk result
-        (λ index. IsIndexPath (D.known folder.now) around.now (string_bytes index)) }
+        (IsPlaced D.Folder folder.now around.now) }
     ensures fault { IfErr result
         (SaysOfPlace (D.works folder.now) (D.known folder.now) around.now) }
 {

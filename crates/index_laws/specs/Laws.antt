@@ -1,12 +1,16 @@
 -- What it means that bytes have one reading, and that an index is read, written and read again (the library's own).
-use Rattle.std.specs.Prelude.{◌≡◌, ℕ, List, Option, None, Ok, ◌⊎◌}
+use Rattle.std.specs.Prelude.{◌≡◌, ℕ, List, Option, None, Ok, ◌⊎◌, length, true, IfSome}
 use Rattle.index_parts.specs.declared.hash.Kind.{Kind}
 use Rattle.index_parts.specs.declared.hash.ObjectId.{ObjectId}
 use Rattle.index_metadata.specs.declared.entry.stat.FileTime.{FileTime}
+use Rattle.index_entries.specs.EntryImage.{written}
 use Rattle.index_entries.specs.Record.{AreBytes}
-use Rattle.index_format.specs.Answer.{IsAnswer}
+use Rattle.index_format.specs.Answer.{Answer, IsAnswer, trailer_checksum}
 use Rattle.index_format.specs.Contents.{Contents}
-use Rattle.index_format.specs.Image.{image}
+use Rattle.index_format.specs.Image.{image, image_version, is_kept, trailer}
+use Rattle.index_format.specs.Keepable.{AreKeepable}
+use Rattle.index_format.specs.Kept.{AreWellFormed}
+use Rattle.index_format.specs.Stored.{expected, kept_value, stored}
 use Rattle.index_format.specs.Storable.{IsKeepable, IsStorable, IsWritable, IsUnmistakable}
 use Rattle.index_format.specs.declared.decode.Options.{Options}
 use Rattle.index_format.specs.declared.write.Options.{Options as WriteOptions}
@@ -14,6 +18,27 @@ use Rattle.index_bitmaps.specs.Bitmap.{Bitmap, IsBitmap, HasBitmap, Lacks}
 use Rattle.index_bitmaps.specs.declared.ewah.reading.Error.{Error}
 use Rattle.index_extensions.specs.ExtensionValue.{IsRead}
 use Rattle.index_extensions.specs.Walk.{Item, IsWalk}
+use Rattle.index_split.specs.Link.{LinkFault, IsLinkFault}
+use Rattle.index_tree_writer.specs.Kept.{HasNamesInOrder}
+
+-- ---- one answer
+
+-- all bytes have an answer, for each kind of id, time and options
+abbrev pub AllHaveAnswer : Type 0
+AllHaveAnswer =
+    (kind : Kind) (time : FileTime) (options : Options) (bytes : List ℕ)
+    → (a : Answer) × IsAnswer kind time options bytes a
+
+-- and no second
+abbrev pub AllHaveOneAnswer : Type 0
+AllHaveOneAnswer =
+    (kind : Kind) (time : FileTime) (options : Options) (bytes : List ℕ) (a b : Answer)
+    → IsAnswer kind time options bytes a → IsAnswer kind time options bytes b → a ≡ b
+
+-- a link that has no reading has one first fault
+abbrev pub HasOneLinkFault : Type 0
+HasOneLinkFault =
+    (kind : Kind) (bytes : List ℕ) (f g : LinkFault) → IsLinkFault kind bytes f → IsLinkFault kind bytes g → f ≡ g
 
 -- all bytes are read as a value or as none, and in one way
 pub record HasOneReading {A : Type 0} (Is : List ℕ → A → Type 0) : Type 0 where
@@ -65,3 +90,50 @@ pub record IsReread (v : Contents) (options : WriteOptions) (w : Contents) : Typ
   pub takes_all : TakesAll reading_again
   pub checksum_again : Option ObjectId
   pub read_again : IsAnswer kind time_again reading_again (image v options) (Ok (w, checksum_again))
+
+-- ---- the laws of both
+
+-- the image of a faithful value is read as what a file keeps of it, with the trailer's id
+abbrev pub ImageReadsBack : Type 0
+ImageReadsBack =
+    (v : Contents) (options : WriteOptions) (time : FileTime) (reading : Options)
+    → IsFaithful v options → TakesAll reading
+    → IsAnswer v.kind time reading (image v options)
+    (Ok (expected v options time, trailer_checksum v.kind (trailer v options)))
+
+-- what a file stores of what it stored is the same
+abbrev pub StoringTwiceIsOnce : Type 0
+StoringTwiceIsOnce = (v : Contents) (options : WriteOptions) → stored (stored v options) options ≡ stored v options
+
+-- what is read again has the same image
+abbrev pub RewriteIsCanonical : Type 0
+RewriteIsCanonical =
+    (v w : Contents) (options : WriteOptions) → IsReread v options w → image w options ≡ image v options
+
+-- the same by all options that choose the same extensions
+abbrev pub VersionLosesNothing : Type 0
+VersionLosesNothing =
+    (v w : Contents) (options chosen : WriteOptions) → IsReread v options w → chosen.extensions ≡ options.extensions
+    → image w chosen ≡ image v chosen
+
+-- where all extensions that fit are kept, and fit, what is read again is the value but for its time and version, a link
+-- and an offset table
+abbrev pub KeptLosesNothing : Type 0
+KeptLosesNothing =
+    (v w : Contents) (options : WriteOptions) → (reread : IsReread v options w)
+    → is_kept options.extensions ≡ true → AreWellFormed (length (written v.records)) v.extensions
+    → w ≡ kept_value v reread.time_again (image_version v options)
+
+-- ---- what was read of bytes
+
+-- its extensions can be kept
+abbrev pub ReadIsKeepable : Type 0
+ReadIsKeepable =
+    (kind : Kind) (time : FileTime) (options : Options) (bytes : List ℕ) (v : Contents) (id : Option ObjectId)
+    → AreBytes bytes → IsAnswer kind time options bytes (Ok (v, id)) → AreKeepable v.kind v.extensions
+
+-- names of siblings increase in its cached tree
+abbrev pub ReadTreesAreInOrder : Type 0
+ReadTreesAreInOrder =
+    (kind : Kind) (time : FileTime) (options : Options) (bytes : List ℕ) (v : Contents) (id : Option ObjectId)
+    → IsAnswer kind time options bytes (Ok (v, id)) → IfSome v.extensions.tree HasNamesInOrder

@@ -1,5 +1,6 @@
 -- What a store of objects has, and what is listed of it again (git-read-tree).
-use Rattle.std.specs.Prelude.{◌≡◌, ◌≢◌, ℕ, ◌≤◌, List, All, not, Some, None, Ok, filter, map, length}
+use Rattle.std.specs.Prelude.{◌≡◌, ◌≢◌, ℕ, ◌≤◌, List, All, Bool, not, Option, Some, None, Result, Ok, filter, map}
+use Rattle.std.specs.Prelude.{length}
 use Rattle.index_objects.specs.Mode.{mode_of_kind}
 use Rattle.index_objects.specs.NameCheck.{refusal_as}
 use Rattle.index_objects.specs.Object.{Found, object}
@@ -8,7 +9,7 @@ use Rattle.index_parts.specs.declared.hash.ObjectId.{ObjectId}
 use Rattle.index_objects.specs.declared.object.Kind.TheVariants as objects
 use Rattle.index_objects.specs.declared.object.tree.EntryKind.TheVariants as kinds
 use Rattle.index_entries.specs.Record.{Record}
-use Rattle.index_tree_reader.specs.Leaves.{AreLeaves, zero_stat}
+use Rattle.index_tree_reader.specs.Leaves.{AreLeaves, LeavesFault, zero_stat}
 use Rattle.index_tree_writer.specs.Directory as D
 use Rattle.index_tree_writer.specs.Objects.{Taken, with_objects}
 use Rattle.index_tree_writer.specs.Refusals.{AreFit, Check}
@@ -71,3 +72,18 @@ StoredReadBack =
 abbrev pub HasOneTree : Type 0
 HasOneTree =
     (kind : Kind) (staged : List Staged) (x y : D.Items) → D.IsTreeOf kind staged x → D.IsTreeOf kind staged y → x ≡ y
+
+-- ---- what is listed of a root
+
+-- the leaves or a first fault, for all that a store has, all that a check says, and each number of objects
+abbrev pub AllHaveListing : Type 0
+AllHaveListing =
+    (find : ObjectId → Found) (check : List ℕ → Bool → Option ℕ) (root : ObjectId) (most : ℕ)
+    → (a : Result (List Record) LeavesFault) × AreLeaves find check root most a
+
+-- and no second
+abbrev pub AllHaveOneListing : Type 0
+AllHaveOneListing =
+    (find : ObjectId → Found) (check : List ℕ → Bool → Option ℕ) (root : ObjectId) (most : ℕ)
+    (a b : Result (List Record) LeavesFault) → AreLeaves find check root most a → AreLeaves find check root most b
+    → a ≡ b

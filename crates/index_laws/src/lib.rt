@@ -2,43 +2,29 @@
 //! of `File` cite. A law computes nothing.
 #![tactic(auto)]
 
-ghost use Rattle.std.specs.Prelude.{◌≡◌, ℕ, List, Bool, true, IfSome, Option, Result, Ok, length};
+ghost use Rattle.std.specs.Prelude.{ℕ, Option};
 ghost use Rattle.index_parts.specs.declared.hash.Kind.{Kind};
-ghost use Rattle.index_metadata.specs.declared.entry.stat.FileTime.{FileTime};
 ghost use Rattle.index_extensions.specs.EndMarker.{EndsInMarker};
 ghost use Rattle.index_small_extensions.specs.FsMonitor.{IsMonitor};
 ghost use Rattle.index_small_extensions.specs.OffsetTable.{IsTable};
 ghost use Rattle.index_small_extensions.specs.ResolveUndo.{IsResolveUndo};
 ghost use Rattle.index_cached_tree.specs.Tree.{IsTree};
 ghost use Rattle.index_untracked.specs.Untracked.{IsCache};
-ghost use Rattle.index_split.specs.Link.{LinkFault, IsLink, IsLinkFault};
-ghost use Rattle.index_objects.specs.Object.{Found};
-ghost use Rattle.index_parts.specs.declared.hash.ObjectId.{ObjectId};
-ghost use Rattle.index_entries.specs.EntryImage.{written};
-ghost use Rattle.index_entries.specs.Record.{AreBytes, Record};
-ghost use Rattle.index_tree_reader.specs.Leaves.{LeavesFault, AreLeaves};
-ghost use Rattle.index_tree_writer.specs.Kept.{HasNamesInOrder};
-ghost use Rattle.index_format.specs.declared.decode.Options.{Options};
-ghost use Rattle.index_format.specs.declared.write.Options.{Options as WriteOptions};
-ghost use Rattle.index_format.specs.Answer.{Answer, IsAnswer, trailer_checksum};
-ghost use Rattle.index_format.specs.Image.{image, image_version, is_kept, trailer};
-ghost use Rattle.index_format.specs.Keepable.{AreKeepable};
-ghost use Rattle.index_format.specs.Kept.{AreWellFormed};
-ghost use Rattle.index_format.specs.Contents.{Contents};
-ghost use Rattle.index_format.specs.Stored.{expected, kept_value, stored};
-ghost use Rattle.index_laws.specs.Reading.{FitNamesPass, HasOneTree, ReadsBack, StoredReadBack};
-ghost use Rattle.index_laws.specs.Laws.{HasOneReading, HasOneWalk, HasOneBitmap, IsFaithful, IsReread, TakesAll};
+ghost use Rattle.index_split.specs.Link.{IsLink};
+ghost use Rattle.index_laws.specs.Reading.{AllHaveListing, AllHaveOneListing, FitNamesPass, HasOneTree, ReadsBack};
+ghost use Rattle.index_laws.specs.Reading.{StoredReadBack};
+ghost use Rattle.index_laws.specs.Laws.{AllHaveAnswer, AllHaveOneAnswer, HasOneBitmap, HasOneLinkFault, HasOneReading};
+ghost use Rattle.index_laws.specs.Laws.{HasOneWalk, ImageReadsBack, KeptLosesNothing, ReadIsKeepable};
+ghost use Rattle.index_laws.specs.Laws.{ReadTreesAreInOrder, RewriteIsCanonical, StoringTwiceIsOnce};
+ghost use Rattle.index_laws.specs.Laws.{VersionLosesNothing};
 
 pub mod trees;
 
 /// All bytes have an answer, for each kind of id, time and options, and no second: an index as a value with the
 /// trailer's id, or a fault.
 pub fn one_answer()
-    ensures some { (kind : Kind) (time : FileTime) (options : Options) (bytes : List ℕ)
-        → (a : Answer) × IsAnswer kind time options bytes a }
-    ensures one { (kind : Kind) (time : FileTime) (options : Options) (bytes : List ℕ)
-        (a b : Answer) → IsAnswer kind time options bytes a → IsAnswer kind time options bytes b
-        → a ≡ b }
+    ensures some { AllHaveAnswer }
+    ensures one { AllHaveOneAnswer }
 {}
 
 /// The content of an extension has a reading, a value or none, and no second; a link that has none has one first fault.
@@ -46,8 +32,7 @@ pub fn one_answer()
 pub fn one_reading()
     ensures tree { (kind : Kind) (limit : Option ℕ) → HasOneReading (IsTree kind limit) }
     ensures link { (kind : Kind) → HasOneReading (IsLink kind) }
-    ensures link_fault { (kind : Kind) (bytes : List ℕ) (f g : LinkFault)
-        → IsLinkFault kind bytes f → IsLinkFault kind bytes g → f ≡ g }
+    ensures link_fault { HasOneLinkFault }
     ensures resolve_undo { (kind : Kind) → HasOneReading (IsResolveUndo kind) }
     ensures untracked { (kind : Kind) (limit : Option ℕ) → HasOneReading (IsCache kind limit) }
     ensures fs_monitor { HasOneReading IsMonitor }
@@ -60,11 +45,8 @@ pub fn one_reading()
 /// A tree has leaves or a first fault, and no second answer: for all that a store has for ids, all that a check says of
 /// names, each root, and each number of objects that may be read.
 pub fn one_listing()
-    ensures some { (find : ObjectId → Found) (check : List ℕ → Bool → Option ℕ) (root : ObjectId)
-        (most : ℕ) → (a : Result (List Record) LeavesFault) × AreLeaves find check root most a }
-    ensures one { (find : ObjectId → Found) (check : List ℕ → Bool → Option ℕ) (root : ObjectId)
-        (most : ℕ) (a b : Result (List Record) LeavesFault) → AreLeaves find check root most a
-        → AreLeaves find check root most b → a ≡ b }
+    ensures some { AllHaveListing }
+    ensures one { AllHaveOneListing }
 {}
 
 /// Reading what is written of a storable index gives what a file keeps of it, and the trailer: for either kind of id
@@ -73,32 +55,26 @@ pub fn one_listing()
 /// no end marker doesn't end as if it had one. Where all that fits is kept, each extension can be spelled, as each that was
 /// read can ([`read_extensions_are_keepable`]).
 pub fn written_reads_back()
-    ensures { (v : Contents) (options : WriteOptions) (time : FileTime) (reading : Options)
-        → IsFaithful v options → TakesAll reading
-        → IsAnswer v.kind time reading (image v options)
-        (Ok (expected v options time, trailer_checksum v.kind (trailer v options))) }
+    ensures { ImageReadsBack }
 {}
 
 /// What a file stores of what it stored is the same.
 pub fn stored_twice()
-    ensures { (v : Contents) (options : WriteOptions)
-        → stored (stored v options) options ≡ stored v options }
+    ensures { StoringTwiceIsOnce }
 {}
 
 /// An index that was read, of whatever version, is written as the same bytes again once these have been read: by the
 /// same options, and with the premises of [`written_reads_back`], but that it is storable, as each index that was read
 /// of bytes is.
 pub fn rewrite_is_canonical()
-    ensures { (v w : Contents) (options : WriteOptions) → IsReread v options w
-        → image w options ≡ image v options }
+    ensures { RewriteIsCanonical }
 {}
 
 /// An index that was read, written and read again, in whichever version, has lost nothing that a file keeps: it is
 /// written as before, by all options that choose the same extensions. The premises are those of
 /// [`rewrite_is_canonical`].
 pub fn version_change_loses_nothing()
-    ensures { (v w : Contents) (options chosen : WriteOptions) → IsReread v options w
-        → chosen.extensions ≡ options.extensions → image w chosen ≡ image v chosen }
+    ensures { VersionLosesNothing }
 {}
 
 /// An index that was read, written with all extensions that fit, and read again, is what was read, but for its time, its
@@ -106,26 +82,19 @@ pub fn version_change_loses_nothing()
 /// system monitor said is of no more than the entries that are written. The premises are those of
 /// [`rewrite_is_canonical`].
 pub fn kept_loses_nothing()
-    ensures { (v w : Contents) (options : WriteOptions) → (reread : IsReread v options w)
-        → is_kept options.extensions ≡ true
-        → AreWellFormed (length (written v.records)) v.extensions
-        → w ≡ kept_value v reread.time_again (image_version v options) }
+    ensures { KeptLosesNothing }
 {}
 
 /// What was read of an untracked cache can be spelled, where none of its untracked names is empty, and so can what a file
 /// system monitor said, as both have to be where they are kept. All else is asked for where an index is storable.
 pub fn read_extensions_are_keepable()
-    ensures { (kind : Kind) (time : FileTime) (options : Options) (bytes : List ℕ) (v : Contents)
-        (id : Option ObjectId) → AreBytes bytes → IsAnswer kind time options bytes (Ok (v, id))
-        → AreKeepable v.kind v.extensions }
+    ensures { ReadIsKeepable }
 {}
 
 /// In the cached tree of an index that was read, the names of siblings increase, below each node. So it keeps each count
 /// that the entries still give, where a cached tree is made anew (`State::renew_tree`).
 pub fn read_trees_are_in_order()
-    ensures { (kind : Kind) (time : FileTime) (options : Options) (bytes : List ℕ) (v : Contents)
-        (id : Option ObjectId) → IsAnswer kind time options bytes (Ok (v, id))
-        → IfSome v.extensions.tree HasNamesInOrder }
+    ensures { ReadTreesAreInOrder }
 {}
 
 /// What is written of a list is read back as what stands in trees, where the store has each tree that was written, by

@@ -130,7 +130,18 @@ children_all style {u} {v} front ts i {waited} {waiting} le a =
     subst (λ (us : List Tree). LetsOut u v waited (flat_map (λ t. subtree_lines style front (node_of t)) us) waiting)
     (take_all i ts le) a
 
--- a front of the last lines of a whole tree goes out
+-- the last lines of a whole tree go out
+pub all_of_last : (style : Lines) {u v : Option (List ℕ)} (w : Option (List ℕ)) {lines front waiting : List ℕ}
+    (n : Node) → lines ≡ [] → front ≡ []
+    → LetsOut u v lines (subtree_lines style front n) waiting → Appends v w waiting
+    → Appends u w (subtree_lines style [] n)
+all_of_last style {u} {v} w {lines} {front} {waiting} n none root a b =
+    let all : LetsOut u v [] (subtree_lines style [] n) waiting =
+    subst (λ (l : List ℕ). LetsOut u v l (subtree_lines style [] n) waiting) none
+    (subst (λ (l : List ℕ). LetsOut u v lines (subtree_lines style l n) waiting) root a) in
+    subst (λ (l : List ℕ). Appends u w l) all.parts (Appends-trans u v w all.gone waiting all.grew b)
+
+-- a front of them
 pub front_of_last : (style : Lines) {u v w : Option (List ℕ)} {lines front waiting : List ℕ} (n : Node) → lines ≡ [] → front ≡ []
     → LetsOut u v lines (subtree_lines style front n) waiting → AppendsPrefix v w waiting
     → AppendsPrefix u w (subtree_lines style [] n)

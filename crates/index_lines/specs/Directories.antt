@@ -5,6 +5,8 @@ use Rattle.index_parts.specs.Id.{id_bytes}
 use Rattle.index_parts.specs.declared.hash.ObjectId.{ObjectId}
 use Rattle.index_cached_tree.specs.Tree.{Node, Nodes, node, none, more}
 use Rattle.index_cached_tree.specs.TreeImage.{count_bytes}
+use Rattle.index_cached_tree.specs.declared.Tree.{Tree}
+use Rattle.index_cached_tree.specs.declared.Tree.TheViews.{out-Tree}
 use Rattle.index_text.specs.Line.{line_end, shown_path}
 use Rattle.index_text.specs.declared.lines.Lines.{Lines}
 use Rattle.index_lines.specs.Line.{space, tab}
@@ -16,6 +18,10 @@ slash = 47
 abbrev pub directory_line : Lines → List ℕ → ObjectId → Option ℕ → List ℕ
 directory_line style path id count = encode_lower (id_bytes id) ++ (space ∷ []) ++ count_bytes count ++ (tab ∷ [])
     ++ shown_path style path ++ (line_end style ∷ [])
+
+-- of a tree, by its path
+abbrev pub tree_line : Lines → List ℕ → Tree → List ℕ
+tree_line style path tree = directory_line style path (out-Tree tree).id (out-Tree tree).num_entries
 
 -- what stands before the names in a directory with this path: the path and a slash, and nothing in the root
 abbrev pub front_of : List ℕ → List ℕ

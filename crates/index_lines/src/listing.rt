@@ -1,13 +1,11 @@
 //! The listing of an index: a line for each entry.
 
-ghost use Rattle.std.specs.Prelude.{◌≡◌, ◌≢◌, ◌<◌, length, IfErr, OnOk, OnErr, ◌++◌, false, true};
-ghost use Rattle.std.specs.Io.KnownBytes.{Appends};
-ghost use Rattle.std.specs.IoError.{error_kind};
+ghost use Rattle.std.specs.Prelude.{◌≡◌, ◌<◌, length, OnOk, ◌++◌, false};
 ghost use Rattle.index_parts.specs.Id.{id_bytes};
-ghost use Rattle.index_parts.specs.Taking.{AppendsPrefix};
+ghost use Rattle.index_text.specs.Blocks.{PutsText};
 ghost use Rattle.index_state.specs.State.{PathsInStorage, contents, storage_of};
-ghost use Rattle.index_entries.specs.Record.{IsPlaced, record_in};
-ghost use Rattle.index_lines.specs.Line.{line_of_parts, line_of, listing};
+ghost use Rattle.index_entries.specs.Record.{IsPlaced};
+ghost use Rattle.index_lines.specs.Line.{entry_line, line_of_parts, listing};
 
 use bitflags::Flags as _;
 use index_entries::Entry;
@@ -46,9 +44,8 @@ fn append_parts(
 /// Appends an entry's line.
 fn append_line(lines: &mut Vec<u8>, style: Lines, state: &State, entry: &Entry) -> Appended
     requires { IsPlaced (length (storage_of state.now)) entry.now }
-    ensures { OnOk result
-        (lines.new.items ≡ lines.old.items
-        ++ line_of style (record_in (storage_of state.now) entry.now)) }
+    ensures { OnOk result (lines.new.items ≡ lines.old.items ++ entry_line style state.now
+        entry.now) }
 {
     let path = entry.path(state);
     append_parts(
@@ -75,14 +72,7 @@ pub fn write_listing<W: Out>(
 ) -> io::Result<()>
     requires paths { PathsInStorage state.now }
     requires unfailed { W.failed out.old ≡ false }
-    ensures ok { OnOk result (Appends (W.taken out.old) (W.taken out.new)
-        (listing style (contents state.now).records)) }
-    ensures err { OnErr result (AppendsPrefix (W.taken out.old) (W.taken out.new)
-        (listing style (contents state.now).records)) }
-    ensures cause { IfErr result
-        (λ e. error_kind e ≢ ErrorKind.OutOfMemory → W.failed out.new ≡ true) }
-    ensures unfailed { OnOk result (W.failed out.new ≡ false) }
-    ensures loan { W.loan out.new ≡ W.loan out.old }
+    ensures { PutsText W.Out out.old out.new result (listing style (contents state.now).records) }
 {
     let mut lines = Vec::with_capacity(alloc, BLOCK_LEN + SPARE_LEN)?;
     for entry in state.entries() {

@@ -1,15 +1,12 @@
 //! The lines of trees: one for each directory.
 
-ghost use Rattle.std.specs.Prelude.{◌≡◌, ◌≢◌, ◌++◌, [], IfErr, OnOk, OnErr, false, true};
+ghost use Rattle.std.specs.Prelude.{◌≡◌, ◌++◌, [], OnOk, false};
 ghost use Rattle.std.specs.List.{flat_map};
-ghost use Rattle.std.specs.Io.KnownBytes.{Appends};
-ghost use Rattle.std.specs.IoError.{error_kind};
-ghost use Rattle.index_parts.specs.Taking.{AppendsPrefix};
+ghost use Rattle.index_text.specs.Blocks.{PutsText};
 ghost use Rattle.index_cached_tree.specs.Tree.{node_of};
 ghost use Rattle.index_cached_tree.specs.TreeImage.{count_bytes};
-ghost use Rattle.index_cached_tree.specs.declared.Tree.TheViews.{out-Tree};
-ghost use Rattle.index_lines.specs.Directories.{directory_line, subtree_lines, front_of};
-ghost use Rattle.index_lines.specs.DirectorySteps.{LetsOut};
+ghost use Rattle.index_lines.specs.Directories.{front_of, subtree_lines, tree_line};
+ghost use Rattle.index_lines.specs.DirectorySteps.{PutsLines};
 
 use index_cached_tree::Tree;
 use index_parts::hash::io::Out;
@@ -34,8 +31,7 @@ fn append_count(lines: &mut Vec<u8>, count: Option<u32>) -> Appended
 
 /// Appends the line of a directory alone.
 fn append_line(lines: &mut Vec<u8>, style: Lines, path: &[u8], tree: &Tree) -> Appended
-    ensures { OnOk result (lines.new.items ≡ lines.old.items
-        ++ directory_line style path.now (out-Tree tree.now).id (out-Tree tree.now).num_entries) }
+    ensures { OnOk result (lines.new.items ≡ lines.old.items ++ tree_line style path.now tree.now) }
 {
     append_hex(lines, &tree.id)?;
     lines.extend_from_slice(b" ")?;
@@ -66,15 +62,9 @@ fn append_directory<W: Out>(
     out: &mut W,
 ) -> io::Result<()>
     requires { W.failed out.old ≡ false }
-    ensures lines { OnOk result (LetsOut (W.taken out.old) (W.taken out.new) lines.old.items
-        (subtree_lines style front.old.items (node_of tree.now)) lines.new.items) }
+    ensures written { PutsLines W.Out out.old out.new result lines.old.items
+        (subtree_lines style front.old.items (node_of tree.now)) lines.new.items }
     ensures front { OnOk result (front.new.items ≡ front.old.items) }
-    ensures err { OnErr result (AppendsPrefix (W.taken out.old) (W.taken out.new)
-        (lines.old.items ++ subtree_lines style front.old.items (node_of tree.now))) }
-    ensures cause { IfErr result
-        (λ e. error_kind e ≢ ErrorKind.OutOfMemory → W.failed out.new ≡ true) }
-    ensures unfailed { OnOk result (W.failed out.new ≡ false) }
-    ensures loan { W.loan out.new ≡ W.loan out.old }
 {
     let len = front.len();
     front.extend_from_slice(tree.name.as_slice())?;
@@ -96,17 +86,10 @@ fn append_directories<W: Out>(
     out: &mut W,
 ) -> io::Result<()>
     requires { W.failed out.old ≡ false }
-    ensures lines { OnOk result (LetsOut (W.taken out.old) (W.taken out.new) lines.old.items
+    ensures written { PutsLines W.Out out.old out.new result lines.old.items
         (flat_map (λ t. subtree_lines style front.old.items (node_of t)) trees.now)
-        lines.new.items) }
+        lines.new.items }
     ensures front { OnOk result (front.new.items ≡ front.old.items) }
-    ensures err { OnErr result (AppendsPrefix (W.taken out.old) (W.taken out.new)
-        (lines.old.items
-        ++ flat_map (λ t. subtree_lines style front.old.items (node_of t)) trees.now)) }
-    ensures cause { IfErr result
-        (λ e. error_kind e ≢ ErrorKind.OutOfMemory → W.failed out.new ≡ true) }
-    ensures unfailed { OnOk result (W.failed out.new ≡ false) }
-    ensures loan { W.loan out.new ≡ W.loan out.old }
 {
     for tree in trees {
         append_directory(lines, style, front, tree, out)?;
@@ -121,14 +104,7 @@ fn append_directories<W: Out>(
 /// ([`ErrorKind::OutOfMemory`]), or the output's, which has failed then; what was written by then is a prefix of them.
 pub fn write_trees<W: Out>(alloc: Global, tree: &Tree, style: Lines, out: &mut W) -> io::Result<()>
     requires { W.failed out.old ≡ false }
-    ensures ok { OnOk result (Appends (W.taken out.old) (W.taken out.new)
-        (subtree_lines style [] (node_of tree.now))) }
-    ensures err { OnErr result (AppendsPrefix (W.taken out.old) (W.taken out.new)
-        (subtree_lines style [] (node_of tree.now))) }
-    ensures cause { IfErr result
-        (λ e. error_kind e ≢ ErrorKind.OutOfMemory → W.failed out.new ≡ true) }
-    ensures unfailed { OnOk result (W.failed out.new ≡ false) }
-    ensures loan { W.loan out.new ≡ W.loan out.old }
+    ensures { PutsText W.Out out.old out.new result (subtree_lines style [] (node_of tree.now)) }
 {
     let mut lines = Vec::new(alloc);
     let mut front = Vec::new(alloc);

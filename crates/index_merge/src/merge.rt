@@ -1,14 +1,12 @@
 //! Merging the entries of a split index into those of its shared index (gitformat-index, "Split index").
 
-ghost use Rattle.std.specs.Prelude.{◌≡◌, ◌<◌, ◌≤◌, ◌++◌, [], ◌∷◌, ℕ, List, All, Some, None, length, slice_get, filter};
-ghost use Rattle.std.specs.Prelude.{not, IfOk, IfErr, OnOk};
-ghost use Rattle.std.specs.Option.{option_map};
-ghost use Rattle.index_bitmaps.specs.Bitmap.{bitmap};
+ghost use Rattle.std.specs.Prelude.{◌≡◌, ◌<◌, [], ◌∷◌, ℕ, List, All, Some, None, length, filter, not, IfErr, OnOk};
 ghost use Rattle.index_entries.specs.EntryImage.{is_removed};
 ghost use Rattle.index_merge.specs.declared.merge.Error.TheVariants.{Memory};
-ghost use Rattle.index_merge.specs.Merge.{IsMerge, IsMergeFault, place_fault, record_fault, replaced};
-ghost use Rattle.index_merge.specs.MergeSteps.{AreRemovedAt, IsDeleteFault, IsReplaceFault, Keeps, RemovesAt};
-ghost use Rattle.index_merge.specs.MergeSteps.{ReplacesEntries, SaysMerge, changed_at, merge_error};
+ghost use Rattle.index_merge.specs.Merge.{record_fault};
+ghost use Rattle.index_merge.specs.MergeCalls.{Joins, KeepsOthers, MarksAt, MarksBy, Merges, ReplacesAt};
+ghost use Rattle.index_merge.specs.MergeCalls.{SaysDelete, StayPlaced, TakesAt, TakesBy, TellsReplaceFault};
+ghost use Rattle.index_merge.specs.MergeSteps.{merge_error};
 ghost use Rattle.index_entries.specs.Record.{IsPlaced, record_in, records_in};
 
 use bitflags::Flags as _;
@@ -72,9 +70,7 @@ fn fault_between(
 ) -> Option<&'static str>
     requires placed { IsPlaced (length storage.now) entry.now }
     requires by_placed { IsPlaced (length split_storage.now) by.now }
-    ensures { option_map (λ text. text.now) result
-        ≡ record_fault (record_in storage.now entry.now)
-        (Some (record_in split_storage.now by.now)) }
+    ensures { TellsReplaceFault result storage.now entry.now split_storage.now by.now }
 {
     if entry.is_removed() {
         return Some("entry is marked as both replace and delete");
@@ -91,11 +87,8 @@ fn fault_between(
 /// Puts all but the path of an entry into the one at a place.
 fn take_at(shared: &mut Vec<Entry>, place: usize, by: &Entry)
     requires { place < length shared.old.items }
-    ensures replaced { (storage split_storage : List ℕ) → records_in storage shared.new.items
-        ≡ changed_at (λ r. replaced r (Some (record_in split_storage by.now))) place
-        (records_in storage shared.old.items) }
-    ensures placed { (len : ℕ) → All (IsPlaced len) shared.old.items
-        → All (IsPlaced len) shared.new.items }
+    ensures replaced { ReplacesAt place by.now shared.old.items shared.new.items }
+    ensures placed { StayPlaced shared.old.items shared.new.items }
 {
     let entry = &mut shared[place];
     entry.stat = by.stat;
@@ -115,18 +108,8 @@ fn replace_at(
 ) -> Result<(), Error>
     requires placed { All (IsPlaced (length storage.now)) shared.old.items }
     requires split_placed { All (IsPlaced (length split_storage.now)) split.now }
-    ensures sound { OnOk result
-        (place_fault (slice_get (records_in storage.now shared.old.items) place)
-        (slice_get (records_in split_storage.now split.now) taken) ≡ None) }
-    ensures in_range { OnOk result (taken < length split.now) }
-    ensures replaced { OnOk result (records_in storage.now shared.new.items
-        ≡ changed_at (λ r. replaced r (slice_get (records_in split_storage.now split.now) taken))
-        place
-        (records_in storage.now shared.old.items)) }
-    ensures placed { OnOk result (All (IsPlaced (length storage.now)) shared.new.items) }
-    ensures fault { IfErr result (λ e. SaysMerge e (λ fault. place_fault
-        (slice_get (records_in storage.now shared.old.items) place)
-        (slice_get (records_in split_storage.now split.now) taken) ≡ Some fault)) }
+    ensures { TakesAt storage.now shared.old shared.new split_storage.now split.now taken place
+        result }
 {
     if place >= shared.len() as u64 {
         return Err(Error::Corrupt(
@@ -155,13 +138,8 @@ fn replace_entries(
 ) -> Result<usize, Error>
     requires placed { All (IsPlaced (length storage.now)) shared.old.items }
     requires split_placed { All (IsPlaced (length split_storage.now)) split.now }
-    ensures replaced { IfOk result
-        (ReplacesEntries (bitmap replace.now).words (records_in storage.now shared.old.items)
-        (records_in split_storage.now split.now) (records_in storage.now shared.new.items)) }
-    ensures few { IfOk result (λ taken. taken ≤ length split.now) }
-    ensures placed { OnOk result (All (IsPlaced (length storage.now)) shared.new.items) }
-    ensures fault { IfErr result (λ e. SaysMerge e (IsReplaceFault (bitmap replace.now).words
-        (records_in storage.now shared.old.items) (records_in split_storage.now split.now))) }
+    ensures { TakesBy replace.now storage.now shared.old shared.new split_storage.now split.now
+        result }
 {
     let mut taken = 0;
     let mut positions = replace.positions();
@@ -184,10 +162,8 @@ fn append_entry(
 ) -> Result<(), AllocError>
     requires placed { All (IsPlaced (length storage.old.items)) entries.old.items }
     requires entry_placed { IsPlaced (length split_storage.now) entry.now }
-    ensures appended { OnOk result (records_in storage.new.items entries.new.items
-        ≡ records_in storage.old.items entries.old.items ++ record_in split_storage.now entry.now ∷
-        []) }
-    ensures placed { OnOk result (All (IsPlaced (length storage.new.items)) entries.new.items) }
+    ensures { Joins entries.old entries.new storage.old storage.new split_storage.now
+        (entry.now ∷ []) result }
 {
     let path = entry.path_in(split_storage);
     let pathless = Pathless {
@@ -209,10 +185,8 @@ fn append_entries(
 ) -> Result<(), AllocError>
     requires placed { All (IsPlaced (length storage.old.items)) entries.old.items }
     requires split_placed { All (IsPlaced (length split_storage.now)) split.now }
-    ensures appended { OnOk result (records_in storage.new.items entries.new.items
-        ≡ records_in storage.old.items entries.old.items
-        ++ records_in split_storage.now split.now) }
-    ensures placed { OnOk result (All (IsPlaced (length storage.new.items)) entries.new.items) }
+    ensures { Joins entries.old entries.new storage.old storage.new split_storage.now split.now
+        result }
 {
     for entry in split {
         append_entry(entries, storage, entry, split_storage)?;
@@ -223,8 +197,7 @@ fn append_entries(
 /// Marks the entry at a place as one to be left out.
 fn mark_at(entries: &mut Vec<Entry>, place: usize)
     requires { place < length entries.old.items }
-    ensures { (seen : List ℕ) (old : List Entry) → AreRemovedAt seen old entries.old.items
-        → AreRemovedAt (seen ++ place ∷ []) old entries.new.items }
+    ensures { MarksAt place entries.old.items entries.new.items }
 {
     let entry = &mut entries[place];
     entry.flags.insert(Flags::REMOVE);
@@ -232,10 +205,8 @@ fn mark_at(entries: &mut Vec<Entry>, place: usize)
 
 /// Marks the entries at the places of the bitmap.
 fn mark_deleted(entries: &mut Vec<Entry>, delete: &ewah::Vec) -> Result<(), Error>
-    ensures marked { OnOk result
-        (RemovesAt (bitmap delete.now).words entries.old.items entries.new.items) }
-    ensures fault { IfErr result
-        (λ e. SaysMerge e (IsDeleteFault (bitmap delete.now).words (length entries.old.items))) }
+    ensures marked { OnOk result (MarksBy delete.now entries.old.items entries.new.items) }
+    ensures fault { IfErr result (SaysDelete delete.now entries.old.items) }
 {
     let mut positions = delete.positions();
     while let Some(position) = positions.next() {
@@ -264,11 +235,10 @@ fn drop_removed(entries: &mut Vec<Entry>)
 fn keep_others(entries: &mut Vec<Entry>, storage: &[u8], delete: &ewah::Vec) -> Result<(), Error>
     requires { All (IsPlaced (length storage.now)) entries.old.items }
     ensures retained { OnOk result
-        (Keeps (bitmap delete.now).words (records_in storage.now entries.old.items)
-        (records_in storage.now entries.new.items)) }
+        (KeepsOthers delete.now storage.now entries.old entries.new) }
     ensures placed { OnOk result (All (IsPlaced (length storage.now)) entries.new.items) }
-    ensures fault { IfErr result (λ e. SaysMerge e (IsDeleteFault (bitmap delete.now).words
-        (length (records_in storage.now entries.old.items)))) }
+    ensures fault { IfErr result
+        (SaysDelete delete.now (records_in storage.now entries.old.items)) }
 {
     mark_deleted(entries, delete)?;
     drop_removed(entries);
@@ -296,14 +266,8 @@ pub fn merge(
 ) -> Result<(), Error>
     requires placed { All (IsPlaced (length storage.old.items)) entries.old.items }
     requires split_placed { All (IsPlaced (length split_storage.now)) split.now }
-    ensures merged { OnOk result (IsMerge (bitmap delete.now).words (bitmap replace.now).words
-        (records_in storage.old.items entries.old.items) (records_in split_storage.now split.now)
-        (records_in storage.new.items entries.new.items)) }
-    ensures placed { OnOk result (All (IsPlaced (length storage.new.items)) entries.new.items) }
-    ensures fault { IfErr result
-        (λ e. SaysMerge e (IsMergeFault (bitmap delete.now).words (bitmap replace.now).words
-        (records_in storage.old.items entries.old.items)
-        (records_in split_storage.now split.now))) }
+    ensures { Merges delete.now replace.now entries.old storage.old split.now split_storage.now
+        entries.new storage.new result }
 {
     let taken = replace_entries(entries, storage, split, split_storage, replace)?;
     let (_, others) = split.split_at(taken);

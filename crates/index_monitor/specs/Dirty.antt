@@ -1,7 +1,7 @@
 -- What a file system monitor said of entries, after changes of them (gitformat-index, "File System Monitor cache": the n-th
 -- bit tells whether the n-th entry may have changed).
-use Rattle.std.specs.Prelude.{ℕ, ◌^◌, ◌&&◌, ◌||◌, nat_lt, Bool, false, List, [], ◌∷◌, drop, length, map}
-use Rattle.std.specs.Prelude.{Option, Some, None, Result, Ok, Err, if◌then◌else◌}
+use Rattle.std.specs.Prelude.{◌≡◌, ℕ, ◌^◌, ◌&&◌, ◌||◌, nat_lt, Bool, false, List, [], ◌∷◌, drop, length, map}
+use Rattle.std.specs.Prelude.{IfSome, Option, Some, None, Result, Ok, Err, if◌then◌else◌}
 use Rattle.std.specs.List.{list_any}
 use Rattle.std.specs.Option.{option_map}
 use Rattle.index_bitmap_writing.specs.EncodedBitmap.{encoded}
@@ -10,12 +10,14 @@ use Rattle.index_bitmaps.specs.Ranges.{set_places}
 use Rattle.index_bitmaps.specs.declared.ewah.iter.Malformed.{Malformed}
 use Rattle.index_edits.specs.declared.change.Change.{Change}
 use Rattle.index_edits.specs.declared.change.Change.TheVariants as changes
-use Rattle.index_entries.specs.Order.{record_stage}
+use Rattle.index_entries.specs.Order.{IsStrictlyOrdered, record_stage}
 use Rattle.index_entries.specs.Record.{Record}
+use Rattle.index_extension_writing.specs.MonitorImage.{IsSpellableMonitor}
 use Rattle.index_extension_writing.specs.MonitorPlaces.{monitor_is_within}
 use Rattle.index_lookups.specs.Lookup.{has_key}
 use Rattle.index_metadata.specs.Flags.{stage_number}
-use Rattle.index_small_extensions.specs.FsMonitor.{Monitor}
+use Rattle.index_small_extensions.specs.FsMonitor.{Monitor, monitor_of}
+use Rattle.index_small_extensions.specs.declared.fs_monitor.FsMonitor.{FsMonitor}
 
 -- an entry with the record's path and its stage comes in its place
 abbrev pub is_replaced : Change → Record → Bool
@@ -32,9 +34,17 @@ abbrev pub is_at_place : List Record → Record → Result ℕ Malformed → Boo
 is_at_place rs r (Ok place) = leads_with r (drop place rs)
 is_at_place rs r (Err fault) = false
 
+-- a change stages an entry in the record's place
+abbrev pub is_staged : List Change → Record → Bool
+is_staged cs r = list_any (λ c. is_replaced c r) cs
+
+-- a record of one of the places has the path and the stage of another
+abbrev pub is_among : List Record → List (Result ℕ Malformed) → Record → Bool
+is_among old places r = list_any (is_at_place old r) places
+
 -- a record may have changed: that of its path and stage had its bit, or a change stages it
 abbrev pub is_dirty : List Change → List Record → List (Result ℕ Malformed) → Record → Bool
-is_dirty cs old places r = list_any (is_at_place old r) places || list_any (λ c. is_replaced c r) cs
+is_dirty cs old places r = is_among old places r || is_staged cs r
 
 -- The bits of records, after changes of the old ones of which a monitor told; none where it told of more than there
 -- were, or where records have no places of 32 bits.
@@ -49,3 +59,13 @@ monitor_after cs old now None = None
 monitor_after [] old now (Some m) = Some m
 monitor_after (c ∷ cs) old now (Some m) =
     option_map (λ dirty. record { token = m.token; dirty = dirty }) (dirty_after (c ∷ cs) old now m)
+
+-- over new records in strict order, an answer is this after the changes
+abbrev pub IsMonitorAfter : List Change → List Record → List Record → Option FsMonitor → Option FsMonitor → Type 0
+IsMonitorAfter cs old now monitor made =
+    IsStrictlyOrdered now → option_map monitor_of made ≡ monitor_after cs old now (option_map monitor_of monitor)
+
+-- what bytes can hold of an answer, they can hold of another
+abbrev pub StaysSpellableMonitor : Option FsMonitor → Option FsMonitor → Type 0
+StaysSpellableMonitor monitor made =
+    IfSome monitor (λ m. IsSpellableMonitor (monitor_of m)) → IfSome made (λ m. IsSpellableMonitor (monitor_of m))

@@ -1,7 +1,17 @@
 -- Bits that are set one after another. Public clauses cite none of these.
-use Rattle.std.specs.Prelude.{◌^◌, ◌<◌, ◌||◌, Bool, List, [], ◌∷◌, length}
+use Rattle.std.specs.Prelude.{◌≡◌, ℕ, ◌^◌, ◌<◌, ◌||◌, Bool, true, List, [], ◌∷◌, length, map, Option, Result}
+use Rattle.std.specs.Option.{option_map}
 use Rattle.index_bitmap_writing.specs.BitmapImage.{IsSpellableBitmap, bitmap_bytes}
-use Rattle.index_bitmaps.specs.Bitmap.{Bitmap}
+use Rattle.index_bitmaps.specs.Bitmap.{Bitmap, bitmap}
+use Rattle.index_bitmaps.specs.Ranges.{set_places}
+use Rattle.index_bitmaps.specs.declared.ewah.Vec.{Vec}
+use Rattle.index_bitmaps.specs.declared.ewah.iter.Malformed.{Malformed}
+use Rattle.index_edits.specs.declared.change.Change.{Change}
+use Rattle.index_entries.specs.Order.{IsStrictlyOrdered}
+use Rattle.index_entries.specs.Record.{Record}
+use Rattle.index_extension_writing.specs.MonitorPlaces.{are_below}
+use Rattle.index_monitor.specs.Dirty.{dirty_after, is_among, is_dirty}
+use Rattle.index_small_extensions.specs.FsMonitor.{Monitor}
 
 -- the bits of two lists side by side, of which one is set where either is
 abbrev pub either : List Bool → List Bool → List Bool
@@ -13,3 +23,27 @@ either (a ∷ ls) (b ∷ bs) = (a || b) ∷ either ls bs
 pub record IsSpellableDirty (b : Bitmap) : Type 0 where
   pub spellable : IsSpellableBitmap b
   pub size : length (bitmap_bytes b) < 2 ^ 32
+
+-- over records in strict order, the bits of those that pass the test are set beside those that were
+pub record SetsBits (test : Record → Bool) (rs : List Record) (old now : List Bool) : Type 0 where
+  pub len : length now ≡ length old
+  pub marked : IsStrictlyOrdered rs → now ≡ either old (map test rs)
+
+-- the same, where the test asks for places, and each of these is one of so many
+pub record SetsBitsWithin (test : List (Result ℕ Malformed) → Record → Bool) (most : ℕ) (places : Bitmap)
+    (rs : List Record) (old now : List Bool) : Type 0 where
+  pub len : length now ≡ length old
+  pub marked : IsStrictlyOrdered rs → are_below most (set_places places) ≡ true
+      → now ≡ either old (map (test (set_places places)) rs)
+
+-- the bits of the records are set that stood at one of the places
+abbrev pub MarksPlaces : List Record → Bitmap → List Record → List Bool → List Bool → Type 0
+MarksPlaces old places rs bits made = SetsBitsWithin (is_among old) (length old) places rs bits made
+
+-- the bits of the records are set that may have changed
+abbrev pub MarksDirty : List Change → List Record → Bitmap → List Record → List Bool → List Bool → Type 0
+MarksDirty cs old places rs bits made = SetsBitsWithin (is_dirty cs old) (length old) places rs bits made
+
+-- over new records in strict order, the bitmap is this after the changes
+abbrev pub IsDirtyAfter : List Change → List Record → List Record → Monitor → Option Vec → Type 0
+IsDirtyAfter cs old now m made = IsStrictlyOrdered now → option_map bitmap made ≡ dirty_after cs old now m

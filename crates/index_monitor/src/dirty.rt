@@ -1,17 +1,11 @@
 //! The places of entries which may have changed since a monitor was asked, after changes of an index.
 
-ghost use Rattle.std.specs.Prelude.{◌≡◌, ◌^◌, ◌<◌, IfOk, IfSome, length, map, true};
-ghost use Rattle.std.specs.List.{list_any};
-ghost use Rattle.std.specs.Option.{option_map};
+ghost use Rattle.std.specs.Prelude.{◌≡◌, IfOk, IfSome, length};
 ghost use Rattle.index_bitmaps.specs.Bitmap.{bitmap};
-ghost use Rattle.index_bitmaps.specs.Ranges.{set_places};
-ghost use Rattle.index_entries.specs.Order.{IsStrictlyOrdered};
-ghost use Rattle.index_extension_writing.specs.MonitorImage.{IsSpellableMonitor};
-ghost use Rattle.index_extension_writing.specs.MonitorPlaces.{are_below};
 ghost use Rattle.index_lookups.specs.Lookup.{has_key};
 ghost use Rattle.index_metadata.specs.Flags.{stage_code};
-ghost use Rattle.index_monitor.specs.Dirty.{dirty_after, is_at_place, is_dirty, is_replaced, monitor_after};
-ghost use Rattle.index_monitor.specs.DirtySteps.{IsSpellableDirty, either};
+ghost use Rattle.index_monitor.specs.Dirty.{IsMonitorAfter, StaysSpellableMonitor, is_replaced, is_staged};
+ghost use Rattle.index_monitor.specs.DirtySteps.{IsDirtyAfter, IsSpellableDirty, MarksDirty, MarksPlaces, SetsBits};
 ghost use Rattle.index_small_extensions.specs.FsMonitor.{monitor_of};
 
 use index_bitmap_writing::marks::bitmap_of;
@@ -30,9 +24,7 @@ const MOST_ENTRIES: usize = u32::MAX as usize;
 /// Sets the bit of the entry with a path and a stage, where there is one.
 fn set_bit(bits: &mut [bool], entries: &EntrySlice<'_>, path: &[u8], stage: Stage)
     requires { length bits.old ≡ length entries.now }
-    ensures len { length bits.new ≡ length bits.old }
-    ensures set { IsStrictlyOrdered entries.now → bits.new
-        ≡ either bits.old (map (has_key path.now (stage_code stage)) entries.now) }
+    ensures { SetsBits (has_key path.now (stage_code stage)) entries.now bits.old bits.new }
 {
     if let Some(place) = entry_index_by_path_and_stage(entries, path, stage) {
         bits[place] = true;
@@ -42,9 +34,7 @@ fn set_bit(bits: &mut [bool], entries: &EntrySlice<'_>, path: &[u8], stage: Stag
 /// Sets the bit of the entry that a change stages.
 fn mark_change(bits: &mut [bool], entries: &EntrySlice<'_>, change: &Change<'_>)
     requires { length bits.old ≡ length entries.now }
-    ensures len { length bits.new ≡ length bits.old }
-    ensures marked { IsStrictlyOrdered entries.now
-        → bits.new ≡ either bits.old (map (is_replaced change.now) entries.now) }
+    ensures { SetsBits (is_replaced change.now) entries.now bits.old bits.new }
 {
     if let Change::Stage { entry, path } = change {
         set_bit(bits, entries, path, entry.flags.stage());
@@ -54,9 +44,7 @@ fn mark_change(bits: &mut [bool], entries: &EntrySlice<'_>, change: &Change<'_>)
 /// Sets the bits of the entries that changes stage.
 fn mark_changes(bits: &mut [bool], entries: &EntrySlice<'_>, changes: &[Change<'_>])
     requires { length bits.old ≡ length entries.now }
-    ensures len { length bits.new ≡ length bits.old }
-    ensures marked { IsStrictlyOrdered entries.now → bits.new ≡ either bits.old
-        (map (λ r. list_any (λ c. is_replaced c r) changes.now) entries.now) }
+    ensures { SetsBits (is_staged changes.now) entries.now bits.old bits.new }
 {
     for change in changes {
         mark_change(bits, entries, change);
@@ -71,11 +59,7 @@ fn mark_places(
     places: &ewah::Vec,
 )
     requires { length bits.old ≡ length entries.now }
-    ensures len { length bits.new ≡ length bits.old }
-    ensures marked { IsStrictlyOrdered entries.now
-        → are_below (length old.now) (set_places (bitmap places.now)) ≡ true
-        → bits.new ≡ either bits.old (map
-        (λ r. list_any (is_at_place old.now r) (set_places (bitmap places.now))) entries.now) }
+    ensures { MarksPlaces old.now (bitmap places.now) entries.now bits.old bits.new }
 {
     let mut positions = places.positions();
     while let Some(position) = positions.next() {
@@ -99,11 +83,7 @@ fn mark_dirty(
     changes: &[Change<'_>],
 )
     requires { length bits.old ≡ length entries.now }
-    ensures len { length bits.new ≡ length bits.old }
-    ensures marked { IsStrictlyOrdered entries.now
-        → are_below (length old.now) (set_places (bitmap places.now)) ≡ true
-        → bits.new ≡ either bits.old
-        (map (is_dirty changes.now old.now (set_places (bitmap places.now))) entries.now) }
+    ensures { MarksDirty changes.now old.now (bitmap places.now) entries.now bits.old bits.new }
 {
     mark_places(bits, entries, old, places);
     mark_changes(bits, entries, changes);
@@ -118,8 +98,8 @@ fn dirty_after(
     monitor: &FsMonitor,
     changes: &[Change<'_>],
 ) -> Result<Option<ewah::Vec>, AllocError>
-    ensures is { IfOk result (λ made. IsStrictlyOrdered entries.now → option_map bitmap made
-        ≡ dirty_after changes.now old.now entries.now (monitor_of monitor.now)) }
+    ensures is { IfOk result (IsDirtyAfter changes.now old.now entries.now (monitor_of
+        monitor.now)) }
     ensures spellable { IfOk result (λ made. IfSome made (λ b. IsSpellableDirty (bitmap b))) }
 {
     if !is_within(monitor, old.len() as u64) {
@@ -147,10 +127,8 @@ pub fn monitor_after(
     monitor: &Option<FsMonitor>,
     changes: &[Change<'_>],
 ) -> Result<Option<FsMonitor>, AllocError>
-    ensures is { IfOk result (λ made. IsStrictlyOrdered entries.now → option_map monitor_of made
-        ≡ monitor_after changes.now old.now entries.now (option_map monitor_of monitor.now)) }
-    ensures spellable { IfOk result (λ made. IfSome monitor.now (λ m. IsSpellableMonitor (monitor_of m))
-        → IfSome made (λ m. IsSpellableMonitor (monitor_of m))) }
+    ensures is { IfOk result (IsMonitorAfter changes.now old.now entries.now monitor.now) }
+    ensures spellable { IfOk result (StaysSpellableMonitor monitor.now) }
 {
     let Some(monitor) = monitor else {
         return Ok(None);

@@ -1,3 +1,4 @@
 pub mod Joined
 pub mod Numbers
+pub mod Statuses
 pub mod Summaries

@@ -10,13 +10,12 @@ use Rattle.index_numbers.specs.declared.number.TheConstants.{OWN}
 use Rattle.index_numbers.specs.declared.status.TheConstants.{DONE, NO_ROOM}
 use Rattle.index_numbers.specs.declared.summary.Summary.{Summary}
 use Rattle.index_numbers.specs.declared.summary.TheConstants.{LINKED, UNLINKED}
-use Rattle.index_table.specs.Reading.{BytesReadAs, Fills, IsReadSo, IsTooSmall, LacksMemory, sizes_of}
+use Rattle.index_table.specs.Reading.{BytesReadAs, LacksMemory, sizes_of}
 use Rattle.index_table.specs.Table.{padded_id}
 use Rattle.index_table.specs.declared.fault.Failure.{Failure}
 use Rattle.index_table.specs.declared.read.Sizes.{Sizes}
 use Rattle.index_table.specs.declared.read.Unread.{Unread}
 use Rattle.index_table.specs.declared.read.Unread.TheVariants.{NoRoom, Failed}
-use Rattle.index_table.specs.declared.row.Row.{Row}
 
 -- ---- nothing
 
@@ -60,15 +59,6 @@ summary_told sizes =
 pub record IsToldWith (s : Summary) (P : Contents → Type 0) (v : Contents) : Type 0 where
   pub told : s ≡ summary_told (sizes_of v)
   pub holds : P v
-
--- the bytes are read as a value, which the table has
-abbrev pub IsFilled : Bool → Kind → List ℕ → Summary → List Row → List Row → List ℕ → List ℕ → Type 0
-IsFilled skip kind bytes s rows filled paths spelling =
-    IsReadSo skip kind bytes (IsToldWith s (λ v. Fills v rows filled paths spelling))
-
--- the bytes are read as a value, for which the table is too small
-abbrev pub LacksRoom : Bool → Kind → List ℕ → Summary → List Row → List ℕ → Type 0
-LacksRoom skip kind bytes s rows paths = IsReadSo skip kind bytes (IsToldWith s (λ v. IsTooSmall v rows paths))
 
 -- ---- faults
 

@@ -1,7 +1,8 @@
 //! What calls that read or check tell beside their status.
 
-ghost use Rattle.std.specs.Prelude.{◌≡◌, ◌≤◌};
-ghost use Rattle.index_numbers.specs.Summaries.{HasText, TellsFailure, blank, link_number, shared_id_bytes, summary_told};
+ghost use Rattle.std.specs.Prelude.{◌≡◌};
+ghost use Rattle.index_numbers.specs.Statuses.{TellsSummary};
+ghost use Rattle.index_numbers.specs.Summaries.{TellsFailure, blank, link_number, shared_id_bytes, summary_told};
 
 use crate::fault::{number_of_error, put_fault, status_of_error};
 use crate::number::{OWN, number_of_version, number_of_whose};
@@ -104,9 +105,7 @@ pub fn tell_wrong_number(summary: &mut Summary) -> u32
 
 /// Tells why bytes aren't read.
 pub fn tell_failure(alloc: Global, failure: &Failure, text: &mut [u8], summary: &mut Summary) -> u32
-    ensures status { result ≤ MEMORY }
-    ensures told { TellsFailure failure.now result summary.new }
-    ensures text { HasText summary.new.text_bytes text.old text.new }
+    ensures { TellsSummary MEMORY (TellsFailure failure.now) result summary.new text.old text.new }
 {
     let fault = number_of_error(&failure.error);
     *summary = Summary {

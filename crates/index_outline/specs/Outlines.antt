@@ -1,7 +1,14 @@
 -- What an outline tells of an index whose entries it counts and doesn't keep (the library's own).
-use Rattle.std.specs.Prelude.{◌≡◌, ℕ, List, [], length, None}
+use Rattle.std.specs.Prelude.{◌≡◌, ◌||◌, ℕ, Bool, List, [], length, None, Ok}
 use Rattle.index_entries.specs.Entries.{AreEntries}
-use Rattle.index_format.specs.Contents.{Contents}
+use Rattle.index_format.specs.Answer.{Answer}
+use Rattle.index_format.specs.Contents.{Contents, ExtensionIdsAreOf}
+use Rattle.index_format.specs.DecodeErrors.{SaysFault}
+use Rattle.index_format.specs.declared.Parts.{Parts}
+use Rattle.index_format.specs.declared.error.Error.{Error}
+use Rattle.index_parts.specs.declared.hash.Kind.{Kind}
+use Rattle.index_reading.specs.ReadParts.{IsAnswerBehind}
+use Rattle.index_reading.specs.declared.decode.ReadAs.{ReadAs}
 use Rattle.index_state.specs.Edits.{with_records}
 use Rattle.index_state.specs.State.{contents}
 use Rattle.index_window.specs.Passed.{paths_len}
@@ -15,3 +22,24 @@ pub record Outlines (v : Contents) (o : Outline) : Type 0 where
   pub path_bytes : o.path_bytes ≡ paths_len v.records
   pub after : List ℕ
   pub entries : AreEntries v.version v.kind None o.entries.now v.records after
+
+-- the ids in its extensions are of the kind
+abbrev pub OutlineIdsAreOf : Kind → Outline → Type 0
+OutlineIdsAreOf kind o = ExtensionIdsAreOf kind (contents o.bare).extensions
+
+-- ---- what each step of it answers
+
+-- the error says a fault that is such an answer
+abbrev pub IsFaultBy : (Answer → Type 0) → Error → Type 0
+IsFaultBy P e = SaysFault e P
+
+-- bytes behind a header of so many entries are read as a value, and this is its outline
+abbrev pub IsOutlineBehind : ReadAs → ℕ → List ℕ → Outline → Type 0
+IsOutlineBehind r count bytes o =
+    (v : Contents) × Outlines v o × IsAnswerBehind r count bytes (Ok (v, o.checksum))
+
+-- marked as those of a sparse index where they were before, or this says so
+abbrev pub marked : Parts → Bool → Parts
+marked parts sparse = record parts {
+  extensions = record parts.extensions { is_sparse = parts.extensions.is_sparse || sparse };
+}

@@ -1,30 +1,19 @@
 //! An index in the bytes of its file of which no entry is kept: they are only counted.
 #![tactic(auto)]
 
-ghost use Rattle.std.specs.Prelude.{◌≡◌, ◌↔◌, ◌*◌, ◌||◌, not, IfErr, IfOk, Ok};
-ghost use Rattle.index_entries.specs.Limits.{entry_cost};
-ghost use Rattle.index_format.specs.Answer.{Answer, IsAnswer, IsBehindHeader};
-ghost use Rattle.index_format.specs.Contents.{Contents, ExtensionIdsAreOf};
-ghost use Rattle.index_format.specs.DecodeErrors.{SaysFault};
-ghost use Rattle.index_outline.specs.Outlines.{Outlines};
-ghost use Rattle.index_parts.specs.Limit.{is_within};
-ghost use Rattle.index_state.specs.State.{PathsInStorage, contents};
+ghost use Rattle.std.specs.Prelude.{◌≡◌, IfErr, IfOk};
+ghost use Rattle.index_outline.specs.Outlines.{IsFaultBy, IsOutlineBehind, OutlineIdsAreOf, marked};
+ghost use Rattle.index_reading.specs.ReadParts.{IsAnswerBehind};
+ghost use Rattle.index_state.specs.State.{PathsInStorage};
 
-use index_entries::Version;
 use index_entries::list::EntryList;
 use index_entry_reading::entries::Read;
-use index_extensions::end_of_index_entry;
 use index_format::{Parts, decode};
-use index_metadata::entry::FileTime;
-use index_parts::hash::{Kind, ObjectId};
-use index_parts::read;
-use index_reading::decode::{ReadAs, entries, header, read_ending};
+use index_parts::hash::ObjectId;
+use index_reading::decode::{ReadAs, read_ending};
 use index_state::State;
 use index_window::passed::pass_entries;
 use std::alloc::Global;
-
-/// How many bytes an entry counts as against [`decode::Options::alloc_limit_bytes`].
-const ENTRY_COST: usize = 96;
 
 /// An index of which no entry is kept.
 #[derive(Drop)]
@@ -41,53 +30,9 @@ pub struct Outline<'a> {
     pub checksum: Option<ObjectId>,
 }
 
-/// Whether so many entries, or the estimate of their paths, pass the limit.
-fn is_too_large(limit: Option<usize>, count: u32, paths: usize) -> bool
-    ensures { result ≡ (not (is_within limit (entry_cost * count)) || not (is_within limit paths)) }
-{
-    !read::is_within(limit, ENTRY_COST * count as usize) || !read::is_within(limit, paths)
-}
-
-/// The version and the count of entries that the header of a file declares, and the bytes behind it; where a file of so
-/// many bytes can hold these entries, and the caller's limit allows them.
-pub fn declared_by(
-    data: &[u8],
-    timestamp: FileTime,
-    object_hash: Kind,
-    options: decode::Options,
-) -> Result<(Version, u32, &[u8]), decode::Error>
-    ensures behind { IfOk result (λ x. (answer : Answer)
-        → IsBehindHeader object_hash timestamp options x.0 x.1 x.2.now answer
-        ↔ IsAnswer object_hash timestamp options «data».now answer) }
-    ensures fault { IfErr result
-        (λ e. SaysFault e (IsAnswer object_hash timestamp options «data».now)) }
-{
-    let (version, count, rest) = header::decode(data, object_hash)?;
-    let len = data.len();
-    let offset = end_of_index_entry::decode(data, object_hash);
-    if count as usize > entries::max_entries_possible(len, offset, object_hash, version) {
-        return Err(decode::Error::Header(header::Error::Corrupt(
-            "Declared entry count exceeds possible entries for file size",
-        )));
-    }
-    let paths = entries::estimate_path_storage_requirements_in_bytes(
-        count,
-        len,
-        offset,
-        object_hash,
-        version,
-    );
-    if is_too_large(options.alloc_limit_bytes, count, paths) {
-        return Err(decode::Error::OutOfMemory);
-    }
-    Ok((version, count, rest))
-}
-
 /// The parts, marked as those of a sparse index where this says so.
 fn marked(mut parts: Parts, sparse: bool) -> Parts
-    ensures { result ≡ record parts {
-      extensions = record parts.extensions { is_sparse = parts.extensions.is_sparse || sparse };
-    } }
+    ensures { result ≡ marked parts sparse }
 {
     parts.extensions.is_sparse |= sparse;
     parts
@@ -100,14 +45,10 @@ pub fn outline_behind_header(
     count: u32,
     bytes: &[u8],
 ) -> Result<Outline<'_>, decode::Error>
-    ensures outlined { IfOk result (λ o. (v : Contents) × Outlines v o
-        × IsBehindHeader read_as.object_hash read_as.timestamp read_as.options read_as.version
-        count bytes.now (Ok (v, o.checksum))) }
-    ensures fault { IfErr result (λ e. SaysFault e (IsBehindHeader read_as.object_hash
-        read_as.timestamp read_as.options read_as.version count bytes.now)) }
+    ensures outlined { IfOk result (IsOutlineBehind read_as count bytes.now) }
+    ensures fault { IfErr result (IsFaultBy (IsAnswerBehind read_as count bytes.now)) }
     ensures placed { IfOk result (λ o. PathsInStorage o.bare) }
-    ensures extension_ids { IfOk result
-        (λ o. ExtensionIdsAreOf read_as.object_hash (contents o.bare).extensions) }
+    ensures extension_ids { IfOk result (OutlineIdsAreOf read_as.object_hash) }
 {
     let passed = match pass_entries(read_as.version, read_as.object_hash, count, bytes) {
         Ok(passed) => passed,

@@ -1,8 +1,8 @@
 //! Parts that are drawn as one.
 
-ghost use Rattle.std.specs.Prelude.{◌≡◌, ◌++◌, [], ◌∷◌, IfOk};
+ghost use Rattle.std.specs.Prelude.{◌≡◌, ◌∷◌, IfOk};
 ghost use Rattle.index_picture.specs.Groups.{go_together, group_shade, grouped, stretched, reaches_over};
-ghost use Rattle.index_picture.specs.GroupSteps.{grown};
+ghost use Rattle.index_picture.specs.GroupSteps.{GrowTo};
 
 use crate::shade::{Shade, shade_of};
 use index_map::{Part, What};
@@ -47,8 +47,7 @@ fn go_together(what: What, next: What) -> bool
 
 /// The last group with the next part, where that goes with it; else the group comes to the others.
 fn grow(groups: &mut Vec<Part>, last: Part, next: Part) -> Result<Part, AllocError>
-    ensures { IfOk result (λ now. groups.new.items ++ (now ∷ [])
-        ≡ grown (groups.old.items ++ (last ∷ [])) next) }
+    ensures { IfOk result (GrowTo groups.old.items last next groups.new.items) }
 {
     if go_together(last.what, next.what) {
         return Ok(stretched(last, next));

@@ -1,10 +1,8 @@
 //! The whole picture.
 
-ghost use Rattle.std.specs.Prelude.{◌≡◌, ◌≢◌, ◌++◌, ◌≤◌, IfErr, OnErr, OnOk, false, length, true};
+ghost use Rattle.std.specs.Prelude.{◌≡◌, ◌++◌, ◌≤◌, OnOk, false, length};
 ghost use Rattle.std.specs.List.{flat_map};
-ghost use Rattle.std.specs.Io.KnownBytes.{Appends};
-ghost use Rattle.std.specs.IoError.{error_kind};
-ghost use Rattle.index_parts.specs.Taking.{AppendsPrefix};
+ghost use Rattle.index_text.specs.Blocks.{PutsText};
 ghost use Rattle.index_picture.specs.Picture.{bar_end, box, box_shape, box_title, drawing, front_text, title_text, height, list_begin, middle_text, picture_text, row, row_begin, row_rest, svg_begin, svg_end, totals};
 ghost use Rattle.index_picture.specs.Scale.{drawn_len};
 
@@ -267,14 +265,8 @@ fn write_boxes<W: Out>(
 ) -> io::Result<()>
     requires len { len ≤ 0x1fffffffffffffffe }
     requires unfailed { W.failed out.old ≡ false }
-    ensures ok { OnOk result (Appends (W.taken out.old) (W.taken out.new)
-        (flat_map (box each entries.now len) boxes.now)) }
-    ensures err { OnErr result (AppendsPrefix (W.taken out.old) (W.taken out.new)
-        (flat_map (box each entries.now len) boxes.now)) }
-    ensures cause { IfErr result
-        (λ e. error_kind e ≢ ErrorKind.OutOfMemory → W.failed out.new ≡ true) }
-    ensures unfailed { OnOk result (W.failed out.new ≡ false) }
-    ensures loan { W.loan out.new ≡ W.loan out.old }
+    ensures { PutsText W.Out out.old out.new result
+        (flat_map (box each entries.now len) boxes.now) }
 {
     let mut lines = Vec::new(alloc);
     for part in boxes {
@@ -293,14 +285,7 @@ fn write_rows<W: Out>(
     out: &mut W,
 ) -> io::Result<()>
     requires { W.failed out.old ≡ false }
-    ensures ok { OnOk result (Appends (W.taken out.old) (W.taken out.new)
-        (flat_map (row each entries.now) boxes.now)) }
-    ensures err { OnErr result (AppendsPrefix (W.taken out.old) (W.taken out.new)
-        (flat_map (row each entries.now) boxes.now)) }
-    ensures cause { IfErr result
-        (λ e. error_kind e ≢ ErrorKind.OutOfMemory → W.failed out.new ≡ true) }
-    ensures unfailed { OnOk result (W.failed out.new ≡ false) }
-    ensures loan { W.loan out.new ≡ W.loan out.old }
+    ensures { PutsText W.Out out.old out.new result (flat_map (row each entries.now) boxes.now) }
 {
     let mut lines = Vec::new(alloc);
     for part in boxes {
@@ -319,14 +304,7 @@ fn write_front<W: Out>(
     out: &mut W,
 ) -> io::Result<()>
     requires { W.failed out.old ≡ false }
-    ensures ok { OnOk result (Appends (W.taken out.old) (W.taken out.new)
-        (front_text entries.now parts.now boxes.now)) }
-    ensures err { OnErr result (AppendsPrefix (W.taken out.old) (W.taken out.new)
-        (front_text entries.now parts.now boxes.now)) }
-    ensures cause { IfErr result
-        (λ e. error_kind e ≢ ErrorKind.OutOfMemory → W.failed out.new ≡ true) }
-    ensures unfailed { OnOk result (W.failed out.new ≡ false) }
-    ensures loan { W.loan out.new ≡ W.loan out.old }
+    ensures { PutsText W.Out out.old out.new result (front_text entries.now parts.now boxes.now) }
 {
     let mut lines = Vec::new(alloc);
     append_front(&mut lines, entries, parts, boxes)?;
@@ -336,14 +314,7 @@ fn write_front<W: Out>(
 /// Writes what stands between the boxes and the rows.
 fn write_middle<W: Out>(alloc: Global, each: bool, parts: &[Part], out: &mut W) -> io::Result<()>
     requires { W.failed out.old ≡ false }
-    ensures ok { OnOk result (Appends (W.taken out.old) (W.taken out.new)
-        (middle_text each parts.now)) }
-    ensures err { OnErr result (AppendsPrefix (W.taken out.old) (W.taken out.new)
-        (middle_text each parts.now)) }
-    ensures cause { IfErr result
-        (λ e. error_kind e ≢ ErrorKind.OutOfMemory → W.failed out.new ≡ true) }
-    ensures unfailed { OnOk result (W.failed out.new ≡ false) }
-    ensures loan { W.loan out.new ≡ W.loan out.old }
+    ensures { PutsText W.Out out.old out.new result (middle_text each parts.now) }
 {
     let mut lines = Vec::new(alloc);
     append_middle(&mut lines, each, parts)?;
@@ -360,14 +331,7 @@ fn write_drawing<W: Out>(
     out: &mut W,
 ) -> io::Result<()>
     requires { W.failed out.old ≡ false }
-    ensures ok { OnOk result (Appends (W.taken out.old) (W.taken out.new)
-        (drawing each entries.now parts.now boxes.now)) }
-    ensures err { OnErr result (AppendsPrefix (W.taken out.old) (W.taken out.new)
-        (drawing each entries.now parts.now boxes.now)) }
-    ensures cause { IfErr result
-        (λ e. error_kind e ≢ ErrorKind.OutOfMemory → W.failed out.new ≡ true) }
-    ensures unfailed { OnOk result (W.failed out.new ≡ false) }
-    ensures loan { W.loan out.new ≡ W.loan out.old }
+    ensures { PutsText W.Out out.old out.new result (drawing each entries.now parts.now boxes.now) }
 {
     write_front(alloc, entries, parts, boxes, out)?;
     write_boxes(alloc, entries, each, drawn_len(parts), boxes, out)?;
@@ -390,14 +354,7 @@ pub fn write_svg<W: Out>(
     out: &mut W,
 ) -> io::Result<()>
     requires { W.failed out.old ≡ false }
-    ensures ok { OnOk result (Appends (W.taken out.old) (W.taken out.new)
-        (picture_text entries.now.records parts.now)) }
-    ensures err { OnErr result (AppendsPrefix (W.taken out.old) (W.taken out.new)
-        (picture_text entries.now.records parts.now)) }
-    ensures cause { IfErr result
-        (λ e. error_kind e ≢ ErrorKind.OutOfMemory → W.failed out.new ≡ true) }
-    ensures unfailed { OnOk result (W.failed out.new ≡ false) }
-    ensures loan { W.loan out.new ≡ W.loan out.old }
+    ensures { PutsText W.Out out.old out.new result (picture_text entries.now.records parts.now) }
 {
     let entries = entries.as_slice();
     if parts.len() <= MOST_PARTS {

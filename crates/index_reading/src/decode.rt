@@ -3,19 +3,19 @@
 pub mod entries;
 pub mod header;
 
-ghost use Rattle.std.specs.Prelude.{◌≡◌, ◌≤◌, ◌+◌, ◌*◌, ◌||◌, not, nat_lt, false, length, Ok, IfOk, IfErr, IfSome};
-ghost use Rattle.std.specs.Prelude.{OnOk, All};
+ghost use Rattle.std.specs.Prelude.{◌≡◌, ◌≤◌, ◌+◌, ◌*◌, ◌||◌, not, length, IfOk, IfErr, OnOk, All};
 ghost use Rattle.index_parts.specs.Id.{id_kind, id_len};
 ghost use Rattle.index_format.specs.Outcome.{outcome_of};
-ghost use Rattle.index_format.specs.Answer.{Answer, IsVerified, IsAnswer, IsBehindHeader, IsEnding};
-ghost use Rattle.index_format.specs.DecodeErrors.{Says, SaysFault};
+ghost use Rattle.index_format.specs.Answer.{Answer, IsAnswer, IsVerified};
+ghost use Rattle.index_format.specs.DecodeErrors.{Says};
 ghost use Rattle.index_parts.specs.Limit.{is_within};
-ghost use Rattle.index_entries.specs.Header.{header_of, count_of};
-ghost use Rattle.index_entries.specs.Limits.{entry_cost, is_too_large, most_entries};
-ghost use Rattle.index_format.specs.ExtensionSteps.{IsTaken};
+ghost use Rattle.index_entries.specs.Limits.{entry_cost};
 ghost use Rattle.index_format.specs.Storable.{IsStorable};
-ghost use Rattle.index_format.specs.Contents.{PartsInStorage, ExtensionIdsAreOf, parts_contents, parts_entries};
-ghost use Rattle.index_entries.specs.Record.{IdsAreOf, has_directory};
+ghost use Rattle.index_format.specs.Contents.{ExtensionIdsAreOf, parts_contents};
+ghost use Rattle.index_entries.specs.Record.{has_directory};
+ghost use Rattle.index_reading.specs.Head.{IsDeclared, LooksAt};
+ghost use Rattle.index_reading.specs.ReadParts.{AreOfKind, IsAnswerBehind, IsEndingAs, IsTakenAs};
+ghost use Rattle.index_reading.specs.ReadParts.{SaysDigest, SaysWhole};
 
 use crate::{extension, trailer};
 use index_entries::Version;
@@ -35,8 +35,7 @@ const ENTRY_COST: usize = 96;
 /// Whether the ids, if there are two, agree.
 fn verify(expected: Option<ObjectId>, actual: Option<ObjectId>) -> Result<(), Error>
     ensures ok { OnOk result ((whole : Answer) → IsVerified expected actual whole whole) }
-    ensures err { IfErr result (λ e. (whole : Answer)
-        → SaysFault e (IsVerified expected actual whole)) }
+    ensures err { IfErr result (SaysDigest expected actual) }
 {
     let Some(expected) = expected else {
         return Ok(());
@@ -76,13 +75,9 @@ fn read_parts(
     requires sparse { read.sparse ≡ has_directory read.list.records }
     requires trailer { length trailer.now ≡ id_len read_as.object_hash }
     requires room { left + id_len read_as.object_hash ≤ 0xffffffffffffffff }
-    ensures taken { Says parts_contents result (IsTaken read_as.object_hash read_as.timestamp
-        read_as.options read_as.version read.entry.list.records (outcome_of outcome) left
-        trailer.now) }
-    ensures placed { IfOk result (λ x. PartsInStorage x.0) }
-    ensures ids { IfOk result (λ x. IdsAreOf read_as.object_hash (parts_entries x.0)) }
-    ensures extension_ids { IfOk result
-        (λ x. ExtensionIdsAreOf read_as.object_hash (parts_contents x.0).extensions) }
+    ensures taken { Says parts_contents result
+        (IsTakenAs read_as read.entry outcome left trailer.now) }
+    ensures parts { IfOk result (λ x. AreOfKind read_as.object_hash x.0) }
 {
     let ReadAs {
         timestamp,
@@ -122,12 +117,8 @@ pub fn read_ending(
 ) -> Result<(Parts, Option<ObjectId>), Error>
     requires ids { All (λ r. id_kind r.id ≡ read_as.object_hash) read.list.records }
     requires sparse { read.sparse ≡ has_directory read.list.records }
-    ensures ending { Says parts_contents result (IsEnding read_as.object_hash read_as.timestamp
-        read_as.options read_as.version read.entry.list.records read.entry.rest.now) }
-    ensures placed { IfOk result (λ x. PartsInStorage x.0) }
-    ensures ids { IfOk result (λ x. IdsAreOf read_as.object_hash (parts_entries x.0)) }
-    ensures extension_ids { IfOk result
-        (λ x. ExtensionIdsAreOf read_as.object_hash (parts_contents x.0).extensions) }
+    ensures ending { Says parts_contents result (IsEndingAs read_as read.entry) }
+    ensures parts { IfOk result (λ x. AreOfKind read_as.object_hash x.0) }
 {
     let expected = read_as.object_hash.len_in_bytes();
     let actual = read.rest.len();
@@ -147,36 +138,37 @@ fn is_too_large(limit: Option<usize>, count: u32, paths: usize) -> bool
     !read::is_within(limit, ENTRY_COST * count as usize) || !read::is_within(limit, paths)
 }
 
-/// How many entries a file has, and how they are encoded.
+/// What the header of a file declares, and what stands behind it.
 #[derive(Clone, Copy)]
-pub struct Declared {
-    /// The version that the header declares.
+pub struct Declared<'a> {
+    /// The version of the encoding.
     pub version: Version,
-    /// The count of entries that it declares.
+    /// The count of entries.
     pub count: u32,
     /// An estimate of the bytes that their paths take.
     pub paths: usize,
+    /// The bytes that were given, from behind the header on.
+    pub rest: &'a [u8],
 }
 
-/// What the header declares, the head of a file of so many bytes, whose end marker names this offset, or which has
-/// none. None where the header is at fault, or the count passes what such a file can hold or the limit.
+/// What the header declares, at the head of a file of so many bytes, whose end marker names this offset, or which has
+/// none. Else the fault of the header, of a count that passes what such a file can hold, or of the limit.
 pub fn declared_by(
     head: &[u8],
     len: usize,
     offset: Option<usize>,
     object_hash: Kind,
     options: Options,
-) -> Option<Declared>
-    ensures header { IfSome result (λ x. header_of object_hash head.now ≡ Ok x.version) }
-    ensures count { IfSome result (λ x. x.count ≡ count_of head.now) }
-    ensures fits { IfSome result
-        (λ x. nat_lt (most_entries len offset object_hash x.version) x.count ≡ false) }
-    ensures small { IfSome result (λ x. is_too_large options.alloc_limit_bytes x.count len offset
-        object_hash x.version ≡ false) }
+) -> Result<Declared<'_>, Error>
+    ensures declared { IfOk result (IsDeclared object_hash options head.now len offset) }
+    // Where the head is all of the file.
+    ensures fault { IfErr result (SaysWhole object_hash options head.now len offset) }
 {
-    let (version, count, _) = header::decode(head, object_hash).ok()?;
+    let (version, count, rest) = header::decode(head, object_hash)?;
     if count as usize > entries::max_entries_possible(len, offset, object_hash, version) {
-        return None;
+        return Err(Error::Header(header::Error::Corrupt(
+            "Declared entry count exceeds possible entries for file size",
+        )));
     }
     let paths = entries::estimate_path_storage_requirements_in_bytes(
         count,
@@ -186,13 +178,22 @@ pub fn declared_by(
         version,
     );
     if is_too_large(options.alloc_limit_bytes, count, paths) {
-        return None;
+        return Err(Error::OutOfMemory);
     }
-    Some(Declared {
+    Ok(Declared {
         version,
         count,
         paths,
+        rest,
     })
+}
+
+/// The same of a file of which all bytes are at hand.
+pub fn declared_in(data: &[u8], object_hash: Kind, options: Options) -> Result<Declared<'_>, Error>
+    ensures { LooksAt object_hash options «data».now result }
+{
+    let offset = end_of_index_entry::decode(data, object_hash);
+    declared_by(data, data.len(), offset, object_hash, options)
 }
 
 /// The state of so many entries at the front of the bytes, and the end behind them.
@@ -203,13 +204,8 @@ fn read_behind_header(
     paths: usize,
     bytes: &[u8],
 ) -> Result<(Parts, Option<ObjectId>), Error>
-    ensures behind { Says parts_contents result
-        (IsBehindHeader read_as.object_hash read_as.timestamp read_as.options read_as.version
-        count bytes.now) }
-    ensures placed { IfOk result (λ x. PartsInStorage x.0) }
-    ensures ids { IfOk result (λ x. IdsAreOf read_as.object_hash (parts_entries x.0)) }
-    ensures extension_ids { IfOk result
-        (λ x. ExtensionIdsAreOf read_as.object_hash (parts_contents x.0).extensions) }
+    ensures behind { Says parts_contents result (IsAnswerBehind read_as count bytes.now) }
+    ensures parts { IfOk result (λ x. AreOfKind read_as.object_hash x.0) }
 {
     let ReadAs {
         object_hash,
@@ -232,35 +228,21 @@ pub fn from_bytes(
     // The state or the first fault that the format gives these bytes.
     ensures answer { Says parts_contents result
         (IsAnswer object_hash timestamp options «data».now) }
-    ensures placed { IfOk result (λ x. PartsInStorage x.0) }
-    ensures ids { IfOk result (λ x. IdsAreOf object_hash (parts_entries x.0)) }
+    ensures parts { IfOk result (λ x. AreOfKind object_hash x.0) }
     ensures storable { IfOk result (λ x. IsStorable (parts_contents x.0)) }
-    ensures extension_ids { IfOk result
-        (λ x. ExtensionIdsAreOf object_hash (parts_contents x.0).extensions) }
 {
-    let (version, count, rest) = header::decode(data, object_hash)?;
-    let offset = end_of_index_entry::decode(data, object_hash);
-    let most = entries::max_entries_possible(data.len(), offset, object_hash, version);
-    if count as usize > most {
-        return Err(Error::Header(header::Error::Corrupt(
-            "Declared entry count exceeds possible entries for file size",
-        )));
-    }
-    let paths = entries::estimate_path_storage_requirements_in_bytes(
-        count,
-        data.len(),
-        offset,
-        object_hash,
-        version,
-    );
-    if is_too_large(options.alloc_limit_bytes, count, paths) {
-        return Err(Error::OutOfMemory);
-    }
+    let declared = declared_in(data, object_hash, options)?;
     let read_as = ReadAs {
         timestamp,
         object_hash,
-        version,
+        version: declared.version,
         options,
     };
-    read_behind_header(alloc, read_as, count, paths, rest)
+    read_behind_header(
+        alloc,
+        read_as,
+        declared.count,
+        declared.paths,
+        declared.rest,
+    )
 }

@@ -1,9 +1,10 @@
 //! Reading the extensions behind the last entry.
 
-ghost use Rattle.std.specs.Prelude.{◌≡◌, ◌≤◌, ℕ, List, length, IfOk, IfErr, OnOk};
-ghost use Rattle.index_format.specs.ExtensionSteps.{Adds, IsGathered, SaysExtension, SaysItem};
+ghost use Rattle.std.specs.Prelude.{◌≡◌, ◌≤◌, length, IfOk, IfErr, OnOk};
+ghost use Rattle.index_format.specs.ExtensionSteps.{SaysExtension};
 ghost use Rattle.index_format.specs.Outcome.{is_mandatory, is_understood, outcome_of};
 ghost use Rattle.index_format.specs.Contents.{ExtensionIdsAreOf};
+ghost use Rattle.index_reading.specs.ReadParts.{AddsTo, HasGathered, SaysContent};
 
 use index_cached_tree as tree;
 use index_extensions::{Iter, Signature, end_of_index_entry, sparse};
@@ -40,12 +41,9 @@ fn add(
     signature: Signature,
     content: &[u8],
 ) -> Result<(), DecodeError>
-    ensures ok { OnOk result
-        (Adds object_hash alloc_limit_bytes signature content.now (outcome_of outcome.old)
-        (outcome_of outcome.new)) }
-    ensures err { IfErr result (λ e. (size : List ℕ)
-        → SaysItem object_hash
-        (record { signature = signature; size = size; content = content.now }) e) }
+    ensures ok { OnOk result (AddsTo object_hash alloc_limit_bytes signature content.now
+        outcome.old outcome.new) }
+    ensures err { IfErr result (SaysContent object_hash signature content.now) }
 {
     let limit = alloc_limit_bytes;
     if signature == link::SIGNATURE {
@@ -75,8 +73,7 @@ pub fn all(
     object_hash: Kind,
     alloc_limit_bytes: Option<usize>,
 ) -> Result<(Outcome, usize), DecodeError>
-    ensures ok { IfOk result
-        (λ x. IsGathered object_hash alloc_limit_bytes extensions.now (outcome_of x.0) x.1) }
+    ensures ok { IfOk result (HasGathered object_hash alloc_limit_bytes extensions.now) }
     ensures ids { IfOk result (λ x. ExtensionIdsAreOf object_hash (outcome_of x.0)) }
     ensures small { IfOk result (λ x. x.1 ≤ length extensions.now) }
     ensures err { IfErr result (SaysExtension object_hash extensions.now) }

@@ -25,6 +25,7 @@ use Rattle.index_format.specs.Kept.{where_fit}
 use Rattle.index_format.specs.Lending.{parts_with_entries, parts_with_entry_at, parts_with_tree}
 use Rattle.index_format.specs.Outcome.{no_extension}
 use Rattle.index_format.specs.Contents.{Contents}
+use Rattle.index_updates.specs.Updates.{AreUnchanged}
 use Rattle.index_state.specs.State.{contents, entries_of, records, storage_of}
 
 -- an index of version 2 with no entry and no extension
@@ -101,10 +102,8 @@ pub record AddsEntry (old new : State) (r : Record) : Type 0 where
   pub others : contents new ≡ edited (contents old) (records new)
 
 -- as values the same entries, the same storage, and all else the same
-pub record IsUnchanged (old new : State) : Type 0 where
-  pub same_entries : entries_of new ≡ entries_of old
-  pub same_storage : storage_of new ≡ storage_of old
-  pub same_contents : contents new ≡ contents old
+abbrev pub IsUnchanged : State → State → Type 0
+IsUnchanged old new = AreUnchanged old.parts new.parts
 
 -- the state with these entries, as many as it has, which the extensions aren't known to fit; all else stays
 abbrev pub with_entries : State → List Entry → State

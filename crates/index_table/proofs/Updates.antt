@@ -10,7 +10,8 @@ use Rattle.gix_index.specs.OrderError.{Error as OrderError}
 use Rattle.gix_index.specs.OrderError.TheVariants as orders
 use Rattle.gix_index.specs.SoundState.{SaysFall}
 use Rattle.index_table.specs.Joining.{AreReadSo}
-use Rattle.index_table.specs.Updating.{IsChangedBy, IsUnmade, MakesNothing, MakesOf, Updates, order_told}
+use Rattle.index_table.specs.Refusing.{IsUnmade, MakesNothing, order_told}
+use Rattle.index_table.specs.Updating.{IsChangedBy, MakesOf, Updates}
 use Rattle.index_table.specs.Writing.{IfPassed, IfRefused}
 use Rattle.index_table.specs.declared.row.Row.{Row}
 use Rattle.index_table.specs.declared.write.Image.{Image}

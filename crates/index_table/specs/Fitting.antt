@@ -3,14 +3,16 @@
 use Rattle.std.specs.Prelude.{◌≡◌, ◌≢◌, ℕ, ◌+◌, ◌≤◌, ◌<◌, ◌⊎◌, Bool, false, true, List, All, length, take}
 use Rattle.std.specs.Prelude.{Option, Some, None, if◌then◌else◌}
 use Rattle.std.specs.List.{AllWithin, HoldsAt}
-use Rattle.std.specs.Option.{is_some}
+use Rattle.std.specs.Option.{is_some, option_map_or}
+use Rattle.std.specs.Ordering.{is_ge}
+use denote.Ref.{Bor}
 use Rattle.gix_index.specs.EntryImage.{is_removed, written}
 use Rattle.gix_index.specs.Flags.{stage_number}
 use Rattle.gix_index.specs.Kind.{Kind}
 use Rattle.gix_index.specs.Mode.{directory_mode, named_kind}
-use Rattle.gix_index.specs.Order.{IsStrictlyOrdered}
+use Rattle.gix_index.specs.Order.{IsStrictlyOrdered, record_cmp}
 use Rattle.gix_index.specs.Record.{Record}
-use Rattle.index_table.specs.Table.{kind_number, records_of, row_path}
+use Rattle.index_table.specs.Table.{kind_number, records_of, row_path, spelled}
 use Rattle.index_table.specs.declared.row.Row.{Row}
 use Rattle.index_table.specs.declared.write.Fault.{Fault}
 use Rattle.index_table.specs.declared.write.Fault.TheVariants as faults
@@ -20,6 +22,11 @@ use Rattle.index_table.specs.declared.write.Fault.TheVariants as faults
 -- the row's mode is one of the five that git has
 abbrev pub has_git_mode : Row → Bool
 has_git_mode row = is_some (named_kind row.mode)
+
+-- the row's path lies among the bytes for paths, and has some, and no NUL
+abbrev pub HasPlainPath : List ℕ → Row → Type 0
+HasPlainPath paths row =
+    (row.path_start + row.path_len ≤ length paths) × (row.path_len ≢ 0) × All (λ b. b ≢ 0) (row_path paths row)
 
 -- The row can stand in a file of the kind, with the mark of a sparse index or without: its stage is that of its flags;
 -- its mode is one of git's, and without the mark no directory's; its path lies among the bytes for paths, and has some,
@@ -45,6 +52,11 @@ IsFirstUnfit kind sparse paths rows (Some place) =
     × AllWithin (IsFit kind sparse paths) rows 0 place
 
 -- ---- order
+
+-- there is a row before this one, above which this one isn't
+abbrev pub falls_behind : List ℕ → Option (Bor Row) → Row → Bool
+falls_behind paths before row =
+    option_map_or (λ b. is_ge (record_cmp (spelled paths b.now) (spelled paths row))) before false
 
 -- the place of the first record that is written and isn't above the one that is written before it, or None where these
 -- strictly increase

@@ -1,8 +1,12 @@
 pub mod Faults
+pub mod Filling
 pub mod Fitting
+pub mod Folding
 pub mod Joining
 pub mod Overwriting
 pub mod Reading
+pub mod Refusing
+pub mod States
 pub mod Table
 pub mod Updating
 pub mod Writing

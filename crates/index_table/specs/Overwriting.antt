@@ -1,8 +1,10 @@
 -- What is kept of an index that a table is written over (gitformat-index, "Cache tree", "Sparse Directory Entries").
-use Rattle.std.specs.Prelude.{◌≡◌, ℕ, ◌⊎◌, ◌^◌, ◌<◌, false, List, length, Option, Some, None}
+use Rattle.std.specs.Prelude.{◌≡◌, ℕ, ◌⊎◌, ◌^◌, ◌<◌, false, List, length, Option, Some, None, Result}
+use Rattle.std.specs.Prelude.{IfErr, IfOk}
 use Rattle.gix_index.specs.Contents.{Contents}
 use Rattle.gix_index.specs.EntryImage.{is_removed, written}
 use Rattle.gix_index.specs.Edits.{edited, with_cached_tree, without_tree}
+use Rattle.gix_index.specs.FileFaults.ReadError.{Error as ReadError}
 use Rattle.gix_index.specs.Kind.{Kind}
 use Rattle.gix_index.specs.Record.{Record}
 use Rattle.gix_index.specs.Refusals.{AreFit, AreRefused, Refusal}
@@ -12,19 +14,21 @@ use Rattle.gix_index.specs.TreeIds.{AreRight, any_name}
 use Rattle.gix_index.specs.WriteExtensions.TheVariants as extensions
 use Rattle.gix_index.specs.WriteOptions.{Options}
 use Rattle.index_table.specs.Fitting.{IsFitTable, IsUnfitTable}
-use Rattle.index_table.specs.Reading.{IsReadSo}
+use Rattle.index_table.specs.Reading.{FailsSo, IsReadSo, LacksMemory}
 use Rattle.index_table.specs.Table.{records_of, spelled}
-use Rattle.index_table.specs.Writing.{PassesLimit, options_with}
+use Rattle.index_table.specs.Writing.{HasImage, IfPassed, IfRefused, IfUnwritten, PassesLimit, PassesRoom, PutsWith}
+use Rattle.index_table.specs.Writing.{options_with}
 use Rattle.index_table.specs.declared.over.CachedTree.{CachedTree}
 use Rattle.index_table.specs.declared.over.CachedTree.TheVariants.{Absent, Kept, LeftOut}
+use Rattle.index_table.specs.declared.over.Replacement.{Replacement}
 use Rattle.index_table.specs.declared.row.Row.{Row}
 use Rattle.index_table.specs.declared.write.Fault.{Fault}
 use Rattle.index_table.specs.declared.write.Format.{Format}
 
 -- ---- the cached tree
 
--- The tree tells what the value's records give: no merged one is at fault, and each node with a count has the id and the
--- count of the entries below its directory.
+-- The tree tells what the value's records give: no merged one is at fault, and each node with a count has the id and
+-- the count of the entries below its directory.
 pub record IsRightTree (v : Contents) (t : Node) : Type 0 where
   pub few : length (merged_in v.records) < 2 ^ 31
   pub fit : AreFit any_name v.kind (merged_in v.records)
@@ -61,12 +65,16 @@ pub record AreEntries (rs : List Record) (paths : List ℕ) (rows : List Row) : 
   pub stay : written (records_of paths rows) ≡ records_of paths rows
   pub are : records_of paths rows ≡ rs
 
--- Rows that are the entries of a value leave it as it is. Others have the records of those that are written put in their
--- place, which the extensions aren't known to fit.
+-- the value has the records of the rows that are written in place of its own, which the extensions aren't known to fit
+abbrev pub HasRowsInstead : Contents → List ℕ → List Row → Contents → Type 0
+HasRowsInstead before paths rows v = v ≡ edited before (written (records_of paths rows))
+
+-- Rows that are the entries of a value leave it as it is. Others have the records of those that are written put in
+-- their place, which the extensions aren't known to fit.
 abbrev pub Replaces : Contents → List ℕ → List Row → Contents → Type 0
 Replaces before paths rows v =
     (AreEntries before.records paths rows × (v ≡ before))
-    ⊎ ((AreEntries before.records paths rows → ⊥) × (v ≡ edited before (written (records_of paths rows))))
+    ⊎ ((AreEntries before.records paths rows → ⊥) × HasRowsInstead before paths rows v)
 
 -- The table is fit, and this holds of the value that it gives in place of another: the records of the rows that are
 -- written in place of that one's, and its cached tree or none.
@@ -96,3 +104,26 @@ abbrev pub IsUnwrittenOver : Format → List ℕ → List ℕ → List Row → C
 IsUnwrittenOver f bytes paths rows tree fault =
     IsUnfitOver f.kind bytes paths rows tree fault
     ⊎ WritesOver f.kind bytes paths rows tree (PassesLimit (full_options f) fault)
+
+-- ---- what calls answer
+
+-- what is answered where a table takes the place of a value
+abbrev pub PutsInPlace : Format → List ℕ → List Row → Contents → List ℕ → List ℕ → Replacement → Type 0
+PutsInPlace f paths rows before old new over =
+    PutsWith (λ P. TakesPlaceOf f.kind paths rows over.tree P before) (full_options f)
+    (λ fault. TakesPlaceOf f.kind paths rows over.tree (PassesLimit (full_options f) fault) before) old new
+    over.written
+
+-- What is answered where a table is to be written into a room over the index of these bytes. Ok: what became of it, and
+-- of the cached tree. Err: why the bytes aren't read. Where nothing is written, the room is as it was.
+pub record WritesOverIndex (f : Format) (bytes paths : List ℕ) (rows : List Row) (old new : List ℕ)
+    (r : Result Replacement ReadError) : Type 0 where
+  pub done : IfOk r (λ over. IfOk over.written
+      (λ told. WritesOver f.kind bytes paths rows over.tree (HasImage (full_options f) told old new)))
+  pub refused : IfOk r (λ over. IfRefused over.written (IsUnwrittenOver f bytes paths rows over.tree))
+  pub memory : IfOk r (λ over. IfUnwritten over.written (LacksMemory None false f.kind bytes))
+  pub no_room : IfOk r (λ over. IfPassed over.written
+      (λ told. WritesOver f.kind bytes paths rows over.tree (PassesRoom (full_options f) told old)))
+  pub unread : IfErr r (FailsSo None false f.kind bytes)
+  pub room : IfErr r (λ _. new ≡ old)
+  pub kept : IfOk r (λ over. IfErr over.written (λ _. new ≡ old))

@@ -16,7 +16,7 @@ use Rattle.gix_index.specs.ObjectId.{ObjectId}
 use Rattle.gix_index.specs.Outlined.Passed.{paths_len}
 use Rattle.gix_index.specs.Stat.{seconds_of, nanoseconds_of}
 use Rattle.index_table.specs.Faults.{SaysRefusal}
-use Rattle.index_table.specs.Table.{HoldsRecords}
+use Rattle.index_table.specs.Table.{FillsRecords}
 use Rattle.index_table.specs.declared.fault.Failure.{Failure}
 use Rattle.index_table.specs.declared.fault.Whose.TheVariants.{Own}
 use Rattle.index_table.specs.declared.read.Sizes.{Sizes}
@@ -71,6 +71,10 @@ sizes_of v =
       link = link_id v.extensions.link;
     }
 
+-- the same with these counts
+abbrev pub sizes_with : Contents → (entries path_bytes : ℕ) → Sizes
+sizes_with v entries path_bytes = record (sizes_of v) { entries = entries; path_bytes = path_bytes }
+
 -- these are the sizes of a value, of which this holds
 pub record HasSizes (sizes : Sizes) (P : Contents → Type 0) (v : Contents) : Type 0 where
   pub sizes_are : sizes ≡ sizes_of v
@@ -78,7 +82,7 @@ pub record HasSizes (sizes : Sizes) (P : Contents → Type 0) (v : Contents) : T
 
 -- the table has the value's records
 abbrev pub Fills : Contents → List Row → List Row → List ℕ → List ℕ → Type 0
-Fills v rows filled paths spelling = HoldsRecords v.records (paths_len v.records) rows filled paths spelling
+Fills v rows filled paths spelling = FillsRecords v.records rows filled paths spelling
 
 -- the rows or the bytes for paths are fewer than the value takes
 abbrev pub IsTooSmall : Contents → List Row → List ℕ → Type 0

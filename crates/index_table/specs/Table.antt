@@ -9,6 +9,7 @@ use Rattle.gix_index.specs.Kind.TheVariants as kinds
 use Rattle.gix_index.specs.ObjectId.{ObjectId}
 use Rattle.gix_index.specs.ObjectId.TheVariants as ids
 use Rattle.gix_index.specs.EntryType.{Entry}
+use Rattle.gix_index.specs.Outlined.Passed.{paths_len}
 use Rattle.gix_index.specs.PathRange.{range_start}
 use Rattle.gix_index.specs.Record.{Record}
 use Rattle.gix_index.specs.Pathless.{Pathless}
@@ -70,6 +71,10 @@ pub record HoldsRecords (rs : List Record) (len : ℕ) (rows filled : List Row) 
   pub whole : All (IsWholeRow len) (take (length rs) filled)
   pub rows_behind : drop (length rs) filled ≡ drop (length rs) rows
   pub paths_behind : drop len spelling ≡ drop len paths
+
+-- the same with as many bytes for paths as the records' have together
+abbrev pub FillsRecords : List Record → List Row → List Row → List ℕ → List ℕ → Type 0
+FillsRecords rs rows filled paths spelling = HoldsRecords rs (paths_len rs) rows filled paths spelling
 
 -- ---- an entry's row
 

@@ -1,20 +1,14 @@
--- What the rows of a table make of an index, where they are changes of it (the words of git-update-index, "--index-info"
--- and "--force-remove").
-use Rattle.std.specs.Prelude.{◌≡◌, ◌⊎◌, ℕ, false, List, All, map, Some, None, if◌then◌else◌}
-use Rattle.gix_index.specs.Changing.ApplyError.TheVariants.{Refused}
+-- What the rows of a table make of an index, where they are changes of it (the words of git-update-index,
+-- "--index-info" and "--force-remove").
+use Rattle.std.specs.Prelude.{◌≡◌, ℕ, false, List, All, map, Some, None, if◌then◌else◌}
 use Rattle.gix_index.specs.Changing.Change.{Change}
 use Rattle.gix_index.specs.Changing.Changes.{IsAppliedTo, refusal_of}
-use Rattle.gix_index.specs.Changing.Error.{Error}
-use Rattle.gix_index.specs.Changing.Error.TheVariants as errors
 use Rattle.gix_index.specs.Changing.Updates.{updated}
 use Rattle.gix_index.specs.Contents.{Contents}
 use Rattle.gix_index.specs.EntryImage.{is_removed}
 use Rattle.gix_index.specs.Kind.{Kind}
 use Rattle.gix_index.specs.Order.{IsStrictlyOrdered}
-use Rattle.gix_index.specs.OrderError.{Error as OrderError}
-use Rattle.gix_index.specs.OrderError.TheVariants as orders
 use Rattle.gix_index.specs.Pathless.{Pathless}
-use Rattle.gix_index.specs.Sorted.{IsFirstFall}
 use Rattle.gix_index.specs.Version.{Version}
 use Rattle.gix_index.specs.Version.TheVariants as versions
 use Rattle.gix_index.specs.VersionChoice.{VersionChoice}
@@ -24,16 +18,13 @@ use Rattle.gix_index.specs.WriteOptions.{Options}
 use Rattle.index_info.specs.Line.{ChangeValue}
 use Rattle.index_info.specs.Names as names
 use Rattle.index_info.specs.Text.{change_value}
-use Rattle.index_table.specs.Fitting.{HasUnfitRow, IsFit}
+use Rattle.index_table.specs.Fitting.{IsFit}
 use Rattle.index_table.specs.Joining.{AreReadSo}
 use Rattle.index_table.specs.Table.{row_id, row_path, row_stat}
 use Rattle.index_table.specs.Writing.{HasImage, IsUnwritable, PassesRoom}
 use Rattle.index_table.specs.declared.row.Row.{Row}
 use Rattle.index_table.specs.declared.write.Fault.{Fault}
-use Rattle.index_table.specs.declared.write.Fault.TheVariants as faults
 use Rattle.index_table.specs.declared.write.Image.{Image}
-use Rattle.index_table.specs.declared.write.Unwritten.{Unwritten}
-use Rattle.index_table.specs.declared.write.Unwritten.TheVariants as unwritten
 
 -- ---- the changes
 
@@ -57,8 +48,8 @@ change_said paths row = record {
 abbrev pub AreSaidBy : List ℕ → List Row → List Change → Type 0
 AreSaidBy paths rows cs = map change_value cs ≡ map (change_said paths) rows
 
--- The value's entries are in order, and each row that isn't marked REMOVE can stand in its file. The rows say changes, of
--- which none is refused, by the names that git lets stand in a path; and they make the other value of this one.
+-- The value's entries are in order, and each row that isn't marked REMOVE can stand in its file. The rows say changes,
+-- of which none is refused, by the names that git lets stand in a path; and they make the other value of this one.
 pub record IsChangedBy (kind : Kind) (paths : List ℕ) (rows : List Row) (before value : Contents) : Type 0 where
   pub ordered : IsStrictlyOrdered before.records
   pub fit : All (IsFit kind before.extensions.sparse paths) rows
@@ -103,65 +94,3 @@ pub record MakesOf (kind : Kind) (paths : List ℕ) (rows : List Row) (P : Conte
 -- the bytes and those of the shared index are read as a value, and this holds of what the rows make of it
 abbrev pub Updates : Kind → List ℕ → List ℕ → List ℕ → List Row → (Contents → Type 0) → Type 0
 Updates kind bytes shared paths rows P = AreReadSo false kind bytes shared (MakesOf kind paths rows P)
-
--- ---- why nothing is
-
--- the fault of a change at a place that isn't made
-abbrev pub change_fault : ℕ → Error → Fault
-change_fault at errors.EmptyPath = faults.Row at
-change_fault at (errors.Nul place) = faults.Row at
-change_fault at (errors.Mode mode) = faults.Mode at
-change_fault at (errors.OtherKind expected actual) = faults.Row at
-change_fault at errors.NullId = faults.Row at
-change_fault at errors.NoSlash = faults.Row at
-change_fault at errors.EmptyName = faults.Name at
-change_fault at (errors.Name number) = faults.Name at
-change_fault at (errors.PathTooLong len) = faults.Row at
-change_fault at errors.Memory = faults.Row at
-
--- the fault is of the value's first entry that isn't above the one before it
-pub record HasFallenEntry (fault : Fault) (v : Contents) : Type 0 where
-  pub place : ℕ
-  pub fall : IsFirstFall v.records (Some place)
-  pub fault_is : fault ≡ faults.Order place
-
--- the entries are in order, and the fault is of the first row that isn't fit
-pub record HasUnfitChange (kind : Kind) (paths : List ℕ) (rows : List Row) (fault : Fault) (v : Contents)
-    : Type 0 where
-  pub ordered : IsStrictlyOrdered v.records
-  pub unfit : HasUnfitRow kind v.extensions.sparse paths rows fault
-
--- the entries are in order, each row is fit, and the fault is of the first row whose change is refused
-pub record HasRefusedChange (kind : Kind) (paths : List ℕ) (rows : List Row) (fault : Fault) (v : Contents)
-    : Type 0 where
-  pub ordered : IsStrictlyOrdered v.records
-  pub fit : All (IsFit kind v.extensions.sparse paths) rows
-  pub changes : List Change
-  pub said : AreSaidBy paths rows changes
-  pub room : ℕ
-  pub at : ℕ
-  pub cause : Error
-  pub first : refusal_of names.refusal_of v.kind room changes ≡ Some (Refused at cause)
-  pub fault_is : fault ≡ change_fault at cause
-
--- the first fault by which the rows make nothing of a value
-abbrev pub IsUnmade : Kind → List ℕ → List Row → Fault → Contents → Type 0
-IsUnmade kind paths rows fault v =
-    HasFallenEntry fault v ⊎ HasUnfitChange kind paths rows fault v ⊎ HasRefusedChange kind paths rows fault v
-
--- why they make nothing of it; want of memory says nothing
-abbrev pub MakesNothing : Kind → List ℕ → List Row → Contents → Unwritten → Type 0
-MakesNothing kind paths rows v (unwritten.NoRoom told) = ⊥
-MakesNothing kind paths rows v (unwritten.Refused fault) = IsUnmade kind paths rows fault v
-MakesNothing kind paths rows v unwritten.Memory = Unit {0}
-
--- entries out of order are told so, and want of memory to name them as that
-abbrev pub order_told : OrderError → Unwritten
-order_told (orders.OutOfOrder index path stage previous_path previous_stage) = unwritten.Refused (faults.Order index)
-order_told orders.Memory = unwritten.Memory
-
--- the first fault by which nothing is written in place of the index of these bytes, joined to the shared one
-abbrev pub IsUnupdated : Kind → List ℕ → List ℕ → List ℕ → List Row → Fault → Type 0
-IsUnupdated kind bytes shared paths rows fault =
-    AreReadSo false kind bytes shared (IsUnmade kind paths rows fault)
-    ⊎ Updates kind bytes shared paths rows (IsUnwritableKept fault)

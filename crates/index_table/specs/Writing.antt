@@ -1,5 +1,6 @@
 -- What a call that writes a table leaves in the caller's room, and why it refuses (the library's own).
 use Rattle.std.specs.Prelude.{◌≡◌, ℕ, ◌≤◌, ◌<◌, ◌⊎◌, false, List, ◌++◌, length, drop, Result, Ok, Err}
+use Rattle.std.specs.Prelude.{IfErr, IfOk}
 use Rattle.gix_index.specs.Contents.{Contents}
 use Rattle.gix_index.specs.EntryImage.{written}
 use Rattle.gix_index.specs.Image.{image, image_version}
@@ -100,6 +101,27 @@ IfUnwritten (Ok told) P = Unit {0}
 IfUnwritten (Err (NoRoom told)) P = Unit {0}
 IfUnwritten (Err (Refused fault)) P = Unit {0}
 IfUnwritten (Err Memory) P = P
+
+-- ---- what calls answer
+
+-- What is answered where a value is to be written into a room, if there is one. Ok: what is told of its image, which
+-- the room has. Else what is told of it, as the room is too small, or the fault, or memory is wanting; and the room is
+-- as it was.
+pub record PutsWith (Value : (Contents → Type 0) → Type 0) (options : Options) (Refuses : Fault → Type 0)
+    (old new : List ℕ) (r : Result Image Unwritten) : Type 0 where
+  pub done : IfOk r (λ told. Value (HasImage options told old new))
+  pub refused : IfRefused r Refuses
+  pub no_room : IfPassed r (λ told. Value (PassesRoom options told old))
+  pub room : IfErr r (λ _. new ≡ old)
+
+-- of this value
+abbrev pub PutsValue : Contents → Options → List ℕ → List ℕ → Result Image Unwritten → Type 0
+PutsValue v options old new r = PutsWith (λ P. P v) options (λ fault. IsUnwritable options fault v) old new r
+
+-- of the one that a table spells
+abbrev pub WritesTable : Format → List ℕ → List Row → List ℕ → List ℕ → Result Image Unwritten → Type 0
+WritesTable f paths rows old new r =
+    PutsWith (Spells f.kind paths rows) (plain_options f) (IsUnwritten f paths rows) old new r
 
 -- why an error of writing keeps a table from being written; a writer's fault is want of memory
 abbrev pub reason_told : WriteError → Unwritten

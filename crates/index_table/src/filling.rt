@@ -1,14 +1,14 @@
 //! Filling a caller's table: from bytes entry by entry, with none kept meanwhile, or from entries in memory.
 
-ghost use Rattle.std.specs.Prelude.{◌≡◌, ◌≤◌, ◌+◌, ◌++◌, ℕ, All, IfErr, IfOk, List, None, length, take, drop, slice_range};
+ghost use Rattle.std.specs.Prelude.{◌≡◌, ◌≤◌, ◌+◌, All, length};
 ghost use Rattle.gix_index.specs.Contents.{Contents};
-ghost use Rattle.gix_index.specs.Entries.{AreEntries};
 ghost use Rattle.gix_index.specs.Outlined.{Outlines};
 ghost use Rattle.gix_index.specs.Outlined.Passed.{in_64_bits, paths_len};
-ghost use Rattle.gix_index.specs.Record.{IsPlaced, IsSized, Record, records_in};
+ghost use Rattle.gix_index.specs.Record.{IsPlaced, IsSized, records_in};
 ghost use Rattle.gix_index.specs.Storable.{IsStorable};
-ghost use Rattle.index_table.specs.Reading.{Fills, HasSizes, IfFailed, IfNoRoom, IsTooSmall, sizes_of};
-ghost use Rattle.index_table.specs.Table.{HoldsRecords};
+ghost use Rattle.index_table.specs.Filling.{FillsEntries, FillsOutline, HasEntries, with_path_at};
+ghost use Rattle.index_table.specs.Reading.{sizes_of};
+ghost use Rattle.index_table.specs.Table.{FillsRecords};
 
 use crate::read::{Sizes, Unread, lacks_room, sizes_of};
 use crate::row::{Row, row_from};
@@ -22,9 +22,7 @@ use gix_index::{Entry, Version};
 fn put_path(paths: &mut [u8], earlier: usize, place: usize, shared: usize, tail: &[u8])
     requires before { earlier + shared ≤ place }
     requires room { place + (shared + length tail.now) ≤ length paths.old }
-    ensures { paths.new ≡ take place paths.old
-        ++ (slice_range paths.old earlier (earlier + shared) ++ tail.now)
-        ++ drop (place + (shared + length tail.now)) paths.old }
+    ensures { paths.new ≡ with_path_at paths.old earlier place shared tail.now }
 {
     let (before, behind) = paths.split_at_mut(place);
     behind[..shared].copy_from_slice(&before[earlier..earlier + shared]);
@@ -40,13 +38,9 @@ fn fill_entries(
     rows: &mut [Row],
     paths: &mut [u8],
 )
-    requires entries { (rs : List Record) × (after : List ℕ)
-        × AreEntries version kind None bytes.now rs after × (length rs ≡ count)
-        × (paths_len rs ≤ length paths.old) × All IsSized rs }
+    requires entries { HasEntries version kind count bytes.now paths.old }
     requires rows_fit { count ≤ length rows.old }
-    ensures { (rs : List Record) (after : List ℕ)
-        → AreEntries version kind None bytes.now rs after → length rs ≡ count
-        → HoldsRecords rs (paths_len rs) rows.old rows.new paths.old paths.new }
+    ensures { FillsEntries version kind count bytes.now rows.old rows.new paths.old paths.new }
 {
     let mut start = 0;
     let mut room = None;
@@ -89,9 +83,8 @@ pub(crate) fn fill(entries: &[Entry], storage: &[u8], rows: &mut [Row], paths: &
     requires sized { All IsSized (records_in storage.now entries.now) }
     requires rows_fit { length entries.now ≤ length rows.old }
     requires paths_fit { paths_len (records_in storage.now entries.now) ≤ length paths.old }
-    ensures { HoldsRecords (records_in storage.now entries.now)
-        (paths_len (records_in storage.now entries.now))
-        rows.old rows.new paths.old paths.new }
+    ensures { FillsRecords (records_in storage.now entries.now) rows.old rows.new paths.old
+        paths.new }
 {
     let mut start = 0;
     for place in 0..entries.len() {
@@ -123,13 +116,7 @@ pub(crate) fn table_of_outline(
     paths: &mut [u8],
 ) -> Result<Sizes, Unread>
     requires { (v : Contents) × Outlines v outline.now × IsStorable v }
-    ensures done { IfOk result (λ sizes. (v : Contents) → Outlines v outline.now
-        → HasSizes sizes (λ w. Fills w rows.old rows.new paths.old paths.new) v) }
-    ensures no_room { IfNoRoom result (λ sizes. (v : Contents) → Outlines v outline.now
-        → HasSizes sizes (λ w. IsTooSmall w rows.old paths.old) v) }
-    ensures never_failed { IfFailed result (λ _. ⊥) }
-    ensures rows { IfErr result (λ _. rows.new ≡ rows.old) }
-    ensures paths { IfErr result (λ _. paths.new ≡ paths.old) }
+    ensures { FillsOutline outline.now rows.old rows.new paths.old paths.new result }
 {
     let sizes = sizes_of_outline(outline);
     if lacks_room(&sizes, rows, paths) {

@@ -1,8 +1,8 @@
 //! Searching a caller's table for a directory with the case of ASCII letters ignored.
 
-ghost use Rattle.std.specs.Prelude.{◌≡◌, ◌<◌, ◌↔◌, ◌++◌, ◌∷◌, [], IsTrue, length, nat_eq, position, slice_index_or, true};
-ghost use Rattle.std.specs.List.{starts_with};
-ghost use Rattle.gix_index.specs.Searching.Folded.{folded, stands_in_folded};
+ghost use Rattle.std.specs.Prelude.{◌≡◌, ◌<◌, ◌↔◌, IsTrue, length, slice_index_or, true};
+ghost use Rattle.gix_index.specs.Searching.Folded.{stands_in_folded};
+ghost use Rattle.index_table.specs.Folding.{first_folded, is_below_folded};
 ghost use Rattle.index_table.specs.Table.{spelled};
 
 use crate::row::{Row, path_of};
@@ -16,7 +16,7 @@ fn has_slash_at(path: &[u8], at: usize) -> bool
 
 /// Whether a path goes on behind a directory and a slash, with case ignored.
 fn is_below(path: &[u8], directory: &[u8]) -> bool
-    ensures { result ≡ starts_with nat_eq (folded true path.now) (folded true directory.now ++ 47 ∷ []) }
+    ensures { result ≡ is_below_folded directory.now path.now }
 {
     let len = directory.len();
     has_slash_at(path, len) && path[..len].eq_ignore_ascii_case(directory)
@@ -34,8 +34,7 @@ fn stands_in(row: &Row, paths: &[u8], directory: &[u8]) -> bool
 /// The place of the first row that is the directory itself, a sparse one or a submodule, or stands below it, with the
 /// case of ASCII letters ignored. The rows may be in any order, and each is looked at up to that one.
 pub fn closest_folded(rows: &[Row], paths: &[u8], directory: &[u8]) -> Option<usize>
-    ensures { result ≡ position
-        (λ row. stands_in_folded true directory.now (spelled paths.now row)) rows.now }
+    ensures { result ≡ first_folded directory.now paths.now rows.now }
 {
     rows.iter().position(|row| stands_in(row, paths, directory))
 }

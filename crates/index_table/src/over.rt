@@ -1,15 +1,12 @@
 //! Writing a caller's table in place of an index, of which all extensions that fit the rows are kept.
 
-ghost use Rattle.std.specs.Prelude.{◌≡◌, [], Err, IfErr, IfOk, IfSome, MatchOption, None, OnOk, false};
-ghost use Rattle.gix_index.specs.Edits.{edited, with_cached_tree};
-ghost use Rattle.gix_index.specs.EntryImage.{written};
+ghost use Rattle.std.specs.Prelude.{◌≡◌, [], Err, IfSome};
+ghost use Rattle.gix_index.specs.Edits.{edited};
 ghost use Rattle.gix_index.specs.Order.{IsStrictlyOrdered};
 ghost use Rattle.gix_index.specs.State.{PathsInStorage, contents, records};
 ghost use Rattle.index_table.specs.Fitting.{IsFitTable};
-ghost use Rattle.index_table.specs.Overwriting.{IsUnwrittenOver, KeepsTree, Replaces, TakesPlaceOf, WritesOver, full_options};
-ghost use Rattle.index_table.specs.Reading.{FailsSo, LacksMemory};
-ghost use Rattle.index_table.specs.Table.{records_of};
-ghost use Rattle.index_table.specs.Writing.{HasImage, IfPassed, IfRefused, IfUnwritten, PassesLimit, PassesRoom};
+ghost use Rattle.index_table.specs.States.{BecomesSo, PutsTreeAnew};
+ghost use Rattle.index_table.specs.Overwriting.{HasRowsInstead, KeepsTree, PutsInPlace, Replaces, WritesOverIndex};
 ghost use Rattle.index_table.specs.declared.over.CachedTree.TheVariants.{Absent};
 
 use crate::fault::is_want_of_memory;
@@ -65,10 +62,7 @@ fn remove_all(state: &mut State)
 /// fit them then; all else stays.
 fn replace_all(state: &mut State, rows: &[Row], paths: &[u8]) -> Result<(), AllocError>
     requires { PathsInStorage state.old }
-    ensures value { OnOk result
-        (contents state.new ≡ edited (contents state.old)
-        (written (records_of paths.now rows.now))) }
-    ensures placed { OnOk result (PathsInStorage state.new) }
+    ensures { BecomesSo (HasRowsInstead (contents state.old) paths.now rows.now) state.new result }
 {
     remove_all(state);
     push_rows(state, rows, paths)
@@ -77,9 +71,7 @@ fn replace_all(state: &mut State, rows: &[Row], paths: &[u8]) -> Result<(), Allo
 /// Puts the entries of the rows in the place of those that are there, unless these are the same.
 fn replace(state: &mut State, rows: &[Row], paths: &[u8]) -> Result<(), AllocError>
     requires { PathsInStorage state.old }
-    ensures value { OnOk result
-        (Replaces (contents state.old) paths.now rows.now (contents state.new)) }
-    ensures placed { OnOk result (PathsInStorage state.new) }
+    ensures { BecomesSo (Replaces (contents state.old) paths.now rows.now) state.new result }
 {
     if are_entries_of(rows, paths, state) {
         return Ok(());
@@ -89,9 +81,7 @@ fn replace(state: &mut State, rows: &[Row], paths: &[u8]) -> Result<(), AllocErr
 
 /// Puts the cached tree in, in its own place: it fits the entries.
 fn put_in_anew(state: &mut State)
-    ensures value { MatchOption (contents state.old).extensions.tree
-        (contents state.new ≡ contents state.old)
-        (λ t. contents state.new ≡ with_cached_tree (contents state.old) t) }
+    ensures value { PutsTreeAnew (contents state.old) (contents state.new) }
     ensures placed { PathsInStorage state.old → PathsInStorage state.new }
 {
     if let Some(tree) = state.remove_tree() {
@@ -136,19 +126,7 @@ fn put_fit(
 ) -> Replacement
     requires placed { PathsInStorage state }
     requires table { IsFitTable format.now.kind (contents state).extensions.sparse paths.now rows.now }
-    ensures done { IfOk result.written (λ told.
-        TakesPlaceOf format.now.kind paths.now rows.now result.tree
-        (HasImage (full_options format.now) told room.old room.new)
-        (contents state)) }
-    ensures refused { IfRefused result.written (λ fault.
-        TakesPlaceOf format.now.kind paths.now rows.now result.tree
-        (PassesLimit (full_options format.now) fault)
-        (contents state)) }
-    ensures no_room { IfPassed result.written (λ told.
-        TakesPlaceOf format.now.kind paths.now rows.now result.tree
-        (PassesRoom (full_options format.now) told room.old)
-        (contents state)) }
-    ensures room { IfErr result.written (λ _. room.new ≡ room.old) }
+    ensures { PutsInPlace format.now paths.now rows.now (contents state) room.old room.new result }
 {
     if let Err(_) = replace(&mut state, rows, paths) {
         return not_written(Unwritten::Memory);
@@ -172,19 +150,7 @@ pub fn write_over(
     format: &Format,
     room: &mut [u8],
 ) -> Result<Replacement, file::init::Error>
-    ensures done { IfOk result (λ over. IfOk over.written
-        (λ told. WritesOver format.now.kind index.now paths.now rows.now over.tree
-        (HasImage (full_options format.now) told room.old room.new))) }
-    ensures refused { IfOk result (λ over. IfRefused over.written
-        (IsUnwrittenOver format.now index.now paths.now rows.now over.tree)) }
-    ensures memory { IfOk result (λ over. IfUnwritten over.written
-        (LacksMemory None false format.now.kind index.now)) }
-    ensures no_room { IfOk result (λ over. IfPassed over.written
-        (λ told. WritesOver format.now.kind index.now paths.now rows.now over.tree
-        (PassesRoom (full_options format.now) told room.old))) }
-    ensures unread { IfErr result (FailsSo None false format.now.kind index.now) }
-    ensures room { IfErr result (λ _. room.new ≡ room.old) }
-    ensures kept { IfOk result (λ over. IfErr over.written (λ _. room.new ≡ room.old)) }
+    ensures { WritesOverIndex format.now index.now paths.now rows.now room.old room.new result }
 {
     let state = match index_of(alloc, index, format.kind, false, None) {
         Ok(state) => state,

@@ -1,11 +1,11 @@
 //! Reading an index into a caller's table.
 
-ghost use Rattle.std.specs.Prelude.{◌≡◌, ◌≤◌, ◌<◌, ◌⊎◌, All, IfErr, IfOk, Ok, Option, false, length, true};
-ghost use Rattle.gix_index.specs.ObjectId.{ObjectId as Id};
+ghost use Rattle.std.specs.Prelude.{◌≡◌, All};
 ghost use Rattle.gix_index.specs.Record.{IsSized};
 ghost use Rattle.gix_index.specs.State.{PathsInStorage, contents};
-ghost use Rattle.gix_index.specs.Storable.{IsStorable};
-ghost use Rattle.index_table.specs.Reading.{BytesEndAs, FailsOwn, FailsSo, Fills, HasSizes, IfFailed, IfNoRoom, IsReadSo, IsTooSmall, IsWantOfMemory, link_id, sizes_of};
+ghost use Rattle.index_table.specs.Filling.{FillsIndex, FillsValue, TellsSmall};
+ghost use Rattle.index_table.specs.States.{ReadsState};
+ghost use Rattle.index_table.specs.Reading.{link_id, sizes_with};
 
 use crate::fault::{Failure, Whose};
 use crate::filling::{fill, path_bytes_of, table_of_outline};
@@ -50,7 +50,7 @@ fn link_of(state: &State) -> Option<ObjectId>
 
 /// What is told of a state, with a number of entries and of bytes for paths.
 pub fn sizes_of(state: &State, entries: usize, path_bytes: usize) -> Sizes
-    ensures { result ≡ record (sizes_of (contents state.now)) { entries = entries; path_bytes = path_bytes } }
+    ensures { result ≡ sizes_with (contents state.now) entries path_bytes }
 {
     Sizes {
         entries,
@@ -62,10 +62,7 @@ pub fn sizes_of(state: &State, entries: usize, path_bytes: usize) -> Sizes
 
 /// Whether there are fewer rows or bytes for paths than a table takes.
 pub(crate) fn lacks_room(sizes: &Sizes, rows: &[Row], paths: &[u8]) -> bool
-    ensures small { result ≡ true → (length rows.now < sizes.now.entries)
-        ⊎ (length paths.now < sizes.now.path_bytes) }
-    ensures rows { result ≡ false → sizes.now.entries ≤ length rows.now }
-    ensures paths { result ≡ false → sizes.now.path_bytes ≤ length paths.now }
+    ensures { TellsSmall sizes.now rows.now paths.now result }
 {
     rows.len() < sizes.entries || paths.len() < sizes.path_bytes
 }
@@ -75,13 +72,7 @@ pub(crate) fn lacks_room(sizes: &Sizes, rows: &[Row], paths: &[u8]) -> bool
 pub(crate) fn table_of(state: &State, rows: &mut [Row], paths: &mut [u8]) -> Result<Sizes, Unread>
     requires placed { PathsInStorage state.now }
     requires sized { All IsSized (contents state.now).records }
-    ensures done { IfOk result (λ sizes.
-        HasSizes sizes (λ v. Fills v rows.old rows.new paths.old paths.new) (contents state.now)) }
-    ensures no_room { IfNoRoom result (λ sizes.
-        HasSizes sizes (λ v. IsTooSmall v rows.old paths.old) (contents state.now)) }
-    ensures memory { IfFailed result IsWantOfMemory }
-    ensures rows { IfErr result (λ _. rows.new ≡ rows.old) }
-    ensures paths { IfErr result (λ _. paths.new ≡ paths.old) }
+    ensures { FillsValue (contents state.now) rows.old rows.new paths.old paths.new result }
 {
     let (entries, storage) = (state.entries(), state.path_backing());
     let Some(path_bytes) = path_bytes_of(entries, storage) else {
@@ -106,11 +97,7 @@ pub fn index_of(
     skip_hash: bool,
     expected: Option<ObjectId>,
 ) -> Result<State, file::init::Error>
-    ensures read { IfOk result (λ state. (checksum : Option Id)
-        × BytesEndAs expected skip_hash kind bytes.now (Ok (contents state, checksum))) }
-    ensures placed { IfOk result PathsInStorage }
-    ensures storable { IfOk result (λ state. IsStorable (contents state)) }
-    ensures error { IfErr result (FailsSo expected skip_hash kind bytes.now) }
+    ensures { ReadsState expected skip_hash kind bytes.now result }
 {
     let path = PathBuf::new(alloc);
     let time = FileTime::EPOCH;
@@ -133,13 +120,7 @@ pub fn read_table(
     rows: &mut [Row],
     paths: &mut [u8],
 ) -> Result<Sizes, Unread>
-    ensures done { IfOk result (λ sizes. IsReadSo skip_hash kind bytes.now
-        (HasSizes sizes (λ v. Fills v rows.old rows.new paths.old paths.new))) }
-    ensures no_room { IfNoRoom result (λ sizes. IsReadSo skip_hash kind bytes.now
-        (HasSizes sizes (λ v. IsTooSmall v rows.old paths.old))) }
-    ensures failed { IfFailed result (FailsOwn skip_hash kind bytes.now) }
-    ensures rows { IfErr result (λ _. rows.new ≡ rows.old) }
-    ensures paths { IfErr result (λ _. paths.new ≡ paths.old) }
+    ensures { FillsIndex skip_hash kind bytes.now rows.old rows.new paths.old paths.new result }
 {
     let (time, options) = (FileTime::EPOCH, decode::Options::default());
     match File::outline(alloc, bytes, kind, skip_hash, time, options) {

@@ -1,14 +1,12 @@
 //! The value that a table spells, where each row can stand in a file.
 
-ghost use Rattle.std.specs.Prelude.{◌≡◌, ◌≢◌, ◌+◌, ◌≤◌, ◌↔◌, ◌++◌, All, IfOk, IsTrue, None, OnOk, false, length, take};
-ghost use Rattle.std.specs.Option.{option_map_or};
-ghost use Rattle.std.specs.Ordering.{is_ge};
-ghost use Rattle.gix_index.specs.Edits.{refit};
-ghost use Rattle.gix_index.specs.EntryImage.{is_removed, written};
+ghost use Rattle.std.specs.Prelude.{◌≡◌, ◌↔◌, IfOk, IsTrue, take};
+ghost use Rattle.gix_index.specs.EntryImage.{is_removed};
 ghost use Rattle.gix_index.specs.Order.{record_cmp};
-ghost use Rattle.gix_index.specs.State.{PathsInStorage, contents, records};
-ghost use Rattle.index_table.specs.Fitting.{CanStand, IsFirstFallen, IsFirstUnfit, IsFit, has_git_mode, unfit_fault};
-ghost use Rattle.index_table.specs.Table.{records_of, row_id, row_path, spelled};
+ghost use Rattle.gix_index.specs.State.{PathsInStorage, contents};
+ghost use Rattle.index_table.specs.Fitting.{CanStand, HasPlainPath, IsFirstFallen, IsFirstUnfit, IsFit, falls_behind, has_git_mode, unfit_fault};
+ghost use Rattle.index_table.specs.States.{PushesRows};
+ghost use Rattle.index_table.specs.Table.{records_of, row_id, spelled};
 ghost use Rattle.index_table.specs.Writing.{IsSpelledBy};
 
 use crate::row::{Row, SHA256, number_of_kind, path_of, stage_of, stat_of};
@@ -21,8 +19,7 @@ use std::cmp::Ordering;
 
 /// Whether the row's path lies among these bytes, and has some, and no NUL.
 fn has_plain_path(row: &Row, paths: &[u8]) -> bool
-    ensures { IsTrue result ↔ ((row.now.path_start + row.now.path_len ≤ length paths.now)
-        × (row.now.path_len ≢ 0) × All (λ b. b ≢ 0) (row_path paths.now row.now)) }
+    ensures { IsTrue result ↔ HasPlainPath paths.now row.now }
 {
     row.path_start <= paths.len()
         && row.path_len <= paths.len() - row.path_start
@@ -118,8 +115,7 @@ fn compare(a: &Row, b: &Row, paths: &[u8]) -> Ordering
 
 /// Whether there is a row before this one, above which this one isn't.
 fn falls(before: Option<&Row>, row: &Row, paths: &[u8]) -> bool
-    ensures { result ≡ option_map_or
-        (λ b. is_ge (record_cmp (spelled paths.now b.now) (spelled paths.now row.now))) before.entry false }
+    ensures { result ≡ falls_behind paths.now before.entry row.now }
 {
     match before {
         Some(before) => compare(before, row, paths).is_ge(),
@@ -149,10 +145,7 @@ pub(crate) fn first_fallen(rows: &[Row], paths: &[u8]) -> Option<usize>
 /// known to fit the entries then; all else stays.
 pub(crate) fn push_rows(state: &mut State, rows: &[Row], paths: &[u8]) -> Result<(), AllocError>
     requires { PathsInStorage state.old }
-    ensures value { OnOk result (contents state.new ≡ refit (contents state.old)
-        (records state.old ++ written (records_of paths.now rows.now)) (contents state.new).fit) }
-    ensures unfit { (contents state.old).fit ≡ false → (contents state.new).fit ≡ false }
-    ensures placed { OnOk result (PathsInStorage state.new) }
+    ensures { PushesRows paths.now rows.now state.old state.new result }
 {
     for row in rows {
         if is_left_out(row) {

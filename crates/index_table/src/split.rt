@@ -1,11 +1,11 @@
 //! Reading a split index with the shared index that it links to, and both into a caller's table.
 
-ghost use Rattle.std.specs.Prelude.{◌≡◌, IfErr, IfOk};
+ghost use Rattle.std.specs.Prelude.{◌≡◌};
 ghost use Rattle.gix_index.specs.Link.{link_of};
 ghost use Rattle.gix_index.specs.State.{PathsInStorage, contents};
 ghost use Rattle.gix_index.specs.Storable.{IsStorable};
-ghost use Rattle.index_table.specs.Joining.{AreReadSo, FailBoth, FailsJoined, IsJoinedBy};
-ghost use Rattle.index_table.specs.Reading.{Fills, HasSizes, IfFailed, IfNoRoom, IsTooSmall};
+ghost use Rattle.index_table.specs.Filling.{FillsBoth};
+ghost use Rattle.index_table.specs.States.{JoinsBy, ReadsBoth};
 
 use crate::fault::{Failure, Whose};
 use crate::read::{Sizes, Unread, index_of, table_of};
@@ -28,13 +28,7 @@ fn join(
     requires placed { PathsInStorage split }
     requires storable { IsStorable (contents split) }
     requires kind { (contents split).kind ≡ kind }
-    ensures joined { IfOk result (λ state. IsJoinedBy skip_hash kind (link_of link) shared.now
-        (λ v. v ≡ contents state)
-        (contents split)) }
-    ensures placed { IfOk result PathsInStorage }
-    ensures storable { IfOk result (λ state. IsStorable (contents state)) }
-    ensures failed { IfErr result
-        (FailsJoined skip_hash kind (link_of link) shared.now (contents split)) }
+    ensures { JoinsBy skip_hash kind (link_of link) shared.now (contents split) result }
 {
     let id = link.shared_index_checksum;
     let index = match index_of(alloc, shared, kind, skip_hash, Some(id)) {
@@ -64,11 +58,7 @@ pub fn both_of(
     kind: Kind,
     skip_hash: bool,
 ) -> Result<State, Failure>
-    ensures read { IfOk result (λ state. AreReadSo skip_hash kind bytes.now shared.now
-        (λ v. v ≡ contents state)) }
-    ensures placed { IfOk result PathsInStorage }
-    ensures storable { IfOk result (λ state. IsStorable (contents state)) }
-    ensures failed { IfErr result (FailBoth skip_hash kind bytes.now shared.now) }
+    ensures { ReadsBoth skip_hash kind bytes.now shared.now result }
 {
     let mut split = match index_of(alloc, bytes, kind, skip_hash, None) {
         Ok(state) => state,
@@ -96,13 +86,8 @@ pub fn read_split(
     rows: &mut [Row],
     paths: &mut [u8],
 ) -> Result<Sizes, Unread>
-    ensures done { IfOk result (λ sizes. AreReadSo skip_hash kind bytes.now shared.now
-        (HasSizes sizes (λ v. Fills v rows.old rows.new paths.old paths.new))) }
-    ensures no_room { IfNoRoom result (λ sizes. AreReadSo skip_hash kind bytes.now shared.now
-        (HasSizes sizes (λ v. IsTooSmall v rows.old paths.old))) }
-    ensures failed { IfFailed result (FailBoth skip_hash kind bytes.now shared.now) }
-    ensures rows { IfErr result (λ _. rows.new ≡ rows.old) }
-    ensures paths { IfErr result (λ _. paths.new ≡ paths.old) }
+    ensures { FillsBoth skip_hash kind bytes.now shared.now rows.old rows.new paths.old paths.new
+        result }
 {
     match both_of(alloc, bytes, shared, kind, skip_hash) {
         Ok(state) => table_of(&state, rows, paths),

@@ -1,13 +1,11 @@
 //! Changes of an index, which the rows of a caller's table say.
 
-ghost use Rattle.std.specs.Prelude.{◌≡◌, IfErr, IfOk, None, OnErr, OnOk, false};
-ghost use Rattle.gix_index.specs.Order.{IsStrictlyOrdered};
-ghost use Rattle.gix_index.specs.State.{PathsInStorage, contents, records};
+ghost use Rattle.std.specs.Prelude.{◌≡◌, IfOk};
+ghost use Rattle.gix_index.specs.State.{PathsInStorage};
 ghost use Rattle.index_info.specs.Text.{change_value};
-ghost use Rattle.index_table.specs.Reading.{LacksMemory};
-ghost use Rattle.index_table.specs.Joining.{FailBoth};
-ghost use Rattle.index_table.specs.Updating.{AreSaidBy, HasKeptImage, IsChangedBy, IsUnupdated, MakesNothing, PassesRoomKept, Updates, change_fault, change_said, kept_options, kept_version, order_told, row_entry};
-ghost use Rattle.index_table.specs.Writing.{IfPassed, IfRefused, IfUnwritten};
+ghost use Rattle.index_table.specs.States.{MakesChanges};
+ghost use Rattle.index_table.specs.Refusing.{WritesUpdate, change_fault, order_told};
+ghost use Rattle.index_table.specs.Updating.{AreSaidBy, change_said, kept_options, kept_version, row_entry};
 
 use crate::fault::Failure;
 use crate::row::{Row, path_of, stat_of};
@@ -95,10 +93,7 @@ fn make_changes(
     paths: &[u8],
 ) -> Result<(), Unwritten>
     requires placed { PathsInStorage state.old }
-    ensures changed { OnOk result
-        (IsChangedBy kind paths.now rows.now (contents state.old) (contents state.new)) }
-    ensures placed { PathsInStorage state.new }
-    ensures why { IfErr result (MakesNothing kind paths.now rows.now (contents state.old)) }
+    ensures { MakesChanges kind paths.now rows.now state.old state.new result }
 {
     if let Err(e) = state.verify_entries() {
         return Err(unordered(&e));
@@ -153,19 +148,7 @@ pub fn update(
     kind: Kind,
     room: &mut [u8],
 ) -> Result<Result<Image, Unwritten>, Failure>
-    ensures done { IfOk result (λ written. IfOk written
-        (λ told. Updates kind index.now shared.now paths.now rows.now
-        (HasKeptImage told room.old room.new))) }
-    ensures refused { IfOk result (λ written. IfRefused written
-        (IsUnupdated kind index.now shared.now paths.now rows.now)) }
-    ensures memory { IfOk result (λ written. IfUnwritten written
-        (LacksMemory None false kind index.now)) }
-    ensures no_room { IfOk result (λ written. IfPassed written
-        (λ told. Updates kind index.now shared.now paths.now rows.now
-        (PassesRoomKept told room.old))) }
-    ensures unread { IfErr result (FailBoth false kind index.now shared.now) }
-    ensures room { IfErr result (λ _. room.new ≡ room.old) }
-    ensures kept { IfOk result (λ written. IfErr written (λ _. room.new ≡ room.old)) }
+    ensures { WritesUpdate kind index.now shared.now paths.now rows.now room.old room.new result }
 {
     let mut state = match both_of(alloc, index, shared, kind, false) {
         Ok(state) => state,

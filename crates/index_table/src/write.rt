@@ -1,9 +1,9 @@
 //! Writing a caller's table as an index.
 
-ghost use Rattle.std.specs.Prelude.{◌≡◌, ◌++◌, ◌≤◌, ◌<◌, IfErr, IfOk, IfSome, None, drop, false, length, true};
+ghost use Rattle.std.specs.Prelude.{◌≡◌, ◌++◌, ◌≤◌, ◌<◌, IfSome, None, drop, false, length, true};
 ghost use Rattle.gix_index.specs.State.{PathsInStorage, contents};
 ghost use Rattle.index_table.specs.Fitting.{IsFitTable, IsUnfitTable};
-ghost use Rattle.index_table.specs.Writing.{HasImage, IfPassed, IfRefused, IfUnwritten, IsUnwritable, IsUnwritten, PassesRoom, Spells, options_with, plain_options, reason_told};
+ghost use Rattle.index_table.specs.Writing.{IfUnwritten, PutsValue, WritesTable, options_with, reason_told};
 
 use crate::row::Row;
 use crate::spell::{first_fallen, first_unfit, spelled, unfit_fault};
@@ -101,11 +101,7 @@ pub(crate) fn put_state(
     room: &mut [u8],
 ) -> Result<Image, Unwritten>
     requires placed { PathsInStorage state }
-    ensures done { IfOk result
-        (λ told. HasImage options told room.old room.new (contents state)) }
-    ensures refused { IfRefused result (λ fault. IsUnwritable options fault (contents state)) }
-    ensures no_room { IfPassed result (λ told. PassesRoom options told room.old (contents state)) }
-    ensures room { IfErr result (λ _. room.new ≡ room.old) }
+    ensures { PutsValue (contents state) options room.old room.new result }
 {
     let file = File::from_state(state, PathBuf::new(alloc));
     let mut out = Plain::new(Vec::new(alloc));
@@ -159,13 +155,8 @@ pub fn write_table(
     format: &Format,
     room: &mut [u8],
 ) -> Result<Image, Unwritten>
-    ensures done { IfOk result (λ told. Spells format.now.kind paths.now rows.now
-        (HasImage (plain_options format.now) told room.old room.new)) }
-    ensures refused { IfRefused result (λ fault. IsUnwritten format.now paths.now rows.now fault) }
+    ensures written { WritesTable format.now paths.now rows.now room.old room.new result }
     ensures memory { IfUnwritten result (IsFitTable format.now.kind false paths.now rows.now) }
-    ensures no_room { IfPassed result (λ told. Spells format.now.kind paths.now rows.now
-        (PassesRoom (plain_options format.now) told room.old)) }
-    ensures room { IfErr result (λ _. room.new ≡ room.old) }
 {
     if let Some(fault) = fault_in(rows, paths, format.kind, false) {
         return Err(Unwritten::Refused(fault));

@@ -118,10 +118,13 @@ unmade_at (errors.Both file below) place = unmade.Refused (faults.Below place)
 unmade_at (errors.Sink number) place = unmade.Memory
 unmade_at errors.Memory place = unmade.Memory
 
--- the first row that an error is of, or 0
+-- the place of the first row that an error is of, if any
+abbrev pub blamed_place : List ℕ → List Row → Error → Option ℕ
+blamed_place paths rows e = position (is_blamed paths (blamed_path e) (is_for_conflict e)) rows
+
+-- the same, or 0
 abbrev pub place_told : List ℕ → List Row → Error → ℕ
-place_told paths rows e =
-    unwrap_or (position (is_blamed paths (blamed_path e) (is_for_conflict e)) rows) 0
+place_told paths rows e = unwrap_or (blamed_place paths rows e) 0
 
 abbrev pub reason_told : List ℕ → List Row → Error → Unmade
 reason_told paths rows e = unmade_at e (place_told paths rows e)

@@ -1,3 +1,4 @@
 pub mod Blaming
 pub mod Collecting
+pub mod Putting
 pub mod Trees

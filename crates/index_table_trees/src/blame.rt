@@ -1,7 +1,7 @@
 //! Which row of a table an error of writing trees is of.
 
-ghost use Rattle.std.specs.Prelude.{◌≡◌, position};
-ghost use Rattle.index_table_trees.specs.Blaming.{blamed_path, is_blamed, is_for_conflict, reason_told, unmade_at};
+ghost use Rattle.std.specs.Prelude.{◌≡◌};
+ghost use Rattle.index_table_trees.specs.Blaming.{blamed_path, blamed_place, is_blamed, reason_told, unmade_at};
 
 use crate::trees::Unmade;
 use gix_index::write_trees::{Error, NameFault};
@@ -35,8 +35,7 @@ fn is_blamed(row: &Row, paths: &[u8], path: &[u8], in_conflict: bool) -> bool
 
 /// The place of the first row that an error is of, if any.
 fn place_in(e: &Error, rows: &[Row], paths: &[u8]) -> Option<usize>
-    ensures { result ≡ position
-        (λ row. is_blamed paths.now (blamed_path e.now) (is_for_conflict e.now) row) rows.now }
+    ensures { result ≡ blamed_place paths.now rows.now e.now }
 {
     let path = path_in(e);
     let in_conflict = matches!(e, Error::Unmerged { .. });

@@ -1,8 +1,9 @@
 //! Trees that are collected before they go to a caller's rooms.
 
-ghost use Rattle.std.specs.Prelude.{◌≡◌, ◌++◌, ◌≤◌, ◌<◌, ◌⊎◌, ◌^◌, [], IfOk, IfErr, Some, drop, false, length, true};
+ghost use Rattle.std.specs.Prelude.{◌≡◌, ◌++◌, ◌≤◌, ◌<◌, ◌^◌, [], Some, drop, length};
 ghost use Rattle.index_table_trees.specs.Collecting.{collected, piece_rows, pieces_len};
-ghost use Rattle.index_table_trees.specs.Trees.{HoldTrees, IfPassed, IfRefused, Objects, PassRoom};
+ghost use Rattle.index_table_trees.specs.Putting.{PutsCollected, TellsSmall};
+ghost use Rattle.index_table_trees.specs.Trees.{Objects};
 
 use crate::trees::{Counts, Tree, Unmade};
 use gix_index::hash::ObjectId;
@@ -52,10 +53,7 @@ impl Sink for Collected {
 
 /// Whether one of the rooms has less than trees take.
 fn lacks_room(counts: &Counts, trees: &[Tree], bytes: &[u8]) -> bool
-    ensures small { result ≡ true → (length trees.now < counts.now.trees)
-        ⊎ (length bytes.now < counts.now.bytes) }
-    ensures trees { result ≡ false → counts.now.trees ≤ length trees.now }
-    ensures bytes { result ≡ false → counts.now.bytes ≤ length bytes.now }
+    ensures { TellsSmall counts.now trees.now bytes.now result }
 {
     trees.len() < counts.trees || bytes.len() < counts.bytes
 }
@@ -102,14 +100,8 @@ impl Collected {
 
     /// Puts the trees into the rooms, if both have room.
     pub(crate) fn put_into(&self, trees: &mut [Tree], bytes: &mut [u8]) -> Result<Counts, Unmade>
-        requires whole { (os : Objects) × (collected self.now ≡ Some os) }
-        ensures done { (os : Objects) → collected self.now ≡ Some os
-            → IfOk result (λ told. HoldTrees told trees.old trees.new bytes.old bytes.new os) }
-        ensures no_room { (os : Objects) → collected self.now ≡ Some os
-            → IfPassed result (λ told. PassRoom told trees.old bytes.old os) }
-        ensures unrefused { IfRefused result (λ _. ⊥) }
-        ensures trees { IfErr result (λ _. trees.new ≡ trees.old) }
-        ensures bytes { IfErr result (λ _. bytes.new ≡ bytes.old) }
+        requires { (os : Objects) × (collected self.now ≡ Some os) }
+        ensures { PutsCollected self.now trees.old trees.new bytes.old bytes.new result }
     {
         let counts = self.counts();
         if lacks_room(&counts, trees, bytes) {

@@ -1,9 +1,9 @@
 //! Writing the trees of a table into a caller's rooms.
 
-ghost use Rattle.std.specs.Prelude.{◌≡◌, IfErr, IfOk, true};
+ghost use Rattle.std.specs.Prelude.{true};
 ghost use Rattle.index_table.specs.Fitting.{IsFitTable};
-ghost use Rattle.index_table_trees.specs.Blaming.{HasNoTrees};
-ghost use Rattle.index_table_trees.specs.Trees.{HoldTrees, IfPassed, IfRefused, IfUnmade, MakesTrees, PassRoom};
+ghost use Rattle.index_table_trees.specs.Putting.{WritesTrees};
+ghost use Rattle.index_table_trees.specs.Trees.{IfUnmade};
 
 use crate::blame::reason_of;
 use crate::collected::Collected;
@@ -59,14 +59,9 @@ pub fn write_trees(
     trees: &mut [Tree],
     bytes: &mut [u8],
 ) -> Result<Counts, Unmade>
-    ensures done { IfOk result (λ told. MakesTrees kind paths.now rows.now
-        (HoldTrees told trees.old trees.new bytes.old bytes.new)) }
-    ensures refused { IfRefused result (HasNoTrees kind paths.now rows.now) }
+    ensures made { WritesTrees kind paths.now rows.now trees.old trees.new bytes.old bytes.new
+        result }
     ensures memory { IfUnmade result (IsFitTable kind true paths.now rows.now) }
-    ensures no_room { IfPassed result (λ told. MakesTrees kind paths.now rows.now
-        (PassRoom told trees.old bytes.old)) }
-    ensures trees { IfErr result (λ _. trees.new ≡ trees.old) }
-    ensures bytes { IfErr result (λ _. bytes.new ≡ bytes.old) }
 {
     if let Some(fault) = fault_in(rows, paths, kind, true) {
         return Err(Unmade::Refused(fault));

@@ -1,3 +1,4 @@
+pub mod Calls
 pub mod Mapping
 pub mod Report
 pub mod Salvaging

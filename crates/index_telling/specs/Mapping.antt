@@ -1,19 +1,21 @@
 -- The map of a file that the program prints, and the picture that it draws (the program's own).
-use Rattle.std.specs.Prelude.{◌≡◌, ℕ, Bool, List, Option, Some}
+use Rattle.std.specs.Prelude.{◌≡◌, ℕ, List, Option, Some, None, Result}
 use Rattle.gix_index.specs.DecodeError.{Error}
 use Rattle.gix_index.specs.Disk.{MayHave}
+use Rattle.gix_index.specs.Hashing.Out.{Ghosts as Output}
 use Rattle.gix_index.specs.Kind.{Kind}
 use Rattle.gix_index.specs.Record.{Record}
-use Rattle.gix_index.specs.Disk.World.{Known, World}
-use Rattle.gix_index.specs.FileFaults.{IsOfFile}
-use Rattle.gix_index.specs.FileFaults.ReadError.{Error as ReadFault}
-use Rattle.gix_index.specs.FileFaults.ReadError.TheVariants as reads
+use Rattle.gix_index.specs.Disk.World.{Known}
 use Rattle.index_inspect.specs.Division.{Divides}
 use Rattle.index_map.specs.Lines.{map_lines}
 use Rattle.index_inspect.specs.Remains.{last_begin}
 use Rattle.index_text.specs.declared.lines.Lines.{Lines}
 use Rattle.index_map.specs.declared.part.Part.{Part}
 use Rattle.index_picture.specs.Picture.{picture_text}
+use Rattle.gix_index.specs.OnDisk.FolderTrait.{Ghosts as Folder}
+use Rattle.index_failures.specs.declared.failure.Failure.{Failure}
+use Rattle.index_failures.specs.Reading.{FailsReading, SaysOfBytes}
+use Rattle.index_failures.specs.Telling.{EndsTelling}
 
 -- what is told of the parts of a file's bytes, which have this first fault or none
 pub record IsOfParts (text : List Record → List Part → List ℕ) (fault : Option Error) (known : Known) (kind : Kind)
@@ -43,3 +45,17 @@ IsDamagedMap style known kind offset e text = IsOfDamaged (map_lines style) know
 
 abbrev pub IsDamagedPicture : Known → Kind → ℕ → Error → List ℕ → Type 0
 IsDamagedPicture known kind offset e text = IsOfDamaged picture_text known kind offset e text
+
+-- the map is told of the file at a path of a folder, or why it isn't
+abbrev pub MapsFile : {S F M T : Type 0} → Lines → Folder S F M → S → Kind → List ℕ → Output T → T → T
+    → Result (Unit {0}) Failure → Type 0
+MapsFile style folder now kind path writer old new answer = EndsTelling writer old new
+    (IsMap style None (folder.known now path) kind) (IsDamagedMap style (folder.known now path) kind)
+    (FailsReading (SaysOfBytes (folder.works now) (folder.known now) path) path) path answer
+
+-- and so is the picture
+abbrev pub DrawsFile : {S F M T : Type 0} → Folder S F M → S → Kind → List ℕ → Output T → T → T
+    → Result (Unit {0}) Failure → Type 0
+DrawsFile folder now kind path writer old new answer = EndsTelling writer old new
+    (IsPicture None (folder.known now path) kind) (IsDamagedPicture (folder.known now path) kind)
+    (FailsReading (SaysOfBytes (folder.works now) (folder.known now) path) path) path answer

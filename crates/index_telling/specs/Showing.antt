@@ -1,12 +1,15 @@
 -- What a file holds, as the program prints it, for people or as JSON (the program's own).
-use Rattle.std.specs.Prelude.{◌≡◌, ℕ, Bool, false, List, Option, Ok}
+use Rattle.std.specs.Prelude.{◌≡◌, ℕ, Bool, false, List, Option, Ok, Result, IfErr, IfOk}
 use Rattle.gix_index.specs.Behind.{FollowEntries}
 use Rattle.gix_index.specs.Checked.{IsFileAnswer}
 use Rattle.gix_index.specs.Contents.{Contents}
 use Rattle.gix_index.specs.Disk.{MayHave}
+use Rattle.gix_index.specs.File.{checksum_of, state_of}
 use Rattle.gix_index.specs.FileTime.{FileTime}
+use Rattle.gix_index.specs.Hashing.Out.{Ghosts as Output}
 use Rattle.gix_index.specs.Kind.{Kind}
 use Rattle.gix_index.specs.ObjectId.{ObjectId}
+use Rattle.gix_index.specs.State.{PathsInStorage, contents}
 use Rattle.gix_index.specs.Disk.World.{Known, World}
 use Rattle.gix_index.specs.FileFaults.{SaysOfFile}
 use Rattle.gix_index.specs.FileFaults.ReadError.{Error as ReadFault}
@@ -15,7 +18,12 @@ use Rattle.index_json.specs.Json.{json_text}
 use Rattle.index_marks.specs.Marks.{AreMarks}
 use Rattle.index_show.specs.Show.{show_lines}
 use Rattle.index_marks.specs.declared.Marks.{Marks}
+use Rattle.gix_index.specs.OnDisk.FolderTrait.{Ghosts as Folder}
+use Rattle.index_failures.specs.declared.failure.Failure.{Failure}
 use Rattle.index_failures.specs.Options.{unlimited_options, IsBeginOf1970}
+use Rattle.index_failures.specs.Reading.{FailsReading}
+use Rattle.index_failures.specs.Telling.{EndsTelling, NoText}
+use Rattle.index_telling.specs.declared.show.Told.{Told}
 
 -- The file's bytes are read as the value, by themselves, and say this by the offset table and the end marker behind their
 -- entries: their digest is compared, and the time is the begin of 1970.
@@ -52,3 +60,29 @@ abbrev pub SaysOfFileAlone : Bool → World → Kind → List ℕ → ReadFault 
 SaysOfFileAlone works world kind path reads.Memory = Unit {0}
 SaysOfFileAlone works world kind path e =
     (time : FileTime) × SaysOfFile path works (world path) false kind time unlimited_options e
+
+-- ---- what each call answers
+
+-- the file at a path of a folder can't be read by itself, for what the failure says
+abbrev pub FailsToReadAlone : {S F M : Type 0} → Folder S F M → S → Kind → List ℕ → Failure → Type 0
+FailsToReadAlone folder now kind path failure =
+    FailsReading (SaysOfFileAlone (folder.works now) (folder.known now) kind path) path failure
+
+-- what it holds, with its paths in its storage; or why it can't be read
+pub record ReadsAlone {S F M : Type 0} (folder : Folder S F M) (now : S) (kind : Kind) (path : List ℕ)
+    (answer : Result Told Failure) : Type 0 where
+  pub told : IfOk answer (λ told. IsInBytes (folder.known now path) kind (contents (state_of told.index))
+      (checksum_of told.index) told.marks)
+  pub placed : IfOk answer (λ told. PathsInStorage (state_of told.index))
+  pub fault : IfErr answer (FailsToReadAlone folder now kind path)
+
+-- that is told as lines, or why it isn't; and as JSON
+abbrev pub ShowsFile : {S F M T : Type 0} → Folder S F M → S → Kind → List ℕ → Output T → T → T
+    → Result (Unit {0}) Failure → Type 0
+ShowsFile folder now kind path writer old new answer = EndsTelling writer old new
+    (IsShown (folder.known now path) kind) NoText (FailsToReadAlone folder now kind path) path answer
+
+abbrev pub ShowsJson : {S F M T : Type 0} → Folder S F M → S → Kind → List ℕ → Output T → T → T
+    → Result (Unit {0}) Failure → Type 0
+ShowsJson folder now kind path writer old new answer = EndsTelling writer old new
+    (IsJson (folder.known now path) kind) NoText (FailsToReadAlone folder now kind path) path answer

@@ -1,10 +1,8 @@
 //! The command `map`.
 
-ghost use Rattle.std.specs.Prelude.{◌≡◌, false, IfErr, None, OnOk};
+ghost use Rattle.std.specs.Prelude.{◌≡◌, false};
 ghost use Rattle.index_inspect.specs.Remains.{last_begin};
-ghost use Rattle.index_failures.specs.Reading.{FailsReading, SaysOfBytes};
-ghost use Rattle.index_failures.specs.Telling.{FailsTelling, Tells};
-ghost use Rattle.index_telling.specs.Mapping.{IsDamagedMap, IsMap};
+ghost use Rattle.index_telling.specs.Mapping.{MapsFile};
 
 use gix_index::file::folder::Folder;
 use gix_index::hash::Kind;
@@ -40,13 +38,7 @@ pub fn map<'a, D: Folder, W: Out>(
     out: &mut W,
 ) -> Result<(), Failure<'a>>
     requires unfailed { W.failed out.old ≡ false }
-    ensures told { OnOk result (Tells (IsMap style None (D.known folder.now path.now) kind)
-        (W.taken out.old) (W.taken out.new)) }
-    ensures refused { IfErr result
-        (λ failure. FailsTelling (IsMap style None (D.known folder.now path.now) kind)
-        (IsDamagedMap style (D.known folder.now path.now) kind)
-        (FailsReading (SaysOfBytes (D.works folder.now) (D.known folder.now) path.now) path.now)
-        path.now failure (W.failed out.new) (W.taken out.old) (W.taken out.new)) }
+    ensures { MapsFile style D.Folder folder.now kind path.now W.Out out.old out.new result }
 {
     let (bytes, _) = bytes_at(folder, alloc, path)?;
     let Ok(division) = divide(alloc, kind, &bytes) else {

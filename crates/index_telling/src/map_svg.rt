@@ -1,9 +1,7 @@
 //! The command `map-svg`.
 
-ghost use Rattle.std.specs.Prelude.{◌≡◌, IfErr, None, OnOk, false};
-ghost use Rattle.index_failures.specs.Reading.{FailsReading, SaysOfBytes};
-ghost use Rattle.index_failures.specs.Telling.{FailsTelling, Tells};
-ghost use Rattle.index_telling.specs.Mapping.{IsDamagedPicture, IsPicture};
+ghost use Rattle.std.specs.Prelude.{◌≡◌, false};
+ghost use Rattle.index_telling.specs.Mapping.{DrawsFile};
 
 use crate::map::last_offset;
 use gix_index::file::folder::Folder;
@@ -28,13 +26,7 @@ pub fn map_svg<'a, D: Folder, W: Out>(
     out: &mut W,
 ) -> Result<(), Failure<'a>>
     requires unfailed { W.failed out.old ≡ false }
-    ensures told { OnOk result (Tells (IsPicture None (D.known folder.now path.now) kind)
-        (W.taken out.old) (W.taken out.new)) }
-    ensures refused { IfErr result
-        (λ failure. FailsTelling (IsPicture None (D.known folder.now path.now) kind)
-        (IsDamagedPicture (D.known folder.now path.now) kind)
-        (FailsReading (SaysOfBytes (D.works folder.now) (D.known folder.now) path.now) path.now)
-        path.now failure (W.failed out.new) (W.taken out.old) (W.taken out.new)) }
+    ensures { DrawsFile D.Folder folder.now kind path.now W.Out out.old out.new result }
 {
     let (bytes, _) = bytes_at(folder, alloc, path)?;
     let Ok(division) = divide(alloc, kind, &bytes) else {

@@ -1,14 +1,8 @@
 //! The command `salvage`.
 
-ghost use Rattle.std.specs.Prelude.{◌≡◌, ℕ, List, Bool, true, IfErr, IfOk, OnErr, Some};
-ghost use Rattle.gix_index.specs.Disk.{MayHave, disk_at};
-ghost use Rattle.gix_index.specs.InPlace.Locks.{Restores};
-ghost use Rattle.gix_index.specs.State.{contents};
-ghost use Rattle.gix_index.specs.Disk.World.{MayBe, World};
-ghost use Rattle.index_inspect.specs.Remains.{IsPlainIndex, Remain};
-ghost use Rattle.index_failures.specs.Reading.{FailsReading};
+ghost use Rattle.std.specs.Prelude.{Some};
+ghost use Rattle.index_telling.specs.Calls.{GivesRemains, SalvagesFile, SavesBytes, SavesFile};
 ghost use Rattle.index_telling.specs.Report.{counts_text, fate_text, fault_place_text};
-ghost use Rattle.index_telling.specs.Salvaging.{FailsToSalvage, IsOfBytes, Salvages, SaysOfSaving};
 
 use crate::shared::shared_beside;
 use gix_index::entry::FileTime;
@@ -110,11 +104,7 @@ fn remains_in<'a>(
     path: &'a str,
     bytes: &[u8],
 ) -> Result<Remains, Failure<'a>>
-    ensures remains { IfOk result (Remain kind bytes.now) }
-    ensures kind { IfOk result (λ r. (contents r.front).kind ≡ kind) }
-    ensures plain { IfOk result (λ r. IsPlainIndex r.front) }
-    ensures fault { (works : Bool) (world : World) → MayHave (world path.now) bytes.now
-        → IfErr result (FailsReading (SaysOfSaving works world kind path.now) path.now) }
+    ensures { GivesRemains kind bytes.now path.now result }
 {
     match remains_of(alloc, kind, bytes) {
         Ok(remains) => Ok(remains),
@@ -134,10 +124,7 @@ fn saved_of<'a, D: Folder>(
     path: &'a str,
     bytes: &[u8],
 ) -> Result<Salvaged, Failure<'a>>
-    ensures saved { IfOk result
-        (IsOfBytes (disk_at (D.known folder.now) path.now).shared kind bytes.now) }
-    ensures fault { (works : Bool) (world : World) → MayHave (world path.now) bytes.now
-        → IfErr result (FailsReading (SaysOfSaving works world kind path.now) path.now) }
+    ensures { SavesBytes D.Folder folder.now kind bytes.now path.now result }
 {
     let remains = remains_in(alloc, kind, path, bytes)?;
     let Ok(shared) = shared_beside(folder, alloc, kind, path, remains.shared_index()) else {
@@ -156,13 +143,7 @@ fn saved_at<'a, D: Folder>(
     kind: Kind,
     path: &'a str,
 ) -> Result<(Salvaged, FileTime), Failure<'a>>
-    ensures saved { IfOk result (λ x. (bytes : List ℕ)
-        × MayHave (D.known folder.now path.now) bytes
-        × IsOfBytes (disk_at (D.known folder.now) path.now).shared kind bytes x.0) }
-    ensures since { IfOk result
-        (λ x. MayBe (D.known folder.now path.now) (λ file. x.1 ≡ file.time)) }
-    ensures fault { IfErr result (FailsReading
-        (SaysOfSaving (D.works folder.now) (D.known folder.now) kind path.now) path.now) }
+    ensures { SavesFile D.Folder folder.now kind path.now result }
 {
     let (bytes, time) = bytes_at(folder, alloc, path)?;
     let saved = saved_of(folder, alloc, kind, path, &bytes)?;
@@ -184,12 +165,7 @@ pub fn salvage<'a, D: Folder>(
     path: &'a str,
     to: &'a str,
 ) -> Result<Report<'a>, Failure<'a>>
-    ensures written { IfOk result (Salvages (D.alone folder.old) (D.guards folder.old) kind
-        (D.known folder.old) (D.known folder.new) path.now to.now) }
-    ensures restored { OnErr result (D.alone folder.old ≡ true → Restores (D.works folder.old)
-        (D.known folder.old) (D.known folder.new) to.now) }
-    ensures fault { IfErr result (FailsToSalvage (D.works folder.old) (D.guards folder.old) kind
-        (D.known folder.old) path.now to.now) }
+    ensures { SalvagesFile D.Folder folder.old folder.new kind path.now to.now result }
 {
     let lock = lock_at(folder, alloc, to)?;
     let (saved, time) = match saved_at(folder, alloc, kind, path) {

@@ -1,13 +1,9 @@
 //! The shared index beside a split one.
 
-ghost use Rattle.std.specs.Option.{option_map};
 ghost use Rattle.std.specs.Path.{path_buf_bytes, path_bytes};
-ghost use Rattle.std.specs.Prelude.{◌≡◌, IfOk, IfSome};
-ghost use Rattle.gix_index.specs.Disk.{MayHave, disk_at, shared_path};
-ghost use Rattle.gix_index.specs.State.{PathsInStorage, contents};
-ghost use Rattle.gix_index.specs.Storable.{IsStorable};
-ghost use Rattle.gix_index.specs.Disk.World.{Known};
-ghost use Rattle.index_telling.specs.Salvaging.{IsBeside, IsSharedIn};
+ghost use Rattle.std.specs.Prelude.{◌≡◌, IfOk};
+ghost use Rattle.gix_index.specs.Disk.{shared_path};
+ghost use Rattle.index_telling.specs.Calls.{AreBytesOf, FindsShared, IsSharedBeside, IsSharedOf};
 
 use gix_index::entry::FileTime;
 use gix_index::file::folder::Folder;
@@ -31,8 +27,7 @@ fn readable<D: Folder>(
     alloc: Global,
     path: Path<'_>,
 ) -> Result<Option<Vec<u8>>, AllocError>
-    ensures { IfOk result (λ found. IfSome found
-        (λ bytes. MayHave (D.known folder.now (path_bytes path.entry)) bytes.items)) }
+    ensures { IfOk result (AreBytesOf (D.known folder.now (path_bytes path.entry))) }
 {
     match file::bytes_at(folder, alloc, path) {
         Ok((bytes, _)) => Ok(Some(bytes)),
@@ -53,12 +48,7 @@ fn shared_in(
     path: PathBuf,
     id: ObjectId,
 ) -> Result<Option<State>, AllocError>
-    ensures read { IfOk result
-        (λ found. IfSome found (λ state. (known : Known) → MayHave known bytes.now
-        → IsSharedIn known kind id (contents state))) }
-    ensures placed { IfOk result (λ found. IfSome found PathsInStorage) }
-    ensures storable { IfOk result
-        (λ found. IfSome found (λ state. IsStorable (contents state))) }
+    ensures { FindsShared (IsSharedOf kind id bytes.now) result }
 {
     let options = decode::Options {
         expected_checksum: Some(id),
@@ -81,11 +71,7 @@ pub fn shared_beside<D: Folder>(
     path: &str,
     wanted: Option<ObjectId>,
 ) -> Result<Option<State>, AllocError>
-    ensures read { IfOk result (λ found. IsBeside (disk_at (D.known folder.now) path.now).shared kind
-        wanted (option_map contents found)) }
-    ensures placed { IfOk result (λ found. IfSome found PathsInStorage) }
-    ensures storable { IfOk result
-        (λ found. IfSome found (λ state. IsStorable (contents state))) }
+    ensures { FindsShared (IsSharedBeside (D.known folder.now) kind path.now wanted) result }
 {
     let Some(id) = wanted else {
         return Ok(None);

@@ -1,11 +1,7 @@
 //! The command `show`.
 
-ghost use Rattle.std.specs.Prelude.{◌≡◌, IfErr, IfOk, OnOk, false};
-ghost use Rattle.gix_index.specs.File.{checksum_of, state_of};
-ghost use Rattle.gix_index.specs.State.{PathsInStorage, contents};
-ghost use Rattle.index_failures.specs.Reading.{FailsReading};
-ghost use Rattle.index_failures.specs.Telling.{FailsTelling, NoText, Tells};
-ghost use Rattle.index_telling.specs.Showing.{IsInBytes, IsShown, SaysOfFileAlone};
+ghost use Rattle.std.specs.Prelude.{◌≡◌, false};
+ghost use Rattle.index_telling.specs.Showing.{ReadsAlone, ShowsFile};
 
 use gix_index::entry::FileTime;
 use gix_index::file::Unfollowed;
@@ -34,11 +30,7 @@ pub fn told_at<'a, D: Folder>(
     kind: Kind,
     path: &'a str,
 ) -> Result<Told, Failure<'a>>
-    ensures told { IfOk result (λ told. IsInBytes (D.known folder.now path.now) kind
-        (contents (state_of told.index)) (checksum_of told.index) told.marks) }
-    ensures placed { IfOk result (λ told. PathsInStorage (state_of told.index)) }
-    ensures fault { IfErr result (FailsReading
-        (SaysOfFileAlone (D.works folder.now) (D.known folder.now) kind path.now) path.now) }
+    ensures { ReadsAlone D.Folder folder.now kind path.now result }
 {
     let Ok(file) = PathBuf::from_str(alloc, path) else {
         return Err(out_of_memory(path));
@@ -68,12 +60,7 @@ pub fn show<'a, D: Folder, W: Out>(
     out: &mut W,
 ) -> Result<(), Failure<'a>>
     requires unfailed { W.failed out.old ≡ false }
-    ensures told { OnOk result (Tells (IsShown (D.known folder.now path.now) kind)
-        (W.taken out.old) (W.taken out.new)) }
-    ensures refused { IfErr result
-        (λ failure. FailsTelling (IsShown (D.known folder.now path.now) kind) NoText (FailsReading
-        (SaysOfFileAlone (D.works folder.now) (D.known folder.now) kind path.now) path.now)
-        path.now failure (W.failed out.new) (W.taken out.old) (W.taken out.new)) }
+    ensures { ShowsFile D.Folder folder.now kind path.now W.Out out.old out.new result }
 {
     let Told { index, marks } = told_at(folder, alloc, kind, path)?;
     match write_show(alloc, &index, index.checksum(), &marks, out) {

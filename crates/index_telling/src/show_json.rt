@@ -1,9 +1,7 @@
 //! The command `show-json`.
 
-ghost use Rattle.std.specs.Prelude.{◌≡◌, IfErr, OnOk, false};
-ghost use Rattle.index_failures.specs.Reading.{FailsReading};
-ghost use Rattle.index_failures.specs.Telling.{FailsTelling, NoText, Tells};
-ghost use Rattle.index_telling.specs.Showing.{IsJson, SaysOfFileAlone};
+ghost use Rattle.std.specs.Prelude.{◌≡◌, false};
+ghost use Rattle.index_telling.specs.Showing.{ShowsJson};
 
 use crate::show::{Told, told_at};
 use gix_index::file::folder::Folder;
@@ -25,12 +23,7 @@ pub fn show_json<'a, D: Folder, W: Out>(
     out: &mut W,
 ) -> Result<(), Failure<'a>>
     requires unfailed { W.failed out.old ≡ false }
-    ensures told { OnOk result (Tells (IsJson (D.known folder.now path.now) kind)
-        (W.taken out.old) (W.taken out.new)) }
-    ensures refused { IfErr result
-        (λ failure. FailsTelling (IsJson (D.known folder.now path.now) kind) NoText (FailsReading
-        (SaysOfFileAlone (D.works folder.now) (D.known folder.now) kind path.now) path.now)
-        path.now failure (W.failed out.new) (W.taken out.old) (W.taken out.new)) }
+    ensures { ShowsJson D.Folder folder.now kind path.now W.Out out.old out.new result }
 {
     let Told { index, marks } = told_at(folder, alloc, kind, path)?;
     match write_json(alloc, &index, index.checksum(), &marks, out) {

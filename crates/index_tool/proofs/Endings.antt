@@ -1,5 +1,5 @@
 -- What a command says of the output, by the clauses of the call that it makes.
-use Rattle.std.proofs.Common.{◌≡◌, ℕ, Bool, false, List, Option, Some, None, Result, Ok, Err, refl}
+use Rattle.std.proofs.Common.{◌≡◌, ℕ, Bool, false, List, Option, Some, Result, Ok, Err, refl}
 use Rattle.std.specs.Prelude.{IfErr, IfOk, OnErr}
 use Rattle.std.proofs.KnownBytes.{Keeps-refl}
 use Rattle.gix_index.specs.Kind.{Kind}
@@ -38,6 +38,11 @@ pub stored_done : (r : Result (Option Report) Failure) (alone guards : Bool) (be
     → IfOk r (λ report. Does report alone guards before behind (Writes what kind path to) known known)
 stored_done (Ok x) alone guards before behind what kind path to known h = (h, Keeps-refl known)
 stored_done (Err f) alone guards before behind what kind path to known h = tt
+
+pub stored_refused : (r : Result (Option Report) Failure) (world : World) (command : CommandValue)
+    (known : Option (List ℕ)) → OnErr r (GivesUp world command known known)
+stored_refused (Ok x) world command known = tt
+stored_refused (Err f) world command known = nothing (Keeps-refl known)
 
 -- a report is one of what was saved
 pub told_of_saved : (meant : words.CommandValue) (k : Kind) (p : List ℕ) (report : Report) (alone guards : Bool)

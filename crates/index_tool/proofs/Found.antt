@@ -1,5 +1,5 @@
 -- What was done on the index that was found, as what the words mean.
-use Rattle.std.proofs.Common.{◌≡◌, ℕ, Bool, List, Option, refl, subst, sym}
+use Rattle.std.proofs.Common.{◌≡◌, ℕ, Bool, List, Option, refl, subst}
 use Rattle.std.proofs.KnownBytes.{Keeps-refl}
 use Rattle.gix_index.specs.Disk.World.{World}
 use Rattle.gix_index.specs.Kind.{Kind}

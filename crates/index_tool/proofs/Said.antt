@@ -1,5 +1,5 @@
 -- What is said in place of a command: an answer says what the words mean.
-use Rattle.std.proofs.Common.{◌≡◌, ◌∙◌, ◌⊎◌, ℕ, Bool, true, false, List, Option, ap, inl, inr, subst, sym, true≢false}
+use Rattle.std.proofs.Common.{◌≡◌, ◌∙◌, ◌⊎◌, ℕ, Bool, true, false, List, Option, ap, inl, inr, refl, subst, sym, true≢false}
 use Rattle.std.specs.Io.KnownBytes.{Keeps}
 use Rattle.gix_index.specs.Disk.World.{World}
 use Rattle.clap.specs.Values.{kind_of}
@@ -41,3 +41,10 @@ said_wrong (Says kinds) (answers.Help e) h wrong = absurd wrong
 said_wrong (Says kinds) (answers.Version e) h wrong = absurd wrong
 said_wrong (Says kinds) answers.OutOfMemory h wrong = absurd wrong
 said_wrong (Runs command) answer h wrong = absurd (subst IsWrong h wrong)
+
+-- it isn't what was asked for
+pub wrong_unasked : (answer : Answer) → IsWrong answer → is_asked_for answer ≡ false
+wrong_unasked (answers.WrongWords e) wrong = refl
+wrong_unasked (answers.Help e) wrong = absurd wrong
+wrong_unasked (answers.Version e) wrong = absurd wrong
+wrong_unasked answers.OutOfMemory wrong = absurd wrong

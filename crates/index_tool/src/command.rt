@@ -1,17 +1,14 @@
 //! The commands, from words to a status.
 
-ghost use Rattle.std.specs.Prelude.{◌≡◌, ◌≤◌, ◌⊎◌, false, true, map, IfErr, IfOk, OnOk, OnErr, string_bytes};
+ghost use Rattle.std.specs.Prelude.{◌≡◌, ◌≤◌, false, true};
 ghost use Rattle.std.specs.Io.KnownBytes.{Keeps};
 ghost use Rattle.std.specs.Option.{option_map};
-ghost use Rattle.gix_index.specs.InPlace.Locks.{Restores};
-ghost use Rattle.index_failures.specs.Telling.{Tells};
 ghost use Rattle.index_words.specs.Answers.{is_asked_for};
 ghost use Rattle.index_words.specs.Commands.{command_value, place_of};
-ghost use Rattle.index_words.specs.Meaning.{meaning};
-ghost use Rattle.index_tool.specs.Command.{IsFound, IsPlace, Reads, given_of, input_of, on_file};
-ghost use Rattle.index_tool.specs.Ending.{AreWrong, HasNoPlace, IsDone, IsRefused, IsUnfound, IsWrong, SaysOfInput};
-ghost use Rattle.index_tool.specs.Ending.{reports, reports_of};
-ghost use Rattle.index_tool.specs.Outcome.{Does, FailsToStore, GivesUp, IsTold, Spares, StoresIndex, Succeeds};
+ghost use Rattle.index_tool.specs.Calls.{Acts, EndsByStatus, EndsRun, FindsIndex, FindsPath, HoldsInput, IsRefusable};
+ghost use Rattle.index_tool.specs.Calls.{KeepsFaults, TellsOf, WritesOf, reports_by, reports_in};
+ghost use Rattle.index_tool.specs.Command.{given_of, input_of};
+ghost use Rattle.index_tool.specs.Ending.{IsWrong};
 
 use crate::terminal::{Console, STANDARD_INPUT};
 use gix_index::file::PathError;
@@ -55,11 +52,7 @@ struct Found {
 
 /// Takes the standard input, which counts as the file [`STANDARD_INPUT`] from here on.
 fn hold<D: Console>(folder: &mut D, alloc: Global) -> Result<(), index_input::Error>
-    ensures fault { IfErr result SaysOfInput }
-    ensures known { D.known folder.new ≡ D.known folder.old }
-    ensures alone { D.alone folder.new ≡ D.alone folder.old }
-    ensures guards { D.guards folder.new ≡ D.guards folder.old }
-    ensures works { D.works folder.new ≡ D.works folder.old }
+    ensures { HoldsInput D.Folder folder.old folder.new result }
 {
     if let Err(error) = folder.hold_input(alloc) {
         if error.kind() == ErrorKind::OutOfMemory {
@@ -78,14 +71,7 @@ fn path_of<D: Console>(
     around: &Surroundings,
     input: Option<Input<'_>>,
 ) -> Result<String, index_input::Error>
-    ensures place { IfOk result (λ path. IsPlace (D.known folder.old) around.now
-        (option_map place_of input.entry) (string_bytes path)) }
-    ensures fault { IfErr result (HasNoPlace (D.works folder.old) (D.known folder.old) around.now
-        (option_map place_of input.entry)) }
-    ensures known { D.known folder.new ≡ D.known folder.old }
-    ensures alone { D.alone folder.new ≡ D.alone folder.old }
-    ensures guards { D.guards folder.new ≡ D.guards folder.old }
-    ensures works { D.works folder.new ≡ D.works folder.old }
+    ensures { FindsPath D.Folder folder.old folder.new around.now input.entry result }
 {
     match input {
         Some(Input::File(path)) => Ok(String::from_str(alloc, path)?),
@@ -109,14 +95,7 @@ fn find<D: Console>(
     given: Option<Kind>,
     input: Option<Input<'_>>,
 ) -> Result<Found, index_input::Error>
-    ensures found { IfOk result (λ found. IsFound (D.known folder.old) around.now given
-        (option_map place_of input.entry) found.kind (string_bytes found.path)) }
-    ensures fault { IfErr result (IsUnfound (D.works folder.old) (D.known folder.old) around.now
-        given (option_map place_of input.entry)) }
-    ensures known { D.known folder.new ≡ D.known folder.old }
-    ensures alone { D.alone folder.new ≡ D.alone folder.old }
-    ensures guards { D.guards folder.new ≡ D.guards folder.old }
-    ensures works { D.works folder.new ≡ D.works folder.old }
+    ensures { FindsIndex D.Folder folder.old folder.new around.now given input.entry result }
 {
     let path = path_of(folder, alloc, around, input)?;
     let kind = match given {
@@ -136,10 +115,7 @@ fn tell<'a, D: Folder, W: Out>(
     out: &mut W,
 ) -> Result<(), Failure<'a>>
     requires unfailed { W.failed out.old ≡ false }
-    ensures told { OnOk result (Tells (IsTold what (D.known folder.now) kind path.now)
-        (W.taken out.old) (W.taken out.new)) }
-    ensures refused { OnErr result (GivesUp (D.known folder.now) (Reads what kind path.now)
-        (W.taken out.old) (W.taken out.new)) }
+    ensures { TellsOf what D.Folder folder.now kind path.now W.Out out.old out.new result }
 {
     match what {
         Reading::List(lines) => list(folder, alloc, lines, kind, path, out),
@@ -161,13 +137,7 @@ fn write<'a, D: Folder>(
     index: &'a Found,
     to: &'a str,
 ) -> Result<Option<Report<'a>>, Failure<'a>>
-    ensures written { IfOk result (StoresIndex what (D.alone folder.old) (D.guards folder.old)
-        index.now.kind (D.known folder.old) (D.known folder.new) (string_bytes index.now.path)
-        to.now) }
-    ensures restored { OnErr result (D.alone folder.old ≡ true → Restores (D.works folder.old)
-        (D.known folder.old) (D.known folder.new) to.now) }
-    ensures fault { IfErr result (FailsToStore what (D.works folder.old) (D.guards folder.old)
-        index.now.kind (D.known folder.old) (string_bytes index.now.path) to.now) }
+    ensures { WritesOf what D.Folder folder.old folder.new index.now to.now result }
 {
     let (kind, path) = (index.kind, index.path.as_str());
     match what {
@@ -199,8 +169,7 @@ fn say<O: Out, E: io::Write>(alloc: Global, answer: &Answer, out: &mut O, faults
     ensures status { result ≤ WRONG_WORDS }
     ensures asked { result ≡ DONE → is_asked_for answer.now ≡ true }
     ensures wrong_words { result ≡ WRONG_WORDS → IsWrong answer.now }
-    ensures refused { result ≡ REFUSED
-        → (is_asked_for answer.now ≡ true) ⊎ (answer.now ≡ Answer.OutOfMemory) }
+    ensures refused { result ≡ REFUSED → IsRefusable answer.now }
     ensures nothing { is_asked_for answer.now ≡ false
         → Keeps (O.taken out.old) (O.taken out.new) }
     ensures no_fault { result ≡ DONE → Keeps (E.contents faults.old) (E.contents faults.new) }
@@ -263,16 +232,8 @@ fn run_command<'a, D: Folder, O: Out>(
     out: &mut O,
 ) -> Result<Option<Report<'a>>, Failure<'a>>
     requires unfailed { O.failed out.old ≡ false }
-    ensures done { IfOk result (λ report. Does report (D.alone folder.old) (D.guards folder.old)
-        (D.known folder.old) (D.known folder.new)
-        (on_file (command_value command.entry) index.now.kind (string_bytes index.now.path))
-        (O.taken out.old) (O.taken out.new)) }
-    ensures refused { OnErr result (GivesUp (D.known folder.old)
-        (on_file (command_value command.entry) index.now.kind (string_bytes index.now.path))
-        (O.taken out.old) (O.taken out.new)) }
-    ensures spared { OnErr result (Spares (D.alone folder.old) (D.works folder.old)
-        (D.known folder.old) (D.known folder.new)
-        (on_file (command_value command.entry) index.now.kind (string_bytes index.now.path))) }
+    ensures { Acts command.entry index.now D.Folder folder.old folder.new O.Out out.old out.new
+        result }
 {
     match command {
         Command::Read { what, .. } => {
@@ -293,19 +254,10 @@ fn run_on<D: Folder, O: Out, E: io::Write>(
     faults: &mut E,
 ) -> u8
     requires unfailed { O.failed out.old ≡ false }
-    ensures status { result ≤ REFUSED }
-    ensures done { result ≡ DONE → Succeeds (D.alone folder.old) (D.guards folder.old)
-        (D.known folder.old) (D.known folder.new)
-        (on_file (command_value command.entry) index.now.kind (string_bytes index.now.path))
-        (O.taken out.old) (O.taken out.new) }
-    ensures refused { result ≡ REFUSED → GivesUp (D.known folder.old)
-        (on_file (command_value command.entry) index.now.kind (string_bytes index.now.path))
-        (O.taken out.old) (O.taken out.new) }
-    ensures spared { result ≡ REFUSED → Spares (D.alone folder.old) (D.works folder.old)
-        (D.known folder.old) (D.known folder.new)
-        (on_file (command_value command.entry) index.now.kind (string_bytes index.now.path)) }
-    ensures no_fault { result ≡ DONE → reports (command_value command.entry) ≡ false
-        → Keeps (E.contents faults.old) (E.contents faults.new) }
+    ensures ends { EndsByStatus command.entry index.now D.Folder folder.old folder.new
+        O.Out out.old out.new result }
+    ensures no_fault { KeepsFaults (reports_by command.entry) E.contents faults.old faults.new
+        result }
 {
     match run_command(folder, alloc, command, index, out) {
         Ok(None) => DONE,
@@ -364,19 +316,9 @@ pub fn run<D: Console, O: Out, E: io::Write>(
     faults: &mut E,
 ) -> u8
     requires unfailed { O.failed out.old ≡ false }
-    ensures status { result ≤ WRONG_WORDS }
-    ensures wrong_words { result ≡ WRONG_WORDS → AreWrong (meaning (map string_bytes words.now)) }
-    ensures nothing_opened { result ≡ WRONG_WORDS
-        → Keeps (O.taken out.old) (O.taken out.new) }
-    ensures untouched { result ≡ WRONG_WORDS → D.known folder.new ≡ D.known folder.old }
-    ensures done { result ≡ DONE → IsDone around.now (D.alone folder.old) (D.guards folder.old)
-        (D.known folder.old) (D.known folder.new) (O.taken out.old) (O.taken out.new)
-        (meaning (map string_bytes words.now)) }
-    ensures refused { result ≡ REFUSED → IsRefused around.now (D.alone folder.old)
-        (D.works folder.old) (D.known folder.old) (D.known folder.new)
-        (O.taken out.old) (O.taken out.new) (meaning (map string_bytes words.now)) }
-    ensures no_fault { result ≡ DONE → reports_of (meaning (map string_bytes words.now)) ≡ false
-        → Keeps (E.contents faults.old) (E.contents faults.new) }
+    ensures ends { EndsRun around.now words.now D.Folder folder.old folder.new
+        O.Out out.old out.new result }
+    ensures no_fault { KeepsFaults (reports_in words.now) E.contents faults.old faults.new result }
 {
     let command = match parse(alloc, words) {
         Ok(command) => command,

@@ -1,8 +1,9 @@
 //! The files of the system, and the standard input as one of them.
 
-ghost use Rattle.std.specs.Prelude.{◌≡◌, false, None};
+ghost use Rattle.std.specs.Prelude.{false, None};
 ghost use Rattle.std.specs.Io.{ReadsAtMost};
 ghost use Rattle.gix_index.specs.Disk.World.{Unknown};
+ghost use Rattle.gix_index.specs.OnDisk.Folders.{LeavesFolder};
 
 use gix_index::entry::FileTime;
 use gix_index::file::System;
@@ -22,10 +23,7 @@ pub trait Console: Folder {
     /// Takes all bytes of the standard input: from here on they are what the file at [`STANDARD_INPUT`] gives, each time
     /// that it is opened.
     fn hold_input(&mut self, alloc: Global) -> io::Result<()>
-        ensures known { Self.known self.new ≡ Self.known self.old }
-        ensures alone { Self.alone self.new ≡ Self.alone self.old }
-        ensures guards { Self.guards self.new ≡ Self.guards self.old }
-        ensures works { Self.works self.new ≡ Self.works self.old };
+        ensures { LeavesFolder Self.Folder self.old self.new };
 }
 
 /// All bytes that the standard input gave, and when they were changed last.

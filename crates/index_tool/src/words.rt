@@ -1,10 +1,8 @@
 //! The words that the program is called with, what stands around it, and the status that it ends with.
 
-ghost use Rattle.std.specs.Prelude.{◌≡◌, ◌≢◌, ◌≤◌, ◌↔◌, false, map, IfErr, IfOk, OnErr, string_bytes};
-ghost use Rattle.std.specs.Io.KnownBytes.{Keeps};
+ghost use Rattle.std.specs.Prelude.{◌≡◌, ◌≢◌, ◌↔◌, false};
 ghost use Rattle.std.specs.Process.{exit_status};
-ghost use Rattle.index_words.specs.Meaning.{meaning};
-ghost use Rattle.index_tool.specs.Ending.{AreWrong, IsDone, IsRefused};
+ghost use Rattle.index_tool.specs.Calls.{EndsCall};
 
 use crate::command::{DONE, REFUSED, WRONG_WORDS, run};
 use crate::terminal::Console;
@@ -90,23 +88,8 @@ pub fn answer<D: Console, O: Out, E: io::Write>(
     faults: &mut E,
 ) -> ExitCode
     requires unfailed { O.failed out.old ≡ false }
-    ensures status { exit_status result ≤ WRONG_WORDS }
-    ensures wrong_words { IfOk call (λ call. exit_status result ≡ WRONG_WORDS
-        → AreWrong (meaning (map string_bytes call.words.items))) }
-    ensures done { IfOk call (λ call. exit_status result ≡ DONE
-        → IsDone call.around (D.alone folder.old) (D.guards folder.old) (D.known folder.old)
-        (D.known folder.new) (O.taken out.old) (O.taken out.new)
-        (meaning (map string_bytes call.words.items))) }
-    ensures refused { IfOk call (λ call. exit_status result ≡ REFUSED
-        → IsRefused call.around (D.alone folder.old) (D.works folder.old) (D.known folder.old)
-        (D.known folder.new) (O.taken out.old) (O.taken out.new)
-        (meaning (map string_bytes call.words.items))) }
-    ensures no_memory { IfErr call
-        (λ kind. (exit_status result ≡ REFUSED) ↔ (kind ≡ ErrorKind.OutOfMemory)) }
-    ensures not_utf_8 { IfErr call
-        (λ kind. (exit_status result ≡ WRONG_WORDS) ↔ (kind ≢ ErrorKind.OutOfMemory)) }
-    ensures nothing_opened { OnErr call (Keeps (O.taken out.old) (O.taken out.new)) }
-    ensures untouched { OnErr call (D.known folder.new ≡ D.known folder.old) }
+    ensures { EndsCall call D.Folder folder.old folder.new O.Out out.old out.new (exit_status
+        result) }
 {
     match call {
         Ok(Call { words, around }) => {

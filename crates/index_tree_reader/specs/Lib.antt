@@ -1,2 +1,3 @@
 pub mod LeafSteps
 pub mod Leaves
+pub mod TreeCalls

@@ -1,10 +1,6 @@
 //! What a tree lists that isn't a tree itself.
 
-ghost use Rattle.std.specs.Prelude.{◌≡◌, Ok, Err, IfOk, IfErr, flat_map};
-ghost use Rattle.index_parts.specs.Id.{id_kind};
-ghost use Rattle.index_entries.specs.Order.{IsStrictlyOrdered};
-ghost use Rattle.index_entries.specs.TreeOrder.{AreGitOrdered};
-ghost use Rattle.index_tree_reader.specs.Leaves.{AreLeaves, SaysLeaves};
+ghost use Rattle.index_tree_reader.specs.TreeCalls.{GivesLeaves};
 
 pub use crate::error::{Error, Traversal};
 use crate::read::read_tree;
@@ -30,16 +26,7 @@ pub fn leaves_of<F: Find, C: ComponentCheck>(
     check: &C,
     max_objects: usize,
 ) -> Result<EntryList, Error>
-    ensures leaves { IfOk result
-        (λ l. AreLeaves (F.found objects.now) (C.refusal check.now) tree.now max_objects
-        (Ok l.records)) }
-    ensures packed { IfOk result (λ l. l.storage ≡ flat_map (λ r. r.path) l.records) }
-    ensures ordered { IfOk result
-        (λ l. AreGitOrdered (F.found objects.now) (id_kind tree.now) tree.now
-        → IsStrictlyOrdered l.records) }
-    ensures fault { IfErr result
-        (λ e. SaysLeaves e (λ f. AreLeaves (F.found objects.now) (C.refusal check.now) tree.now
-        max_objects (Err f))) }
+    ensures { GivesLeaves (F.found objects.now) (C.refusal check.now) tree.now max_objects result }
 {
     let kind = tree.kind();
     let mut walk = Walk::new(alloc);

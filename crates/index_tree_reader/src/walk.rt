@@ -1,12 +1,11 @@
 //! A walk over trees, from one that is read to the next.
 
-ghost use Rattle.std.specs.Prelude.{◌≡◌, ◌≤◌, ◌++◌, [], ◌∷◌, None, IfOk, IfErr, OnOk, length, take};
+ghost use Rattle.std.specs.Prelude.{◌≡◌, ◌≤◌, ◌++◌, [], None, IfOk, IfErr, OnOk, length, take};
 ghost use Rattle.index_objects.specs.NameCheck.{refusal_as};
-ghost use Rattle.index_tree_reader.specs.Leaves.{SaysLeaves};
 ghost use Rattle.index_tree_reader.specs.declared.error.Error.TheVariants.{Memory};
-ghost use Rattle.index_tree_reader.specs.LeafSteps.{BeginsTree, WalkHasFault, IsPacked, IsRefusedName, IsSoundWalk};
-ghost use Rattle.index_tree_reader.specs.LeafSteps.{IsSomeTree, ListsOn, ListsFault, EndsOrReaches, last_leaf};
-ghost use Rattle.index_tree_reader.specs.LeafSteps.{listed_records, unlisted};
+ghost use Rattle.index_tree_reader.specs.LeafSteps.{BeginsTree, EndsOrReaches, IsPacked, IsSomeTree, IsSoundWalk};
+ghost use Rattle.index_tree_reader.specs.LeafSteps.{ListsOn, listed_records, unlisted};
+ghost use Rattle.index_tree_reader.specs.TreeCalls.{KeepsPrefix, PushesLeaf, SaysOf, SaysRefused, SaysWalk};
 
 use crate::error::Error;
 use bstr::BString;
@@ -70,8 +69,7 @@ impl Listed {
     /// Puts a leaf with the path at the end.
     fn push_leaf(&mut self, id: ObjectId, kind: EntryKind) -> Result<(), Error>
         requires { IsPacked self.old }
-        ensures pushed { OnOk result (listed_records self.new
-            ≡ listed_records self.old ++ last_leaf self.old.path.items id kind ∷ []) }
+        ensures pushed { OnOk result (PushesLeaf id kind self.old self.new) }
         ensures packed { OnOk result (IsPacked self.new) }
         ensures path { self.new.path ≡ self.old.path }
         ensures fault { IfErr result (λ e. e ≡ Memory) }
@@ -96,8 +94,7 @@ fn check_name<C: ComponentCheck>(
     kind: EntryKind,
 ) -> Result<(), Error>
     ensures passes { IfOk result (λ _. refusal_as (C.refusal check.now) name.now kind ≡ None) }
-    ensures fault { IfErr result
-        (λ e. SaysLeaves e (IsRefusedName (C.refusal check.now) path.now name.now kind)) }
+    ensures fault { IfErr result (SaysRefused (C.refusal check.now) path.now name.now kind) }
 {
     if let Some(source) = refusal_of(check, name, kind) {
         let path = BString::from_slice(alloc, path)?;
@@ -121,12 +118,10 @@ fn list_entries<C: ComponentCheck>(
     ensures lists { IfOk result (ListsOn (C.refusal check.now) kind listed.old listed.new
         (take prefix_len listed.old.path.items) bytes.now) }
     ensures packed { OnOk result (IsPacked listed.new) }
-    ensures prefix { OnOk result
-        (take prefix_len listed.new.path.items ≡ take prefix_len listed.old.path.items) }
+    ensures prefix { OnOk result (KeepsPrefix prefix_len listed.old listed.new) }
     ensures long { OnOk result (prefix_len ≤ length listed.new.path.items) }
     ensures fault { IfErr result
-        (λ e. SaysLeaves e (ListsFault (C.refusal check.now) kind listed.old
-        (take prefix_len listed.old.path.items) bytes.now)) }
+        (SaysOf (C.refusal check.now) kind prefix_len listed.old bytes.now) }
 {
     let mut entries = Entries::new(bytes, kind);
     while let Some(entry) = entries.next() {
@@ -203,8 +198,7 @@ impl Walk {
         requires { IsSoundWalk kind self.old }
         ensures steps { IfOk result (EndsOrReaches (C.refusal check.now) kind self.old self.new) }
         ensures packed { OnOk result (IsPacked self.new.listed) }
-        ensures fault { IfErr result
-            (λ e. SaysLeaves e (WalkHasFault (C.refusal check.now) kind self.old)) }
+        ensures fault { IfErr result (SaysWalk (C.refusal check.now) kind self.old) }
     {
         while let Some(mut level) = self.levels.pop() {
             let bytes = level.unlisted();

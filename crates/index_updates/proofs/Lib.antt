@@ -3,6 +3,7 @@ pub mod Invalidations
 pub mod Kepts
 pub mod Losings
 pub mod Nexts
+pub mod PartsAnswers
 pub mod Recordings
 pub mod Reorders
 pub mod Risings

@@ -21,7 +21,7 @@ use Rattle.index_edits.specs.Edits.{are_at_odds}
 use Rattle.index_edits.specs.declared.change.Change.{Change}
 use Rattle.index_edits.specs.declared.change.Change.TheVariants.{Stage, Unstage}
 use Rattle.index_small_extensions.specs.ResolveUndo.{PathStages}
-use Rattle.index_updates.specs.Recorded.{record_at}
+use Rattle.index_edits.specs.EditSteps.{record_at}
 use Rattle.index_updates.specs.Undone.{all_recorded, is_lost, lost}
 
 pub all_recorded-append : (rs qs : List Record) (undo : Option (List PathStages))

@@ -1,9 +1,9 @@
 -- A side that is put at the place of its path is recorded.
-use Rattle.std.proofs.Common.{◌≡◌, ◌≢◌, ℕ, zero, suc, ◌<◌, ◌≤◌, true, false, List, [], ◌∷◌, length, map, take}
+use Rattle.std.proofs.Common.{◌≡◌, ◌≢◌, ℕ, zero, suc, true, false, List, [], ◌∷◌, map, take}
 use Rattle.std.proofs.Common.{All, get_or, refl, sym, ap, ◌∙◌, arith}
 use Rattle.std.proofs.Math.ListN.{set}
 use Rattle.std.proofs.lemmas.List.Elements.{All-head, All-tail}
-use Rattle.std.specs.List.{HoldsAt, insert}
+use Rattle.std.specs.List.{insert}
 use Rattle.std.specs.Ordering.{is_eq, is_lt}
 use Rattle.std.specs.declared.cmp.Ordering.{Ordering}
 use Rattle.std.specs.declared.cmp.Ordering.TheVariants.{Less, Equal, Greater}
@@ -12,6 +12,7 @@ use Rattle.index_entries.specs.Record.{Record}
 use Rattle.index_entries.proofs.Orders.{same_path}
 use Rattle.index_small_extensions.specs.ResolveUndo.{PathStages}
 use Rattle.index_updates.specs.Recorded.{no_sides, recorded, with_side}
+use Rattle.index_updates.specs.RecordingSteps.{IsHere, IsOther, IsPlaceFor, StandsBefore}
 
 equal_is : (o : Ordering) → o ≡ Equal → (is_lt o ≡ false) × (is_eq o ≡ true)
 equal_is Less e = cc
@@ -44,24 +45,6 @@ module _ (r : Record) (p : PathStages) (ps : List PathStages) where
 pub alone : (r : Record) → recorded r [] ≡ with_side r (no_sides r.path) ∷ []
 unfolding recorded
 alone r = refl
-
-module _ {X : Type 0} (f : X → PathStages) (path : List ℕ) where
-  abbrev StandsBefore : X → Type 0
-  StandsBefore x = is_lt (path_cmp (f x).name path) ≡ true
-
-  -- those in front of the place stand before the path, and the one that is there doesn't
-  pub record IsPlaceFor (xs : List X) (i : ℕ) : Type 0 where
-    pub inside : i ≤ length xs
-    pub before : All StandsBefore (take i xs)
-    pub here : i < length xs → HoldsAt (λ x. is_lt (path_cmp (f x).name path) ≡ false) xs i
-
-  -- the path is there
-  abbrev pub IsHere : List X → ℕ → Type 0
-  IsHere xs i = (i < length xs) × HoldsAt (λ x. (f x).name ≡ path) xs i
-
-  -- another one is there, or none
-  abbrev pub IsOther : List X → ℕ → Type 0
-  IsOther xs i = i < length xs → HoldsAt (λ x. (f x).name ≢ path) xs i
 
 module _ {X : Type 0} (f : X → PathStages) (r : Record) where
   over : (d u : X) (xs : List X) (i : ℕ) → All (StandsBefore f r.path) (take i xs)

@@ -1,8 +1,12 @@
+pub mod EntryUpdates
 pub mod Invalidated
 pub mod Kept
+pub mod PartsUpdates
 pub mod Recordable
+pub mod RecordingSteps
 pub mod Recorded
 pub mod Rising
 pub mod StillStorable
 pub mod Undone
+pub mod UpdateSteps
 pub mod Updates

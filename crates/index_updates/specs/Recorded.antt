@@ -4,12 +4,7 @@ use Rattle.std.specs.Prelude.{ℕ, ◌-◌, List, [], ◌∷◌, None, slice_set
 use Rattle.std.specs.Ordering.{is_eq, is_lt}
 use Rattle.index_entries.specs.Order.{path_cmp, record_stage}
 use Rattle.index_entries.specs.Record.{Record}
-use Rattle.index_entries.specs.declared.Entry.{Entry}
 use Rattle.index_small_extensions.specs.ResolveUndo.{PathStages, side_of}
-
--- the record of an entry with its path
-abbrev pub record_at : List ℕ → Entry → Record
-record_at path e = record { path = path; stat = e.stat; id = e.id; flags = e.flags.0; mode = e.mode.0 }
 
 -- a path without a side
 abbrev pub no_sides : List ℕ → PathStages

@@ -1,10 +1,9 @@
 //! Invalidating the paths of changes (gitformat-index, "Cache tree" and "Untracked cache").
 
-ghost use Rattle.std.specs.Prelude.{◌≡◌, ℕ, IfSome};
-ghost use Rattle.std.specs.Option.{option_map};
-ghost use Rattle.index_cached_tree.specs.Sound.{CountsAtMost};
+ghost use Rattle.std.specs.Prelude.{◌≡◌};
 ghost use Rattle.index_cached_tree.specs.Tree.{node_of};
 ghost use Rattle.index_untracked.specs.Untracked.{cache_of};
+ghost use Rattle.index_updates.specs.Invalidated.{CountsNoMore, InvalidatesAll, UnlistsAll};
 ghost use Rattle.index_updates.specs.Invalidated.{all_invalidated, all_unlisted};
 
 use index_cached_tree::Tree;
@@ -15,8 +14,7 @@ use index_untracked::{UntrackedCache, invalidation};
 /// Invalidates the path of each change, one after another.
 fn invalidate_each(tree: &mut Tree, changes: &[Change<'_>])
     ensures is { node_of tree.new ≡ all_invalidated changes.now (node_of tree.old) }
-    ensures counts { (most : ℕ) → CountsAtMost most (node_of tree.old)
-        → CountsAtMost most (node_of tree.new) }
+    ensures counts { CountsNoMore (Some tree.old) (Some tree.new) }
 {
     for change in changes {
         invalidate(tree, change.path());
@@ -25,10 +23,8 @@ fn invalidate_each(tree: &mut Tree, changes: &[Change<'_>])
 
 /// Invalidates the path of each change, one after another, where there is a tree.
 pub(crate) fn invalidate_all(tree: &mut Option<Tree>, changes: &[Change<'_>])
-    ensures is { option_map node_of tree.new
-        ≡ option_map (λ t. all_invalidated changes.now (node_of t)) tree.old }
-    ensures counts { (most : ℕ) → IfSome tree.old (λ t. CountsAtMost most (node_of t))
-        → IfSome tree.new (λ t. CountsAtMost most (node_of t)) }
+    ensures is { InvalidatesAll changes.now tree.old tree.new }
+    ensures counts { CountsNoMore tree.old tree.new }
 {
     if let Some(tree) = tree {
         invalidate_each(tree, changes);
@@ -46,8 +42,7 @@ fn unlist_each(cache: &mut UntrackedCache, changes: &[Change<'_>])
 
 /// Invalidates the path of each change in an untracked cache, one after another, where there is one.
 pub(crate) fn unlist_all(cache: &mut Option<UntrackedCache>, changes: &[Change<'_>])
-    ensures { option_map cache_of cache.new
-        ≡ option_map (λ c. all_unlisted changes.now (cache_of c)) cache.old }
+    ensures { UnlistsAll changes.now cache.old cache.new }
 {
     if let Some(cache) = cache {
         unlist_each(cache, changes);

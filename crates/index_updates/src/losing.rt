@@ -1,14 +1,11 @@
 //! Sides of conflicts that a change takes out, and recording them.
 
-ghost use Rattle.std.specs.Prelude.{◌≡◌, ◌≢◌, ◌∷◌, [], IfOk, IfSome, MatchOption, OnOk, Some, false, length};
-ghost use Rattle.std.specs.List.{list_any};
-ghost use Rattle.std.specs.Option.{unwrap_or};
-ghost use Rattle.index_entries.specs.Order.{IsStrictlyOrdered, record_stage};
-ghost use Rattle.index_entries.specs.Record.{with_path};
-ghost use Rattle.index_lookups.specs.Range.{LiesWithin, part_at, part_of};
-ghost use Rattle.index_edits.specs.Edits.{are_at_odds};
-ghost use Rattle.index_updates.specs.Recorded.{record_at, recorded};
-ghost use Rattle.index_updates.specs.Undone.{all_recorded, is_lost, lost, undo_paths};
+ghost use Rattle.std.specs.Prelude.{◌≡◌, ◌≢◌, ◌∷◌, [], IfOk, IfSome, OnOk};
+ghost use Rattle.index_entries.specs.Order.{record_stage};
+ghost use Rattle.index_lookups.specs.Range.{LiesWithin, part_at};
+ghost use Rattle.index_edits.specs.EditSteps.{record_at};
+ghost use Rattle.index_updates.specs.Undone.{is_lost};
+ghost use Rattle.index_updates.specs.RecordingSteps.{AddsAllLost, AddsLost, HasLost, IsWholeIfOdd, RecordsAmong};
 
 use crate::recording::record_side;
 use index_edits::change::Change;
@@ -46,9 +43,7 @@ fn odd_places(
     entry: Pathless,
     path: &[u8],
 ) -> Result<Option<Range<usize>>, AllocError>
-    ensures all { IfOk result (λ places. IsStrictlyOrdered entries.now → MatchOption places
-        (list_any (are_at_odds (with_path path.now entry)) entries.now ≡ false)
-        (λ p. (p.start ≡ 0) × (p.end ≡ length entries.now))) }
+    ensures all { IfOk result (IsWholeIfOdd path.now entry entries.now) }
     ensures inside { IfOk result (λ places. IfSome places (LiesWithin entries.now)) }
 {
     let folder = folder_of(alloc, path)?;
@@ -64,8 +59,7 @@ fn lost_places(
     entries: &EntrySlice<'_>,
     change: &Change<'_>,
 ) -> Result<Option<Range<usize>>, AllocError>
-    ensures all { IfOk result (λ places. IsStrictlyOrdered entries.now
-        → lost change.now (part_of entries.now places) ≡ lost change.now entries.now) }
+    ensures all { IfOk result (HasLost change.now entries.now) }
     ensures inside { IfOk result (λ places. IfSome places (LiesWithin entries.now)) }
 {
     match change {
@@ -87,9 +81,7 @@ fn record_among(
     entry: &Entry,
 ) -> Result<(), AllocError>
     requires { record_stage (record_at path.now entry.now) ≢ 0 }
-    ensures { OnOk result (undo_paths undo.new
-        ≡ Some (recorded (record_at path.now entry.now)
-        (unwrap_or (undo_paths undo.old) []))) }
+    ensures { OnOk result (RecordsAmong path.now entry.now undo.old undo.new) }
 {
     if let Some(paths) = undo {
         return record_side(paths, path, entry);
@@ -109,9 +101,8 @@ fn record_if_lost(
     entry: &Entry,
     change: &Change<'_>,
 ) -> Result<(), AllocError>
-    ensures { OnOk result (undo_paths undo.new
-        ≡ all_recorded (lost change.now (record_at path.now entry.now ∷ []))
-        (undo_paths undo.old)) }
+    ensures { OnOk result (AddsLost change.now (record_at path.now entry.now ∷ []) undo.old
+        undo.new) }
 {
     if is_lost(change, entry, path) {
         record_among(undo, alloc, path, entry)?;
@@ -128,9 +119,7 @@ fn record_lost_at(
     change: &Change<'_>,
 ) -> Result<(), AllocError>
     requires { LiesWithin entries.now places }
-    ensures { OnOk result (undo_paths undo.new
-        ≡ all_recorded (lost change.now (part_at entries.now places))
-        (undo_paths undo.old)) }
+    ensures { OnOk result (AddsLost change.now (part_at entries.now places) undo.old undo.new) }
 {
     for place in places.start..places.end {
         let path = entries.path(place);
@@ -147,10 +136,7 @@ pub(crate) fn record_lost(
     entries: &EntrySlice<'_>,
     change: &Change<'_>,
 ) -> Result<(), AllocError>
-    ensures { OnOk result (IsStrictlyOrdered entries.now
-        → undo_paths undo.new
-        ≡ all_recorded (lost change.now entries.now)
-        (undo_paths undo.old)) }
+    ensures { OnOk result (AddsAllLost change.now entries.now undo.old undo.new) }
 {
     if let Some(places) = lost_places(alloc, entries, change)? {
         record_lost_at(undo, alloc, entries, places, change)?;

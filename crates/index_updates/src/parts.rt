@@ -1,16 +1,9 @@
 //! Changes of the parts of an index in memory, with what speaks of its entries.
 
-ghost use Rattle.std.specs.Prelude.{◌≡◌, ◌∷◌, [], All, IfOk, MatchResult, None, OnErr, OnOk, count_by, length};
-ghost use Rattle.index_edits.specs.Changes.{IsAppliedTo, IsApplyReason, refusal_of};
-ghost use Rattle.index_edits.specs.Edits.{IsResolvedInto, IsStagedInto, IsToldOf, IsUnstagedFrom, merged};
-ghost use Rattle.index_edits.specs.Refusals.{IsReason, fault_of};
-ghost use Rattle.index_edits.specs.declared.change.Change.TheVariants.{Stage, Unstage};
-ghost use Rattle.index_entries.specs.Order.{IsStrictlyOrdered};
-ghost use Rattle.index_entries.specs.Record.{with_path};
-ghost use Rattle.index_format.specs.Contents.{PartsInStorage, parts_contents, parts_records, parts_storage};
-ghost use Rattle.index_lookups.specs.Range.{is_at};
-ghost use Rattle.index_updates.specs.StillStorable.{StagesSized, StaysStorable};
-ghost use Rattle.index_updates.specs.Updates.{AreUnchanged, updated};
+ghost use Rattle.std.specs.Prelude.{◌≡◌};
+ghost use Rattle.index_format.specs.Contents.{PartsInStorage};
+ghost use Rattle.index_updates.specs.PartsUpdates.{AppliesParts, ResolvesParts, StagesParts, UnstagesParts};
+ghost use Rattle.index_updates.specs.PartsUpdates.{with_kept, without_kept};
 
 use crate::kept::Kept;
 use crate::{single, update};
@@ -29,12 +22,7 @@ fn take_kept(extensions: &mut Outcome) -> Kept
     ensures undo { result.undo ≡ extensions.old.resolve_undo }
     ensures untracked { result.untracked ≡ extensions.old.untracked }
     ensures monitor { result.monitor ≡ extensions.old.fs_monitor }
-    ensures others { extensions.new ≡ record extensions.old {
-      tree = None;
-      resolve_undo = None;
-      untracked = None;
-      fs_monitor = None;
-    } }
+    ensures others { extensions.new ≡ without_kept extensions.old }
 {
     Kept {
         tree: extensions.tree.take(),
@@ -46,12 +34,7 @@ fn take_kept(extensions: &mut Outcome) -> Kept
 
 /// Puts it back.
 fn put_kept(extensions: &mut Outcome, kept: Kept)
-    ensures { extensions.new ≡ record extensions.old {
-      tree = kept.tree;
-      resolve_undo = kept.undo;
-      untracked = kept.untracked;
-      fs_monitor = kept.monitor;
-    } }
+    ensures { extensions.new ≡ with_kept kept extensions.old }
 {
     extensions.tree = kept.tree;
     extensions.resolve_undo = kept.undo;
@@ -68,20 +51,7 @@ pub fn apply<C: ComponentCheck>(
     changes: &[Change<'_>],
 ) -> Result<(), ApplyError>
     requires { PartsInStorage parts.old }
-    ensures reason { MatchResult result
-        (λ _. refusal_of (C.refusal check.now) parts.old.object_hash (length (parts_storage parts.old))
-        changes.now ≡ None)
-        (IsApplyReason (refusal_of (C.refusal check.now) parts.old.object_hash
-        (length (parts_storage parts.old)) changes.now)) }
-    ensures updated { OnOk result (IsStrictlyOrdered (parts_records parts.old)
-        → parts_contents parts.new ≡ updated changes.now (parts_contents parts.old)) }
-    ensures applied { OnOk result (IsStrictlyOrdered (parts_records parts.old)
-        → IsAppliedTo changes.now (parts_records parts.old) (parts_records parts.new)) }
-    ensures storable { OnOk result (IsStrictlyOrdered (parts_records parts.old)
-        → All StagesSized changes.now
-        → StaysStorable (parts_contents parts.old) (parts_contents parts.new)) }
-    ensures placed { PartsInStorage parts.new }
-    ensures err { OnErr result (AreUnchanged parts.old parts.new) }
+    ensures { AppliesParts (C.refusal check.now) changes.now parts.old parts.new result }
 {
     let mut kept = take_kept(&mut parts.extensions);
     let result = update::update(
@@ -107,21 +77,7 @@ pub fn stage<C: ComponentCheck>(
     path: &[u8],
 ) -> Result<Displaced, Error>
     requires { PartsInStorage parts.old }
-    ensures reason { MatchResult result
-        (λ _. fault_of (C.refusal check.now) parts.old.object_hash entry path.now ≡ None)
-        (IsReason (fault_of (C.refusal check.now) parts.old.object_hash entry path.now)
-        (length (parts_storage parts.old)) path.now) }
-    ensures updated { OnOk result (IsStrictlyOrdered (parts_records parts.old)
-        → parts_contents parts.new
-        ≡ updated (Stage entry path.entry ∷ []) (parts_contents parts.old)) }
-    ensures staged { OnOk result (IsStrictlyOrdered (parts_records parts.old)
-        → IsStagedInto (with_path path.now entry) (parts_records parts.old) (parts_records parts.new)) }
-    ensures storable { OnOk result (IsStrictlyOrdered (parts_records parts.old)
-        → StaysStorable (parts_contents parts.old) (parts_contents parts.new)) }
-    ensures told { IfOk result (λ told. IsStrictlyOrdered (parts_records parts.old)
-        → IsToldOf (with_path path.now entry) (parts_records parts.old) told) }
-    ensures placed { PartsInStorage parts.new }
-    ensures err { OnErr result (AreUnchanged parts.old parts.new) }
+    ensures { StagesParts (C.refusal check.now) entry path.entry parts.old parts.new result }
 {
     let mut kept = take_kept(&mut parts.extensions);
     let made = single::stage(
@@ -147,22 +103,7 @@ pub fn resolve<C: ComponentCheck>(
     path: &[u8],
 ) -> Result<Displaced, Error>
     requires { PartsInStorage parts.old }
-    ensures reason { MatchResult result
-        (λ _. fault_of (C.refusal check.now) parts.old.object_hash (merged entry) path.now ≡ None)
-        (IsReason (fault_of (C.refusal check.now) parts.old.object_hash (merged entry) path.now)
-        (length (parts_storage parts.old)) path.now) }
-    ensures updated { OnOk result (IsStrictlyOrdered (parts_records parts.old)
-        → parts_contents parts.new
-        ≡ updated (Stage (merged entry) path.entry ∷ []) (parts_contents parts.old)) }
-    ensures resolved { OnOk result (IsStrictlyOrdered (parts_records parts.old)
-        → IsResolvedInto (with_path path.now (merged entry)) (parts_records parts.old)
-        (parts_records parts.new)) }
-    ensures storable { OnOk result (IsStrictlyOrdered (parts_records parts.old)
-        → StaysStorable (parts_contents parts.old) (parts_contents parts.new)) }
-    ensures told { IfOk result (λ told. IsStrictlyOrdered (parts_records parts.old)
-        → IsToldOf (with_path path.now (merged entry)) (parts_records parts.old) told) }
-    ensures placed { PartsInStorage parts.new }
-    ensures err { OnErr result (AreUnchanged parts.old parts.new) }
+    ensures { ResolvesParts (C.refusal check.now) entry path.entry parts.old parts.new result }
 {
     let mut kept = take_kept(&mut parts.extensions);
     let solved = single::resolve(
@@ -184,17 +125,7 @@ pub fn resolve<C: ComponentCheck>(
 /// memory, and leaves the parts as they were.
 pub fn unstage(parts: &mut Parts, path: &[u8]) -> Result<usize, AllocError>
     requires { PartsInStorage parts.old }
-    ensures updated { OnOk result (IsStrictlyOrdered (parts_records parts.old)
-        → parts_contents parts.new ≡ updated (Unstage path.entry ∷ []) (parts_contents parts.old)) }
-    ensures unstaged { OnOk result (IsStrictlyOrdered (parts_records parts.old)
-        → IsUnstagedFrom path.now (parts_records parts.old) (parts_records parts.new)) }
-    ensures storable { OnOk result (IsStrictlyOrdered (parts_records parts.old)
-        → StaysStorable (parts_contents parts.old) (parts_contents parts.new)) }
-    ensures count { IfOk result (λ count. IsStrictlyOrdered (parts_records parts.old)
-        → count ≡ count_by (is_at path.now) (parts_records parts.old)) }
-    ensures storage { parts_storage parts.new ≡ parts_storage parts.old }
-    ensures placed { PartsInStorage parts.new }
-    ensures err { OnErr result (AreUnchanged parts.old parts.new) }
+    ensures { UnstagesParts path.entry parts.old parts.new result }
 {
     let mut kept = take_kept(&mut parts.extensions);
     let gone = single::unstage(&mut parts.entries, &parts.path_backing, &mut kept, path);

@@ -1,19 +1,12 @@
 //! Making one change of an index, with what speaks of its entries.
 
-ghost use Rattle.std.specs.Prelude.{◌⊎◌, ◌≡◌, ◌++◌, ◌∷◌, [], All, IfOk, MatchResult, None, OnErr, OnOk, count_by};
-ghost use Rattle.std.specs.Prelude.{length};
-ghost use Rattle.std.specs.Option.{option_map};
-ghost use Rattle.index_entries.specs.Order.{IsStrictlyOrdered};
-ghost use Rattle.index_entries.specs.Record.{IsPlaced, records_in, with_path};
-ghost use Rattle.index_lookups.specs.Range.{is_at};
-ghost use Rattle.index_edits.specs.Changes.{IsAppliedTo};
-ghost use Rattle.index_edits.specs.Edits.{IsResolvedInto, IsStagedInto, IsToldOf, IsUnstagedFrom, merged};
-ghost use Rattle.index_edits.specs.Refusals.{IsReason, fault_of};
+ghost use Rattle.std.specs.Prelude.{◌≡◌, ◌∷◌, [], All, IfOk, length};
+ghost use Rattle.index_entries.specs.Record.{IsPlaced};
+ghost use Rattle.index_edits.specs.Edits.{merged};
+ghost use Rattle.index_edits.specs.EntryEdits.{SaysWhy, StagesEntry};
 ghost use Rattle.index_edits.specs.declared.change.Change.TheVariants.{Stage, Unstage};
-ghost use Rattle.index_small_extensions.specs.FsMonitor.{monitor_of};
-ghost use Rattle.index_updates.specs.Kept.{IsKeptAfter, StaysSound, watched};
-ghost use Rattle.index_updates.specs.Recordable.{StaysSpellable};
-ghost use Rattle.index_updates.specs.Undone.{undo_paths, undone};
+ghost use Rattle.index_updates.specs.EntryUpdates.{KeepsOne, ResolvesOne, StagesOne, TakesPath, UnstagesOne};
+ghost use Rattle.index_updates.specs.UpdateSteps.{IsUndoneAfter, TellsCut, TellsSettled};
 
 use crate::kept::Kept;
 use crate::losing::record_lost;
@@ -39,9 +32,7 @@ fn undo_after(
     change: &Change<'_>,
 ) -> Result<Option<Paths>, AllocError>
     requires { All (IsPlaced (length storage.now.items)) entries.now }
-    ensures { IfOk result (λ made. IsStrictlyOrdered (records_in storage.now.items entries.now)
-        → undo_paths made ≡ undone (change.now ∷ []) (records_in storage.now.items entries.now)
-        (undo_paths undo.now)) }
+    ensures { IfOk result (IsUndoneAfter (change.now ∷ []) storage.now.items entries.now undo.now) }
 {
     let mut undo = copy_of(undo)?;
     let alloc = *storage.allocator();
@@ -79,23 +70,10 @@ fn settle_watched(
     path: &[u8],
 ) -> Result<Settled, AllocError>
     requires placed { All (IsPlaced (length storage.old.items)) entries.old.items }
-    ensures staged { OnOk result (IsStrictlyOrdered (records_in storage.old.items entries.old.items)
-        → IsStagedInto (with_path path.now entry)
-        (records_in storage.old.items entries.old.items)
-        (records_in storage.new.items entries.new.items)) }
-    ensures told { IfOk result (λ made.
-        IsStrictlyOrdered (records_in storage.old.items entries.old.items)
-        → IsToldOf (with_path path.now entry)
-        (records_in storage.old.items entries.old.items) made.told) }
-    ensures monitor { IfOk result (λ made.
-        IsStrictlyOrdered (records_in storage.old.items entries.old.items)
-        → option_map monitor_of made.monitor ≡ watched (Stage entry path.entry ∷ [])
-        (records_in storage.old.items entries.old.items) monitor.now) }
-    ensures placed { All (IsPlaced (length storage.new.items)) entries.new.items }
-    ensures storage { (storage.new.items ≡ storage.old.items)
-        ⊎ (storage.new.items ≡ storage.old.items ++ path.now) }
-    ensures err_entries { OnErr result (entries.new.items ≡ entries.old.items) }
-    ensures err_storage { OnErr result (storage.new.items ≡ storage.old.items) }
+    ensures staged { StagesEntry entry path.now storage.old entries.old storage.new entries.new
+        result }
+    ensures settled { IfOk result (TellsSettled entry path.entry storage.old entries.old
+        monitor.now) }
 {
     if monitor.is_none() {
         return Ok(Settled {
@@ -134,18 +112,8 @@ fn cut_watched(
     path: &[u8],
 ) -> Result<Cut, AllocError>
     requires placed { All (IsPlaced (length storage.now.items)) entries.old.items }
-    ensures unstaged { OnOk result (IsStrictlyOrdered (records_in storage.now.items entries.old.items)
-        → IsUnstagedFrom path.now (records_in storage.now.items entries.old.items)
-        (records_in storage.now.items entries.new.items)) }
-    ensures count { IfOk result (λ made.
-        IsStrictlyOrdered (records_in storage.now.items entries.old.items)
-        → made.count ≡ count_by (is_at path.now) (records_in storage.now.items entries.old.items)) }
-    ensures monitor { IfOk result (λ made.
-        IsStrictlyOrdered (records_in storage.now.items entries.old.items)
-        → option_map monitor_of made.monitor ≡ watched (Unstage path.entry ∷ [])
-        (records_in storage.now.items entries.old.items) monitor.now) }
-    ensures placed { All (IsPlaced (length storage.now.items)) entries.new.items }
-    ensures err_entries { OnErr result (entries.new.items ≡ entries.old.items) }
+    ensures taken { TakesPath path.now storage.now entries.old entries.new result }
+    ensures told { IfOk result (TellsCut path.entry storage.now entries.old monitor.now) }
 {
     if monitor.is_none() {
         return Ok(Cut {
@@ -182,41 +150,11 @@ pub fn stage<C: ComponentCheck>(
     path: &[u8],
 ) -> Result<Displaced, Error>
     requires placed { All (IsPlaced (length storage.old.items)) entries.old.items }
-    ensures reason { MatchResult result
-        (λ _. fault_of (C.refusal check.now) kind entry path.now ≡ None)
-        (IsReason (fault_of (C.refusal check.now) kind entry path.now)
-        (length storage.old.items) path.now) }
-    ensures applied { OnOk result
-        (IsStrictlyOrdered (records_in storage.old.items entries.old.items)
-        → IsAppliedTo (Stage entry path.entry ∷ [])
-        (records_in storage.old.items entries.old.items)
-        (records_in storage.new.items entries.new.items)) }
-    ensures staged { OnOk result (IsStrictlyOrdered (records_in storage.old.items entries.old.items)
-        → IsStagedInto (with_path path.now entry)
-        (records_in storage.old.items entries.old.items)
-        (records_in storage.new.items entries.new.items)) }
-    ensures told { IfOk result (λ told.
-        IsStrictlyOrdered (records_in storage.old.items entries.old.items)
-        → IsToldOf (with_path path.now entry)
-        (records_in storage.old.items entries.old.items) told) }
-    ensures kept { OnOk result (IsStrictlyOrdered (records_in storage.old.items entries.old.items)
-        → IsKeptAfter (Stage entry path.entry ∷ []) (records_in storage.old.items entries.old.items)
-        kept.old kept.new) }
-    ensures monitor { OnOk result (IsStrictlyOrdered (records_in storage.old.items entries.old.items)
-        → option_map monitor_of kept.new.monitor ≡ watched (Stage entry path.entry ∷ [])
-        (records_in storage.old.items entries.old.items) kept.old.monitor) }
-    ensures sound { OnOk result (IsStrictlyOrdered (records_in storage.old.items entries.old.items)
-        → StaysSound kept.old kept.new) }
-    ensures spellable { OnOk result
-        (IsStrictlyOrdered (records_in storage.old.items entries.old.items)
-        → StaysSpellable (Stage entry path.entry ∷ []) (records_in storage.old.items entries.old.items)
-        kept.old kept.new) }
-    ensures placed { All (IsPlaced (length storage.new.items)) entries.new.items }
-    ensures storage { (storage.new.items ≡ storage.old.items)
-        ⊎ (storage.new.items ≡ storage.old.items ++ path.now) }
-    ensures err_entries { OnErr result (entries.new.items ≡ entries.old.items) }
-    ensures err_storage { OnErr result (storage.new.items ≡ storage.old.items) }
-    ensures err_kept { OnErr result (kept.new ≡ kept.old) }
+    ensures reason { SaysWhy (C.refusal check.now) kind entry path.now storage.old result }
+    ensures made { StagesOne entry path.entry storage.old entries.old storage.new entries.new
+        result }
+    ensures kept { KeepsOne (Stage entry path.entry) storage.old entries.old kept.old kept.new
+        result }
 {
     check_stage(check, kind, storage.len(), entry, path)?;
     let change = Change::Stage { entry, path };
@@ -238,41 +176,12 @@ pub fn resolve<C: ComponentCheck>(
     path: &[u8],
 ) -> Result<Displaced, Error>
     requires placed { All (IsPlaced (length storage.old.items)) entries.old.items }
-    ensures reason { MatchResult result
-        (λ _. fault_of (C.refusal check.now) kind (merged entry) path.now ≡ None)
-        (IsReason (fault_of (C.refusal check.now) kind (merged entry) path.now)
-        (length storage.old.items) path.now) }
-    ensures applied { OnOk result
-        (IsStrictlyOrdered (records_in storage.old.items entries.old.items)
-        → IsAppliedTo (Stage (merged entry) path.entry ∷ [])
-        (records_in storage.old.items entries.old.items)
-        (records_in storage.new.items entries.new.items)) }
-    ensures resolved { OnOk result (IsStrictlyOrdered (records_in storage.old.items entries.old.items)
-        → IsResolvedInto (with_path path.now (merged entry))
-        (records_in storage.old.items entries.old.items)
-        (records_in storage.new.items entries.new.items)) }
-    ensures told { IfOk result (λ told.
-        IsStrictlyOrdered (records_in storage.old.items entries.old.items)
-        → IsToldOf (with_path path.now (merged entry))
-        (records_in storage.old.items entries.old.items) told) }
-    ensures kept { OnOk result (IsStrictlyOrdered (records_in storage.old.items entries.old.items)
-        → IsKeptAfter (Stage (merged entry) path.entry ∷ [])
-        (records_in storage.old.items entries.old.items) kept.old kept.new) }
-    ensures monitor { OnOk result (IsStrictlyOrdered (records_in storage.old.items entries.old.items)
-        → option_map monitor_of kept.new.monitor ≡ watched (Stage (merged entry) path.entry ∷ [])
-        (records_in storage.old.items entries.old.items) kept.old.monitor) }
-    ensures sound { OnOk result (IsStrictlyOrdered (records_in storage.old.items entries.old.items)
-        → StaysSound kept.old kept.new) }
-    ensures spellable { OnOk result
-        (IsStrictlyOrdered (records_in storage.old.items entries.old.items)
-        → StaysSpellable (Stage (merged entry) path.entry ∷ []) (records_in storage.old.items entries.old.items)
-        kept.old kept.new) }
-    ensures placed { All (IsPlaced (length storage.new.items)) entries.new.items }
-    ensures storage { (storage.new.items ≡ storage.old.items)
-        ⊎ (storage.new.items ≡ storage.old.items ++ path.now) }
-    ensures err_entries { OnErr result (entries.new.items ≡ entries.old.items) }
-    ensures err_storage { OnErr result (storage.new.items ≡ storage.old.items) }
-    ensures err_kept { OnErr result (kept.new ≡ kept.old) }
+    ensures reason { SaysWhy (C.refusal check.now) kind (merged entry) path.now storage.old result }
+    ensures made { ResolvesOne entry path.entry storage.old entries.old storage.new entries.new
+        result }
+    ensures kept { KeepsOne (Stage (merged entry) path.entry) storage.old entries.old kept.old
+        kept.new
+        result }
 {
     stage(entries, storage, kept, check, kind, merged(entry), path)
 }
@@ -289,32 +198,8 @@ pub fn unstage(
     path: &[u8],
 ) -> Result<usize, AllocError>
     requires placed { All (IsPlaced (length storage.now.items)) entries.old.items }
-    ensures applied { OnOk result
-        (IsStrictlyOrdered (records_in storage.now.items entries.old.items)
-        → IsAppliedTo (Unstage path.entry ∷ [])
-        (records_in storage.now.items entries.old.items)
-        (records_in storage.now.items entries.new.items)) }
-    ensures unstaged { OnOk result (IsStrictlyOrdered (records_in storage.now.items entries.old.items)
-        → IsUnstagedFrom path.now (records_in storage.now.items entries.old.items)
-        (records_in storage.now.items entries.new.items)) }
-    ensures count { IfOk result (λ count.
-        IsStrictlyOrdered (records_in storage.now.items entries.old.items)
-        → count ≡ count_by (is_at path.now) (records_in storage.now.items entries.old.items)) }
-    ensures kept { OnOk result (IsStrictlyOrdered (records_in storage.now.items entries.old.items)
-        → IsKeptAfter (Unstage path.entry ∷ []) (records_in storage.now.items entries.old.items)
-        kept.old kept.new) }
-    ensures monitor { OnOk result (IsStrictlyOrdered (records_in storage.now.items entries.old.items)
-        → option_map monitor_of kept.new.monitor ≡ watched (Unstage path.entry ∷ [])
-        (records_in storage.now.items entries.old.items) kept.old.monitor) }
-    ensures sound { OnOk result (IsStrictlyOrdered (records_in storage.now.items entries.old.items)
-        → StaysSound kept.old kept.new) }
-    ensures spellable { OnOk result
-        (IsStrictlyOrdered (records_in storage.now.items entries.old.items)
-        → StaysSpellable (Unstage path.entry ∷ []) (records_in storage.now.items entries.old.items)
-        kept.old kept.new) }
-    ensures placed { All (IsPlaced (length storage.now.items)) entries.new.items }
-    ensures err_entries { OnErr result (entries.new.items ≡ entries.old.items) }
-    ensures err_kept { OnErr result (kept.new ≡ kept.old) }
+    ensures made { UnstagesOne path.entry storage.now entries.old entries.new result }
+    ensures kept { KeepsOne (Unstage path.entry) storage.now entries.old kept.old kept.new result }
 {
     let change = Change::Unstage { path };
     let undo = undo_after(entries, storage, &kept.undo, &change)?;

@@ -1,19 +1,12 @@
 //! Making several changes of an index, all or none, with what speaks of its entries.
 
-ghost use Rattle.std.specs.Prelude.{◌≡◌, ◌++◌, ◌∷◌, [], ℕ, List, All, IfOk, IfSome, MatchResult, None, OnErr, OnOk};
-ghost use Rattle.std.specs.Prelude.{◌≤◌, drop, length};
-ghost use Rattle.std.specs.Option.{option_map};
-ghost use Rattle.index_entries.specs.Order.{IsStrictlyOrdered};
-ghost use Rattle.index_entries.specs.Record.{IsPlaced, records_in};
-ghost use Rattle.index_cached_tree.specs.Sound.{CountsAtMost};
-ghost use Rattle.index_cached_tree.specs.Tree.{node_of};
-ghost use Rattle.index_edits.specs.Changes.{IsAppliedTo, IsApplyReason, refusal_of};
-ghost use Rattle.index_small_extensions.specs.FsMonitor.{monitor_of};
-ghost use Rattle.index_untracked.specs.Untracked.{cache_of};
-ghost use Rattle.index_updates.specs.Invalidated.{all_invalidated, all_unlisted};
-ghost use Rattle.index_updates.specs.Kept.{IsKeptAfter, StaysSound, watched};
-ghost use Rattle.index_updates.specs.Recordable.{StaysSpellable};
-ghost use Rattle.index_updates.specs.Undone.{all_recorded, lost, undo_paths, undone};
+ghost use Rattle.std.specs.Prelude.{◌≡◌, All, IfOk, OnOk, length};
+ghost use Rattle.index_entries.specs.Record.{IsPlaced};
+ghost use Rattle.index_edits.specs.EntryEdits.{AppliesAll, SaysFirstRefused};
+ghost use Rattle.index_updates.specs.EntryUpdates.{KeepsAll};
+ghost use Rattle.index_updates.specs.Invalidated.{CountsNoMore, InvalidatesAll, UnlistsAll};
+ghost use Rattle.index_updates.specs.Undone.{undo_paths};
+ghost use Rattle.index_updates.specs.UpdateSteps.{AppliesNext, RecordsNext, UpdatesEntries, UpdatesWatched};
 
 use crate::invalidating::{invalidate_all, unlist_all};
 use crate::kept::Kept;
@@ -41,18 +34,9 @@ fn update_next(
 ) -> Result<usize, AllocError>
     requires placed { All (IsPlaced (length storage.old.items)) done.old.items }
     requires rest_placed { All (IsPlaced (length storage.old.items)) rest.now }
-    ensures inside { IfOk result (λ count. count ≤ length rest.now) }
-    ensures applied { IfOk result (λ count.
-        IsStrictlyOrdered (records_in storage.old.items (done.old.items ++ rest.now))
-        → IsAppliedTo (change.now ∷ []) (records_in storage.old.items (done.old.items ++ rest.now))
-        (records_in storage.new.items (done.new.items ++ drop count rest.now))) }
-    ensures undone { OnOk result (
-        IsStrictlyOrdered (records_in storage.old.items (done.old.items ++ rest.now))
-        → undo_paths undo.new ≡ all_recorded
-        (lost change.now (records_in storage.old.items (done.old.items ++ rest.now)))
-        (undo_paths undo.old)) }
-    ensures placed { OnOk result (All (IsPlaced (length storage.new.items)) done.new.items) }
-    ensures storage { (more : List ℕ) × (storage.new.items ≡ storage.old.items ++ more) }
+    ensures applied { AppliesNext change.now rest.now storage.old done.old storage.new done.new
+        result }
+    ensures undone { RecordsNext change.now rest.now storage.old done.old undo.old undo.new result }
 {
     let count = pass(done, storage, rest, change.path())?;
     record_lost(
@@ -83,14 +67,11 @@ pub(crate) fn renew(
     monitor: Option<FsMonitor>,
     changes: &[Change<'_>],
 )
-    ensures tree { option_map node_of kept.new.tree
-        ≡ option_map (λ t. all_invalidated changes.now (node_of t)) kept.old.tree }
-    ensures counts { (most : ℕ) → IfSome kept.old.tree (λ t. CountsAtMost most (node_of t))
-        → IfSome kept.new.tree (λ t. CountsAtMost most (node_of t)) }
+    ensures tree { InvalidatesAll changes.now kept.old.tree kept.new.tree }
+    ensures counts { CountsNoMore kept.old.tree kept.new.tree }
     ensures undo { kept.new.undo ≡ undo }
     ensures monitor { kept.new.monitor ≡ monitor }
-    ensures untracked { option_map cache_of kept.new.untracked
-        ≡ option_map (λ c. all_unlisted changes.now (cache_of c)) kept.old.untracked }
+    ensures untracked { UnlistsAll changes.now kept.old.untracked kept.new.untracked }
 {
     kept.undo = undo;
     kept.monitor = monitor;
@@ -112,16 +93,7 @@ fn update_each(
     changes: &[Change<'_>],
 ) -> Result<Updated, AllocError>
     requires placed { All (IsPlaced (length storage.old.items)) entries.now }
-    ensures applied { IfOk result (λ made.
-        IsStrictlyOrdered (records_in storage.old.items entries.now)
-        → IsAppliedTo changes.now (records_in storage.old.items entries.now)
-        (records_in storage.new.items made.entries.items)) }
-    ensures undone { IfOk result (λ made.
-        IsStrictlyOrdered (records_in storage.old.items entries.now)
-        → undo_paths made.undo
-        ≡ undone changes.now (records_in storage.old.items entries.now) (undo_paths undo.now)) }
-    ensures placed { IfOk result (λ made. All (IsPlaced (length storage.new.items)) made.entries.items) }
-    ensures storage { (more : List ℕ) × (storage.new.items ≡ storage.old.items ++ more) }
+    ensures { UpdatesEntries changes.now storage.old storage.new entries.now undo.now result }
 {
     let mut undo = copy_of(undo)?;
     let room = entries.len().saturating_add(changes.len());
@@ -147,16 +119,7 @@ fn update_all(
     changes: &[Change<'_>],
 ) -> Result<Updated, AllocError>
     requires placed { All (IsPlaced (length storage.old.items)) entries.now }
-    ensures applied { IfOk result (λ made.
-        IsStrictlyOrdered (records_in storage.old.items entries.now)
-        → IsAppliedTo changes.now (records_in storage.old.items entries.now)
-        (records_in storage.new.items made.entries.items)) }
-    ensures undone { IfOk result (λ made.
-        IsStrictlyOrdered (records_in storage.old.items entries.now)
-        → undo_paths made.undo
-        ≡ undone changes.now (records_in storage.old.items entries.now) (undo_paths undo.now)) }
-    ensures placed { IfOk result (λ made. All (IsPlaced (length storage.new.items)) made.entries.items) }
-    ensures storage { (more : List ℕ) × (storage.new.items ≡ storage.old.items ++ more) }
+    ensures { UpdatesEntries changes.now storage.old storage.new entries.now undo.now result }
 {
     match in_order(*storage.allocator(), changes)? {
         Some(ordered) => update_each(entries, storage, undo, &ordered),
@@ -179,20 +142,7 @@ fn update_watched(
     changes: &[Change<'_>],
 ) -> Result<Watched, AllocError>
     requires placed { All (IsPlaced (length storage.old.items)) entries.now }
-    ensures applied { IfOk result (λ made.
-        IsStrictlyOrdered (records_in storage.old.items entries.now)
-        → IsAppliedTo changes.now (records_in storage.old.items entries.now)
-        (records_in storage.new.items made.entries.items)) }
-    ensures undone { IfOk result (λ made.
-        IsStrictlyOrdered (records_in storage.old.items entries.now)
-        → undo_paths made.undo
-        ≡ undone changes.now (records_in storage.old.items entries.now) (undo_paths kept.now.undo)) }
-    ensures monitor { IfOk result (λ made.
-        IsStrictlyOrdered (records_in storage.old.items entries.now)
-        → option_map monitor_of made.monitor
-        ≡ watched changes.now (records_in storage.old.items entries.now) kept.now.monitor) }
-    ensures placed { IfOk result (λ made. All (IsPlaced (length storage.new.items)) made.entries.items) }
-    ensures storage { (more : List ℕ) × (storage.new.items ≡ storage.old.items ++ more) }
+    ensures { UpdatesWatched changes.now storage.old storage.new entries.now kept.now result }
 {
     let Updated {
         entries: made,
@@ -243,38 +193,13 @@ pub fn update<C: ComponentCheck>(
     changes: &[Change<'_>],
 ) -> Result<(), ApplyError>
     requires placed { All (IsPlaced (length storage.old.items)) entries.old.items }
-    ensures reason { MatchResult result
-        (λ _. refusal_of (C.refusal check.now) kind (length storage.old.items) changes.now ≡ None)
-        (IsApplyReason
-        (refusal_of (C.refusal check.now) kind (length storage.old.items) changes.now)) }
-    ensures applied { OnOk result
-        (IsStrictlyOrdered (records_in storage.old.items entries.old.items)
-        → IsAppliedTo changes.now (records_in storage.old.items entries.old.items)
-        (records_in storage.new.items entries.new.items)) }
-    ensures placed { All (IsPlaced (length storage.new.items)) entries.new.items }
-    ensures storage { (more : List ℕ) × (storage.new.items ≡ storage.old.items ++ more) }
-    ensures tree { OnOk result (option_map node_of kept.new.tree
-        ≡ option_map (λ t. all_invalidated changes.now (node_of t)) kept.old.tree) }
-    ensures untracked { OnOk result (option_map cache_of kept.new.untracked
-        ≡ option_map (λ c. all_unlisted changes.now (cache_of c)) kept.old.untracked) }
-    ensures kept { OnOk result
-        (IsStrictlyOrdered (records_in storage.old.items entries.old.items)
-        → IsKeptAfter changes.now (records_in storage.old.items entries.old.items) kept.old kept.new) }
-    ensures monitor { OnOk result
-        (IsStrictlyOrdered (records_in storage.old.items entries.old.items)
-        → option_map monitor_of kept.new.monitor
-        ≡ watched changes.now (records_in storage.old.items entries.old.items) kept.old.monitor) }
-    ensures sound { OnOk result (IsStrictlyOrdered (records_in storage.old.items entries.old.items)
-        → StaysSound kept.old kept.new) }
-    ensures counts { (most : ℕ) → IfSome kept.old.tree (λ t. CountsAtMost most (node_of t))
-        → IfSome kept.new.tree (λ t. CountsAtMost most (node_of t)) }
-    ensures spellable { OnOk result
-        (IsStrictlyOrdered (records_in storage.old.items entries.old.items)
-        → StaysSpellable changes.now (records_in storage.old.items entries.old.items)
-        kept.old kept.new) }
-    ensures err_entries { OnErr result (entries.new.items ≡ entries.old.items) }
-    ensures err_storage { OnErr result (storage.new.items ≡ storage.old.items) }
-    ensures err_kept { OnErr result (kept.new ≡ kept.old) }
+    ensures reason { SaysFirstRefused (C.refusal check.now) kind changes.now storage.old result }
+    ensures applied { AppliesAll changes.now storage.old entries.old storage.new entries.new
+        result }
+    ensures tree { OnOk result (InvalidatesAll changes.now kept.old.tree kept.new.tree) }
+    ensures untracked { OnOk result (UnlistsAll changes.now kept.old.untracked kept.new.untracked) }
+    ensures counts { CountsNoMore kept.old.tree kept.new.tree }
+    ensures kept { KeepsAll changes.now storage.old entries.old kept.old kept.new result }
 {
     let len = storage.len();
     check_changes(check, kind, len, changes)?;

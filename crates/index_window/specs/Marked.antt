@@ -1,12 +1,14 @@
 -- An end marker at the end of a file that is read in windows (gitformat-index, "End of Index Entry"): most of the
 -- extensions that its digest is of aren't at hand any more.
-use Rattle.std.specs.Prelude.{◌≡◌, ℕ, List, [], ◌∷◌, ◌++◌, length, drop, codes, IfSome}
+use Rattle.std.specs.Prelude.{◌≡◌, ℕ, Bool, List, [], ◌∷◌, ◌++◌, length, drop, codes, None, true, IfSome}
 use Rattle.index_parts.specs.Digest.{hasher_kind, Holds}
 use Rattle.index_parts.specs.Numbers.{be}
 use Rattle.index_parts.specs.declared.hash.Hasher.{Hasher}
+use Rattle.index_parts.specs.declared.hash.Kind.{Kind}
 use Rattle.index_parts.specs.declared.hash.Kind.TheVariants.{Sha1}
-use Rattle.index_extensions.specs.EndMarker.{heads}
+use Rattle.index_extensions.specs.EndMarker.{EndsInMarker, IsMarker, heads}
 use Rattle.index_extensions.specs.Walk.{Item, AreItems}
+use Rattle.index_window.specs.Intact.{IsIntact}
 use Rattle.index_window.specs.declared.plan.Plan.{Plan}
 
 -- bytes end in a marker that names a place and has a digest, whether these are so or not, and in a trailer of SHA-1
@@ -38,3 +40,27 @@ pub record HasPassed (plan : Plan) (bytes tail : List ℕ) (start : ℕ) (hasher
   pub len : length bytes ≡ plan.len
   pub heads : HoldsHeads passed hasher
   pub named : IfSome plan.offset (λ place. length before ≡ place)
+
+-- ---- what is known of a file by its last bytes
+
+-- no file that ends in these bytes has a marker
+abbrev pub LacksMarker : List ℕ → Type 0
+LacksMarker tail = (kind : Kind) (before : List ℕ) → IsMarker kind (before ++ tail) None
+
+-- a file that ends in these bytes, behind extensions from this place on of which the hasher took in the heads, has a
+-- marker that names the place
+abbrev pub Closes : Plan → ℕ → Hasher → List ℕ → Type 0
+Closes plan place heads end =
+    (before passed : List ℕ) → length before ≡ place → HoldsHeads passed heads
+    → length (before ++ (passed ++ end)) ≡ plan.len → EndsInMarker plan.kind (before ++ (passed ++ end)) place
+
+-- the marker of such a file is that of the plan
+abbrev pub IsMarkedAs : Plan → List ℕ → ℕ → Hasher → Type 0
+IsMarkedAs plan tail start heads =
+    (bytes : List ℕ) → HasPassed plan bytes tail start heads → IsMarker plan.kind bytes plan.offset
+
+-- a file is intact that ends in these bytes behind those that the hasher took in, if they were to be hashed
+abbrev pub IsIntactBehind : Plan → Hasher → List ℕ → Bool → Type 0
+IsIntactBehind plan hasher tail skip =
+    hasher_kind hasher ≡ plan.kind → (message : List ℕ) → (plan.is_hashed ≡ true → Holds hasher message)
+    → IsIntact skip plan.kind (message ++ tail)

@@ -1,10 +1,11 @@
 -- A file that is read in windows: from one moment of reading to a later one (the library's own).
-use Rattle.std.specs.Prelude.{◌≡◌, ℕ, ◌≤◌, true, List, ◌++◌, length, drop, Option, None}
+use Rattle.std.specs.Prelude.{◌≡◌, ℕ, ◌≤◌, true, List, ◌++◌, length, drop, Option, None, Result, IfOk, IfSome}
 use Rattle.std.specs.Io.KnownBytes.{Consumes}
 use Rattle.index_parts.specs.Digest.{hasher_kind, Holds}
 use Rattle.index_parts.specs.declared.hash.Hasher.{Hasher}
 use Rattle.index_entries.specs.Entries.{AreEntries}
 use Rattle.index_entries.specs.Record.{Record, AreBytes}
+use Rattle.index_folder.specs.declared.folder.Source.{Ghosts}
 use Rattle.index_window.specs.declared.plan.Plan.{Plan}
 
 -- where the reading of a file stands: what is left to read, where it is known; the hasher; the bytes at hand; how many
@@ -16,6 +17,20 @@ pub record Moment : Type 0 where
   pub decoded : ℕ
   pub records : List Record
 
+-- the same, of an open file with what is at hand of it
+abbrev pub moment_of : {S : Type 0} → Ghosts S → S → Hasher → List ℕ → ℕ → List Record → Moment
+moment_of source file hasher window decoded records =
+    record { left = source.remaining file; hasher = hasher; window = window; decoded = decoded; records = records }
+
+-- it is so of what was given; nothing may have been given, or an error
+abbrev pub IfGiven : {T E : Type 0} → Result (Option T) E → (T → Type 0) → Type 0
+IfGiven result P = IfOk result (λ o. IfSome o P)
+
+-- the hasher took in these bytes, if they are to be hashed
+abbrev pub TakesIn : Plan → Hasher → Hasher → List ℕ → Type 0
+TakesIn plan old new bytes =
+    plan.is_hashed ≡ true → (message : List ℕ) → Holds old message → Holds new (message ++ bytes)
+
 -- So many bytes more came to hand. Those that left the window were hashed, if they are to be.
 pub record IsMovedOn (plan : Plan) (old new : Moment) (count : ℕ) : Type 0 where
   pub more : List ℕ
@@ -25,8 +40,7 @@ pub record IsMovedOn (plan : Plan) (old new : Moment) (count : ℕ) : Type 0 whe
   pub are_bytes : AreBytes taken
   pub consumed : Consumes old.left new.left more
   pub kind_stays : hasher_kind new.hasher ≡ hasher_kind old.hasher
-  pub hashed : plan.is_hashed ≡ true → (message : List ℕ) → Holds old.hasher message
-      → Holds new.hasher (message ++ taken)
+  pub hashed : TakesIn plan old.hasher new.hasher taken
   pub inside : new.decoded ≤ length new.window
 
 -- What was decoded, up to a place in the window, was and is the front of whatever bytes end with the window.

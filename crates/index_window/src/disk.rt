@@ -1,8 +1,9 @@
 //! All bytes of a file on the disk, with their digest.
 
-ghost use Rattle.std.specs.Path.{path_bytes};
 ghost use Rattle.std.specs.Prelude.{◌≡◌, [], true, IfErr, IfOk, IfSome, OnOk};
-ghost use Rattle.index_folder.specs.World.{IsFaultOf, IsOwnFault, MayBe, whole_of};
+ghost use Rattle.index_folder.specs.Sources.{ReturnsToStart};
+ghost use Rattle.index_folder.specs.World.{IsOwnFault, whole_of};
+ghost use Rattle.index_window.specs.Answers.{HashesAt, HashesToEnd, IsAllOf};
 ghost use Rattle.index_window.specs.Intact.{digest_id};
 
 use index_folder::folder::{Folder, Source};
@@ -20,10 +21,7 @@ fn ends_in_null<S: Source>(file: &mut S, kind: Kind, room: &mut Vec<u8>) -> io::
     requires room { room.old.items ≡ [] }
     requires start { S.remaining file.old ≡ whole_of (S.stored file.old) }
     ensures room { OnOk result (room.new.items ≡ []) }
-    ensures start { OnOk result (S.remaining file.new ≡ whole_of (S.stored file.new)) }
-    ensures stored { S.stored file.new ≡ S.stored file.old }
-    ensures works { S.works file.new ≡ S.works file.old }
-    ensures fault { S.works file.old ≡ true → IfErr result IsOwnFault }
+    ensures left { ReturnsToStart S.Source file.old file.new result }
 {
     let status = file.status()?;
     if !status.is_plain {
@@ -42,9 +40,7 @@ fn ends_in_null<S: Source>(file: &mut S, kind: Kind, room: &mut Vec<u8>) -> io::
 /// last, of which an id of the kind has as many.
 fn read_hashed<S: Source>(file: &mut S, kind: Kind, bytes: &mut Vec<u8>) -> io::Result<ObjectId>
     requires { bytes.old.items ≡ [] }
-    ensures digest { IfOk result (λ id. id ≡ digest_id kind bytes.new.items) }
-    ensures whole { OnOk result (IfSome (S.remaining file.old) (λ left. bytes.new.items ≡ left)) }
-    ensures fault { S.works file.old ≡ true → IfErr result IsOwnFault }
+    ensures { HashesToEnd S.Source file.old kind bytes.new.items result }
 {
     let mut hasher = Hasher::new(kind);
     let mut hashed = 0;
@@ -90,11 +86,7 @@ pub fn hashed_at<D: Folder>(
     path: Path<'_>,
     kind: Kind,
 ) -> io::Result<(Vec<u8>, ObjectId)>
-    ensures digest { IfOk result (λ read. read.1 ≡ digest_id kind read.0.items) }
-    ensures held { IfOk result (λ read. MayBe (D.known folder.now (path_bytes path.entry))
-        (λ file. read.0.items ≡ file.bytes)) }
-    ensures fault { D.works folder.now ≡ true
-        → IfErr result (IsFaultOf (D.known folder.now (path_bytes path.entry))) }
+    ensures { HashesAt D.Folder folder.now path.entry kind result }
 {
     let mut file = folder.open(path)?;
     let mut bytes = room_for(alloc, file.status()?)?;
@@ -112,8 +104,7 @@ pub fn bytes_of<S: Source>(
     requires { S.remaining file ≡ whole_of (S.stored file) }
     ensures digest { IfOk result
         (λ read. IfSome read.1 (λ id. id ≡ digest_id kind read.0.items)) }
-    ensures whole { IfOk result
-        (λ read. IfSome (S.stored file) (λ whole. read.0.items ≡ whole.bytes)) }
+    ensures whole { IfOk result (λ read. IsAllOf (S.stored file) read.0.items) }
     ensures fault { S.works file ≡ true → IfErr result IsOwnFault }
 {
     let mut bytes = room_for(alloc, file.status()?)?;

@@ -1,14 +1,11 @@
 //! The extensions of a large index that is read in windows: what is held of them.
 
-ghost use Rattle.std.specs.Prelude.{◌≡◌, ◌≤◌, ◌<◌, ◌+◌, ◌-◌, ◌++◌, ℕ, List, [], length, vec_len, IfOk, IfSome, OnOk};
-ghost use Rattle.std.specs.Prelude.{drop, not, true, if◌then◌else◌};
-ghost use Rattle.std.specs.Io.KnownBytes.{Consumes, IsAtEnd};
+ghost use Rattle.std.specs.Prelude.{◌≡◌, ◌≤◌, ◌+◌, ◌++◌, [], drop, length, vec_len, IfOk, IfSome, OnOk};
 ghost use Rattle.index_parts.specs.Digest.{hasher_kind, Holds};
 ghost use Rattle.index_parts.specs.Id.{id_len};
-ghost use Rattle.index_parts.specs.Numbers.{be};
 ghost use Rattle.index_parts.specs.declared.hash.Kind.TheVariants.{Sha1};
-ghost use Rattle.index_window.specs.Abridged.{IsAbridgedOn, is_known, is_unknown};
-ghost use Rattle.index_window.specs.Windowed.{IsPassedOn};
+ghost use Rattle.index_window.specs.Abridged.{IsExtensionAt, PassesExtension, PassesExtensions, ReadsOn, ReadsRest};
+ghost use Rattle.index_window.specs.Abridged.{held_part, is_known, is_unknown};
 
 use crate::plan::{KEPT_LEN, Plan, WINDOW_LEN, hash_piece};
 use index_cached_tree as tree;
@@ -96,10 +93,7 @@ fn signature_of(bytes: &[u8]) -> Signature
 
 /// The extension whose head begins bytes, if they are as many as one has.
 fn extension_at(bytes: &[u8]) -> Option<Extension>
-    ensures { IfSome result (λ x. (signature : List ℕ) × (size : List ℕ) × (rest : List ℕ)
-        × (bytes.now ≡ signature ++ (size ++ rest)) × (length signature ≡ 4)
-        × (length size ≡ 4) × (x.len ≡ 8 + be size)
-        × (x.is_held ≡ not (is_unknown signature))) }
+    ensures { IfSome result (IsExtensionAt bytes.now) }
 {
     if bytes.len() < MIN_SIZE {
         return None;
@@ -128,8 +122,7 @@ fn before_ending(plan: Plan, at_hand: usize, left: u64) -> Option<u64>
 
 /// Appends bytes that are held.
 fn hold(held: &mut Vec<u8>, is_held: bool, bytes: &[u8]) -> Result<(), AllocError>
-    ensures { OnOk result
-        (held.new.items ≡ held.old.items ++ (if is_held then bytes.now else [])) }
+    ensures { OnOk result (held.new.items ≡ held.old.items ++ held_part is_held bytes.now) }
 {
     if is_held {
         held.extend_from_slice(bytes)?;
@@ -147,27 +140,8 @@ fn read_on<S: Source>(
     place: Place,
 ) -> io::Result<Option<Place>>
     requires inside { place.start ≤ vec_len window.old }
-    ensures passed { IfOk result (λ o. IfSome o (λ x. (count : ℕ) × (count + x.left ≡ place.left)
-        × IsPassedOn plan
-        (record {
-          left = S.remaining file.old;
-          hasher = hasher.old;
-          window = window.old.items;
-          decoded = place.start;
-          records = [];
-        })
-        (record {
-          left = S.remaining file.new;
-          hasher = hasher.new;
-          window = window.new.items;
-          decoded = x.start;
-          records = [];
-        })
-        count [])) }
-    ensures comes { IfOk result
-        (λ o. IfSome o (λ x. vec_len window.old < place.start + 8 → x.left < place.left)) }
-    ensures stored { S.stored file.new ≡ S.stored file.old }
-    ensures works { S.works file.new ≡ S.works file.old }
+    ensures { ReadsOn S.Source plan place file.old file.new hasher.old hasher.new window.old
+        window.new result }
 {
     let Place { start, left } = place;
     if window.len() - start >= MIN_SIZE {
@@ -198,27 +172,8 @@ fn pass_extension<S: Source>(
     mut place: Place,
 ) -> io::Result<Option<Place>>
     requires inside { place.start ≤ vec_len window.old }
-    ensures passed { IfOk result (λ o. IfSome o (λ x. (count : ℕ) × (count + x.left ≡ place.left)
-        × (passed : List ℕ) × (length passed ≡ extension.len)
-        × (held.new.items ≡ held.old.items ++ (if extension.is_held then passed else []))
-        × IsPassedOn plan
-        (record {
-          left = S.remaining file.old;
-          hasher = hasher.old;
-          window = window.old.items;
-          decoded = place.start;
-          records = [];
-        })
-        (record {
-          left = S.remaining file.new;
-          hasher = hasher.new;
-          window = window.new.items;
-          decoded = x.start;
-          records = [];
-        })
-        count passed)) }
-    ensures stored { S.stored file.new ≡ S.stored file.old }
-    ensures works { S.works file.new ≡ S.works file.old }
+    ensures { PassesExtension S.Source plan extension place file.old file.new hasher.old hasher.new
+        window.old window.new held.old held.new result }
 {
     let mut rest = extension.len;
     'pieces: loop {
@@ -251,28 +206,8 @@ pub(super) fn pass_extensions<S: Source>(
     requires none_yet { held.old.bytes.items ≡ [] }
     requires no_head { Holds held.old.heads [] }
     requires heads { hasher_kind held.old.heads ≡ Sha1 }
-    ensures abridged { IfOk result (λ o. IfSome o (λ x. (count : ℕ)
-        × (count + x.left ≡ place.left)
-        × IsAbridgedOn plan
-        (record {
-          left = S.remaining file.old;
-          hasher = hasher.old;
-          window = window.old.items;
-          decoded = place.start;
-          records = [];
-        })
-        (record {
-          left = S.remaining file.new;
-          hasher = hasher.new;
-          window = window.new.items;
-          decoded = x.start;
-          records = [];
-        })
-        count held.new.bytes.items held.new.heads)) }
-    ensures trailer { IfOk result (λ o. IfSome o
-        (λ x. id_len plan.kind ≤ vec_len window.new - x.start + x.left)) }
-    ensures stored { S.stored file.new ≡ S.stored file.old }
-    ensures works { S.works file.new ≡ S.works file.old }
+    ensures { PassesExtensions S.Source plan place file.old file.new hasher.old hasher.new
+        window.old window.new held.new result }
 {
     'extensions: loop {
         let at_hand = window.len() - place.start;
@@ -310,12 +245,7 @@ pub(super) fn read_rest<S: Source>(
     held: &[u8],
     left: u64,
 ) -> io::Result<bool>
-    ensures rest { IfOk result (λ is. is ≡ true → (more : List ℕ)
-        × (window.new.items ≡ window.old.items ++ more) × (length more ≡ left)
-        × Consumes (S.remaining file.old) (S.remaining file.new) more
-        × IsAtEnd (S.remaining file.new)) }
-    ensures stored { S.stored file.new ≡ S.stored file.old }
-    ensures works { S.works file.new ≡ S.works file.old }
+    ensures { ReadsRest S.Source file.old file.new window.old window.new left result }
 {
     if left > WINDOW_LEN as u64 && !held.is_empty() {
         return Ok(false);

@@ -1,13 +1,10 @@
 //! A large index file on the disk.
 
-ghost use Rattle.std.specs.Prelude.{◌≡◌, ℕ, List, true, IfErr, IfNone, IfOk, IfSome, Ok, OnOk};
-ghost use Rattle.index_entries.specs.Record.{IdsAreOf};
+ghost use Rattle.std.specs.Prelude.{◌≡◌, true, IfErr, IfNone, IfOk};
+ghost use Rattle.index_folder.specs.Sources.{KeepsFile, ReturnsToStart};
 ghost use Rattle.index_folder.specs.World.{IsOwnFault, whole_of};
-ghost use Rattle.index_format.specs.Answer.{IsAnswer};
-ghost use Rattle.index_format.specs.Contents.{ExtensionIdsAreOf, PartsInStorage, parts_contents, parts_entries};
-ghost use Rattle.index_format.specs.Storable.{IsStorable};
-ghost use Rattle.index_window.specs.Behind.{FollowEntries};
-ghost use Rattle.index_window.specs.Intact.{IsIntact};
+ghost use Rattle.index_window.specs.Answers.{IsAllOf, IsWindowed};
+ghost use Rattle.index_window.specs.Windowed.{IfGiven};
 
 use crate::ReadOptions;
 use crate::plan::KEPT_LEN;
@@ -25,10 +22,7 @@ const SMALL_LEN: u64 = 1_048_576;
 
 /// The last bytes of a file of so many, which then stands at its start.
 fn end_of<S: Source>(alloc: Global, file: &mut S, len: u64) -> io::Result<Vec<u8>>
-    ensures start { OnOk result (S.remaining file.new ≡ whole_of (S.stored file.new)) }
-    ensures stored { S.stored file.new ≡ S.stored file.old }
-    ensures works { S.works file.new ≡ S.works file.old }
-    ensures fault { S.works file.old ≡ true → IfErr result IsOwnFault }
+    ensures { ReturnsToStart S.Source file.old file.new result }
 {
     let mut end = Vec::with_capacity(alloc, KEPT_LEN)?;
     file.go_to(len.saturating_sub(KEPT_LEN as u64))?;
@@ -62,23 +56,11 @@ pub fn in_windows<S: Source>(
     keeps_ending: bool,
 ) -> io::Result<Option<WindowedIndex>>
     requires { S.remaining file.old ≡ whole_of (S.stored file.old) }
-    ensures read { IfOk result (λ o. IfSome o (λ x. (bytes : List ℕ)
-        × IfSome (S.stored file.old) (λ whole. bytes ≡ whole.bytes)
-        × IsIntact reading.skip_hash reading.object_hash bytes
-        × IsAnswer reading.object_hash reading.timestamp reading.options bytes
-        (Ok (parts_contents x.parts, x.checksum))
-        × (keeps_ending ≡ true → FollowEntries reading.object_hash bytes x.ending.items))) }
+    ensures read { IfGiven result (IsWindowed reading keeps_ending (IsAllOf (S.stored file.old))) }
     ensures back { IfOk result
         (λ o. IfNone o (S.remaining file.new ≡ whole_of (S.stored file.new))) }
-    ensures stored { S.stored file.new ≡ S.stored file.old }
-    ensures works { S.works file.new ≡ S.works file.old }
+    ensures left { KeepsFile S.Source file.old file.new }
     ensures fault { S.works file.old ≡ true → IfErr result IsOwnFault }
-    ensures placed { IfOk result (λ o. IfSome o (λ x. PartsInStorage x.parts)) }
-    ensures ids { IfOk result
-        (λ o. IfSome o (λ x. IdsAreOf reading.object_hash (parts_entries x.parts))) }
-    ensures storable { IfOk result (λ o. IfSome o (λ x. IsStorable (parts_contents x.parts))) }
-    ensures extension_ids { IfOk result (λ o. IfSome o
-        (λ x. ExtensionIdsAreOf reading.object_hash (parts_contents x.parts).extensions)) }
 {
     let status = file.status()?;
     let len = status.len;

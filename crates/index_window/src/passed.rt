@@ -1,9 +1,9 @@
 //! Entries that are passed one after another, of which none is kept.
 
-ghost use Rattle.std.specs.Prelude.{◌≡◌, ◌<◌, ◌+◌, ℕ, List, IfErr, IfOk, None, length};
-ghost use Rattle.index_entries.specs.Entries.{AreEntries, LacksEntry};
-ghost use Rattle.index_entries.specs.Record.{Record, has_directory};
-ghost use Rattle.index_window.specs.Passed.{in_64_bits, paths_len};
+ghost use Rattle.std.specs.Prelude.{◌≡◌, ◌<◌, ◌+◌, ℕ, IfErr, IfOk};
+ghost use Rattle.index_entries.specs.Entries.{LacksEntry};
+ghost use Rattle.index_window.specs.Entries.{ArePassed};
+ghost use Rattle.index_window.specs.Passed.{in_64_bits};
 
 use index_entries::Version;
 use index_entry_reading::entry::entry_of;
@@ -34,10 +34,7 @@ pub fn pass_entries(
     count: u32,
     bytes: &[u8],
 ) -> Result<Passed<'_>, u32>
-    ensures passed { IfOk result (λ x. (records : List Record)
-        × AreEntries version kind None bytes.now records x.rest.now × (length records ≡ count)
-        × (x.path_bytes ≡ in_64_bits (paths_len records))
-        × (x.sparse ≡ has_directory records)) }
+    ensures passed { IfOk result (ArePassed version kind count bytes.now) }
     ensures fault { IfErr result (λ i. (i < count) × LacksEntry version kind bytes.now i) }
 {
     let mut path_bytes = Some(0);

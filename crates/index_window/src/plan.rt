@@ -1,8 +1,9 @@
 //! What is read of a file in windows, and whether it is hashed.
 
-ghost use Rattle.std.specs.Prelude.{◌≡◌, ◌++◌, ℕ, List, true};
+ghost use Rattle.std.specs.Prelude.{◌≡◌};
 ghost use Rattle.index_entries.specs.Record.{AreBytes};
-ghost use Rattle.index_parts.specs.Digest.{Holds, hasher_kind};
+ghost use Rattle.index_parts.specs.Digest.{hasher_kind};
+ghost use Rattle.index_window.specs.Windowed.{TakesIn};
 
 use index_entries::Version;
 use index_parts::hash::{Hasher, Kind};
@@ -31,8 +32,7 @@ pub(super) struct Plan {
 /// Hashes these bytes, if they are to be hashed.
 pub(super) fn hash_piece(plan: Plan, hasher: &mut Hasher, bytes: &[u8])
     ensures kind { hasher_kind hasher.new ≡ hasher_kind hasher.old }
-    ensures more { plan.is_hashed ≡ true → (message : List ℕ) → Holds hasher.old message
-        → Holds hasher.new (message ++ bytes.now) }
+    ensures more { TakesIn plan hasher.old hasher.new bytes.now }
     ensures are_bytes { AreBytes bytes.now }
 {
     if plan.is_hashed {

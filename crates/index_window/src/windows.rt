@@ -1,19 +1,13 @@
 //! A large index that is read in windows.
 
-ghost use Rattle.std.specs.Prelude.{◌≡◌, ◌≤◌, ◌+◌, ◌-◌, ◌++◌, ℕ, List, Option, All, [], drop, length, vec_len};
-ghost use Rattle.std.specs.Prelude.{IfNone, IfOk, IfSome, OnOk, Ok, None, false, true};
-ghost use Rattle.index_entries.specs.Record.{AreBytes, IdsAreOf, has_directory};
-ghost use Rattle.index_extensions.specs.EndMarker.{EndsInMarker, IsMarker};
-ghost use Rattle.index_format.specs.Answer.{IsAnswer, IsEnding};
-ghost use Rattle.index_format.specs.Contents.{ExtensionIdsAreOf, PartsInStorage, parts_contents, parts_entries};
-ghost use Rattle.index_format.specs.Storable.{IsStorable};
-ghost use Rattle.index_parts.specs.Digest.{Holds, hasher_kind};
+ghost use Rattle.std.specs.Prelude.{◌≡◌, ◌≤◌, ◌+◌, All, [], length, vec_len, IfNone, IfOk, IfSome, false, true};
+ghost use Rattle.index_entries.specs.Record.{AreBytes, has_directory};
+ghost use Rattle.index_folder.specs.Sources.{KeepsFile};
 ghost use Rattle.index_parts.specs.Id.{id_kind};
-ghost use Rattle.index_parts.specs.declared.hash.Kind.{Kind};
-ghost use Rattle.index_window.specs.Behind.{FollowEntries};
-ghost use Rattle.index_window.specs.Intact.{IsIntact};
-ghost use Rattle.index_window.specs.Marked.{EndsAsMarker, HasPassed, HoldsHeads};
-ghost use Rattle.index_window.specs.Windowed.{IsReadOn};
+ghost use Rattle.index_window.specs.Answers.{IsAllLeft, IsEndingBy, IsWindowed};
+ghost use Rattle.index_window.specs.Entries.{FitPlan, ReadsEntries, Scans};
+ghost use Rattle.index_window.specs.Marked.{Closes, EndsAsMarker, IsIntactBehind, IsMarkedAs, LacksMarker};
+ghost use Rattle.index_window.specs.Windowed.{IfGiven};
 
 use crate::ReadOptions;
 use crate::extensions::{Held, Place, joined, pass_extensions, read_rest};
@@ -54,29 +48,10 @@ fn take_entries(
     start: usize,
     first: &mut FirstEntries,
 ) -> Result<usize, AllocError>
-    requires ids { All (λ r. id_kind r.id ≡ plan.kind) first.old.list.records }
-    requires sparse { first.old.sparse ≡ has_directory first.old.list.records }
-    requires count { length first.old.list.records ≤ plan.count }
+    requires first { FitPlan plan first.old }
     requires start { start ≤ vec_len window.old }
-    ensures ids { OnOk result (All (λ r. id_kind r.id ≡ plan.kind) first.new.list.records) }
-    ensures sparse { OnOk result (first.new.sparse ≡ has_directory first.new.list.records) }
-    ensures count { OnOk result (length first.new.list.records ≤ plan.count) }
-    ensures read { IfOk result (λ place. (left : Option (List ℕ)) → IsReadOn plan
-        (record {
-          left = left;
-          hasher = hasher.old;
-          window = window.old.items;
-          decoded = start;
-          records = first.old.list.records;
-        })
-        (record {
-          left = left;
-          hasher = hasher.new;
-          window = window.new.items;
-          decoded = place;
-          records = first.new.list.records;
-        })
-        0) }
+    ensures { Scans plan start hasher.old hasher.new window.old window.new first.old first.new
+        result }
 {
     let rest = entries_in(plan.version, plan.kind, plan.count, first, &window[start..])?;
     let end = window.len().saturating_sub(rest.len());
@@ -111,35 +86,10 @@ fn read_entries<S: Source>(
     first: &mut FirstEntries,
     mut left: u64,
 ) -> io::Result<Option<(usize, u64)>>
-    requires ids { All (λ r. id_kind r.id ≡ plan.kind) first.old.list.records }
-    requires sparse { first.old.sparse ≡ has_directory first.old.list.records }
-    requires count { length first.old.list.records ≤ plan.count }
+    requires first { FitPlan plan first.old }
     requires header { 12 ≤ vec_len window.old }
-    ensures ids { OnOk result (All (λ r. id_kind r.id ≡ plan.kind) first.new.list.records) }
-    ensures sparse { OnOk result (first.new.sparse ≡ has_directory first.new.list.records) }
-    ensures whole { IfOk result
-        (λ o. IfSome o (λ _. length first.new.list.records ≡ plan.count)) }
-    ensures read { IfOk result (λ o. IfSome o (λ x. (count : ℕ) × (count + x.1 ≡ left)
-        × IsReadOn plan
-        (record {
-          left = S.remaining file.old;
-          hasher = hasher.old;
-          window = window.old.items;
-          decoded = 12;
-          records = first.old.list.records;
-        })
-        (record {
-          left = S.remaining file.new;
-          hasher = hasher.new;
-          window = window.new.items;
-          decoded = x.0;
-          records = first.new.list.records;
-        })
-        count)) }
-    ensures named { IfOk result (λ o. IfSome o (λ x. IfSome plan.offset
-        (λ place. place + (vec_len window.new - x.0) + x.1 ≡ plan.len))) }
-    ensures stored { S.stored file.new ≡ S.stored file.old }
-    ensures works { S.works file.new ≡ S.works file.old }
+    ensures { ReadsEntries S.Source plan left file.old file.new hasher.old hasher.new window.old
+        window.new first.old first.new result }
 {
     let mut start = HEADER_LEN;
     'windows: loop {
@@ -171,8 +121,7 @@ struct Marker<'a> {
 /// What the end marker says in which these bytes and the trailer of a SHA-1 file end.
 fn marker_in(tail: &[u8]) -> Option<Marker<'_>>
     ensures some { IfSome result (λ m. EndsAsMarker tail.now m.place m.hash.now) }
-    ensures none { IfNone result (52 ≤ length tail.now → (kind : Kind) (before : List ℕ)
-        → IsMarker kind (before ++ tail.now) None) }
+    ensures none { IfNone result (52 ≤ length tail.now → LacksMarker tail.now) }
 {
     if tail.len() < KEPT_LEN {
         return None;
@@ -197,8 +146,7 @@ pub fn place_in(tail: &[u8]) -> Option<usize> {
 
 /// Whether no end marker stands where one would. It may say no where none stands.
 fn lacks_marker(tail: &[u8]) -> bool
-    ensures { result ≡ true → (kind : Kind) (before : List ℕ)
-        → IsMarker kind (before ++ tail.now) None }
+    ensures { result ≡ true → LacksMarker tail.now }
 {
     match marker_in(tail) {
         Some(_) => false,
@@ -209,10 +157,7 @@ fn lacks_marker(tail: &[u8]) -> bool
 /// Whether these last bytes are an end marker that names the place, and a trailer. The hasher took in the heads of the
 /// extensions before them, which begin at that place and are to be one or more.
 fn is_closed(plan: Plan, place: usize, heads: Hasher, end: &[u8]) -> bool
-    ensures { result ≡ true → (before passed : List ℕ) → length before ≡ place
-        → HoldsHeads passed heads
-        → length (before ++ (passed ++ end.now)) ≡ plan.len
-        → EndsInMarker plan.kind (before ++ (passed ++ end.now)) place }
+    ensures { result ≡ true → Closes plan place heads end.now }
 {
     if plan.kind != Kind::Sha1 || end.len() != KEPT_LEN {
         return false;
@@ -233,8 +178,7 @@ fn is_closed(plan: Plan, place: usize, heads: Hasher, end: &[u8]) -> bool
 /// it is so. The hasher took in the heads of the extensions that were passed before a place of the tail.
 fn is_marked(plan: Plan, heads: Hasher, tail: &[u8], start: usize) -> bool
     requires inside { start ≤ length tail.now }
-    ensures { result ≡ true → (bytes : List ℕ) → HasPassed plan bytes tail.now start heads
-        → IsMarker plan.kind bytes plan.offset }
+    ensures { result ≡ true → IsMarkedAs plan tail.now start heads }
 {
     let Some(offset) = plan.offset else {
         return lacks_marker(tail);
@@ -252,9 +196,7 @@ fn is_marked(plan: Plan, heads: Hasher, tail: &[u8], start: usize) -> bool
 /// Whether the trailer needn't be compared, or is the digest. The hasher took in all bytes before the tail, if they
 /// were to be hashed.
 fn is_intact(plan: Plan, mut hasher: Hasher, tail: &[u8], skip_hash: bool) -> bool
-    ensures { result ≡ true → hasher_kind hasher ≡ plan.kind → (message : List ℕ)
-        → (plan.is_hashed ≡ true → Holds hasher message)
-        → IsIntact skip_hash plan.kind (message ++ tail.now) }
+    ensures { result ≡ true → IsIntactBehind plan hasher tail.now skip_hash }
 {
     let len = plan.kind.len_in_bytes();
     if tail.len() < len {
@@ -282,11 +224,8 @@ fn is_sound(
     skip_hash: bool,
 ) -> bool
     requires inside { start ≤ length tail.now }
-    ensures intact { result ≡ true → hasher_kind hasher ≡ plan.kind → (message : List ℕ)
-        → (plan.is_hashed ≡ true → Holds hasher message)
-        → IsIntact skip_hash plan.kind (message ++ tail.now) }
-    ensures marker { result ≡ true → (bytes : List ℕ) → HasPassed plan bytes tail.now start heads
-        → IsMarker plan.kind bytes plan.offset }
+    ensures intact { result ≡ true → IsIntactBehind plan hasher tail.now skip_hash }
+    ensures marker { result ≡ true → IsMarkedAs plan tail.now start heads }
     ensures are_bytes { AreBytes tail.now }
 {
     is_marked(plan, heads, tail, start) && is_intact(plan, hasher, tail, skip_hash)
@@ -302,13 +241,7 @@ fn ending_of(
 ) -> Option<WindowedIndex>
     requires ids { All (λ r. id_kind r.id ≡ plan.kind) first.list.records }
     requires sparse { first.sparse ≡ has_directory first.list.records }
-    ensures ending { IfSome result (λ x. IsEnding plan.kind reading.timestamp reading.options
-        plan.version first.list.records ending.items (Ok (parts_contents x.parts, x.checksum))) }
-    ensures behind { IfSome result (λ x. x.ending.items ≡ ending.items) }
-    ensures placed { IfSome result (λ x. PartsInStorage x.parts) }
-    ensures ids { IfSome result (λ x. IdsAreOf plan.kind (parts_entries x.parts)) }
-    ensures extension_ids { IfSome result
-        (λ x. ExtensionIdsAreOf plan.kind (parts_contents x.parts).extensions) }
+    ensures { IfSome result (IsEndingBy plan reading first.list.records ending.items) }
 {
     let read = ReadEntries {
         list: first.list,
@@ -332,7 +265,7 @@ fn ending_of(
 }
 
 /// Room for the entries that are declared.
-fn room_for(alloc: Global, declared: Declared) -> Result<FirstEntries, AllocError>
+fn room_for(alloc: Global, declared: Declared<'_>) -> Result<FirstEntries, AllocError>
     ensures { IfOk result (λ first. (first.list.records ≡ []) × (first.sparse ≡ false)) }
 {
     let list = EntryList::with_capacity(alloc, declared.count as usize, declared.paths)?;
@@ -353,20 +286,9 @@ pub fn windowed<S: Source>(
     reading: ReadOptions,
     keeps_ending: bool,
 ) -> io::Result<Option<WindowedIndex>>
-    ensures read { IfOk result (λ o. IfSome o (λ x. (bytes : List ℕ)
-        × IfSome (S.remaining file.old) (λ left. bytes ≡ left) × AreBytes bytes
-        × IsIntact reading.skip_hash reading.object_hash bytes
-        × IsAnswer reading.object_hash reading.timestamp reading.options bytes
-        (Ok (parts_contents x.parts, x.checksum))
-        × (keeps_ending ≡ true → FollowEntries reading.object_hash bytes x.ending.items))) }
-    ensures placed { IfOk result (λ o. IfSome o (λ x. PartsInStorage x.parts)) }
-    ensures ids { IfOk result
-        (λ o. IfSome o (λ x. IdsAreOf reading.object_hash (parts_entries x.parts))) }
-    ensures storable { IfOk result (λ o. IfSome o (λ x. IsStorable (parts_contents x.parts))) }
-    ensures extension_ids { IfOk result (λ o. IfSome o
-        (λ x. ExtensionIdsAreOf reading.object_hash (parts_contents x.parts).extensions)) }
-    ensures stored { S.stored file.new ≡ S.stored file.old }
-    ensures works { S.works file.new ≡ S.works file.old }
+    ensures read { IfGiven result
+        (IsWindowed reading keeps_ending (IsAllLeft (S.remaining file.old))) }
+    ensures left { KeepsFile S.Source file.old file.new }
 {
     let kind = reading.object_hash;
     let mut window = Vec::with_capacity(alloc, WINDOW_LEN)?;
@@ -375,7 +297,7 @@ pub fn windowed<S: Source>(
         return Ok(None);
     }
     let left = len - came as u64;
-    let Some(declared) = declared_by(&window, len as usize, offset, kind, reading.options) else {
+    let Ok(declared) = declared_by(&window, len as usize, offset, kind, reading.options) else {
         return Ok(None);
     };
     let plan = Plan {

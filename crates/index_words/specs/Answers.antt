@@ -1,13 +1,18 @@
 -- What is said in place of a command (the program's own).
-use Rattle.std.specs.Prelude.{◌≡◌, ◌≢◌, ⊤, ℕ, Bool, true, false, Result, Ok, Err}
+use Rattle.std.specs.Prelude.{◌≡◌, ◌≢◌, ⊤, ℕ, [], Bool, true, false, List, Result, Ok, Err, IfErr, IfOk}
+use Rattle.clap.specs.Faults.{fault_of}
 use Rattle.clap.specs.Kinds.{IsAmong}
+use Rattle.clap.specs.Simple.{subcommand_of, subcommand_rows_of}
 use Rattle.clap.specs.Values.{kind_of}
+use Rattle.clap.specs.Walk.{Text}
 use Rattle.clap.specs.declared.error.Error.{Error}
 use Rattle.clap.specs.declared.error.kind.ErrorKind.{ErrorKind}
 use Rattle.clap.specs.declared.error.kind.ErrorKind.TheVariants.{DisplayHelp, DisplayVersion}
 use Rattle.clap.specs.declared.error.kind.ErrorKind.TheVariants.{OutOfMemory}
 use Rattle.index_words.specs.Commands.{command_value}
 use Rattle.index_words.specs.Meaning.{Meaning, Runs, Says}
+use Rattle.index_words.specs.Table.{program}
+use Rattle.clap.specs.declared.parser.matches.ArgMatches.{ArgMatches}
 use Rattle.index_words.specs.declared.answer.Answer.{Answer}
 use Rattle.index_words.specs.declared.command.Command.{Command}
 use Rattle.index_words.specs.declared.answer.Answer.TheVariants as answers
@@ -50,3 +55,9 @@ status_of (answers.WrongWords e) = 2
 abbrev pub IsMeant : Meaning → Result Command Answer → Type 0
 IsMeant meaning (Ok command) = meaning ≡ Runs (command_value command)
 IsMeant meaning (Err answer) = Answers meaning answer
+
+-- what the words match, where they have no fault; or the answer says which they have
+pub record MatchesWords (words : List Text) (r : Result ArgMatches Answer) : Type 0 where
+  pub fault : IfOk r (λ m. fault_of program words ≡ [])
+  pub matches : IfOk r (λ m. subcommand_rows_of m ≡ subcommand_of program words)
+  pub answer : IfErr r (Answers (Says (fault_of program words)))

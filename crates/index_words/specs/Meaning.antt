@@ -1,5 +1,6 @@
 -- What words mean: a command with its values, or what is said in its place (the program's own).
 use Rattle.std.specs.Prelude.{Bool, ◌∷◌, ◌++◌, codes, List, [], Option, Some, None, if◌then◌else◌}
+use Rattle.std.specs.Borrow.{Bor}
 use Rattle.std.specs.Str.{bytes_eq}
 use Rattle.index_parts.specs.declared.hash.Kind.{Kind}
 use Rattle.clap.specs.Kinds.{Kinds}
@@ -10,7 +11,7 @@ use Rattle.clap.specs.declared.error.kind.ErrorKind.TheVariants.{InvalidSubcomma
 use Rattle.clap.specs.declared.error.kind.ErrorKind.TheVariants.{MissingRequiredArgument}
 use Rattle.clap.specs.declared.error.kind.ErrorKind.TheVariants.{MissingSubcommand}
 use Rattle.index_words.specs.Commands.{CommandValue, Reads, Writes, changed, is_set, kind_named, place_named}
-use Rattle.index_words.specs.Commands.{reading_named, writing_named}
+use Rattle.index_words.specs.Commands.{reading_named, text_of, writing_named}
 use Rattle.index_words.specs.Table.{program}
 use Rattle.index_words.specs.declared.command.Reading.{Reading}
 use Rattle.index_words.specs.declared.command.Writing.{Writing}
@@ -66,6 +67,15 @@ change_meant nul kind (word ∷ next ∷ rest) = Says (InvalidValue ∷ [])
 
 abbrev pub on_taken : (Option Kind → List Text → Meaning) → List Text → Meaning
 on_taken meant words = meant (kind_taken words).0 (kind_taken words).1
+
+-- what up to two words behind the name mean, and up to three
+abbrev pub on_two : (Option Kind → List Text → Meaning) → Option (Bor Text) → Option (Bor Text) → Meaning
+on_two meant first second = on_taken meant (listed (text_of first) (listed (text_of second) []))
+
+abbrev pub on_three : (Option Kind → List Text → Meaning) → Option (Bor Text) → Option (Bor Text) → Option (Bor Text)
+    → Meaning
+on_three meant first second third =
+    on_taken meant (listed (text_of first) (listed (text_of second) (listed (text_of third) [])))
 
 abbrev pub meant_else : Text → List Row → Meaning
 meant_else name rows =

@@ -1,9 +1,12 @@
 -- The program's commands with their arguments, as a parse reads them (the program's own).
-use Rattle.std.specs.Prelude.{ℕ, Bool, List, [], ◌∷◌, ◌||◌, codes, Some, if◌then◌else◌, fold, true}
+use Rattle.std.specs.Prelude.{◌≡◌, ℕ, Bool, List, [], ◌∷◌, ◌||◌, codes, Some, if◌then◌else◌, fold, true, false, Result}
+use Rattle.std.specs.Prelude.{IfOk}
 use Rattle.std.specs.Str.{bytes_eq}
 use Rattle.clap.specs.Walk.{Rule, Text}
-use Rattle.clap.specs.Simple.{App, new_app, new_rule, with_rule, with_subcommand}
+use Rattle.clap.specs.Simple.{App, app_of, new_app, new_rule, with_rule, with_subcommand}
 use Rattle.clap.specs.declared.builder.action.ArgAction.TheVariants.{SetTrue}
+use Rattle.clap.specs.declared.builder.command.Command.{Command}
+use Rattle.clap.specs.declared.builder.command.Command.TheViews.{out-Command}
 
 -- the names of the commands that read or write an index
 abbrev pub names : List Text
@@ -83,3 +86,15 @@ no_commands = record (new_app (codes "index-tool")) {
 -- the program with all its commands, `help` the last
 abbrev pub program : App
 program = with_subcommand (fold with_command no_commands names) help_app.top
+
+-- ---- what each call makes
+
+-- the command before with these words and options, of which none is for all commands
+pub record Extends {E : Type 0} (extended : App → App) (before : Command) (answer : Result Command E) : Type 0 where
+  pub app : IfOk answer (λ c. app_of c ≡ extended (app_of before))
+  pub local : IfOk answer (λ c. (out-Command before).has_globals ≡ false → (out-Command c).has_globals ≡ false)
+
+-- this command, of whose options none is for all commands
+pub record MakesApp {E : Type 0} (made : App) (answer : Result Command E) : Type 0 where
+  pub app : IfOk answer (λ c. app_of c ≡ made)
+  pub local : IfOk answer (λ c. (out-Command c).has_globals ≡ false)

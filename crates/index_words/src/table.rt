@@ -3,10 +3,9 @@
 ghost use Rattle.std.specs.Prelude.{◌≡◌, IfOk, false, map, codes, Some, None, [], option_map, fold};
 ghost use Rattle.clap.specs.Simple.{app_of};
 ghost use Rattle.clap.specs.Walk.{rule_of};
-ghost use Rattle.clap.specs.declared.builder.command.Command.TheViews.{out-Command};
-ghost use Rattle.index_words.specs.Table.{command_app, flag, has_lines, help_app, is_writing, names, no_commands};
-ghost use Rattle.index_words.specs.Table.{program, with_command, with_inputs, with_lines, with_missing, with_nul, with_out};
-ghost use Rattle.index_words.specs.Table.{written_app};
+ghost use Rattle.index_words.specs.Table.{Extends, MakesApp, command_app, flag, has_lines, help_app, is_writing, names};
+ghost use Rattle.index_words.specs.Table.{no_commands, program, with_command, with_inputs, with_lines, with_missing};
+ghost use Rattle.index_words.specs.Table.{with_nul, with_out, written_app};
 
 use clap::{Arg, ArgAction, Command};
 use std::alloc::{AllocError, Global};
@@ -91,18 +90,14 @@ fn with_nul<'a>(
     command: Command<'a>,
     help: &'a str,
 ) -> Result<Command<'a>, AllocError>
-    ensures app { IfOk result (λ c. app_of c ≡ with_nul (app_of command.entry)) }
-    ensures local { IfOk result (λ c. (out-Command command.entry).has_globals ≡ false
-        → (out-Command c).has_globals ≡ false) }
+    ensures { Extends with_nul command.entry result }
 {
     command.arg(flag(alloc, "z", help).short('z'))
 }
 
 /// With `-z` and `--quote`.
 fn with_lines<'a>(alloc: Global, command: Command<'a>) -> Result<Command<'a>, AllocError>
-    ensures app { IfOk result (λ c. app_of c ≡ with_lines (app_of command.entry)) }
-    ensures local { IfOk result (λ c. (out-Command command.entry).has_globals ≡ false
-        → (out-Command c).has_globals ≡ false) }
+    ensures { Extends with_lines command.entry result }
 {
     let help = "End each line with a NUL byte in place of a newline";
     let command = with_nul(alloc, command, help)?;
@@ -117,9 +112,7 @@ fn with_lines<'a>(alloc: Global, command: Command<'a>) -> Result<Command<'a>, Al
 
 /// With `--missing-ok`.
 fn with_missing<'a>(alloc: Global, command: Command<'a>) -> Result<Command<'a>, AllocError>
-    ensures app { IfOk result (λ c. app_of c ≡ with_missing (app_of command.entry)) }
-    ensures local { IfOk result (λ c. (out-Command command.entry).has_globals ≡ false
-        → (out-Command c).has_globals ≡ false) }
+    ensures { Extends with_missing command.entry result }
 {
     let missing = flag(
         alloc,
@@ -131,9 +124,7 @@ fn with_missing<'a>(alloc: Global, command: Command<'a>) -> Result<Command<'a>, 
 
 /// The command that changes an index, behind the words KIND and FILE.
 fn with_changes<'a>(alloc: Global, command: Command<'a>) -> Result<Command<'a>, AllocError>
-    ensures app { IfOk result (λ c. app_of c ≡ with_nul (app_of command.entry)) }
-    ensures local { IfOk result (λ c. (out-Command command.entry).has_globals ≡ false
-        → (out-Command c).has_globals ≡ false) }
+    ensures { Extends with_nul command.entry result }
 {
     let command = command.override_usage("index-tool update [OPTIONS] [KIND] <FILE>");
     let help = "Lines of changes end with a NUL byte, and no path is quoted";
@@ -146,9 +137,7 @@ fn with_out<'a>(
     command: Command<'a>,
     usage: &'a str,
 ) -> Result<Command<'a>, AllocError>
-    ensures app { IfOk result (λ c. app_of c ≡ with_out (app_of command.entry)) }
-    ensures local { IfOk result (λ c. (out-Command command.entry).has_globals ≡ false
-        → (out-Command c).has_globals ≡ false) }
+    ensures { Extends with_out command.entry result }
 {
     let out = Arg::new(alloc, "OUT").help("The path that is written to");
     command.override_usage(usage).arg(out)
@@ -160,9 +149,7 @@ fn with_inputs<'a>(
     command: Command<'a>,
     file_help: &'a str,
 ) -> Result<Command<'a>, AllocError>
-    ensures app { IfOk result (λ c. app_of c ≡ with_inputs (app_of command.entry)) }
-    ensures local { IfOk result (λ c. (out-Command command.entry).has_globals ≡ false
-        → (out-Command c).has_globals ≡ false) }
+    ensures { Extends with_inputs command.entry result }
 {
     let kind = Arg::new(alloc, "KIND").help(KIND_HELP);
     let file = Arg::new(alloc, "FILE").help(file_help);
@@ -175,10 +162,7 @@ fn written<'a>(
     name: &'a str,
     command: Command<'a>,
 ) -> Result<Command<'a>, AllocError>
-    ensures app { IfOk result
-        (λ c. app_of c ≡ written_app name.entry.now (app_of command.entry)) }
-    ensures local { IfOk result (λ c. (out-Command command.entry).has_globals ≡ false
-        → (out-Command c).has_globals ≡ false) }
+    ensures { Extends (written_app name.entry.now) command.entry result }
 {
     let command = with_out(alloc, command, usage(name))?;
     if name == "rewrite-trees" {
@@ -189,8 +173,7 @@ fn written<'a>(
 
 /// The command of this name, with its arguments.
 pub fn command<'a>(alloc: Global, name: &'a str) -> Result<Command<'a>, AllocError>
-    ensures app { IfOk result (λ c. app_of c ≡ command_app name.entry.now) }
-    ensures local { IfOk result (λ c. (out-Command c).has_globals ≡ false) }
+    ensures { MakesApp (command_app name.entry.now) result }
 {
     let command = Command::new(alloc, name).about(about(name));
     if is_writing(name) {
@@ -264,8 +247,7 @@ fn commands<'a>(alloc: Global) -> Result<Command<'a>, AllocError>
 
 /// The command that prints help.
 fn help<'a>(alloc: Global) -> Result<Command<'a>, AllocError>
-    ensures app { IfOk result (λ c. app_of c ≡ help_app) }
-    ensures local { IfOk result (λ c. (out-Command c).has_globals ≡ false) }
+    ensures { MakesApp help_app result }
 {
     let name = Arg::new(alloc, "COMMAND").help("The command that it is on");
     Command::new(alloc, HELP)

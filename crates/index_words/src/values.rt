@@ -7,7 +7,7 @@ ghost use Rattle.clap.specs.declared.error.kind.ErrorKind.{ErrorKind};
 ghost use Rattle.index_words.specs.Answers.{Answers, IsMeant};
 ghost use Rattle.index_words.specs.Commands.{is_set, kind_named, lines_of, place_named, place_of, reading_named};
 ghost use Rattle.index_words.specs.Commands.{text_of, writing_named};
-ghost use Rattle.index_words.specs.Meaning.{change_meant, listed, meant, on_taken, read_meant, write_meant};
+ghost use Rattle.index_words.specs.Meaning.{change_meant, meant, on_three, on_two, read_meant, write_meant};
 
 use crate::answer::Answer;
 use crate::command::{Command, Input, Reading, Writing};
@@ -108,8 +108,7 @@ fn read_of<'a>(
     first: Option<&'a str>,
     second: Option<&'a str>,
 ) -> Result<Command<'a>, Answer>
-    ensures { IsMeant (on_taken (read_meant what) (listed (text_of first.entry)
-        (listed (text_of second.entry) []))) result }
+    ensures { IsMeant (on_two (read_meant what) first.entry second.entry) result }
 {
     let Some(first) = first else {
         return Ok(Command::Read {
@@ -140,9 +139,7 @@ fn write_of<'a>(
     second: Option<&'a str>,
     third: Option<&'a str>,
 ) -> Result<Command<'a>, Answer>
-    ensures { IsMeant (on_taken (write_meant what) (listed (text_of first.entry)
-        (listed (text_of second.entry) (listed (text_of third.entry) []))))
-        result }
+    ensures { IsMeant (on_three (write_meant what) first.entry second.entry third.entry) result }
 {
     let Some(first) = first else {
         return Err(missing(alloc, name, "<FILE>\n  <OUT>"));
@@ -174,8 +171,7 @@ fn update_of<'a>(
     first: Option<&'a str>,
     second: Option<&'a str>,
 ) -> Result<Command<'a>, Answer>
-    ensures { IsMeant (on_taken (change_meant nul) (listed (text_of first.entry)
-        (listed (text_of second.entry) []))) result }
+    ensures { IsMeant (on_two (change_meant nul) first.entry second.entry) result }
 {
     let Some(first) = first else {
         return Err(missing(alloc, name, "<FILE>"));

@@ -1,14 +1,10 @@
 //! From words to a command.
 
-ghost use Rattle.std.specs.Prelude.{◌≡◌, [], IfErr, IfOk, map};
-ghost use Rattle.clap.specs.Faults.{fault_of};
+ghost use Rattle.std.specs.Prelude.{map};
 ghost use Rattle.clap.specs.Matches.{found_of};
-ghost use Rattle.clap.specs.Simple.{subcommand_of, subcommand_rows_of};
 ghost use Rattle.clap.specs.Walk.{rows_of};
-ghost use Rattle.index_words.specs.Answers.{Answers, IsMeant};
-ghost use Rattle.index_words.specs.Commands.{command_value};
-ghost use Rattle.index_words.specs.Meaning.{Runs, Says, help_meant, help_words, meaning};
-ghost use Rattle.index_words.specs.Table.{program};
+ghost use Rattle.index_words.specs.Answers.{Answers, IsMeant, MatchesWords};
+ghost use Rattle.index_words.specs.Meaning.{help_meant, help_words, meaning};
 
 use crate::answer::Answer;
 use crate::command::Command;
@@ -22,10 +18,7 @@ use std::convert::AsStr;
 
 /// What the words behind the program's name match.
 fn matched<'a, S: AsStr>(alloc: Global, words: &'a [S]) -> Result<ArgMatches<'a>, Answer>
-    ensures fault { IfOk result (λ m. fault_of program (map S.text words.now) ≡ []) }
-    ensures matches { IfOk result
-        (λ m. subcommand_rows_of m ≡ subcommand_of program (map S.text words.now)) }
-    ensures answer { IfErr result (Answers (Says (fault_of program (map S.text words.now)))) }
+    ensures { MatchesWords (map S.text words.now) result }
 {
     Ok(table::program(alloc)?.try_get_matches_from(words)?)
 }
@@ -56,9 +49,7 @@ fn help(alloc: Global, given: &ArgMatches<'_>) -> Answer
 /// where it tells something, [KIND] FILE OUT where it writes, and [KIND] FILE where it changes FILE. A first word that is `sha1` or `sha256` is the KIND,
 /// and FILE may be `-` for the standard input; `./sha1` and `./-` are files of these names. Nothing is opened or printed.
 pub fn parse<'a, S: AsStr>(alloc: Global, words: &'a [S]) -> Result<Command<'a>, Answer>
-    ensures command { IfOk result
-        (λ command. meaning (map S.text words.now) ≡ Runs (command_value command)) }
-    ensures answer { IfErr result (Answers (meaning (map S.text words.now))) }
+    ensures { IsMeant (meaning (map S.text words.now)) result }
 {
     let matches = matched(alloc, words)?;
     let Some((name, given)) = matches.subcommand() else {

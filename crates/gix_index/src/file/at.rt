@@ -11,6 +11,8 @@ ghost use Rattle.gix_index.specs.File.{IsFileOf, IsWholeFile};
 ghost use Rattle.gix_index.specs.ReadFile.{FollowsTo, IsFileRead, IsFound, IsReadOf, IsSharedRead, Loads, Opens, Reads};
 ghost use Rattle.gix_index.specs.ReadFile.{SaysOfAny, SaysOfFileBy, SaysOfFinding, SaysOfFollowing, SaysOfShared};
 ghost use Rattle.index_state.specs.State.{IsWellFormed};
+ghost use Rattle.gix_index.specs.OnDisk.{FindsIn, IsSharedPath, LoadsIn, OpensIn, ReadsIn, SaysOfFindingIn};
+ghost use Rattle.gix_index.specs.OnDisk.{SaysOfFollowingIn, SaysOfSharedIn, SaysOfSource};
 
 use super::File;
 use super::init::{Error, decoded};
@@ -42,8 +44,7 @@ pub(super) fn read_fault(path: PathBuf, error: io::Error) -> Error
 /// The path of the shared index with this id (gitformat-index, "Split index"): in the folder of the split one, whose
 /// path is given, it is named `sharedindex.` with the id in lower-case base 16. An error is want of memory.
 pub fn shared_path(alloc: Global, path: Path<'_>, id: &ObjectId) -> Result<PathBuf, AllocError>
-    ensures { IfOk result
-        (λ shared. path_buf_bytes shared ≡ shared_path (path_bytes path.entry) id.now) }
+    ensures { IfOk result (IsSharedPath (path_bytes path.entry) id.now) }
 {
     let name = format!(in alloc; "sharedindex.{id}")?;
     path.with_file_name(alloc, name.as_str())
@@ -59,8 +60,7 @@ fn read_file<S: Source>(
     requires { S.remaining file ≡ whole_of (S.stored file) }
     ensures read { IfOk result (IsFileRead (known_of (S.stored file)) reading) }
     ensures formed { IfOk result (IsFileOf (path_buf_bytes path) reading.object_hash) }
-    ensures fault { IfErr result
-        (SaysOfFileBy (path_buf_bytes path) (S.works file) (known_of (S.stored file)) reading) }
+    ensures fault { IfErr result (SaysOfSource S.Source file path reading) }
 {
     match in_windows(alloc, &mut file, reading, false) {
         Ok(Some(read)) => {
@@ -89,8 +89,7 @@ fn shared_at<D: Folder>(
 ) -> Result<State, Error>
     ensures read { IfOk result (IsSharedRead (D.known folder.now) path.entry id reading) }
     ensures formed { IfOk result (IsWellFormed reading.object_hash) }
-    ensures fault { IfErr result
-        (SaysOfShared (D.works folder.now) (D.known folder.now) path.entry id reading) }
+    ensures fault { IfErr result (SaysOfSharedIn D.Folder folder.now path.entry id reading) }
 {
     let shared = shared_path(alloc, path, &id)?;
     let file = match folder.open(shared.as_path()) {
@@ -114,8 +113,7 @@ fn follow<D: Folder>(
     requires formed { IsWellFormed reading.object_hash (state_of file) }
     ensures read { IfOk result (FollowsTo (D.known folder.now) reading file) }
     ensures whole { IfOk result (IsWholeFile (path_of file) reading.object_hash) }
-    ensures fault { IfErr result
-        (SaysOfFollowing (D.works folder.now) (D.known folder.now) reading file) }
+    ensures fault { IfErr result (SaysOfFollowingIn D.Folder folder.now reading file) }
 {
     let Some(link) = take_followed_link(&mut file.state) else {
         return Ok(file);
@@ -150,10 +148,10 @@ pub(super) fn read_from<D: Folder>(
     has_time: bool,
 ) -> Result<File, Error>
     ensures read { IfOk result
-        (IsFound (D.known folder.now) at.entry path reading or_default has_time) }
+        (FindsIn D.Folder folder.now at.entry path reading or_default has_time) }
     ensures whole { IfOk result (IsWholeFile (path_buf_bytes path) reading.object_hash) }
     ensures fault { IfErr result
-        (SaysOfFinding (D.works folder.now) (D.known folder.now) at.entry path reading has_time) }
+        (SaysOfFindingIn D.Folder folder.now at.entry path reading has_time) }
 {
     let file = match folder.open(at) {
         Ok(file) => file,
@@ -198,8 +196,8 @@ impl File {
         timestamp: FileTime,
         options: decode::Options,
     ) -> Result<File, Error>
-        ensures { Reads (D.works folder.now) (D.known folder.now) path skip_hash object_hash
-            timestamp options result }
+        ensures { ReadsIn D.Folder folder.now path skip_hash object_hash timestamp options
+            result }
     {
         let reading = ReadOptions {
             object_hash,
@@ -223,8 +221,8 @@ impl File {
         timestamp: FileTime,
         options: decode::Options,
     ) -> Result<File, Error>
-        ensures { Loads (D.works folder.now) (D.known folder.now) path skip_hash object_hash
-            timestamp options result }
+        ensures { LoadsIn D.Folder folder.now path skip_hash object_hash timestamp options
+            result }
     {
         let reading = ReadOptions {
             object_hash,
@@ -247,8 +245,8 @@ impl File {
         skip_hash: bool,
         options: decode::Options,
     ) -> Result<File, Error>
-        ensures { Opens (D.works folder.now) (D.known folder.now) path skip_hash object_hash
-            options result }
+        ensures { OpensIn D.Folder folder.now path skip_hash object_hash options
+            result }
     {
         let reading = ReadOptions {
             object_hash,

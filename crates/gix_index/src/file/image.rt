@@ -3,7 +3,7 @@
 ghost use Rattle.std.specs.Prelude.{◌≡◌, true, false};
 ghost use Rattle.index_state.specs.State.{PathsInStorage, contents};
 ghost use Rattle.gix_index.specs.File.{state_of};
-ghost use Rattle.gix_index.specs.WrittenFile.{PutsBody, PutsFile};
+ghost use Rattle.gix_index.specs.WrittenFile.{PutsBodyTo, PutsFile};
 
 use super::File;
 use index_entries::Version;
@@ -21,8 +21,7 @@ fn put_hashed<W: Out>(
     requires placed { PathsInStorage state.now }
     requires unfailed { W.failed out.old ≡ false }
     requires digest { options.skip_hash ≡ false }
-    ensures { PutsBody W.taken W.failed W.hashed W.loan out.old out.new result
-        (contents state.now) options }
+    ensures { PutsBodyTo W.Out out.old out.new result (contents state.now) options }
 {
     let mut hashing = Write::new(out, state.object_hash());
     let result = state.write_to(&mut hashing, options);
@@ -42,8 +41,7 @@ fn put_unhashed<W: Out>(
     requires placed { PathsInStorage state.now }
     requires unfailed { W.failed out.old ≡ false }
     requires no_digest { options.skip_hash ≡ true }
-    ensures { PutsBody W.taken W.failed W.hashed W.loan out.old out.new result
-        (contents state.now) options }
+    ensures { PutsBodyTo W.Out out.old out.new result (contents state.now) options }
 {
     let version = state.write_to(out, options)?;
     Ok((version, state.object_hash().null()))
@@ -57,8 +55,7 @@ fn put_body<W: Out>(
 ) -> Result<(Version, ObjectId), Error>
     requires placed { PathsInStorage state.now }
     requires unfailed { W.failed out.old ≡ false }
-    ensures { PutsBody W.taken W.failed W.hashed W.loan out.old out.new result
-        (contents state.now) options }
+    ensures { PutsBodyTo W.Out out.old out.new result (contents state.now) options }
 {
     if options.skip_hash {
         put_unhashed(state, out, options)

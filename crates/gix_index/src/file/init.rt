@@ -8,6 +8,7 @@ ghost use Rattle.gix_index.specs.Checked.{digest_fault, IsFileAnswer, SaysFile};
 ghost use Rattle.index_window.specs.Intact.{digest_id, IsIntact, IsBroken};
 ghost use Rattle.gix_index.specs.File.{IsFileOf, state_of};
 ghost use Rattle.gix_index.specs.ReadFile.{IsAnswerBy};
+ghost use Rattle.gix_index.specs.OnDisk.{FileIdsAreOf, NeedsIntact};
 
 use super::File;
 pub use index_file_faults::init::Error;
@@ -59,11 +60,10 @@ pub(super) fn decoded(
 ) -> Result<File, Error>
     requires known { IfSome known (λ id. id ≡ digest_id reading.object_hash bytes.now) }
     ensures answer { SaysFile result (IsAnswerBy reading bytes.now) }
-    ensures intact { IfErr result (λ e. e ≡ Error.Memory
-        → IsIntact reading.skip_hash reading.object_hash bytes.now) }
+    ensures intact { IfErr result (NeedsIntact reading.skip_hash reading.object_hash bytes.now) }
     ensures formed { IfOk result (IsFileOf (path_buf_bytes path) reading.object_hash) }
     ensures extension_ids { IfOk result
-        (λ file. ExtensionIdsAreOf reading.object_hash (contents (state_of file)).extensions) }
+        (FileIdsAreOf reading.object_hash) }
 {
     let ReadOptions {
         object_hash,
@@ -101,11 +101,10 @@ impl File {
     ) -> Result<File, Error>
         ensures answer { SaysFile result
             (IsFileAnswer skip_hash object_hash timestamp options «data».now) }
-        ensures intact { IfErr result (λ e. e ≡ Error.Memory
-            → IsIntact skip_hash object_hash «data».now) }
+        ensures intact { IfErr result (NeedsIntact skip_hash object_hash «data».now) }
         ensures formed { IfOk result (IsFileOf (path_buf_bytes path) object_hash) }
         ensures extension_ids { IfOk result
-            (λ file. ExtensionIdsAreOf object_hash (contents (state_of file)).extensions) }
+            (FileIdsAreOf object_hash) }
     {
         let reading = ReadOptions {
             object_hash,

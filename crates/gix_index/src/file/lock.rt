@@ -13,6 +13,8 @@ ghost use Rattle.gix_index.specs.File.{IsWholeFile};
 ghost use Rattle.gix_index.specs.ReadFile.{IsReadUnder};
 ghost use Rattle.gix_index.specs.WrittenFile.{SaysOfCommittingFile};
 ghost use Rattle.gix_index.specs.WrittenFile.{IsWrittenTo};
+ghost use Rattle.gix_index.specs.OnDisk.{IsLockedWhole, IsReadBehind, LocksFile, SaysOfLockIn};
+ghost use Rattle.gix_index.specs.WrittenFile.{ReleasesLock, SavesFile, SavesLocked};
 
 use super::File;
 use super::at::read_from;
@@ -54,23 +56,12 @@ impl File {
         options: decode::Options,
         or_default: bool,
     ) -> Result<Locked<D::Made>, Error>
-        ensures read { IfOk result (λ x. IsReadUnder (D.known folder.new) path skip_hash object_hash
-            options or_default x.lock.place x.file) }
-        ensures whole { IfOk result
-            (λ x. IsWholeFile (path_buf_bytes path) object_hash x.file) }
-        ensures asked { IfOk result (λ x. asked_of x.lock.place ≡ path_buf_bytes path) }
-        ensures target { IfOk result
-            (λ x. LeadsTo (D.known folder.old) 5 (path_buf_bytes path) (target_of x.lock.place)) }
-        ensures made { IfOk result (λ x. Makes (D.guards folder.old) (D.known folder.old)
-            (D.known folder.new) (lock_of x.lock.place)) }
-        ensures empty { IfOk result (λ x. D.alone folder.old ≡ true
-            → D.Made.contents x.lock.file ≡ Some []) }
-        ensures restored { OnErr result (D.alone folder.old ≡ true → Restores (D.works folder.old)
-            (D.known folder.old) (D.known folder.new) (path_buf_bytes path)) }
-        ensures fault { IfErr result (SaysOfLocking (path_buf_bytes path) (D.works folder.old)
-            (D.guards folder.old) (D.known folder.old) skip_hash object_hash options) }
-        ensures alone { D.alone folder.new ≡ D.alone folder.old }
-        ensures works { D.works folder.new ≡ D.works folder.old }
+        ensures read { IfOk result
+            (IsReadBehind D.Folder folder.new path skip_hash object_hash options or_default) }
+        ensures whole { IfOk result (IsLockedWhole (path_buf_bytes path) object_hash) }
+        ensures lock { LocksFile D.Folder D.Made.contents folder.old folder.new path result }
+        ensures fault { IfErr result
+            (SaysOfLockIn D.Folder folder.old path skip_hash object_hash options) }
     {
         let asked = match path.clone() {
             Ok(asked) => asked,
@@ -125,19 +116,8 @@ impl File {
         is_synced: bool,
     ) -> Result<(), write::Error>
         requires { PathsInStorage (state_of self.old) }
-        ensures ok { OnOk result (IsWrittenTo (asked_of lock.place) self.old self.new options) }
-        ensures err { OnErr result (self.new ≡ self.old) }
-        ensures writable { OnOk result (IsWritable (contents (state_of self.old)) options) }
-        ensures put { OnOk result (D.alone folder.old ≡ true → D.Made.contents lock.file ≡ Some []
-            → IsPutSince (D.known folder.old) (D.known folder.new) lock.place
-            (contents (state_of self.old)) options) }
-        ensures released { OnErr result (D.alone folder.old ≡ true
-            → IsReleased (D.works folder.old) (D.known folder.old) (D.known folder.new)
-            (lock_of lock.place)) }
-        ensures fault { IfErr result (SaysOfCommittingFile (D.works folder.old) lock.place self.old
-            options) }
-        ensures alone { D.alone folder.new ≡ D.alone folder.old }
-        ensures works { D.works folder.new ≡ D.works folder.old }
+        ensures { SavesFile D.Folder D.Made.contents folder.old folder.new self.old self.new lock
+            options result }
     {
         let (path, version, id) = committed(self, folder, alloc, lock, options, is_synced)?;
         self.path = path;
@@ -167,17 +147,7 @@ impl<M: Made> Locked<M> {
         is_synced: bool,
     ) -> Result<File, write::Error>
         requires { PathsInStorage (state_of self.file) }
-        ensures ok { IfOk result
-            (λ file. IsWrittenTo (asked_of self.lock.place) self.file file options) }
-        ensures writable { OnOk result (IsWritable (contents (state_of self.file)) options) }
-        ensures put { OnOk result (D.alone folder.old ≡ true → M.contents self.lock.file ≡ Some []
-            → IsPutSince (D.known folder.old) (D.known folder.new) self.lock.place
-            (contents (state_of self.file)) options) }
-        ensures released { OnErr result (D.alone folder.old ≡ true
-            → IsReleased (D.works folder.old) (D.known folder.old) (D.known folder.new)
-            (lock_of self.lock.place)) }
-        ensures fault { IfErr result (SaysOfCommittingFile (D.works folder.old) self.lock.place
-            self.file options) }
+        ensures { SavesLocked D.Folder M.contents folder.old folder.new self options result }
     {
         let Locked { mut file, lock } = self;
         match file.commit(folder, alloc, lock, options, is_synced) {
@@ -189,8 +159,7 @@ impl<M: Made> Locked<M> {
     /// Gives the lock up, which it is tried to remove, and gives the index as it is in memory.
     pub fn release<D: Folder<Made = M>>(self, folder: &mut D) -> File
         ensures file { result ≡ self.file }
-        ensures released { D.alone folder.old ≡ true → IsReleased (D.works folder.old)
-            (D.known folder.old) (D.known folder.new) (lock_of self.lock.place) }
+        ensures released { ReleasesLock D.Folder folder.old folder.new self.lock }
     {
         let (file, lock) = self.into_parts();
         lock.release(folder);

@@ -6,15 +6,17 @@ ghost use Rattle.index_state.specs.State.{PathsInStorage, contents};
 ghost use Rattle.index_window.specs.Intact.{IsIntact};
 ghost use Rattle.gix_index.specs.Checked.{IsFileAnswer, SaysFile};
 ghost use Rattle.gix_index.specs.Outlined.{IsOutlined};
+ghost use Rattle.gix_index.specs.OnDisk.{IsFileFault, NeedsIntact};
+ghost use Rattle.index_outline.specs.Outlines.{OutlineIdsAreOf};
 
 use super::File;
 use super::init::{Error, check};
 use index_format::decode;
 use index_metadata::entry::FileTime;
 pub use index_outline::Outline;
-use index_outline::{declared_by, outline_behind_header};
+use index_outline::outline_behind_header;
 use index_parts::hash::Kind;
-use index_reading::decode::ReadAs;
+use index_reading::decode::{ReadAs, declared_in};
 use std::alloc::Global;
 
 impl File {
@@ -33,22 +35,21 @@ impl File {
     ) -> Result<Outline<'_>, Error>
         ensures outlined { IfOk result
             (IsOutlined skip_hash object_hash timestamp options «data».now) }
-        ensures fault { IfErr result (λ e. SaysFile (Err e)
-            (IsFileAnswer skip_hash object_hash timestamp options «data».now)) }
-        ensures intact { IfErr result (λ e. e ≡ Error.Memory
-            → IsIntact skip_hash object_hash «data».now) }
+        ensures fault { IfErr result (IsFileFault skip_hash object_hash timestamp options
+            «data».now) }
+        ensures intact { IfErr result (NeedsIntact skip_hash object_hash «data».now) }
         ensures placed { IfOk result (λ o. PathsInStorage o.bare) }
         ensures extension_ids { IfOk result
-            (λ o. ExtensionIdsAreOf object_hash (contents o.bare).extensions) }
+            (OutlineIdsAreOf object_hash) }
     {
         check(data, None, object_hash, skip_hash)?;
-        let (version, count, rest) = declared_by(data, timestamp, object_hash, options)?;
+        let declared = declared_in(data, object_hash, options)?;
         let read_as = ReadAs {
             timestamp,
             object_hash,
-            version,
+            version: declared.version,
             options,
         };
-        Ok(outline_behind_header(alloc, read_as, count, rest)?)
+        Ok(outline_behind_header(alloc, read_as, declared.count, declared.rest)?)
     }
 }

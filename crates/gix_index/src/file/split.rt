@@ -10,6 +10,7 @@ ghost use Rattle.gix_index.specs.Disk.{disk_in_hand};
 ghost use Rattle.gix_index.specs.File.{IsWholeFile};
 ghost use Rattle.gix_index.specs.Linked.{Follows};
 ghost use Rattle.gix_index.specs.ReadFile.{IsFileOnDisk, SaysOfBothBy};
+ghost use Rattle.gix_index.specs.OnDisk.{IsFileInHand, SaysOfBothInHand};
 
 use super::File;
 use super::init::{Error, decoded};
@@ -50,10 +51,10 @@ impl File {
         reading: ReadOptions,
     ) -> Result<File, Error>
         ensures read { IfOk result
-            (IsFileOnDisk (disk_in_hand «data».now shared.now reading.timestamp) reading) }
+            (IsFileInHand «data».now shared.now reading) }
         ensures whole { IfOk result (IsWholeFile (path_buf_bytes path) reading.object_hash) }
         ensures fault { IfErr result
-            (SaysOfBothBy (disk_in_hand «data».now shared.now reading.timestamp) reading) }
+            (SaysOfBothInHand «data».now shared.now reading) }
     {
         let mut file = decoded(alloc, data, None, path, reading)?;
         let Some(link) = take_followed_link(&mut file.state) else {

@@ -12,6 +12,7 @@ ghost use Rattle.gix_index.specs.FileFaults.{SaysOfFile};
 ghost use Rattle.gix_index.specs.File.{IsFileOf};
 ghost use Rattle.gix_index.specs.Linked.{IsReadAlone};
 ghost use Rattle.gix_index.specs.ReadFile.{IsFileReadAlone, IsNoIndex, IsReadAloneBy, SaysOfFileBy, SaysOfHolder};
+ghost use Rattle.gix_index.specs.OnDisk.{IsAloneOf, ReadsAloneAt, SaysOfSource};
 
 use super::File;
 use super::at::read_fault;
@@ -64,7 +65,7 @@ fn decoded_whole(
     requires known { IfSome known (λ id. id ≡ digest_id reading.object_hash bytes.now) }
     ensures read { IfOk result (IsReadAloneBy reading bytes.now) }
     ensures formed { IfOk result
-        (λ read. IsFileOf (path_buf_bytes path) reading.object_hash read.index) }
+        (IsAloneOf (path_buf_bytes path) reading.object_hash) }
     ensures fault { IfErr result (SaysOfHolder (path_buf_bytes path) bytes.now reading) }
 {
     let index = decoded(alloc, bytes, known, path, reading)?;
@@ -86,9 +87,9 @@ fn read_alone<S: Source>(
     requires { S.remaining file ≡ whole_of (S.stored file) }
     ensures read { IfOk result (IsFileReadAlone (known_of (S.stored file)) reading) }
     ensures formed { IfOk result
-        (λ read. IsFileOf (path_buf_bytes path) reading.object_hash read.index) }
+        (IsAloneOf (path_buf_bytes path) reading.object_hash) }
     ensures fault { IfErr result
-        (SaysOfFileBy (path_buf_bytes path) (S.works file) (known_of (S.stored file)) reading) }
+        (SaysOfSource S.Source file path reading) }
 {
     match in_windows(alloc, &mut file, reading, true) {
         Ok(Some(read)) => {
@@ -126,12 +127,8 @@ impl File {
         timestamp: FileTime,
         options: decode::Options,
     ) -> Result<Unfollowed, Error>
-        ensures read { IfOk result (IsReadAlone (D.known folder.now (path_buf_bytes path))
-            skip_hash object_hash timestamp options) }
-        ensures formed { IfOk result
-            (λ read. IsFileOf (path_buf_bytes path) object_hash read.index) }
-        ensures fault { IfErr result (SaysOfFile (path_buf_bytes path) (D.works folder.now)
-            (D.known folder.now (path_buf_bytes path)) skip_hash object_hash timestamp options) }
+        ensures { ReadsAloneAt D.Folder folder.now path skip_hash object_hash timestamp options
+            result }
     {
         let reading = ReadOptions {
             object_hash,

@@ -6,6 +6,7 @@ ghost use Rattle.index_parts.specs.declared.hash.ObjectId.{ObjectId};
 ghost use Rattle.index_window.specs.Intact.{digest_id};
 ghost use Rattle.gix_index.specs.File.{checksum_of, path_of};
 ghost use Rattle.gix_index.specs.VerifiedFile.{Compares, FitsFile, SaysOfVerifying};
+ghost use Rattle.gix_index.specs.OnDisk.{FitsAtPath};
 
 use super::File;
 pub use index_file_faults::verify::Error;
@@ -48,8 +49,7 @@ impl File {
     /// [`Error::Io`] names the path. Room is asked for as many bytes as the file's metadata says. Nothing is changed.
     pub fn verify_integrity<D: Folder>(&self, folder: &D, alloc: Global) -> Result<(), Error>
         ensures nothing { checksum_of self.now ≡ None → IsOk result }
-        ensures ok { OnOk result (IfSome (checksum_of self.now)
-            (FitsFile (D.known folder.now (path_of self.now)))) }
+        ensures ok { OnOk result (FitsAtPath D.Folder folder.now self.now) }
         ensures fault { IfErr result
             (SaysOfVerifying self.now (D.works folder.now) (D.known folder.now)) }
     {

@@ -11,6 +11,7 @@ ghost use Rattle.gix_index.specs.File.{path_of, state_of};
 ghost use Rattle.gix_index.specs.InPlace.{IsPutSince, LeavesLock};
 ghost use Rattle.gix_index.specs.WrittenFile.{IsWritten, SaysOfCommittingFile, SaysOfWritingFile, Stores};
 ghost use Rattle.gix_index.specs.WrittenFile.{id_of, image_of, version_of};
+ghost use Rattle.gix_index.specs.WrittenFile.{HoldsImage, LeavesLockOf, Saves, SaysOfWritingIn, StoresIn};
 
 use super::File;
 use index_entries::Version;
@@ -43,19 +44,7 @@ pub(super) fn committed<D: Folder>(
     is_synced: bool,
 ) -> Result<(PathBuf, Version, ObjectId), Error>
     requires { PathsInStorage (state_of index.now) }
-    ensures path { IfOk result (λ x. path_buf_bytes x.0 ≡ asked_of lock.place) }
-    ensures version { IfOk result (λ x. x.1 ≡ version_of index.now options) }
-    ensures id { IfOk result (λ x. x.2 ≡ id_of index.now options) }
-    ensures writable { OnOk result (IsWritable (contents (state_of index.now)) options) }
-    ensures put { OnOk result (D.alone folder.old ≡ true → D.Made.contents lock.file ≡ Some []
-        → IsPutSince (D.known folder.old) (D.known folder.new) lock.place
-        (contents (state_of index.now)) options) }
-    ensures released { OnErr result (D.alone folder.old ≡ true → IsReleased (D.works folder.old)
-        (D.known folder.old) (D.known folder.new) (lock_of lock.place)) }
-    ensures fault { IfErr result
-        (SaysOfCommittingFile (D.works folder.old) lock.place index.now options) }
-    ensures alone { D.alone folder.new ≡ D.alone folder.old }
-    ensures works { D.works folder.new ≡ D.works folder.old }
+    ensures { Saves D.Folder D.Made.contents folder.old folder.new index.now lock options result }
 {
     let Lock { place, file } = lock;
     let Filled { version, id, file } = match index.fill(alloc, file, options) {
@@ -91,7 +80,7 @@ impl File {
         ensures version { IfOk result (λ x. x.version ≡ version_of self.now options) }
         ensures id { IfOk result (λ x. x.id ≡ id_of self.now options) }
         ensures bytes { IfOk result
-            (λ x. Appends (W.contents file) (W.contents x.file) (image_of self.now options)) }
+            (HoldsImage W.contents file self.now options) }
         ensures writable { OnOk result (IsWritable (contents (state_of self.now)) options) }
         ensures fault { IfErr result (SaysOfPut (contents (state_of self.now)) options) }
     {
@@ -116,12 +105,10 @@ impl File {
         ensures version { IfOk result (λ x. x.0 ≡ version_of self.now options) }
         ensures id { IfOk result (λ x. x.1 ≡ id_of self.now options) }
         ensures writable { OnOk result (IsWritable (contents (state_of self.now)) options) }
-        ensures put { OnOk result (Stores (D.alone folder.old) (D.known folder.old)
-            (D.known folder.new) self.now options) }
-        ensures left { OnErr result (D.alone folder.old ≡ true → LeavesLock (D.works folder.old)
-            (D.known folder.old) (D.known folder.new) (path_of self.now ++ codes ".lock")) }
+        ensures put { OnOk result (StoresIn D.Folder folder.old folder.new self.now options) }
+        ensures left { OnErr result (LeavesLockOf D.Folder folder.old folder.new self.now) }
         ensures fault { IfErr result
-            (SaysOfWritingFile (D.works folder.old) (D.known folder.old) self.now options) }
+            (SaysOfWritingIn D.Folder folder.old self.now options) }
     {
         let lock = lock_path(alloc, &self.path)?;
         let path = self.path.clone()?;
@@ -165,12 +152,10 @@ impl File {
         ensures ok { OnOk result (IsWritten self.old self.new options) }
         ensures err { OnErr result (self.new ≡ self.old) }
         ensures writable { OnOk result (IsWritable (contents (state_of self.old)) options) }
-        ensures put { OnOk result (Stores (D.alone folder.old) (D.known folder.old)
-            (D.known folder.new) self.old options) }
-        ensures left { OnErr result (D.alone folder.old ≡ true → LeavesLock (D.works folder.old)
-            (D.known folder.old) (D.known folder.new) (path_of self.old ++ codes ".lock")) }
+        ensures put { OnOk result (StoresIn D.Folder folder.old folder.new self.old options) }
+        ensures left { OnErr result (LeavesLockOf D.Folder folder.old folder.new self.old) }
         ensures fault { IfErr result
-            (SaysOfWritingFile (D.works folder.old) (D.known folder.old) self.old options) }
+            (SaysOfWritingIn D.Folder folder.old self.old options) }
     {
         let (version, id) = self.replace(folder, alloc, options)?;
         self.state.set_version(version);

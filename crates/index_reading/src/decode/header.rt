@@ -1,8 +1,6 @@
 //! The first twelve bytes of a file (gitformat-index, "A 12-byte header").
 
-ghost use Rattle.std.specs.Prelude.{◌≡◌, drop, MatchResult, Ok, Err};
-ghost use Rattle.index_entries.specs.Header.{header_of, count_of};
-ghost use Rattle.index_format.specs.HeaderErrors.{header_fault};
+ghost use Rattle.index_reading.specs.ReadParts.{DecodesHeader};
 
 use index_entries::Version;
 use index_entries::sizes::HEADER_LEN;
@@ -15,10 +13,7 @@ pub const SIGNATURE: [u8; 4] = *b"DIRC";
 
 /// The version, the count of entries, and the bytes behind the header.
 pub fn decode(bytes: &[u8], kind: Kind) -> Result<(Version, u32, &[u8]), Error>
-    ensures { MatchResult result
-        (λ x. (header_of kind bytes.now ≡ Ok x.0) × (x.1 ≡ count_of bytes.now)
-        × (x.2.now ≡ drop 12 bytes.now))
-        (λ e. header_of kind bytes.now ≡ Err (header_fault e)) }
+    ensures { DecodesHeader kind bytes.now result }
 {
     if bytes.len() < HEADER_LEN + kind.len_in_bytes() {
         return Err(Error::Corrupt(

@@ -1,4 +1,4 @@
-use Rattle.std.proofs.Common.{◌⊎◌}
+use Rattle.std.proofs.Common.{◌⊎◌, rules}
 use Rattle.gix_index.specs.Kind.{Kind}
 use Rattle.index_c.specs.Checking.{IsSoundIndex, IsUnsoundIndex}
 use Rattle.index_numbers.specs.Summaries.{IsRefusedIndex, IsUnread}
@@ -8,24 +8,28 @@ use Rattle.index_c.proofs.Checks.{check_refused, check_unread}
 use Rattle.index_c.proofs.Tellings.{sound_told, with_kind}
 use Rattle.index_c.proofs.check.gix_index_check.Goals as goal
 
-pub returns-clause-done : goal.returns-clause-done
-returns-clause-done c = λ is.
-    with_kind c.args.kind (λ (k : Kind). IsSoundIndex c.args.skip_hash k c.args.bytes.now c.tell.new.summary)
-    c.in-Some.kind c.in-Some.ensures
-    (sound_told (IsReadSo c.args.skip_hash c.in-Some.kind c.args.bytes.now) (read_weaker c.args.skip_hash
-    c.in-Some.kind c.args.bytes.now)
-    c.checked-found.result c.tell.result c.tell.new.summary c.checked-found.ensures.found c.tell.ensures.told is)
-
-pub returns-clause-refused : goal.returns-clause-refused
-returns-clause-refused c = λ is.
-    with_kind c.args.kind (λ (k : Kind). IsRefusedIndex c.args.skip_hash k c.args.bytes.now c.tell.new.summary ⊎
-    IsUnsoundIndex c.args.skip_hash k c.args.bytes.now c.tell.new.summary) c.in-Some.kind c.in-Some.ensures
-    (check_refused c.args.skip_hash c.in-Some.kind c.args.bytes.now c.tell.result c.tell.new.summary
-    c.checked-found.result c.checked-found.ensures.found c.checked-found.ensures.failed c.tell.ensures.told is)
-
-pub returns-clause-memory : goal.returns-clause-memory
-returns-clause-memory c = λ is.
-    with_kind c.args.kind (λ (k : Kind). IsUnread c.args.skip_hash k c.args.bytes.now c.tell.new.summary)
-    c.in-Some.kind c.in-Some.ensures
-    (check_unread c.args.skip_hash c.in-Some.kind c.args.bytes.now c.tell.result c.tell.new.summary
-    c.checked-found.result c.checked-found.ensures.found c.checked-found.ensures.failed c.tell.ensures.told is)
+pub returns : goal.returns
+returns c =
+    record {
+      status_is = search rules;
+      done = λ is. with_kind c.args.kind (λ (k : Kind). IsSoundIndex c.args.skip_hash k c.args.bytes.now
+          c.tell.new.summary)
+          c.in-Some.kind c.in-Some.ensures
+          (sound_told (IsReadSo c.args.skip_hash c.in-Some.kind c.args.bytes.now) (read_weaker c.args.skip_hash
+          c.in-Some.kind c.args.bytes.now)
+          c.checked-found.result c.tell.result c.tell.new.summary c.checked-found.ensures.found c.tell.ensures.told
+          is);
+      refused = λ is. with_kind c.args.kind (λ (k : Kind). IsRefusedIndex c.args.skip_hash k c.args.bytes.now
+          c.tell.new.summary ⊎
+          IsUnsoundIndex c.args.skip_hash k c.args.bytes.now c.tell.new.summary) c.in-Some.kind c.in-Some.ensures
+          (check_refused c.args.skip_hash c.in-Some.kind c.args.bytes.now c.tell.result c.tell.new.summary
+          c.checked-found.result c.checked-found.ensures.found c.checked-found.ensures.failed c.tell.ensures.told is);
+      memory = λ is. with_kind c.args.kind (λ (k : Kind). IsUnread c.args.skip_hash k c.args.bytes.now
+          c.tell.new.summary)
+          c.in-Some.kind c.in-Some.ensures
+          (check_unread c.args.skip_hash c.in-Some.kind c.args.bytes.now c.tell.result c.tell.new.summary
+          c.checked-found.result c.checked-found.ensures.found c.checked-found.ensures.failed c.tell.ensures.told is);
+      wrong_number = search rules;
+      untold = search rules;
+      text = search rules;
+    }

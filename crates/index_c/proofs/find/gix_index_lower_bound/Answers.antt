@@ -5,16 +5,16 @@ use Rattle.index_table.specs.Table.{records_of, spelled}
 use Rattle.index_c.proofs.Finds.{bound_is}
 use Rattle.index_c.proofs.find.gix_index_lower_bound.Goals as goal
 
-pub returns-clause-in_range : goal.returns-clause-in_range
-returns-clause-in_range c =
-    let rs = records_of c.args.paths.now c.args.rows.now in
-    omega (
-      arith,
-      c.part.ensures.in_range,
-      length-map rs (key_cmp c.args.path.now c.args.stage),
-      length-map c.args.rows.now (spelled c.args.paths.now),
-    )
-
-pub returns-clause-answer : goal.returns-clause-answer
-returns-clause-answer c =
-    bound_is c.args.path.now c.args.stage (records_of c.args.paths.now c.args.rows.now) _ c.part.ensures.parts
+pub returns : goal.returns
+returns c =
+    record {
+      in_range = let rs = records_of c.args.paths.now c.args.rows.now in
+          omega (
+            arith,
+            c.part.ensures.in_range,
+            length-map rs (key_cmp c.args.path.now c.args.stage),
+            length-map c.args.rows.now (spelled c.args.paths.now),
+          );
+      answer = bound_is c.args.path.now c.args.stage (records_of c.args.paths.now c.args.rows.now) _
+          c.part.ensures.parts;
+    }

@@ -7,31 +7,40 @@ use Rattle.index_failures.specs.Telling.{part, untold}
 use Rattle.index_lines.specs.Line.{listing}
 use Rattle.index_commands.proofs.list.list.Goals as goal
 
-pub returns-in_err-index-clause-refused : goal.returns-in_err-index-clause-refused
-returns-in_err-index-clause-refused g c =
+pub returns-in_err-index : goal.returns-in_err-index
+returns-in_err-index g c =
     let p = err_from_is_err_and c.from_residual.result c.from_residual.ensures.1 in
-    rw (p.1, p.2) (untold c.in_err-index.ensures.fault (Keeps-refl (g.W.Out.taken c.args.out.now)))
+    rw (p.1, p.2) (record {
+      told = tt;
+      refused = untold c.in_err-index.ensures.fault (Keeps-refl (g.W.Out.taken c.args.out.now));
+    })
 
-pub returns-in-Ok-clause-told : goal.returns-in-Ok-clause-told
-returns-in-Ok-clause-told g c = record {
-  text = listing c.args.style (contents (state_of c.in_ok-index.index)).records;
-  is = record {
-    value = contents (state_of c.in_ok-index.index);
-    checksum = checksum_of c.in_ok-index.index;
-    read = c.in_ok-index.ensures.read;
-    is = refl;
+pub returns-in-Ok : goal.returns-in-Ok
+returns-in-Ok g c = record {
+  told = record {
+    text = listing c.args.style (contents (state_of c.in_ok-index.index)).records;
+    is = record {
+      value = contents (state_of c.in_ok-index.index);
+      checksum = checksum_of c.in_ok-index.index;
+      read = c.in_ok-index.ensures.read;
+      is = refl;
+    };
+    grew = rw c.deref.ensures at c.in-Ok.ensures.ok;
   };
-  grew = rw c.deref.ensures at c.in-Ok.ensures.ok;
+  refused = tt;
 }
 
-pub returns-clause-refused : goal.returns-clause-refused
-returns-clause-refused g c = part c.in-Err.e refl c.in-Err.ensures.cause (record {
-  text = listing c.args.style (contents (state_of c.in_ok-index.index)).records;
-  is = inl (record {
-    value = contents (state_of c.in_ok-index.index);
-    checksum = checksum_of c.in_ok-index.index;
-    read = c.in_ok-index.ensures.read;
-    is = refl;
+pub returns : goal.returns
+returns g c = record {
+  told = tt;
+  refused = part c.in-Err.e refl c.in-Err.ensures.cause (record {
+    text = listing c.args.style (contents (state_of c.in_ok-index.index)).records;
+    is = inl (record {
+      value = contents (state_of c.in_ok-index.index);
+      checksum = checksum_of c.in_ok-index.index;
+      read = c.in_ok-index.ensures.read;
+      is = refl;
+    });
+    grew = rw c.deref.ensures at c.in-Err.ensures.err;
   });
-  grew = rw c.deref.ensures at c.in-Err.ensures.err;
-})
+}

@@ -8,50 +8,62 @@ use Rattle.index_failures.specs.Telling.{part, untold}
 use Rattle.index_lines.specs.Directories.{subtree_lines}
 use Rattle.index_commands.proofs.trees.trees.Goals as goal
 
-pub returns-in_err-index-clause-refused : goal.returns-in_err-index-clause-refused
-returns-in_err-index-clause-refused g c =
+pub returns-in_err-index : goal.returns-in_err-index
+returns-in_err-index g c =
     let p = err_from_is_err_and c.from_residual.result c.from_residual.ensures.1 in
-    rw (p.1, p.2) (untold (inl c.in_err-index.ensures.fault) (Keeps-refl (g.W.Out.taken c.args.out.now)))
+    rw (p.1, p.2) (record {
+      told = tt;
+      refused = untold (inl c.in_err-index.ensures.fault) (Keeps-refl (g.W.Out.taken c.args.out.now));
+    })
 
-pub returns-in_err-tree-clause-refused : goal.returns-in_err-tree-clause-refused
-returns-in_err-tree-clause-refused g c =
+pub returns-in_err-tree : goal.returns-in_err-tree
+returns-in_err-tree g c =
     let p = err_from_is_err_and c.from_residual-in_err-tree.result c.from_residual-in_err-tree.ensures.1 in
-    rw (p.1, p.2) (untold (inr (record {
-      value = contents (state_of c.in_ok-index.index);
-      checksum = checksum_of c.in_ok-index.index;
-      time = c.in_ok-index.ensures.read.time;
-      read = c.in_ok-index.ensures.read.is;
-      is = c.in_err-tree.ensures.fault;
-    })) (Keeps-refl (g.W.Out.taken c.args.out.now)))
+    rw (p.1, p.2) (record {
+      told = tt;
+      refused = untold (inr (record {
+        value = contents (state_of c.in_ok-index.index);
+        checksum = checksum_of c.in_ok-index.index;
+        time = c.in_ok-index.ensures.read.time;
+        read = c.in_ok-index.ensures.read.is;
+        is = c.in_err-tree.ensures.fault;
+      })) (Keeps-refl (g.W.Out.taken c.args.out.now));
+    })
 
-pub returns-in-Ok-clause-told : goal.returns-in-Ok-clause-told
-returns-in-Ok-clause-told g c = record {
-  text = subtree_lines c.args.style [] (node_of c.in_ok-tree.tree);
-  is = record {
-    value = contents (state_of c.in_ok-index.index);
-    tree = node_of c.in_ok-tree.tree;
-    is_tree = record {
-      checksum = checksum_of c.in_ok-index.index;
-      read = c.in_ok-index.ensures.read;
-      is_tree = c.in_ok-tree.ensures.made;
+pub returns-in-Ok : goal.returns-in-Ok
+returns-in-Ok g c = record {
+  told = record {
+    text = subtree_lines c.args.style [] (node_of c.in_ok-tree.tree);
+    is = record {
+      value = contents (state_of c.in_ok-index.index);
+      tree = node_of c.in_ok-tree.tree;
+      is_tree = record {
+        checksum = checksum_of c.in_ok-index.index;
+        read = c.in_ok-index.ensures.read;
+        is_tree = c.in_ok-tree.ensures.made;
+      };
+      is = refl;
     };
-    is = refl;
+    grew = c.in-Ok.ensures.ok;
   };
-  grew = c.in-Ok.ensures.ok;
+  refused = tt;
 }
 
-pub returns-clause-refused : goal.returns-clause-refused
-returns-clause-refused g c = part c.in-Err.e refl c.in-Err.ensures.cause (record {
-  text = subtree_lines c.args.style [] (node_of c.in_ok-tree.tree);
-  is = inl (record {
-    value = contents (state_of c.in_ok-index.index);
-    tree = node_of c.in_ok-tree.tree;
-    is_tree = record {
-      checksum = checksum_of c.in_ok-index.index;
-      read = c.in_ok-index.ensures.read;
-      is_tree = c.in_ok-tree.ensures.made;
-    };
-    is = refl;
+pub returns : goal.returns
+returns g c = record {
+  told = tt;
+  refused = part c.in-Err.e refl c.in-Err.ensures.cause (record {
+    text = subtree_lines c.args.style [] (node_of c.in_ok-tree.tree);
+    is = inl (record {
+      value = contents (state_of c.in_ok-index.index);
+      tree = node_of c.in_ok-tree.tree;
+      is_tree = record {
+        checksum = checksum_of c.in_ok-index.index;
+        read = c.in_ok-index.ensures.read;
+        is_tree = c.in_ok-tree.ensures.made;
+      };
+      is = refl;
+    });
+    grew = c.in-Err.ensures.err;
   });
-  grew = c.in-Err.ensures.err;
-})
+}

@@ -1,4 +1,5 @@
-use Rattle.std.proofs.Common.{◌≡◌, ◌∙◌, List, ap, length, map, refl, subst, sym}
+use Rattle.std.proofs.Common.{◌≡◌, ◌∙◌, List, ap, arith, length, map, refl, subst, sym}
+use Rattle.std.proofs.lemmas.Grind.{common_steps}
 use Rattle.gix_index.specs.Changing.Change.{Change}
 use Rattle.gix_index.specs.State.{contents, storage_of}
 use Rattle.index_info.specs.Line.{ChangeValue}
@@ -7,35 +8,44 @@ use Rattle.index_info.specs.declared.line.Line.{Line}
 use Rattle.index_commands.proofs.Updated.{refusal_is}
 use Rattle.index_commands.proofs.update.change.Goals as goal
 
-pub returns-in-Ok-apply-clause-updated : goal.returns-in-Ok-apply-clause-updated
-returns-in-Ok-apply-clause-updated c =
+pub returns-in-Ok-apply : goal.returns-in-Ok-apply
+returns-in-Ok-apply c =
     let same : map change_value c.deref-2.result.now ≡ map line_value c.in-Ok.lines.items =
     ap (λ (cs : List Change). map change_value cs) c.deref-2.ensures.value ∙ c.in-Ok-changes.ensures
     ∙ ap (λ (ls : List Line). map line_value ls) c.deref.ensures.value in
     record {
-      ordered = c.requires.ordered;
-      changes = c.deref-2.result.now;
-      said = subst (λ (vs : List ChangeValue). AreSaid c.args.nul c.args.kind c.args.text.now vs) (sym same)
-          c.in-Ok.ensures.said;
-      room = length (storage_of c.args.state.now);
-      granted = c.in-Ok-apply.ensures.reason;
-      is = c.in-Ok-apply.ensures.updated c.requires.ordered;
-      applied = c.in-Ok-apply.ensures.applied c.requires.ordered;
-    }
-
-pub returns-in-Err-Refused-clause-fault : goal.returns-in-Err-Refused-clause-fault
-returns-in-Err-Refused-clause-fault c =
-    let same : map change_value c.deref-2.result.now ≡ map line_value c.in-Ok.lines.items =
-    ap (λ (cs : List Change). map change_value cs) c.deref-2.ensures.value ∙ c.in-Ok-changes.ensures
-    ∙ ap (λ (ls : List Line). map line_value ls) c.deref.ensures.value in
-    let reason = rw c.in-Err-Refused.field-0-is at c.in-Err-Refused.ensures.reason in (
-      refl,
-      record {
+      updated = record {
+        ordered = c.requires.ordered;
         changes = c.deref-2.result.now;
         said = subst (λ (vs : List ChangeValue). AreSaid c.args.nul c.args.kind c.args.text.now vs) (sym same)
             c.in-Ok.ensures.said;
-        of = (contents c.args.state.now).kind;
         room = length (storage_of c.args.state.now);
-        is = refusal_is _ c.in-Err-Refused.at c.in-Err-Refused.cause reason;
-      },
-    )
+        granted = c.in-Ok-apply.ensures.reason;
+        is = c.in-Ok-apply.ensures.updated c.requires.ordered;
+        applied = c.in-Ok-apply.ensures.applied c.requires.ordered;
+      };
+      placed = grind (arith, common_steps);
+      fault = tt;
+    }
+
+pub returns-in-Err-Refused : goal.returns-in-Err-Refused
+returns-in-Err-Refused c =
+    let same : map change_value c.deref-2.result.now ≡ map line_value c.in-Ok.lines.items =
+    ap (λ (cs : List Change). map change_value cs) c.deref-2.ensures.value ∙ c.in-Ok-changes.ensures
+    ∙ ap (λ (ls : List Line). map line_value ls) c.deref.ensures.value in
+    let reason = rw c.in-Err-Refused.field-0-is at c.in-Err-Refused.ensures.reason in
+    record {
+      updated = tt;
+      placed = grind (arith, common_steps);
+      fault = (
+        refl,
+        record {
+          changes = c.deref-2.result.now;
+          said = subst (λ (vs : List ChangeValue). AreSaid c.args.nul c.args.kind c.args.text.now vs) (sym same)
+              c.in-Ok.ensures.said;
+          of = (contents c.args.state.now).kind;
+          room = length (storage_of c.args.state.now);
+          is = refusal_is _ c.in-Err-Refused.at c.in-Err-Refused.cause reason;
+        },
+      );
+    }

@@ -1,4 +1,5 @@
-use Rattle.std.proofs.Common.{refl, subst, sym}
+use Rattle.std.proofs.Common.{arith, refl, subst, sym}
+use Rattle.std.proofs.lemmas.Grind.{common_steps}
 use Rattle.gix_index.specs.File.{state_of}
 use Rattle.gix_index.specs.SoundState.{SaysFall}
 use Rattle.gix_index.specs.State.{contents}
@@ -6,23 +7,31 @@ use Rattle.gix_index.specs.StateType.{State}
 use Rattle.index_commands.specs.Updating.{IsUpdatedBy, unordered}
 use Rattle.index_commands.proofs.update.updated.Goals as goal
 
-pub returns-clause-updated : goal.returns-clause-updated
-returns-clause-updated g c = record {
-  before = contents (state_of c.in_ok-index.index);
-  begun = c.in_ok-index.ensures.begun;
-  text = c.in_ok-text.text.items;
-  held = c.in_ok-text.ensures.held;
-  updated = subst (λ (s : State). IsUpdatedBy c.args.nul c.args.kind c.in_ok-text.text.items
-      (contents (state_of c.in_ok-index.index)) (contents s)) (sym c.from_state.ensures.state)
-      (rw (c.deref-2.ensures.value, c.into_parts-state.ensures.state) at c.in_ok-change.ensures.updated);
+pub returns : goal.returns
+returns g c = record {
+  read = record {
+    before = contents (state_of c.in_ok-index.index);
+    begun = c.in_ok-index.ensures.read;
+    text = c.in_ok-text.text.items;
+    held = c.in_ok-text.ensures.held;
+    updated = subst (λ (s : State). IsUpdatedBy c.args.nul c.args.kind c.in_ok-text.text.items
+        (contents (state_of c.in_ok-index.index)) (contents s)) (sym c.from_state.ensures.state)
+        (rw (c.deref-2.ensures.value, c.into_parts-state.ensures.state) at c.in_ok-change.ensures.updated);
+  };
+  placed = grind (arith, common_steps);
+  fault = tt;
 }
 
-pub returns-in-Err-clause-fault : goal.returns-in-Err-clause-fault
-returns-in-Err-clause-fault g c = unordered (record {
-  value = contents (state_of c.in_ok-index.index);
-  begun = c.in_ok-index.ensures.begun;
-  is = (
-    refl,
-    subst (λ (s : State). SaysFall (contents s).records c.in-Err.fault) c.deref.ensures c.in-Err.ensures.fault,
-  );
-})
+pub returns-in-Err : goal.returns-in-Err
+returns-in-Err g c = record {
+  read = tt;
+  placed = tt;
+  fault = unordered (record {
+    value = contents (state_of c.in_ok-index.index);
+    begun = c.in_ok-index.ensures.read;
+    is = (
+      refl,
+      subst (λ (s : State). SaysFall (contents s).records c.in-Err.fault) c.deref.ensures c.in-Err.ensures.fault,
+    );
+  });
+}

@@ -1,24 +1,37 @@
-use Rattle.std.proofs.Common.{ap, subst}
-use Rattle.index_entries.specs.Order.{IsStrictlyOrdered}
+use Rattle.std.proofs.Common.{rules, [], ap, append-nil, subst, sym}
 use Rattle.index_entries.specs.Record.{records_in, with_path}
 use Rattle.index_edits.specs.Changes.{applied_one, takes_out}
 use Rattle.index_edits.specs.Edits.{IsUnstagedFrom}
+use Rattle.index_edits.specs.EntryEdits.{ChangesOrdered}
 use Rattle.index_edits.proofs.Applied.{one_staged, one_unstaged}
 use Rattle.index_edits.proofs.apply.apply_one.Goals as goal
 
-pub returns-in_ok-settle-in-Stage-clause-applied : goal.returns-in_ok-settle-in-Stage-clause-applied
-returns-in_ok-settle-in-Stage-clause-applied c = λ o.
+pub returns-in_ok-settle-in-Stage : goal.returns-in_ok-settle-in-Stage
+returns-in_ok-settle-in-Stage c =
     let old = records_in c.args.storage.now.items c.args.entries.now.items in
-    one_staged c.args.change.now old _ (with_path c.in-Stage.path.now c.in-Stage.entry)
-    (ap (λ x. applied_one x old) c.in-Stage.is) (λ r. ap (λ x. takes_out x r) c.in-Stage.is)
-    (c.in_ok-settle-in-Stage.ensures.staged o)
+    record {
+      applied = λ o. one_staged c.args.change.now old _ (with_path c.in-Stage.path.now c.in-Stage.entry)
+          (ap (λ x. applied_one x old) c.in-Stage.is) (λ r. ap (λ x. takes_out x r) c.in-Stage.is)
+          (c.in_ok-settle-in-Stage.ensures.staged.made o);
+      placed = search rules;
+      storage = search rules;
+      err_entries = search rules;
+      err_storage = search rules;
+    }
 
-pub returns-in-Unstage-clause-applied : goal.returns-in-Unstage-clause-applied
-returns-in-Unstage-clause-applied c = λ o.
+pub returns-in-Unstage : goal.returns-in-Unstage
+returns-in-Unstage c =
     let s = c.args.storage.now.items in
-    let old = records_in s c.args.entries.now.items in
-    let made = subst (λ t. IsStrictlyOrdered (records_in t c.args.entries.now.items)
-    → IsUnstagedFrom c.in-Unstage.path.now (records_in t c.args.entries.now.items)
-    (records_in t c.unstage.new.entries.items)) c.deref.ensures.value c.unstage.ensures.unstaged in
-    one_unstaged c.args.change.now old _ c.in-Unstage.path.now
-    (ap (λ x. applied_one x old) c.in-Unstage.is) (λ r. ap (λ x. takes_out x r) c.in-Unstage.is) (made o)
+    let es = c.args.entries.now.items in
+    let ds = c.unstage.new.entries.items in
+    let old = records_in s es in
+    let path = c.in-Unstage.path.now in
+    record {
+      applied = λ o. one_unstaged c.args.change.now old _ path
+          (ap (λ x. applied_one x old) c.in-Unstage.is) (λ r. ap (λ x. takes_out x r) c.in-Unstage.is)
+          (subst (λ t. ChangesOrdered (IsUnstagedFrom path) t es t ds) c.deref.ensures.value c.unstage.ensures.unstaged o);
+      placed = search rules;
+      storage = ([], sym (append-nil s));
+      err_entries = search rules;
+      err_storage = search rules;
+    }

@@ -1,4 +1,4 @@
-use Rattle.std.proofs.Common.{rules, ◌≡◌, ◌∙◌, ap, inr, subst, sym}
+use Rattle.std.proofs.Common.{rules, ◌∙◌, ap, inr, subst, sym}
 use Rattle.std.specs.List.Sorted.{IsPermutation, IsStableBy}
 use Rattle.index_edits.specs.Reorders.{AreInOrder, are_nested, is_change_before}
 use Rattle.index_edits.proofs.Orderings.{copied, nested_too, sorted_changes, stable_changes, unnested_from}

@@ -1,4 +1,4 @@
-use Rattle.std.proofs.Common.{◌∙◌, ◌≡◌, ap, arith}
+use Rattle.std.proofs.Common.{rules, ◌∙◌, ◌≡◌, ap, arith}
 use Rattle.std.proofs.lemmas.List.{with_items_is}
 use Rattle.index_entries.specs.Record.{records_in, with_path}
 use Rattle.index_entries.proofs.Appended.{appended_placed}
@@ -8,40 +8,43 @@ use Rattle.index_edits.proofs.Stages.{stage_is}
 use Rattle.index_edits.proofs.put.put.Goals as goal
 
 pub returns-in-Ok-clause-put : goal.returns-in-Ok-clause-put
-returns-in-Ok-clause-put c = λ o.
+returns-in-Ok-clause-put c =
     let es = c.args.entries.now.items in
     let s = c.args.storage.now.items in
     let there : c.new-there.result ≡ records_in s es =
     c.new-there.ensures ∙ ap (λ x. records_in x c.deref.result.now) c.deref-2.ensures.value
     ∙ ap (records_in s) c.deref.ensures.value in
-    put_replaced c.args.entry c.args.path.now s es c.index_mut.result.now c.overwrite.new.slot c.in-Ok.place _
-    c.new-there.result c.search_path_and_stage.result.0 c.in-Ok.is there (ap stage_code c.stage.ensures ∙ stage_is _)
-    c.search_path_and_stage.ensures.found c.index_mut.ensures.value c.overwrite.ensures o
+    record {
+      made = λ o. put_replaced c.args.entry c.args.path.now s es c.index_mut.result.now c.overwrite.new.slot c.in-Ok.place _
+          c.new-there.result c.search_path_and_stage.result.0 c.in-Ok.is there (ap stage_code c.stage.ensures ∙ stage_is _)
+          c.search_path_and_stage.ensures.found c.index_mut.ensures.value c.overwrite.ensures o;
+      placed = search rules;
+      storage = search rules;
+      err_entries = search rules;
+      err_storage = search rules;
+    }
 
 pub returns-in_ok-append-in-Err-clause-put : goal.returns-in_ok-append-in-Err-clause-put
-returns-in_ok-append-in-Err-clause-put c = λ o.
+returns-in_ok-append-in-Err-clause-put c =
     let es = c.args.entries.now.items in
     let s = c.args.storage.now.items in
     let a = c.in_ok-append-in-Err.ensures.appended in
     let v = c.append.new.entries in
+    let new = with_path c.args.path.now c.args.entry in
     let there : c.new-there.result ≡ records_in s es =
     c.new-there.ensures ∙ ap (λ x. records_in x c.deref.result.now) c.deref-2.ensures.value
     ∙ ap (records_in s) c.deref.ensures.value in
     let stage = ap stage_code c.stage.ensures ∙ stage_is c.args.entry.flags.0 in
     let is = with_items_is v c.move_last.new.entries (omega (arith, c.move_last.auto.entries, c.as_mut_slice.ensures.len))
     ∙ c.move_last.ensures es a.entry (c.as_mut_slice.ensures.value ∙ a.entries) in
-    put_more (with_path c.args.path.now c.args.entry) s c.append.new.storage.items es v.items _ c.in-Err.place
-    c.requires.placed a is c.search_path_and_stage.result.0 c.in-Err.is
-    (rw there at c.search_path_and_stage.ensures.in_range)
-    (rw (there, stage) at c.search_path_and_stage.ensures.answer) o
-
-pub returns-in_ok-append-in-Err-clause-placed : goal.returns-in_ok-append-in-Err-clause-placed
-returns-in_ok-append-in-Err-clause-placed c =
-    let es = c.args.entries.now.items in
-    let s = c.args.storage.now.items in
-    let a = c.in_ok-append-in-Err.ensures.appended in
-    let v = c.append.new.entries in
-    let is = with_items_is v c.move_last.new.entries (omega (arith, c.move_last.auto.entries, c.as_mut_slice.ensures.len))
-    ∙ c.move_last.ensures es a.entry (c.as_mut_slice.ensures.value ∙ a.entries) in
-    placed_more (with_path c.args.path.now c.args.entry) s c.append.new.storage.items es v.items _ c.in-Err.place
-    c.requires.placed a is (appended_placed s es _ c.append.new.storage.items v.items c.requires.placed a)
+    record {
+      made = λ o. put_more new s c.append.new.storage.items es v.items _ c.in-Err.place
+          c.requires.placed a is c.search_path_and_stage.result.0 c.in-Err.is
+          (rw there at c.search_path_and_stage.ensures.in_range)
+          (rw (there, stage) at c.search_path_and_stage.ensures.answer) o;
+      placed = placed_more new s c.append.new.storage.items es v.items _ c.in-Err.place
+          c.requires.placed a is (appended_placed s es _ c.append.new.storage.items v.items c.requires.placed a);
+      storage = search rules;
+      err_entries = search rules;
+      err_storage = search rules;
+    }

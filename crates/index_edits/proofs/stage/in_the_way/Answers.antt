@@ -1,21 +1,27 @@
-use Rattle.std.proofs.Common.{◌∙◌, ◌||◌, refl, sym, ap}
+use Rattle.std.proofs.Common.{rules, ◌∙◌, ◌||◌, refl, sym, ap}
 use Rattle.std.specs.List.{list_any}
 use Rattle.index_entries.specs.Record.{with_path}
 use Rattle.index_edits.specs.Edits.{are_at_odds}
 use Rattle.index_edits.proofs.Displacings.{others_told}
 use Rattle.index_edits.proofs.stage.in_the_way.Goals as goal
 
-pub returns-then-sides-clause-others : goal.returns-then-sides-clause-others
-returns-then-sides-clause-others c = λ o.
-    let new = with_path c.args.path.now c.args.entry in
-    let rs = c.args.entries.now in
-    c.if-sides.true ∙ rw c.if-sides.true at (others_told new rs c.ends_conflict-sides.result (list_any (are_at_odds new) rs)
-    (c.ends_conflict-sides.ensures o) refl)
+pub returns-then-sides : goal.returns-then-sides
+returns-then-sides c = record {
+  sides = search rules;
+  others = λ o.
+      let new = with_path c.args.path.now c.args.entry in
+      let rs = c.args.entries.now in
+      c.if-sides.true ∙ rw c.if-sides.true at (others_told new rs c.ends_conflict-sides.result (list_any (are_at_odds new) rs)
+      (c.ends_conflict-sides.ensures o) refl);
+}
 
-pub returns-else-sides-clause-others : goal.returns-else-sides-clause-others
-returns-else-sides-clause-others c = λ o.
-    let new = with_path c.args.path.now c.args.entry in
-    let rs = c.args.entries.now in
-    ap (λ b. b || c.has_odds-others.result) (sym c.if-sides.false)
-    ∙ others_told new rs c.ends_conflict-sides.result c.has_odds-others.result (c.ends_conflict-sides.ensures o)
-    (c.has_odds-others.ensures o)
+pub returns-else-sides : goal.returns-else-sides
+returns-else-sides c = record {
+  sides = search rules;
+  others = λ o.
+      let new = with_path c.args.path.now c.args.entry in
+      let rs = c.args.entries.now in
+      ap (λ b. b || c.has_odds-others.result) (sym c.if-sides.false)
+      ∙ others_told new rs c.ends_conflict-sides.result c.has_odds-others.result (c.ends_conflict-sides.ensures o)
+      (c.has_odds-others.ensures o);
+}

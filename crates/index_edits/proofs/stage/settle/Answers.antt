@@ -1,10 +1,11 @@
-use Rattle.std.proofs.Common.{◌≡◌, ◌+◌, ◌-◌, ◌∙◌, ◌&&◌, ◌==◌, length, sym, ap, subst, arith}
+use Rattle.std.proofs.Common.{rules, ◌≡◌, ◌+◌, ◌-◌, ◌∙◌, ◌&&◌, ◌==◌, length, sym, ap, subst, arith}
 use Rattle.std.proofs.lemmas.List.{length-map}
 use Rattle.std.specs.List.{filter, list_any}
 use Rattle.std.specs.Prelude.{nat_lt, not}
 use Rattle.index_entries.specs.Order.{IsStrictlyOrdered, record_stage}
 use Rattle.index_entries.specs.Record.{record_in, records_in, with_path}
-use Rattle.index_edits.specs.Edits.{displaced}
+use Rattle.index_edits.specs.Edits.{IsStagedInto, displaced}
+use Rattle.index_edits.specs.EntryEdits.{ChangesOrdered}
 use Rattle.index_edits.specs.EditSteps.{is_other, is_side_at}
 use Rattle.index_edits.proofs.Displacings.{conflict_merged, conflict_unmerged, not_number, number_to}
 use Rattle.index_edits.proofs.Stagings.{left_staged, none_staged, staged_count, staged_into}
@@ -16,13 +17,15 @@ there c =
     c.new.ensures ∙ ap (λ x. records_in x c.deref.result.now) c.deref-2.ensures.value
     ∙ ap (records_in c.args.storage.now.items) c.deref.ensures.value
 
-pub returns-clause-staged : goal.returns-clause-staged
-returns-clause-staged c = λ o.
+made : (c : goal.After-drop-folder-2)
+    → ChangesOrdered (IsStagedInto (with_path c.args.path.now c.args.entry)) c.args.storage.now.items c.args.entries.now.items
+    c.put.new.storage.items c.if-way.entries.items
+made c = λ o.
     let new = with_path c.args.path.now c.args.entry in
     let old = records_in c.args.storage.now.items c.args.entries.now.items in
     let t = c.put.new.storage.items in
     let now = records_in t c.put.new.entries.items in
-    let p = c.in_ok-put.ensures.put o in
+    let p = c.in_ok-put.ensures.put.made o in
     let others = subst (λ rs. IsStrictlyOrdered rs → c.in_the_way-way.result.others ≡ list_any (is_other new) rs)
     (there c) c.in_the_way-way.ensures.others o in
     staged_into new old now _ o p (elim c.if-way.branch [
@@ -32,37 +35,46 @@ returns-clause-staged c = λ o.
       | else-way w ↦ rw w.entries-is (none_staged new old now p (sym others ∙ w.if-way.false))
     ])
 
-pub returns-clause-told : goal.returns-clause-told
-returns-clause-told c = λ o.
-    let new = with_path c.args.path.now c.args.entry in
-    let s = c.args.storage.now.items in
-    let old = records_in s c.args.entries.now.items in
-    let t = c.put.new.storage.items in
-    let is = (returns-clause-staged c o).is in
-    let p = c.in_ok-put.ensures.put o in
-    let count : c.len-before.result + 1 - c.len.result ≡ length (displaced new old) =
-    omega (
-      arith,
-      c.len.ensures,
-      c.len-before.ensures,
-      ap length is,
-      length-map c.if-way.entries.items (record_in t),
-      length-map c.args.entries.now.items (record_in s),
-      staged_count new old _ p,
-      c.if-way.entries.ok.0,
-      c.args.entries.now.ok.0,
-    ) in
-    let sides = subst (λ rs. IsStrictlyOrdered rs
-    → c.in_the_way-way.result.sides ≡ ((record_stage new == 0) && list_any (is_side_at new.path) rs))
-    (there c) c.in_the_way-way.ensures.sides o in
-    let stage : c.stage_raw.result ≡ record_stage new = c.stage_raw.ensures in
-    record {
-      count = count;
-      conflict = elim c.if-stage_raw-eq0.branch [
-        | then-stage_raw-eq0 w ↦ rw w.conflict-is (sides
-            ∙ ap (λ b. b && list_any (is_side_at new.path) old) (number_to (record_stage new) 0 (sym stage ∙ w.if-stage_raw-eq0.true))
-            ∙ sym (conflict_merged new old (sym stage ∙ w.if-stage_raw-eq0.true)))
-        | else-stage_raw-eq0 w ↦ rw w.conflict-is (ap (nat_lt 0) count
-            ∙ sym (conflict_unmerged new old (not_number (record_stage new) 0 (λ e. w.if-stage_raw-eq0.false (stage ∙ e)))))
-      ];
-    }
+pub returns : goal.returns
+returns c = record {
+  staged = record {
+    made = made c;
+    placed = search rules;
+    storage = search rules;
+    err_entries = search rules;
+    err_storage = search rules;
+  };
+  told = λ o.
+      let new = with_path c.args.path.now c.args.entry in
+      let s = c.args.storage.now.items in
+      let old = records_in s c.args.entries.now.items in
+      let t = c.put.new.storage.items in
+      let is = (made c o).is in
+      let p = c.in_ok-put.ensures.put.made o in
+      let count : c.len-before.result + 1 - c.len.result ≡ length (displaced new old) =
+      omega (
+        arith,
+        c.len.ensures,
+        c.len-before.ensures,
+        ap length is,
+        length-map c.if-way.entries.items (record_in t),
+        length-map c.args.entries.now.items (record_in s),
+        staged_count new old _ p,
+        c.if-way.entries.ok.0,
+        c.args.entries.now.ok.0,
+      ) in
+      let sides = subst (λ rs. IsStrictlyOrdered rs
+      → c.in_the_way-way.result.sides ≡ ((record_stage new == 0) && list_any (is_side_at new.path) rs))
+      (there c) c.in_the_way-way.ensures.sides o in
+      let stage : c.stage_raw.result ≡ record_stage new = c.stage_raw.ensures in
+      record {
+        count = count;
+        conflict = elim c.if-stage_raw-eq0.branch [
+          | then-stage_raw-eq0 w ↦ rw w.conflict-is (sides
+              ∙ ap (λ b. b && list_any (is_side_at new.path) old) (number_to (record_stage new) 0 (sym stage ∙ w.if-stage_raw-eq0.true))
+              ∙ sym (conflict_merged new old (sym stage ∙ w.if-stage_raw-eq0.true)))
+          | else-stage_raw-eq0 w ↦ rw w.conflict-is (ap (nat_lt 0) count
+              ∙ sym (conflict_unmerged new old (not_number (record_stage new) 0 (λ e. w.if-stage_raw-eq0.false (stage ∙ e)))))
+        ];
+      };
+}

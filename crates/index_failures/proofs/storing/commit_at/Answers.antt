@@ -1,7 +1,11 @@
+use Rattle.std.proofs.Common.{rules}
 use Rattle.index_failures.proofs.storing.commit_at.Goals as goal
 
-pub returns-in-Ok-clause-put : goal.returns-in-Ok-clause-put
-returns-in-Ok-clause-put g c = λ alone empty. c.in-Ok.ensures.put alone empty
-
-pub returns-in-Ok-clause-written : goal.returns-in-Ok-clause-written
-returns-in-Ok-clause-written g c = (_, c.in-Ok.ensures.ok)
+pub returns-in-Ok : goal.returns-in-Ok
+returns-in-Ok g c = record {
+  written = (_, c.in-Ok.ensures.ok);
+  put = λ alone empty. c.in-Ok.ensures.put alone empty;
+  released = tt;
+  fault = tt;
+  manner = search rules;
+}

@@ -4,12 +4,34 @@ use Rattle.std.specs.Path.{path_buf_bytes}
 use Rattle.index_folder.specs.Locks.{here}
 use Rattle.index_folder.proofs.lock.acquire.Goals as goal
 
-pub returns-then-is_empty-clause-fault : goal.returns-then-is_empty-clause-fault
-returns-then-is_empty-clause-fault g c =
-    c.of.ensures.fault (g.D.Folder.works c.args.folder.now) (g.D.Folder.known c.args.folder.now)
-    (path_buf_bytes c.args.path) (inl (zero, here _ refl)) (λ works. inr (inl (nil_from_length (path_buf_bytes c.args.path) (search rules))))
+pub returns-then-is_empty : goal.returns-then-is_empty
+returns-then-is_empty g c = record {
+  asked = tt;
+  target = tt;
+  lock = tt;
+  made = tt;
+  empty = tt;
+  unmade = search rules;
+  fault =
+      c.of.ensures.fault (g.D.Folder.works c.args.folder.now) (g.D.Folder.known c.args.folder.now)
+      (path_buf_bytes c.args.path) (inl (zero, here _ refl))
+      (λ works. inr (inl (nil_from_length (path_buf_bytes c.args.path) (search rules))));
+  alone = search rules;
+  works = search rules;
+}
 
-pub returns-clause-fault : goal.returns-clause-fault
-returns-clause-fault g c =
-    c.of-in-Err-2.ensures.fault (g.D.Folder.works c.args.folder.now) (g.D.Folder.known c.args.folder.now)
-    (path_buf_bytes c.args.path) (inr (path_buf_bytes c.in_ok-target.target, search rules, search rules)) (search rules)
+pub returns : goal.returns
+returns g c = record {
+  asked = tt;
+  target = tt;
+  lock = tt;
+  made = tt;
+  empty = tt;
+  unmade = search rules;
+  fault =
+      c.of-in-Err-2.ensures.fault (g.D.Folder.works c.args.folder.now) (g.D.Folder.known c.args.folder.now)
+      (path_buf_bytes c.args.path) (inr (path_buf_bytes c.in_ok-target.target, search rules, search rules))
+      (search rules);
+  alone = search rules;
+  works = search rules;
+}

@@ -1,13 +1,18 @@
 use Rattle.std.proofs.Common.{rules, ◌∙◌}
 use Rattle.std.proofs.KnownBytes.{Consumes-more}
-use Rattle.index_folder.proofs.Readers.{starts_trans}
+use Rattle.index_folder.proofs.Readers.{came_behind, starts_trans}
 use Rattle.index_folder.proofs.pieces.fill.Goals as goal
 
-pub returns-then-count-eq0-clause-consumes : goal.returns-then-count-eq0-clause-consumes
-returns-then-count-eq0-clause-consumes g c =
-    Consumes-more _ _ _ c.args.bytes.now.items c.pieces.bytes.items c.append_piece.new.bytes.items
+pub returns-then-count-eq0 : goal.returns-then-count-eq0
+returns-then-count-eq0 g c =
+    came_behind _
+    (starts_trans c.args.bytes.now.items c.pieces.bytes.items c.append_piece.new.bytes.items
+    c.pieces.invariant.appends c.in_ok-count.ensures.appends)
+    (search rules)
+    (Consumes-more _ _ _ c.args.bytes.now.items c.pieces.bytes.items c.append_piece.new.bytes.items
     c.pieces.invariant.appends c.in_ok-count.ensures.appends c.pieces.invariant.consumed
-    c.in_ok-count.ensures.consumes
+    c.in_ok-count.ensures.consumes)
+    (search rules) (search rules) (search rules)
 
 pub pieces-preserved : goal.pieces-preserved
 pieces-preserved g c = record {

@@ -1,5 +1,12 @@
+use Rattle.std.proofs.Common.{rules}
 use Rattle.std.proofs.KnownBytes.{Keeps-trans}
 use Rattle.index_folder.proofs.pieces.read_once.Goals as goal
 
-pub returns-in_default-clause-bytes : goal.returns-in_default-clause-bytes
-returns-in_default-clause-bytes g c = Keeps-trans _ _ _ c.loop.invariant.keeps c.in-Err.ensures.bytes
+pub returns-in_default : goal.returns-in_default
+returns-in_default g c = record {
+  bound = search rules;
+  bytes = Keeps-trans _ _ _ c.loop.invariant.keeps c.in-Err.ensures.bytes;
+  stored = search rules;
+  works = search rules;
+  succeeds = search rules;
+}

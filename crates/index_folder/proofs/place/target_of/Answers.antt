@@ -7,23 +7,29 @@ use Rattle.index_folder.proofs.place.target_of.Goals as goal
 pub loop-links-init : goal.loop-links-init
 loop-links-init g c = record { follows = here (path_buf_bytes c.in_ok-target.target) (search rules) }
 
-pub returns-in-Err-followed-clause-fault : goal.returns-in-Err-followed-clause-fault
-returns-in-Err-followed-clause-fault g c =
+pub returns-in-Err-followed : goal.returns-in-Err-followed
+returns-in-Err-followed g c =
     let world = g.D.Folder.known c.args.folder.now in
     let path = path_buf_bytes c.args.path in
     let links = c.loop-links.links in
     let follows = c.loop-links.invariant.follows in
     let looked = path_bytes c.as_path-in-Ok-Link.result in
     let is : looked ≡ path_bytes c.as_path.result = search rules in
-    c.of.ensures.fault (g.D.Folder.works c.args.folder.now) world path (inl (links, follows))
-    (λ works. untold world path (path_buf_bytes c.loop-links.target) looked links follows
-    c.as_path-in-Ok-Link.ensures _ c.in-Ok-Link.field-0-is (search rules) (search (rules, is))
-    (c.in-Err-followed.ensures.fault works))
+    record {
+      leads = tt;
+      fault = c.of.ensures.fault (g.D.Folder.works c.args.folder.now) world path (inl (links, follows))
+          (λ works. untold world path (path_buf_bytes c.loop-links.target) looked links follows
+          c.as_path-in-Ok-Link.ensures _ c.in-Ok-Link.field-0-is (search rules) (search (rules, is))
+          (c.in-Err-followed.ensures.fault works));
+    }
 
-pub returns-in-Err-clause-fault : goal.returns-in-Err-clause-fault
-returns-in-Err-clause-fault g c =
-    c.of-in-Err.ensures.fault (g.D.Folder.works c.args.folder.now) (g.D.Folder.known c.args.folder.now)
-    (path_buf_bytes c.args.path) (inl (c.loop-links.links, c.loop-links.invariant.follows)) (search rules)
+pub returns-in-Err : goal.returns-in-Err
+returns-in-Err g c = record {
+  leads = tt;
+  fault =
+      c.of-in-Err.ensures.fault (g.D.Folder.works c.args.folder.now) (g.D.Folder.known c.args.folder.now)
+      (path_buf_bytes c.args.path) (inl (c.loop-links.links, c.loop-links.invariant.follows)) (search rules);
+}
 
 pub loop-links-preserved : goal.loop-links-preserved
 loop-links-preserved g c =

@@ -1,4 +1,4 @@
-use Rattle.std.proofs.Common.{◌≡◌, ℕ, List, sym, ◌∙◌, ap, subst}
+use Rattle.std.proofs.Common.{◌≡◌, ℕ, List, sym, ◌∙◌, ap, subst, rules}
 use Rattle.std.specs.Prelude.{flat_map}
 use Rattle.std.specs.Io.KnownBytes.{Appends}
 use Rattle.std.proofs.lemmas.List.Folds.{flat_map-map}
@@ -32,45 +32,66 @@ loop-entry-preserved g c =
           c.in_ok-append_line.ensures c.in_ok-put_block.ensures.ok.1 c.in_ok-put_block.ensures.ok.2;
     }
 
-pub returns-in_err-append_line-clause-err : goal.returns-in_err-append_line-clause-err
-returns-in_err-append_line-clause-err g c =
-    let f : Entry → List ℕ = λ e. line_of c.args.style (record_in (storage_of c.args.state.now) e) in
-    let P : List ℕ → Type 0 =
-    λ t. AppendsPrefix (g.W.Out.taken c.args.out.now) (g.W.Out.taken c.loop-entry.out) t in
-    let front = front_before_line f _ _ c.entries-entry-items.result.now c.loop-entry.entry-index _ _
-    c.loop-entry.invariant.lines.1 c.loop-entry.invariant.lines.2 in
-    rw (err_from_is_err_and c.from_residual-in_err-append_line.result c.from_residual-in_err-append_line.ensures.1).1
-    (subst P (lines_of c.args.style c.args.state.now _ c.entries-entry-items.ensures) front)
+pub returns-in_err-append_line : goal.returns-in_err-append_line
+returns-in_err-append_line g c =
+    record {
+      ok = search rules;
+      err = let f : Entry → List ℕ = λ e. line_of c.args.style (record_in (storage_of c.args.state.now) e) in
+          let P : List ℕ → Type 0 =
+          λ t. AppendsPrefix (g.W.Out.taken c.args.out.now) (g.W.Out.taken c.loop-entry.out) t in
+          let front = front_before_line f _ _ c.entries-entry-items.result.now c.loop-entry.entry-index _ _
+          c.loop-entry.invariant.lines.1 c.loop-entry.invariant.lines.2 in
+          rw (err_from_is_err_and c.from_residual-in_err-append_line.result
+          c.from_residual-in_err-append_line.ensures.1).1
+          (subst P (lines_of c.args.style c.args.state.now _ c.entries-entry-items.ensures) front);
+      going = search rules;
+      cause = search rules;
+      loan = search rules;
+    }
 
-pub returns-in_err-put_block-clause-err : goal.returns-in_err-put_block-clause-err
-returns-in_err-put_block-clause-err g c =
-    let f : Entry → List ℕ = λ e. line_of c.args.style (record_in (storage_of c.args.state.now) e) in
-    let P : List ℕ → Type 0 =
-    λ t. AppendsPrefix (g.W.Out.taken c.args.out.now) (g.W.Out.taken c.put_block.new.out) t in
-    let front = front_of_block f _ _ _ c.entries-entry-items.result.now c.loop-entry.entry-index _ _ _ _
-    c.loop-entry-test.true c.loop-entry.invariant.lines.1 c.loop-entry.invariant.lines.2 c.in_ok-append_line.ensures
-    c.in_err-put_block.ensures.err in
-    rw (err_from_is_err_and c.from_residual-in_err-put_block.result c.from_residual-in_err-put_block.ensures.1).1
-    (subst P (lines_of c.args.style c.args.state.now _ c.entries-entry-items.ensures) front)
+pub returns-in_err-put_block : goal.returns-in_err-put_block
+returns-in_err-put_block g c =
+    record {
+      ok = search rules;
+      err = let f : Entry → List ℕ = λ e. line_of c.args.style (record_in (storage_of c.args.state.now) e) in
+          let P : List ℕ → Type 0 =
+          λ t. AppendsPrefix (g.W.Out.taken c.args.out.now) (g.W.Out.taken c.put_block.new.out) t in
+          let front = front_of_block f _ _ _ c.entries-entry-items.result.now c.loop-entry.entry-index _ _ _ _
+          c.loop-entry-test.true c.loop-entry.invariant.lines.1 c.loop-entry.invariant.lines.2
+          c.in_ok-append_line.ensures
+          c.in_err-put_block.ensures.err in
+          rw (err_from_is_err_and c.from_residual-in_err-put_block.result
+          c.from_residual-in_err-put_block.ensures.1).1
+          (subst P (lines_of c.args.style c.args.state.now _ c.entries-entry-items.ensures) front);
+      going = search rules;
+      cause = search rules;
+      loan = search rules;
+    }
 
-pub returns-clause-ok : goal.returns-clause-ok
-returns-clause-ok g c =
-    let f : Entry → List ℕ = λ e. line_of c.args.style (record_in (storage_of c.args.state.now) e) in
-    let P : List ℕ → Type 0 =
-    λ t. Appends (g.W.Out.taken c.args.out.now) (g.W.Out.taken c.put_text.new.out) t in
-    let Q : List ℕ → Type 0 =
-    λ t. Appends (g.W.Out.taken c.loop-entry.out) (g.W.Out.taken c.put_text.new.out) t in
-    on_ok_weaker c.put_text.result (λ h. subst P (lines_of c.args.style c.args.state.now _ c.entries-entry-items.ensures)
-    (listed_all f _ _ _ c.entries-entry-items.result.now c.loop-entry.entry-index _ _ c.loop-entry-test.false
-    c.loop-entry.invariant.lines.1 c.loop-entry.invariant.lines.2 (subst Q c.as_slice.ensures.value h))) c.put_text.ensures.ok
-
-pub returns-clause-err : goal.returns-clause-err
-returns-clause-err g c =
-    let f : Entry → List ℕ = λ e. line_of c.args.style (record_in (storage_of c.args.state.now) e) in
-    let P : List ℕ → Type 0 =
-    λ t. AppendsPrefix (g.W.Out.taken c.args.out.now) (g.W.Out.taken c.put_text.new.out) t in
-    let Q : List ℕ → Type 0 =
-    λ t. AppendsPrefix (g.W.Out.taken c.loop-entry.out) (g.W.Out.taken c.put_text.new.out) t in
-    on_err_weaker c.put_text.result (λ h. subst P (lines_of c.args.style c.args.state.now _ c.entries-entry-items.ensures)
-    (front_of_rest f _ _ _ c.entries-entry-items.result.now c.loop-entry.entry-index _ _ c.loop-entry.invariant.lines.1
-    c.loop-entry.invariant.lines.2 (subst Q c.as_slice.ensures.value h))) c.put_text.ensures.err
+pub returns : goal.returns
+returns g c =
+    record {
+      ok = let f : Entry → List ℕ = λ e. line_of c.args.style (record_in (storage_of c.args.state.now) e) in
+          let P : List ℕ → Type 0 =
+          λ t. Appends (g.W.Out.taken c.args.out.now) (g.W.Out.taken c.put_text.new.out) t in
+          let Q : List ℕ → Type 0 =
+          λ t. Appends (g.W.Out.taken c.loop-entry.out) (g.W.Out.taken c.put_text.new.out) t in
+          on_ok_weaker c.put_text.result (λ h. subst P (lines_of c.args.style c.args.state.now _
+          c.entries-entry-items.ensures)
+          (listed_all f _ _ _ c.entries-entry-items.result.now c.loop-entry.entry-index _ _ c.loop-entry-test.false
+          c.loop-entry.invariant.lines.1 c.loop-entry.invariant.lines.2 (subst Q c.as_slice.ensures.value h)))
+          c.put_text.ensures.ok;
+      err = let f : Entry → List ℕ = λ e. line_of c.args.style (record_in (storage_of c.args.state.now) e) in
+          let P : List ℕ → Type 0 =
+          λ t. AppendsPrefix (g.W.Out.taken c.args.out.now) (g.W.Out.taken c.put_text.new.out) t in
+          let Q : List ℕ → Type 0 =
+          λ t. AppendsPrefix (g.W.Out.taken c.loop-entry.out) (g.W.Out.taken c.put_text.new.out) t in
+          on_err_weaker c.put_text.result (λ h. subst P (lines_of c.args.style c.args.state.now _
+          c.entries-entry-items.ensures)
+          (front_of_rest f _ _ _ c.entries-entry-items.result.now c.loop-entry.entry-index _ _
+          c.loop-entry.invariant.lines.1
+          c.loop-entry.invariant.lines.2 (subst Q c.as_slice.ensures.value h))) c.put_text.ensures.err;
+      going = search rules;
+      cause = search rules;
+      loan = search rules;
+    }

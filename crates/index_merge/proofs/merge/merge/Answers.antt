@@ -1,4 +1,4 @@
-use Rattle.std.proofs.Common.{◌≡◌, ◌++◌, length, drop, sym, ap, ◌∙◌}
+use Rattle.std.proofs.Common.{rules, ◌≡◌, ◌++◌, length, drop, sym, ap, ◌∙◌}
 use Rattle.std.proofs.lemmas.List.{drop-map}
 use Rattle.std.proofs.lemmas.Result.{err_from_is_err_and}
 use Rattle.std.proofs.lemmas.List.Sorted.{All-permutation, IsPermutation-map}
@@ -6,14 +6,19 @@ use Rattle.index_entries.specs.Record.{IsPlaced, record_in, records_in}
 use Rattle.index_merge.proofs.Merging.{says_weaker, replace_is_fault, merged_all}
 use Rattle.index_merge.proofs.merge.merge.Goals as goal
 
-pub returns-in_err-taken-clause-fault : goal.returns-in_err-taken-clause-fault
-returns-in_err-taken-clause-fault c =
+pub returns-in_err-taken : goal.returns-in_err-taken
+returns-in_err-taken c =
     let h = rw c.deref.ensures.value at c.in_err-taken.ensures.fault in
     let p = err_from_is_err_and c.from_residual.result c.from_residual.ensures.1 in
-    rw (p.1, p.2) (says_weaker c.in_err-taken.field-0.0 _ _ (λ fault f. replace_is_fault _ _ _ _ fault f) h)
+    record {
+      merged = rw p.1 tt;
+      placed = rw p.1 tt;
+      fault = rw (p.1, p.2)
+          (says_weaker c.in_err-taken.field-0.0 _ _ (λ fault f. replace_is_fault _ _ _ _ fault f) h);
+    }
 
-pub returns-clause-merged : goal.returns-clause-merged
-returns-clause-merged c =
+pub returns : goal.returns
+returns c =
     let storage = c.append_entries.new.storage.items in
     let split_storage = c.args.split_storage.now in
     let taken = c.in_ok-taken.taken in
@@ -29,13 +34,13 @@ returns-clause-merged c =
     (record_in storage) c.keep_others.new.entries.items c.sort.new.entries.items c.in_ok-sort.ensures.permutation in
     let sorted = rw c.deref-3.ensures.value at c.in_ok-sort.ensures.ordered in
     let stable = rw c.deref-3.ensures.value at c.in_ok-sort.ensures.stable_records in
-    merged_all _ _ (records_in c.args.storage.now.items c.args.entries.now.items)
-    (records_in split_storage c.args.split.now) mid (records_in storage c.append_entries.new.entries.items) taken
-    rep whole (records_in storage c.keep_others.new.entries.items)
-    (records_in storage c.sort.new.entries.items) keeps permutation sorted stable
-
-pub returns-clause-placed : goal.returns-clause-placed
-returns-clause-placed c =
     let len = length c.append_entries.new.storage.items in
-    All-permutation (IsPlaced len) c.keep_others.new.entries.items c.sort.new.entries.items
-    c.in_ok-sort.ensures.permutation (rw c.deref-2.ensures.value at c.in_ok-keep_others.ensures.placed)
+    record {
+      merged = merged_all _ _ (records_in c.args.storage.now.items c.args.entries.now.items)
+          (records_in split_storage c.args.split.now) mid (records_in storage c.append_entries.new.entries.items) taken
+          rep whole (records_in storage c.keep_others.new.entries.items)
+          (records_in storage c.sort.new.entries.items) keeps permutation sorted stable;
+      placed = All-permutation (IsPlaced len) c.keep_others.new.entries.items c.sort.new.entries.items
+          c.in_ok-sort.ensures.permutation (rw c.deref-2.ensures.value at c.in_ok-keep_others.ensures.placed);
+      fault = search rules;
+    }

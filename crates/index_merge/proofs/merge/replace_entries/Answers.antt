@@ -38,19 +38,34 @@ loop-position-preserved c =
       omega (arith, done.in_range),
     )
 
-pub returns-clause-replaced : goal.returns-clause-replaced
-returns-clause-replaced c = replacing_done _ _ _ _ [] _ _ c.loop-position.invariant.2 c.in_default.ensures.steps.0
+pub returns : goal.returns
+returns c = record {
+  replaced = replacing_done _ _ _ _ [] _ _ c.loop-position.invariant.2 c.in_default.ensures.steps.0;
+  few = search rules;
+  placed = search rules;
+  fault = search rules;
+}
 
-pub returns-in_default-position-clause-fault : goal.returns-in_default-position-clause-fault
-returns-in_default-position-clause-fault c =
+pub returns-in_default-position : goal.returns-in_default-position
+returns-in_default-position c =
     let rest = items_left c.next.new.self in
     let step = c.in-Some.ensures.steps ∙ ap (λ (x : Result ℕ Malformed). x ∷ rest) c.in_default-position.is in
-    replacing_broken _ _ _ _ rest _ _ c.loop-position.invariant.2 _ step
+    record {
+      replaced = search rules;
+      few = search rules;
+      placed = search rules;
+      fault = replacing_broken _ _ _ _ rest _ _ c.loop-position.invariant.2 _ step;
+    }
 
-pub returns-in_err-replace_at-clause-fault : goal.returns-in_err-replace_at-clause-fault
-returns-in_err-replace_at-clause-fault c =
+pub returns-in_err-replace_at : goal.returns-in_err-replace_at
+returns-in_err-replace_at c =
     let rest = items_left c.next.new.self in
     let step = c.in-Some.ensures.steps ∙ ap (λ (x : Result ℕ Malformed). x ∷ rest) c.in-Ok.is in
     let p = err_from_is_err_and c.from_residual.result c.from_residual.ensures.1 in
-    rw (p.1, p.2) (says_weaker c.in_err-replace_at.field-0.0 _ _ (λ fault h. replacing_fault _ _ _ _ rest _ _
-    c.loop-position.invariant.2 c.in-Ok.place fault step h) c.in_err-replace_at.ensures.fault)
+    record {
+      replaced = rw p.1 tt;
+      few = rw p.1 tt;
+      placed = rw p.1 tt;
+      fault = rw (p.1, p.2) (says_weaker c.in_err-replace_at.field-0.0 _ _ (λ fault h. replacing_fault _ _ _ _ rest _ _
+          c.loop-position.invariant.2 c.in-Ok.place fault step h) c.in_err-replace_at.ensures.fault);
+    }

@@ -1,7 +1,10 @@
-use Rattle.std.proofs.Common.{refl}
+use Rattle.std.proofs.Common.{rules, refl}
 use Rattle.index_monitor.proofs.Markings.{none_staged}
 use Rattle.index_monitor.proofs.dirty.mark_change.Goals as goal
 
-pub returns-in_default-clause-marked : goal.returns-in_default-clause-marked
-returns-in_default-clause-marked c = λ o.
-    none_staged c.args.change.now c.args.entries.now c.args.bits.now c.requires (λ r. rw c.in_default.is refl)
+pub returns-in_default : goal.returns-in_default
+returns-in_default c = record {
+  len = search rules;
+  marked = λ o.
+      none_staged c.args.change.now c.args.entries.now c.args.bits.now c.requires (λ r. rw c.in_default.is refl);
+}

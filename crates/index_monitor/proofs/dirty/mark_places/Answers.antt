@@ -24,18 +24,24 @@ loop-position-init c =
       marked = λ o b. ap (λ items. either c.args.bits.now (map (λ r. list_any (is_at_place old r) items) c.args.entries.now)) same;
     }
 
-pub returns-in_default-position-clause-marked : goal.returns-in_default-position-clause-marked
-returns-in_default-position-clause-marked c = λ o b.
-    let rest = items_left c.next.new.self in
-    let step = c.in-Some.ensures.steps ∙ ap (λ (x : Result ℕ Malformed). x ∷ rest) c.in_default-position.is in
-    absurd (broken (length c.args.old.now) _ _ rest step (c.loop-position.invariant.below b))
+pub returns-in_default-position : goal.returns-in_default-position
+returns-in_default-position c = record {
+  len = search rules;
+  marked = λ o b.
+      let rest = items_left c.next.new.self in
+      let step = c.in-Some.ensures.steps ∙ ap (λ (x : Result ℕ Malformed). x ∷ rest) c.in_default-position.is in
+      absurd (broken (length c.args.old.now) _ _ rest step (c.loop-position.invariant.below b));
+}
 
-pub returns-then-place-len-clause-marked : goal.returns-then-place-len-clause-marked
-returns-then-place-len-clause-marked c = λ o b.
-    let rest = items_left c.next.new.self in
-    let step = c.in-Some.ensures.steps ∙ ap (λ (x : Result ℕ Malformed). x ∷ rest) c.in-Ok.is in
-    absurd (past (length c.args.old.now) c.in-Ok.place _ rest step
-    (omega (arith, c.if-place-len.true, c.len.ensures)) (c.loop-position.invariant.below b))
+pub returns-then-place-len : goal.returns-then-place-len
+returns-then-place-len c = record {
+  len = search rules;
+  marked = λ o b.
+      let rest = items_left c.next.new.self in
+      let step = c.in-Some.ensures.steps ∙ ap (λ (x : Result ℕ Malformed). x ∷ rest) c.in-Ok.is in
+      absurd (past (length c.args.old.now) c.in-Ok.place _ rest step
+      (omega (arith, c.if-place-len.true, c.len.ensures)) (c.loop-position.invariant.below b));
+}
 
 pub loop-position-preserved : goal.loop-position-preserved
 loop-position-preserved c =
@@ -51,10 +57,13 @@ loop-position-preserved c =
       marked = λ o b. one_placed old c.args.entries.now c.in-Ok.place c.path.result.now (stage_code c.stage.result) _ rest _
           c.loop-position.bits c.set_bit.new.bits inside c.path.ensures
           (λ d. ap stage_number ((c.entry.ensures d).flags) ∙ sym (ap stage_code c.stage.ensures ∙ stage_is _))
-          step (c.set_bit.ensures.set o) (c.loop-position.invariant.marked o b);
+          step (c.set_bit.ensures.marked o) (c.loop-position.invariant.marked o b);
     }
 
-pub returns-clause-marked : goal.returns-clause-marked
-returns-clause-marked c = λ o b.
-    none_left c.args.old.now c.args.entries.now _ c.loop-position.bits _ c.loop-position.invariant.len
-    c.in_default.ensures.steps.0 (c.loop-position.invariant.marked o b)
+pub returns : goal.returns
+returns c = record {
+  len = search rules;
+  marked = λ o b.
+      none_left c.args.old.now c.args.entries.now _ c.loop-position.bits _ c.loop-position.invariant.len
+      c.in_default.ensures.steps.0 (c.loop-position.invariant.marked o b);
+}

@@ -1,4 +1,4 @@
-use Rattle.std.proofs.Common.{Err}
+use Rattle.std.proofs.Common.{rules, Err}
 use Rattle.std.proofs.lemmas.Result.{err_from_is_err_and}
 use Rattle.index_format.specs.Outcome.{outcome_of}
 use Rattle.index_format.proofs.Answers.{taken_from}
@@ -13,6 +13,10 @@ returns-in_err-verify-clause-taken c =
     (Err c.in_err-verify.field-0.0) c.if-left-ne0.false
     (rw c.checksum-checksum.ensures at c.in_err-verify.ensures.err _))
 
-pub returns-clause-ids : goal.returns-clause-ids
-returns-clause-ids c = entries_have c.args.read_as.object_hash c.into_parts-entries.result.1.items
-    c.into_parts-entries.result.0.items (rw (← c.into_parts-entries.ensures.records) at c.requires.ids)
+pub returns-clause-parts : goal.returns-clause-parts
+returns-clause-parts c = record {
+  placed = search rules;
+  ids = entries_have c.args.read_as.object_hash c.into_parts-entries.result.1.items
+      c.into_parts-entries.result.0.items (rw (← c.into_parts-entries.ensures.records) at c.requires.ids);
+  extension_ids = search rules;
+}

@@ -1,4 +1,4 @@
-use Rattle.std.proofs.Common.{◌≡◌, ap, sym, arith}
+use Rattle.std.proofs.Common.{◌≡◌, ap, sym, arith, rules}
 use Rattle.gix_index.specs.Outlined.Passed.{paths_len}
 use Rattle.index_table.specs.declared.read.Sizes.{Sizes}
 use Rattle.index_table.proofs.OutlinedTables.{outlined_entries}
@@ -15,13 +15,21 @@ fill_entries-requires-clause-entries c =
       outlined_entries v c.args.outline.now c.version-version.result c.object_hash-kind.result h
           c.version-version.ensures c.object_hash-kind.ensures,
       sym h.count,
-      omega (arith, path_bytes, c.lacks_room.ensures.paths c.if-lacks_room.false),
+      omega (arith, path_bytes, c.lacks_room.ensures.paths_fit c.if-lacks_room.false),
       c.requires.2.fits,
     )
 
-pub returns-clause-done : goal.returns-clause-done
-returns-clause-done c = λ v h. record {
-  sizes_are = c.sizes_of_outline-sizes.ensures v h;
-  holds = c.fill_entries.ensures v.records h.after (outlined_entries v c.args.outline.now c.version-version.result
-      c.object_hash-kind.result h c.version-version.ensures c.object_hash-kind.ensures) (sym h.count);
-}
+pub returns : goal.returns
+returns c =
+    record {
+      done = λ v h. record {
+        sizes_are = c.sizes_of_outline-sizes.ensures v h;
+        holds = c.fill_entries.ensures v.records h.after (outlined_entries v c.args.outline.now
+            c.version-version.result
+            c.object_hash-kind.result h c.version-version.ensures c.object_hash-kind.ensures) (sym h.count);
+      };
+      no_room = search rules;
+      failed = search rules;
+      rows = search rules;
+      paths = search rules;
+    }

@@ -1,4 +1,4 @@
-use Rattle.std.proofs.Common.{subst, sym, ◌∙◌}
+use Rattle.std.proofs.Common.{subst, sym, ◌∙◌, rules}
 use Rattle.std.proofs.lemmas.Result.{IfOk-weaker}
 use Rattle.gix_index.specs.Contents.{Contents}
 use Rattle.gix_index.specs.Order.{IsStrictlyOrdered}
@@ -18,47 +18,47 @@ keep_tree-requires-clause-ordered c =
     subst IsStrictlyOrdered (sym (written_records (contents c.args.state) (contents c.replace.new.state)
     c.args.paths.now c.args.rows.now c.in_default.ensures.value)) c.requires.table.ordered
 
-pub returns-clause-done : goal.returns-clause-done
-returns-clause-done c =
-    let value : Contents = contents c.keep_tree.new.state in
-    let Holds : Options → Image → Contents → Type 0 = λ options x. HasImage options x c.args.room.now
-    c.put_state-written.new.room in
-    IfOk-weaker c.put_state-written.result (λ (x : Image). Holds c.options_of.result x value)
-    (λ (x : Image). TakesPlaceOf c.args.format.now.kind c.args.paths.now c.args.rows.now c.in-Some.tree
-    (Holds (full_options c.args.format.now) x) (contents c.args.state))
-    (λ x h. replaces c.args.format.now.kind c.args.paths.now c.args.rows.now (contents c.args.state)
-    (contents c.replace.new.state) value c.in-Some.tree (Holds (full_options c.args.format.now) x)
-    c.requires.table c.in_default.ensures.value c.in-Some.ensures.keeps
-    (subst (λ (o : Options). Holds o x value) c.options_of.ensures h))
-    c.put_state-written.ensures.done
-
-pub returns-clause-refused : goal.returns-clause-refused
-returns-clause-refused c =
-    let value : Contents = contents c.keep_tree.new.state in
-    let Holds : Options → Fault → Contents → Type 0 = λ options x. PassesLimit options x in
-    let kept = kept_records (contents c.replace.new.state) value c.in-Some.tree c.in-Some.ensures.keeps in
-    let can = can_encode c.options_of.result.version c.args.format.now.kind _ c.args.paths.now c.args.rows.now value
-    c.requires.table.fit
-    (kept ∙ written_records (contents c.args.state) (contents c.replace.new.state) c.args.paths.now c.args.rows.now
-    c.in_default.ensures.value) in
-    refused_weaker c.put_state-written.result (λ (x : Fault). IsUnwritable c.options_of.result x value)
-    (λ (x : Fault). TakesPlaceOf c.args.format.now.kind c.args.paths.now c.args.rows.now c.in-Some.tree
-    (Holds (full_options c.args.format.now) x) (contents c.args.state))
-    (λ x h. replaces c.args.format.now.kind c.args.paths.now c.args.rows.now (contents c.args.state)
-    (contents c.replace.new.state) value c.in-Some.tree (Holds (full_options c.args.format.now) x)
-    c.requires.table c.in_default.ensures.value c.in-Some.ensures.keeps
-    (subst (λ (o : Options). Holds o x value) c.options_of.ensures (limit_only c.options_of.result x value can h)))
-    c.put_state-written.ensures.refused
-
-pub returns-clause-no_room : goal.returns-clause-no_room
-returns-clause-no_room c =
-    let value : Contents = contents c.keep_tree.new.state in
-    let Holds : Options → Image → Contents → Type 0 = λ options x. PassesRoom options x c.args.room.now in
-    passed_weaker c.put_state-written.result (λ (x : Image). Holds c.options_of.result x value)
-    (λ (x : Image). TakesPlaceOf c.args.format.now.kind c.args.paths.now c.args.rows.now c.in-Some.tree
-    (Holds (full_options c.args.format.now) x) (contents c.args.state))
-    (λ x h. replaces c.args.format.now.kind c.args.paths.now c.args.rows.now (contents c.args.state)
-    (contents c.replace.new.state) value c.in-Some.tree (Holds (full_options c.args.format.now) x)
-    c.requires.table c.in_default.ensures.value c.in-Some.ensures.keeps
-    (subst (λ (o : Options). Holds o x value) c.options_of.ensures h))
-    c.put_state-written.ensures.no_room
+pub returns : goal.returns
+returns c =
+    record {
+      done = let value : Contents = contents c.keep_tree.new.state in
+          let Holds : Options → Image → Contents → Type 0 = λ options x. HasImage options x c.args.room.now
+          c.put_state-written.new.room in
+          IfOk-weaker c.put_state-written.result (λ (x : Image). Holds c.options_of.result x value)
+          (λ (x : Image). TakesPlaceOf c.args.format.now.kind c.args.paths.now c.args.rows.now c.in-Some.tree
+          (Holds (full_options c.args.format.now) x) (contents c.args.state))
+          (λ x h. replaces c.args.format.now.kind c.args.paths.now c.args.rows.now (contents c.args.state)
+          (contents c.replace.new.state) value c.in-Some.tree (Holds (full_options c.args.format.now) x)
+          c.requires.table c.in_default.ensures.value c.in-Some.ensures.keeps
+          (subst (λ (o : Options). Holds o x value) c.options_of.ensures h))
+          c.put_state-written.ensures.done;
+      refused = let value : Contents = contents c.keep_tree.new.state in
+          let Holds : Options → Fault → Contents → Type 0 = λ options x. PassesLimit options x in
+          let kept = kept_records (contents c.replace.new.state) value c.in-Some.tree c.in-Some.ensures.keeps in
+          let can = can_encode c.options_of.result.version c.args.format.now.kind _ c.args.paths.now c.args.rows.now
+          value
+          c.requires.table.fit
+          (kept ∙ written_records (contents c.args.state) (contents c.replace.new.state) c.args.paths.now
+          c.args.rows.now
+          c.in_default.ensures.value) in
+          refused_weaker c.put_state-written.result (λ (x : Fault). IsUnwritable c.options_of.result x value)
+          (λ (x : Fault). TakesPlaceOf c.args.format.now.kind c.args.paths.now c.args.rows.now c.in-Some.tree
+          (Holds (full_options c.args.format.now) x) (contents c.args.state))
+          (λ x h. replaces c.args.format.now.kind c.args.paths.now c.args.rows.now (contents c.args.state)
+          (contents c.replace.new.state) value c.in-Some.tree (Holds (full_options c.args.format.now) x)
+          c.requires.table c.in_default.ensures.value c.in-Some.ensures.keeps
+          (subst (λ (o : Options). Holds o x value) c.options_of.ensures (limit_only c.options_of.result x value can
+          h)))
+          c.put_state-written.ensures.refused;
+      no_room = let value : Contents = contents c.keep_tree.new.state in
+          let Holds : Options → Image → Contents → Type 0 = λ options x. PassesRoom options x c.args.room.now in
+          passed_weaker c.put_state-written.result (λ (x : Image). Holds c.options_of.result x value)
+          (λ (x : Image). TakesPlaceOf c.args.format.now.kind c.args.paths.now c.args.rows.now c.in-Some.tree
+          (Holds (full_options c.args.format.now) x) (contents c.args.state))
+          (λ x h. replaces c.args.format.now.kind c.args.paths.now c.args.rows.now (contents c.args.state)
+          (contents c.replace.new.state) value c.in-Some.tree (Holds (full_options c.args.format.now) x)
+          c.requires.table c.in_default.ensures.value c.in-Some.ensures.keeps
+          (subst (λ (o : Options). Holds o x value) c.options_of.ensures h))
+          c.put_state-written.ensures.no_room;
+      room = search rules;
+    }

@@ -1,38 +1,50 @@
-use Rattle.std.proofs.Common.{inl, inr, refl, sym, ◌∙◌}
+use Rattle.std.proofs.Common.{inl, inr, refl, sym, ◌∙◌, rules}
 use Rattle.gix_index.specs.State.{contents}
 use Rattle.index_table.proofs.Refusals.{of_kind}
 use Rattle.index_table.proofs.split.join.Goals as goal
 
-pub returns-in-Err-clause-failed : goal.returns-in-Err-clause-failed
-returns-in-Err-clause-failed c = inl (record { whose = refl; says = c.in-Err.ensures.error })
-
-pub returns-in-Ok-dissolve_into-clause-joined : goal.returns-in-Ok-dissolve_into-clause-joined
-returns-in-Ok-dissolve_into-clause-joined c =
+pub returns-in-Err : goal.returns-in-Err
+returns-in-Err c =
     record {
-      index = contents c.in-Ok.state;
-      checksum = c.in-Ok.ensures.read.0;
-      read = c.in-Ok.ensures.read.1;
-      value = contents c.dissolve_into.new.split;
-      dissolved = c.in-Ok-dissolve_into.ensures.dissolved;
-      holds = refl;
+      read = search rules;
+      placed = search rules;
+      storable = search rules;
+      failed = inl (record { whose = refl; says = c.in-Err.ensures.failed });
     }
 
-pub returns-in-Ok-dissolve_into-clause-storable : goal.returns-in-Ok-dissolve_into-clause-storable
-returns-in-Ok-dissolve_into-clause-storable c =
-    let r = c.in-Ok.ensures.read in
-    let same = of_kind _ c.args.skip_hash c.args.kind c.args.shared.now (contents c.in-Ok.state) r.0 r.1 ∙ sym
-    c.requires.kind in
-    c.dissolve_into.ensures.storable c.requires.storable c.in-Ok.ensures.storable same
+pub returns-in-Ok-dissolve_into : goal.returns-in-Ok-dissolve_into
+returns-in-Ok-dissolve_into c =
+    record {
+      read = record {
+        index = contents c.in-Ok.state;
+        checksum = c.in-Ok.ensures.read.0;
+        read = c.in-Ok.ensures.read.1;
+        value = contents c.dissolve_into.new.split;
+        dissolved = c.in-Ok-dissolve_into.ensures.dissolved;
+        holds = refl;
+      };
+      placed = search rules;
+      storable = let r = c.in-Ok.ensures.read in
+          let same = of_kind _ c.args.skip_hash c.args.kind c.args.shared.now (contents c.in-Ok.state) r.0 r.1 ∙ sym
+          c.requires.kind in
+          c.dissolve_into.ensures.storable c.requires.storable c.in-Ok.ensures.storable same;
+      failed = search rules;
+    }
 
-pub returns-in-Err-dissolve_into-clause-failed : goal.returns-in-Err-dissolve_into-clause-failed
-returns-in-Err-dissolve_into-clause-failed c =
-    inr
-    (record {
-      index = contents c.in-Ok.state;
-      checksum = c.in-Ok.ensures.read.0;
-      read = c.in-Ok.ensures.read.1;
-      error = c.in-Err-dissolve_into.e;
-      says = c.in-Err-dissolve_into.ensures.fault;
-      whose = refl;
-      is = c.from.ensures;
-    })
+pub returns-in-Err-dissolve_into : goal.returns-in-Err-dissolve_into
+returns-in-Err-dissolve_into c =
+    record {
+      read = search rules;
+      placed = search rules;
+      storable = search rules;
+      failed = inr
+          (record {
+            index = contents c.in-Ok.state;
+            checksum = c.in-Ok.ensures.read.0;
+            read = c.in-Ok.ensures.read.1;
+            error = c.in-Err-dissolve_into.e;
+            says = c.in-Err-dissolve_into.ensures.fault;
+            whose = refl;
+            is = c.from.ensures;
+          });
+    }

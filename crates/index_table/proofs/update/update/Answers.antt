@@ -1,10 +1,10 @@
-use Rattle.std.proofs.Common.{◌∙◌, Err, None, ap, false, inl, inr, subst}
+use Rattle.std.proofs.Common.{◌∙◌, Err, None, ap, false, inl, inr, subst, rules}
 use Rattle.std.proofs.lemmas.Result.{IfOk-weaker}
 use Rattle.gix_index.specs.Contents.{Contents}
 use Rattle.gix_index.specs.State.{contents}
 use Rattle.gix_index.specs.WriteOptions.{Options}
-use Rattle.index_table.specs.Updating.{HasKeptImage, IsUnmade, IsUnupdated, IsUnwritableKept}
-use Rattle.index_table.specs.Updating.{PassesRoomKept, Updates, kept_options}
+use Rattle.index_table.specs.Refusing.{IsUnmade, IsUnupdated}
+use Rattle.index_table.specs.Updating.{HasKeptImage, IsUnwritableKept, PassesRoomKept, Updates, kept_options}
 use Rattle.index_table.specs.Writing.{HasImage, IsUnwritable, PassesRoom}
 use Rattle.index_table.specs.declared.write.Fault.{Fault}
 use Rattle.index_table.specs.declared.write.Image.{Image}
@@ -14,61 +14,68 @@ use Rattle.index_table.proofs.Results.{passed_weaker, refused_weaker, unwritten_
 use Rattle.index_table.proofs.Updates.{made, none_made}
 use Rattle.index_table.proofs.update.update.Goals as goal
 
-pub returns-in-Err-make_changes-clause-refused : goal.returns-in-Err-make_changes-clause-refused
-returns-in-Err-make_changes-clause-refused c =
-    let before = contents c.in-Ok.state in
-    refused_weaker (Err c.in-Err-make_changes.e) (λ (x : Fault). IsUnmade c.args.kind c.args.paths.now c.args.rows.now x before)
-    (IsUnupdated c.args.kind c.args.index.now c.args.shared.now c.args.paths.now c.args.rows.now)
-    (λ x h. inl (read_so false c.args.kind c.args.index.now c.args.shared.now
-    (IsUnmade c.args.kind c.args.paths.now c.args.rows.now x) before c.in-Ok.ensures.read h))
-    (none_made c.args.kind c.args.paths.now c.args.rows.now before c.in-Err-make_changes.e
-    c.in-Err-make_changes.ensures.why)
+pub returns-in-Err-make_changes : goal.returns-in-Err-make_changes
+returns-in-Err-make_changes c =
+    record {
+      done = search rules;
+      refused = let before = contents c.in-Ok.state in
+          refused_weaker (Err c.in-Err-make_changes.e) (λ (x : Fault). IsUnmade c.args.kind c.args.paths.now
+          c.args.rows.now x before)
+          (IsUnupdated c.args.kind c.args.index.now c.args.shared.now c.args.paths.now c.args.rows.now)
+          (λ x h. inl (read_so false c.args.kind c.args.index.now c.args.shared.now
+          (IsUnmade c.args.kind c.args.paths.now c.args.rows.now x) before c.in-Ok.ensures.read h))
+          (none_made c.args.kind c.args.paths.now c.args.rows.now before c.in-Err-make_changes.e
+          c.in-Err-make_changes.ensures.why);
+      memory = let h = c.in-Ok.ensures.read in
+          unwritten_of (Err c.in-Err-make_changes.e) _ (lacks_from None false c.args.kind c.args.index.now h.value
+          h.checksum h.read);
+      no_room = search rules;
+      unread = search rules;
+      room = search rules;
+      kept = search rules;
+    }
 
-pub returns-in-Err-make_changes-clause-memory : goal.returns-in-Err-make_changes-clause-memory
-returns-in-Err-make_changes-clause-memory c =
-    let h = c.in-Ok.ensures.read in
-    unwritten_of (Err c.in-Err-make_changes.e) _ (lacks_from None false c.args.kind c.args.index.now h.value h.checksum h.read)
-
-pub returns-clause-done : goal.returns-clause-done
-returns-clause-done c =
-    let before = contents c.in-Ok.state in
-    let value : Contents = contents c.make_changes.new.state in
-    let Holds : Options → Image → Contents → Type 0 = λ options x. HasImage options x c.args.room.now
-    c.put_state.new.room in
-    IfOk-weaker c.put_state.result (λ (x : Image). Holds c.kept_options-options.result x value)
-    (λ (x : Image). Updates c.args.kind c.args.index.now c.args.shared.now c.args.paths.now c.args.rows.now
-    (HasKeptImage x c.args.room.now c.put_state.new.room))
-    (λ x h. made c.args.kind c.args.index.now c.args.shared.now c.args.paths.now c.args.rows.now before value
-    (HasKeptImage x c.args.room.now c.put_state.new.room) c.in-Ok.ensures.read c.in_default.ensures.changed
-    (subst (λ (o : Options). Holds o x value) (c.kept_options-options.ensures ∙ ap kept_options c.version.ensures) h))
-    c.put_state.ensures.done
-
-pub returns-clause-refused : goal.returns-clause-refused
-returns-clause-refused c =
-    let before = contents c.in-Ok.state in
-    let value : Contents = contents c.make_changes.new.state in
-    let Holds : Options → Fault → Contents → Type 0 = λ options x. IsUnwritable options x in
-    refused_weaker c.put_state.result (λ (x : Fault). Holds c.kept_options-options.result x value)
-    (IsUnupdated c.args.kind c.args.index.now c.args.shared.now c.args.paths.now c.args.rows.now)
-    (λ x h. inr (made c.args.kind c.args.index.now c.args.shared.now c.args.paths.now c.args.rows.now before value
-    (IsUnwritableKept x) c.in-Ok.ensures.read c.in_default.ensures.changed
-    (subst (λ (o : Options). Holds o x value) (c.kept_options-options.ensures ∙ ap kept_options c.version.ensures) h)))
-    c.put_state.ensures.refused
-
-pub returns-clause-no_room : goal.returns-clause-no_room
-returns-clause-no_room c =
-    let before = contents c.in-Ok.state in
-    let value : Contents = contents c.make_changes.new.state in
-    let Holds : Options → Image → Contents → Type 0 = λ options x. PassesRoom options x c.args.room.now in
-    passed_weaker c.put_state.result (λ (x : Image). Holds c.kept_options-options.result x value)
-    (λ (x : Image). Updates c.args.kind c.args.index.now c.args.shared.now c.args.paths.now c.args.rows.now
-    (PassesRoomKept x c.args.room.now))
-    (λ x h. made c.args.kind c.args.index.now c.args.shared.now c.args.paths.now c.args.rows.now before value
-    (PassesRoomKept x c.args.room.now) c.in-Ok.ensures.read c.in_default.ensures.changed
-    (subst (λ (o : Options). Holds o x value) (c.kept_options-options.ensures ∙ ap kept_options c.version.ensures) h))
-    c.put_state.ensures.no_room
-
-pub returns-clause-memory : goal.returns-clause-memory
-returns-clause-memory c =
-    let h = c.in-Ok.ensures.read in
-    unwritten_of c.put_state.result _ (lacks_from None false c.args.kind c.args.index.now h.value h.checksum h.read)
+pub returns : goal.returns
+returns c =
+    record {
+      done = let before = contents c.in-Ok.state in
+          let value : Contents = contents c.make_changes.new.state in
+          let Holds : Options → Image → Contents → Type 0 = λ options x. HasImage options x c.args.room.now
+          c.put_state.new.room in
+          IfOk-weaker c.put_state.result (λ (x : Image). Holds c.kept_options-options.result x value)
+          (λ (x : Image). Updates c.args.kind c.args.index.now c.args.shared.now c.args.paths.now c.args.rows.now
+          (HasKeptImage x c.args.room.now c.put_state.new.room))
+          (λ x h. made c.args.kind c.args.index.now c.args.shared.now c.args.paths.now c.args.rows.now before value
+          (HasKeptImage x c.args.room.now c.put_state.new.room) c.in-Ok.ensures.read c.in_default.ensures.changed
+          (subst (λ (o : Options). Holds o x value) (c.kept_options-options.ensures ∙ ap kept_options
+          c.version.ensures) h))
+          c.put_state.ensures.done;
+      refused = let before = contents c.in-Ok.state in
+          let value : Contents = contents c.make_changes.new.state in
+          let Holds : Options → Fault → Contents → Type 0 = λ options x. IsUnwritable options x in
+          refused_weaker c.put_state.result (λ (x : Fault). Holds c.kept_options-options.result x value)
+          (IsUnupdated c.args.kind c.args.index.now c.args.shared.now c.args.paths.now c.args.rows.now)
+          (λ x h. inr (made c.args.kind c.args.index.now c.args.shared.now c.args.paths.now c.args.rows.now before
+          value
+          (IsUnwritableKept x) c.in-Ok.ensures.read c.in_default.ensures.changed
+          (subst (λ (o : Options). Holds o x value) (c.kept_options-options.ensures ∙ ap kept_options
+          c.version.ensures) h)))
+          c.put_state.ensures.refused;
+      memory = let h = c.in-Ok.ensures.read in
+          unwritten_of c.put_state.result _ (lacks_from None false c.args.kind c.args.index.now h.value h.checksum
+          h.read);
+      no_room = let before = contents c.in-Ok.state in
+          let value : Contents = contents c.make_changes.new.state in
+          let Holds : Options → Image → Contents → Type 0 = λ options x. PassesRoom options x c.args.room.now in
+          passed_weaker c.put_state.result (λ (x : Image). Holds c.kept_options-options.result x value)
+          (λ (x : Image). Updates c.args.kind c.args.index.now c.args.shared.now c.args.paths.now c.args.rows.now
+          (PassesRoomKept x c.args.room.now))
+          (λ x h. made c.args.kind c.args.index.now c.args.shared.now c.args.paths.now c.args.rows.now before value
+          (PassesRoomKept x c.args.room.now) c.in-Ok.ensures.read c.in_default.ensures.changed
+          (subst (λ (o : Options). Holds o x value) (c.kept_options-options.ensures ∙ ap kept_options
+          c.version.ensures) h))
+          c.put_state.ensures.no_room;
+      unread = search rules;
+      room = search rules;
+      kept = search rules;
+    }

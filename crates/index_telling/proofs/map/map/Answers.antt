@@ -7,63 +7,77 @@ use Rattle.index_map.specs.Lines.{map_lines}
 use Rattle.index_telling.proofs.Mappings.{any_parts}
 use Rattle.index_telling.proofs.map.map.Goals as goal
 
-pub returns-in_err-bytes-clause-refused : goal.returns-in_err-bytes-clause-refused
-returns-in_err-bytes-clause-refused g c =
+pub returns-in_err-bytes : goal.returns-in_err-bytes
+returns-in_err-bytes g c =
     let p = err_from_is_err_and c.from_residual.result c.from_residual.ensures.1 in
-    rw (p.1, p.2) (untold c.in_err-bytes.ensures.fault (Keeps-refl (g.W.Out.taken c.args.out.now)))
-
-pub returns-in_default-clause-refused : goal.returns-in_default-clause-refused
-returns-in_default-clause-refused g c = untold (record {
-  file = c.args.path;
-  names = refl;
-  fault = Memory;
-  is = c.out_of_memory.ensures;
-  says = tt;
-}) (Keeps-refl (g.W.Out.taken c.args.out.now))
-
-pub returns-in-Err-clause-refused : goal.returns-in-Err-clause-refused
-returns-in-Err-clause-refused g c =
-    part c.in-Err.e refl c.in-Err.ensures.cause (record {
-      text = map_lines c.args.style c.in-Ok.division.entries.records c.in-Ok.division.parts.items;
-      is = any_parts (map_lines c.args.style) c.in-Ok.division.fault (g.D.Folder.known c.args.folder.now c.args.path.now) c.args.kind _
-          (record {
-            bytes = c.in_ok-bytes.bytes.items;
-            held = c.in_ok-bytes.ensures.held;
-            records = c.in-Ok.division.entries.records;
-            parts = c.in-Ok.division.parts.items;
-            divided = rw c.deref.ensures.value at c.in-Ok.ensures.divided;
-            is = refl;
-          });
-      grew = rw c.deref-2.ensures.value at c.in-Err.ensures.err;
+    rw (p.1, p.2) (record {
+      told = tt;
+      refused = untold c.in_err-bytes.ensures.fault (Keeps-refl (g.W.Out.taken c.args.out.now));
     })
 
-pub returns-in-None-clause-told : goal.returns-in-None-clause-told
-returns-in-None-clause-told g c = record {
-  text = map_lines c.args.style c.in-Ok.division.entries.records c.in-Ok.division.parts.items;
-  is = record {
-    bytes = c.in_ok-bytes.bytes.items;
-    held = c.in_ok-bytes.ensures.held;
-    records = c.in-Ok.division.entries.records;
-    parts = c.in-Ok.division.parts.items;
-    divided = rw (c.deref.ensures.value, c.in-None.is) at c.in-Ok.ensures.divided;
-    is = refl;
-  };
-  grew = rw c.deref-2.ensures.value at c.in_default-write_map.ensures.ok;
+pub returns-in_default : goal.returns-in_default
+returns-in_default g c = record {
+  told = tt;
+  refused = untold (record {
+    file = c.args.path;
+    names = refl;
+    fault = Memory;
+    is = c.out_of_memory.ensures;
+    says = tt;
+  }) (Keeps-refl (g.W.Out.taken c.args.out.now));
 }
 
-pub returns-clause-refused : goal.returns-clause-refused
-returns-clause-refused g c = whole c.args.path _ c.in-Some.fault refl refl (record {
-  text = map_lines c.args.style c.in-Ok.division.entries.records c.in-Ok.division.parts.items;
-  is = (
-    record {
+pub returns-in-Err : goal.returns-in-Err
+returns-in-Err g c = record {
+  told = tt;
+  refused = part c.in-Err.e refl c.in-Err.ensures.cause (record {
+    text = map_lines c.args.style c.in-Ok.division.entries.records c.in-Ok.division.parts.items;
+    is = any_parts (map_lines c.args.style) c.in-Ok.division.fault (g.D.Folder.known c.args.folder.now c.args.path.now) c.args.kind _
+        (record {
+          bytes = c.in_ok-bytes.bytes.items;
+          held = c.in_ok-bytes.ensures.held;
+          records = c.in-Ok.division.entries.records;
+          parts = c.in-Ok.division.parts.items;
+          divided = rw c.deref.ensures.value at c.in-Ok.ensures.divided;
+          is = refl;
+        });
+    grew = rw c.deref-2.ensures.value at c.in-Err.ensures.err;
+  });
+}
+
+pub returns-in-None : goal.returns-in-None
+returns-in-None g c = record {
+  told = record {
+    text = map_lines c.args.style c.in-Ok.division.entries.records c.in-Ok.division.parts.items;
+    is = record {
       bytes = c.in_ok-bytes.bytes.items;
       held = c.in_ok-bytes.ensures.held;
       records = c.in-Ok.division.entries.records;
       parts = c.in-Ok.division.parts.items;
-      divided = rw (c.deref.ensures.value, c.in-Some.is) at c.in-Ok.ensures.divided;
+      divided = rw (c.deref.ensures.value, c.in-None.is) at c.in-Ok.ensures.divided;
       is = refl;
-    },
-    rw c.deref-3.ensures.value at c.last_offset-offset.ensures,
-  );
-  grew = rw c.deref-2.ensures.value at c.in_default-write_map.ensures.ok;
-})
+    };
+    grew = rw c.deref-2.ensures.value at c.in_default-write_map.ensures.ok;
+  };
+  refused = tt;
+}
+
+pub returns : goal.returns
+returns g c = record {
+  told = tt;
+  refused = whole c.args.path _ c.in-Some.fault refl refl (record {
+    text = map_lines c.args.style c.in-Ok.division.entries.records c.in-Ok.division.parts.items;
+    is = (
+      record {
+        bytes = c.in_ok-bytes.bytes.items;
+        held = c.in_ok-bytes.ensures.held;
+        records = c.in-Ok.division.entries.records;
+        parts = c.in-Ok.division.parts.items;
+        divided = rw (c.deref.ensures.value, c.in-Some.is) at c.in-Ok.ensures.divided;
+        is = refl;
+      },
+      rw c.deref-3.ensures.value at c.last_offset-offset.ensures,
+    );
+    grew = rw c.deref-2.ensures.value at c.in_default-write_map.ensures.ok;
+  });
+}

@@ -3,11 +3,16 @@ use Rattle.gix_index.specs.DecodeError.TheVariants.{Header}
 use Rattle.gix_index.specs.FileFaults.ReadError.TheVariants.{Decode}
 use Rattle.index_telling.proofs.salvage.remains_in.Goals as goal
 
-pub returns-in-Err-Header-clause-fault : goal.returns-in-Err-Header-clause-fault
-returns-in-Err-Header-clause-fault c = λ works world held. record {
-  file = c.args.path;
-  names = refl;
-  fault = Decode (Header c.in-Err-Header.e);
-  is = refl;
-  says = (c.args.bytes.now, held, search rules);
+pub returns-in-Err-Header : goal.returns-in-Err-Header
+returns-in-Err-Header c = record {
+  remains = tt;
+  kind = tt;
+  plain = tt;
+  fault = λ works world held. record {
+    file = c.args.path;
+    names = refl;
+    fault = Decode (Header c.in-Err-Header.e);
+    is = refl;
+    says = (c.args.bytes.now, held, search rules);
+  };
 }

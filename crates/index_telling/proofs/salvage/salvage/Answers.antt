@@ -10,66 +10,80 @@ use Rattle.index_failures.specs.Options.{rewrite_options}
 use Rattle.index_failures.specs.Reading.{FailsReading}
 use Rattle.index_failures.specs.Storing.{unlocked, unread, unwritten}
 use Rattle.index_failures.proofs.Replaced.{replaced}
-use Rattle.index_failures.proofs.Restored.{restores}
+use Rattle.index_failures.proofs.Restored.{restores, restores_unmade}
 use Rattle.index_telling.specs.Salvaging.{IsSalvaged, SaysOfSaving}
 use Rattle.index_telling.proofs.salvage.salvage.Goals as goal
 
-pub returns-in_err-lock-clause-fault : goal.returns-in_err-lock-clause-fault
-returns-in_err-lock-clause-fault g c =
+pub returns-in_err-lock : goal.returns-in_err-lock
+returns-in_err-lock g c =
     let p = err_from_is_err_and c.from_residual.result c.from_residual.ensures.1 in
-    rw (p.1, p.2) (unlocked c.in_err-lock.ensures.fault)
+    rw (p.1, p.2) (record {
+      written = tt;
+      restored = λ alone. restores_unmade (g.D.Folder.works c.args.folder.now) (g.D.Folder.known c.args.folder.now)
+          (g.D.Folder.known c.lock_at.new.folder) c.args.to.now c.in_err-lock.ensures.unmade;
+      fault = unlocked c.in_err-lock.ensures.fault;
+    })
 
-pub returns-in-Err-clause-fault : goal.returns-in-Err-clause-fault
-returns-in-Err-clause-fault g c =
-    unread c.in_ok-lock.lock.place (g.D.Folder.known c.lock_at.new.folder) c.in_ok-lock.ensures.locked
-    (subst (λ (b : Bool). FailsReading (SaysOfSaving b (g.D.Folder.known c.lock_at.new.folder) c.args.kind
-    c.args.path.now) c.args.path.now c.in-Err.failure) c.lock_at.ensures.works c.in-Err.ensures.fault)
+pub returns-in-Err : goal.returns-in-Err
+returns-in-Err g c = record {
+  written = tt;
+  restored = λ alone. restores (g.D.Folder.guards c.args.folder.now) (g.D.Folder.works c.args.folder.now)
+      (g.D.Folder.known c.args.folder.now) (g.D.Folder.known c.lock_at.new.folder)
+      (g.D.Folder.known c.release.new.folder) c.args.to.now c.in_ok-lock.lock.place c.in_ok-lock.ensures.locked
+      c.in_ok-lock.ensures.beside
+      (rw c.lock_at.ensures.manner.works at (c.release.ensures.released (c.lock_at.ensures.manner.alone ∙ alone)));
+  fault = unread c.in_ok-lock.lock.place (g.D.Folder.known c.lock_at.new.folder) c.in_ok-lock.ensures.locked
+      (subst (λ (b : Bool). FailsReading (SaysOfSaving b (g.D.Folder.known c.lock_at.new.folder) c.args.kind
+      c.args.path.now) c.args.path.now c.in-Err.failure) c.lock_at.ensures.manner.works c.in-Err.ensures.fault);
+}
 
-pub returns-in_err-commit_at-clause-restored : goal.returns-in_err-commit_at-clause-restored
-returns-in_err-commit_at-clause-restored g c =
+pub returns-in_err-commit_at : goal.returns-in_err-commit_at
+returns-in_err-commit_at g c =
     let p = err_from_is_err_and c.from_residual-in_err-commit_at.result
     c.from_residual-in_err-commit_at.ensures.1 in
-    rw p.1 (λ alone.
-    restores (g.D.Folder.guards c.args.folder.now) (g.D.Folder.works c.args.folder.now)
-    (g.D.Folder.known c.args.folder.now) (g.D.Folder.known c.lock_at.new.folder)
-    (g.D.Folder.known c.commit_at.new.folder) c.args.to.now c.in_ok-lock.lock.place c.in_ok-lock.ensures.locked
-    c.in_ok-lock.ensures.beside (rw c.lock_at.ensures.works at
-    (c.in_err-commit_at.ensures.released (c.lock_at.ensures.alone ∙ alone))))
+    rw (p.1, p.2) (record {
+      written = tt;
+      restored = λ alone.
+          restores (g.D.Folder.guards c.args.folder.now) (g.D.Folder.works c.args.folder.now)
+          (g.D.Folder.known c.args.folder.now) (g.D.Folder.known c.lock_at.new.folder)
+          (g.D.Folder.known c.commit_at.new.folder) c.args.to.now c.in_ok-lock.lock.place c.in_ok-lock.ensures.locked
+          c.in_ok-lock.ensures.beside (rw c.lock_at.ensures.manner.works at
+          (c.in_err-commit_at.ensures.released (c.lock_at.ensures.manner.alone ∙ alone)));
+      fault = unwritten c.in_ok-lock.lock.place (g.D.Folder.known c.lock_at.new.folder) c.in_ok-lock.ensures.locked
+          (contents (state_of c.from_state-index.result)) (rewrite_options Smallest)
+          (rw c.lock_at.ensures.manner.works at c.in_err-commit_at.ensures.fault);
+    })
 
-pub returns-in_err-commit_at-clause-fault : goal.returns-in_err-commit_at-clause-fault
-returns-in_err-commit_at-clause-fault g c =
-    let p = err_from_is_err_and c.from_residual-in_err-commit_at.result
-    c.from_residual-in_err-commit_at.ensures.1 in
-    rw (p.1, p.2) (unwritten c.in_ok-lock.lock.place (g.D.Folder.known c.lock_at.new.folder) c.in_ok-lock.ensures.locked
-    (contents (state_of c.from_state-index.result)) (rewrite_options Smallest)
-    (rw c.lock_at.ensures.works at c.in_err-commit_at.ensures.fault))
-
-pub returns-clause-written : goal.returns-clause-written
-returns-clause-written g c =
+pub returns : goal.returns
+returns g c =
     let saved = c.in-Ok.ensures.saved in
-    replaced (g.D.Folder.guards c.args.folder.now) (g.D.Folder.known c.args.folder.now)
-    (g.D.Folder.known c.lock_at.new.folder) c.args.to.now c.in_ok-lock.lock.place c.in_ok-lock.ensures.locked
-    (g.D.Folder.alone c.lock_at.new.folder) (g.D.Folder.alone c.args.folder.now)
-    (g.D.Folder.known c.commit_at.new.folder) c.from_state-index.result (rewrite_options Smallest)
-    (g.D.Made.Write.contents c.in_ok-lock.lock.file)
-    (λ (w : World) (i : File). IsSalvaged w c.args.kind c.args.path.now _ i) (λ (i : File). rewrite_options Smallest)
-    c.lock_at.ensures.alone c.in_ok-lock.ensures.empty
-    (record {
-      saved = c.in-Ok.found.0;
-      is_saved = record {
-        bytes = saved.0;
-        time = c.in-Ok.found.1;
-        held = saved.1;
-        since = c.in-Ok.ensures.since;
-        of_bytes = saved.2;
-        holds = ap contents c.from_state-index.ensures.state ∙ c.set_timestamp.ensures.set;
-      };
-      reports = record {
-        names = refl;
-        declared = refl;
-        read = refl;
-        kept = c.kept.ensures;
-        fault = refl;
-        shared = refl;
-      };
-    }) refl c.in_ok-commit_at.ensures.written c.in_ok-commit_at.ensures.put
+    record {
+      written = replaced (g.D.Folder.guards c.args.folder.now) (g.D.Folder.known c.args.folder.now)
+          (g.D.Folder.known c.lock_at.new.folder) c.args.to.now c.in_ok-lock.lock.place c.in_ok-lock.ensures.locked
+          (g.D.Folder.alone c.lock_at.new.folder) (g.D.Folder.alone c.args.folder.now)
+          (g.D.Folder.known c.commit_at.new.folder) c.from_state-index.result (rewrite_options Smallest)
+          (g.D.Made.Write.contents c.in_ok-lock.lock.file)
+          (λ (w : World) (i : File). IsSalvaged w c.args.kind c.args.path.now _ i) (λ (i : File). rewrite_options Smallest)
+          c.lock_at.ensures.manner.alone c.in_ok-lock.ensures.empty
+          (record {
+            saved = c.in-Ok.found.0;
+            is_saved = record {
+              bytes = saved.0;
+              time = c.in-Ok.found.1;
+              held = saved.1;
+              since = c.in-Ok.ensures.since;
+              of_bytes = saved.2;
+              holds = ap contents c.from_state-index.ensures.state ∙ c.set_timestamp.ensures.set;
+            };
+            reports = record {
+              names = refl;
+              declared = refl;
+              read = refl;
+              kept = c.kept.ensures;
+              fault = refl;
+              shared = refl;
+            };
+          }) refl c.in_ok-commit_at.ensures.written c.in_ok-commit_at.ensures.put;
+      restored = tt;
+      fault = tt;
+    }

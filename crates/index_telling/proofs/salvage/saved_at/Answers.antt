@@ -2,14 +2,22 @@ use Rattle.std.proofs.lemmas.Result.{err_from_is_err_and}
 use Rattle.index_telling.proofs.Salvages.{bytes_not_saved}
 use Rattle.index_telling.proofs.salvage.saved_at.Goals as goal
 
-pub returns-in_err-bytes-clause-fault : goal.returns-in_err-bytes-clause-fault
-returns-in_err-bytes-clause-fault g c =
+pub returns-in_err-bytes : goal.returns-in_err-bytes
+returns-in_err-bytes g c =
     let p = err_from_is_err_and c.from_residual.result c.from_residual.ensures.1 in
-    rw (p.1, p.2) (bytes_not_saved (g.D.Folder.works c.args.folder.now) (g.D.Folder.known c.args.folder.now) c.args.kind
-    c.args.path.now _ c.in_err-bytes.ensures.fault)
+    rw (p.1, p.2) (record {
+      saved = tt;
+      since = tt;
+      fault = bytes_not_saved (g.D.Folder.works c.args.folder.now) (g.D.Folder.known c.args.folder.now) c.args.kind
+          c.args.path.now _ c.in_err-bytes.ensures.fault;
+    })
 
-pub returns-in_err-saved-clause-fault : goal.returns-in_err-saved-clause-fault
-returns-in_err-saved-clause-fault g c =
+pub returns-in_err-saved : goal.returns-in_err-saved
+returns-in_err-saved g c =
     let p = err_from_is_err_and c.from_residual-in_err-saved.result c.from_residual-in_err-saved.ensures.1 in
-    rw (p.1, p.2) (rw c.deref.ensures.value at (c.in_err-saved.ensures.fault (g.D.Folder.works c.args.folder.now)
-    (g.D.Folder.known c.args.folder.now)) c.in_ok-bytes.ensures.held)
+    rw (p.1, p.2) (record {
+      saved = tt;
+      since = tt;
+      fault = rw c.deref.ensures.value at (c.in_err-saved.ensures.fault (g.D.Folder.works c.args.folder.now)
+          (g.D.Folder.known c.args.folder.now)) c.in_ok-bytes.ensures.held;
+    })

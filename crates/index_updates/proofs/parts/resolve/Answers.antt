@@ -3,17 +3,13 @@ use Rattle.index_parts.specs.Id.{id_bytes, id_kind, id_len}
 use Rattle.index_entries.specs.Record.{IsSized, with_path}
 use Rattle.index_entries.proofs.StorableEntries.{variant_of}
 use Rattle.index_edits.specs.Edits.{merged}
-use Rattle.index_format.specs.Contents.{parts_contents}
-use Rattle.index_updates.proofs.StorableChanges.{stage_stays}
+use Rattle.index_updates.proofs.PartsAnswers.{resolves}
 use Rattle.index_updates.proofs.parts.resolve.Goals as goal
-
-pub returns-clause-updated : goal.returns-clause-updated
-returns-clause-updated g c = search rules
 
 -- The types of the parts say how many bits a number has and how many bytes an id: `given` is what they say, one part
 -- after the other, and so is each part of it for the fields of a struct.
-pub returns-clause-storable : goal.returns-clause-storable
-returns-clause-storable g c = λ o.
+pub returns : goal.returns
+returns g c =
     let entry = c.args.entry in
     let given = c.well_formed.1.1.0.1.1 in
     let stat = given.0.1.1 in
@@ -36,5 +32,16 @@ returns-clause-storable g c = λ o.
       mode = given.1.1.1.0.1.1.0.1;
       id = id;
     } in
-    stage_stays (parts_contents c.args.parts.now) _ (g.C.ComponentCheck.refusal c.args.check.now) (merged entry) c.args.path
-    c.in_ok-told.ensures.reason sized (returns-clause-updated g c o)
+    resolves (g.C.ComponentCheck.refusal c.args.check.now) c.args.parts.now _ entry c.args.path c.in_ok-told.told
+    c.in_ok-told.ensures.reason sized (search rules) (search rules) (search rules) (search rules)
+
+pub returns-in_err-told : goal.returns-in_err-told
+returns-in_err-told g c = record {
+  reason = search rules;
+  updated = search rules;
+  resolved = search rules;
+  storable = search rules;
+  told = search rules;
+  placed = search rules;
+  err = search rules;
+}

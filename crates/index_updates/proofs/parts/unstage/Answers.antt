@@ -1,11 +1,19 @@
 use Rattle.std.proofs.Common.{rules}
-use Rattle.index_format.specs.Contents.{parts_contents}
-use Rattle.index_updates.proofs.StorableChanges.{unstage_stays}
+use Rattle.index_updates.proofs.PartsAnswers.{unstages}
 use Rattle.index_updates.proofs.parts.unstage.Goals as goal
 
-pub returns-clause-updated : goal.returns-clause-updated
-returns-clause-updated c = search rules
+pub returns : goal.returns
+returns c =
+    unstages c.args.parts.now _ c.args.path c.in_ok-count.count (search rules) (search rules) (search rules) (search rules)
+    (search rules)
 
-pub returns-clause-storable : goal.returns-clause-storable
-returns-clause-storable c = λ o.
-    unstage_stays (parts_contents c.args.parts.now) _ c.args.path (returns-clause-updated c o)
+pub returns-in_err-count : goal.returns-in_err-count
+returns-in_err-count c = record {
+  updated = search rules;
+  unstaged = search rules;
+  storable = search rules;
+  count = search rules;
+  storage = search rules;
+  placed = search rules;
+  err = search rules;
+}

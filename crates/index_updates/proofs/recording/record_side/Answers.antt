@@ -1,8 +1,10 @@
 use Rattle.std.proofs.Common.{◌∙◌, List, ap, map, refl, subst}
 use Rattle.index_small_extensions.specs.declared.resolve_undo.ResolvePath.{ResolvePath}
 use Rattle.index_small_extensions.specs.ResolveUndo.{path_stages}
-use Rattle.index_updates.specs.Recorded.{record_at, with_side}
-use Rattle.index_updates.proofs.Recordings.{IsHere, IsOther, IsPlaceFor, recorded_between, recorded_over}
+use Rattle.index_edits.specs.EditSteps.{record_at}
+use Rattle.index_updates.specs.Recorded.{with_side}
+use Rattle.index_updates.specs.RecordingSteps.{IsHere, IsOther, IsPlaceFor}
+use Rattle.index_updates.proofs.Recordings.{recorded_between, recorded_over}
 use Rattle.index_updates.proofs.recording.record_side.Goals as goal
 
 pub returns-then-is_there : goal.returns-then-is_there
@@ -12,11 +14,7 @@ returns-then-is_there c =
     let xs = c.args.paths.now.items in
     let i = c.place_for-place.result in
     let d = c.index_mut.result.now in
-    let place = subst (λ (l : List ResolvePath). IsPlaceFor path_stages path l i) c.deref.ensures.value (record {
-      inside = c.place_for-place.ensures.inside;
-      before = c.place_for-place.ensures.before;
-      here = c.place_for-place.ensures.here;
-    }) in
+    let place = subst (λ (l : List ResolvePath). IsPlaceFor path_stages path l i) c.deref.ensures.value c.place_for-place.ensures in
     let there = subst (λ (l : List ResolvePath). IsHere path_stages path l i) c.deref-2.ensures.value
     (c.if-is_there.ensures.there refl) in
     let name = ap (λ (x : ResolvePath). (path_stages x).name) c.index_mut.ensures.value ∙ there.1 d in
@@ -29,11 +27,7 @@ returns c =
     let path = c.args.path.now in
     let xs = c.args.paths.now.items in
     let i = c.place_for-place.result in
-    let place = subst (λ (l : List ResolvePath). IsPlaceFor path_stages path l i) c.deref.ensures.value (record {
-      inside = c.place_for-place.ensures.inside;
-      before = c.place_for-place.ensures.before;
-      here = c.place_for-place.ensures.here;
-    }) in
+    let place = subst (λ (l : List ResolvePath). IsPlaceFor path_stages path l i) c.deref.ensures.value c.place_for-place.ensures in
     let other = subst (λ (l : List ResolvePath). IsOther path_stages path l i) c.deref-2.ensures.value
     (c.if-is_there.ensures.other refl) in
     ap (map path_stages) c.in_ok-insert.ensures.items

@@ -1,4 +1,4 @@
-use Rattle.std.proofs.Common.{◌∙◌, [], ◌∷◌, All, length, ap, refl, subst, sym}
+use Rattle.std.proofs.Common.{rules, inl, ◌∙◌, [], ◌∷◌, All, length, ap, refl, subst, sym}
 use Rattle.index_entries.specs.Order.{IsStrictlyOrdered}
 use Rattle.index_edits.specs.Edits.{IsStagedInto}
 use Rattle.std.specs.Option.{option_map}
@@ -9,28 +9,37 @@ use Rattle.index_small_extensions.specs.FsMonitor.{monitor_of}
 use Rattle.index_updates.proofs.Watches.{cut_back, grown_by, told_of}
 use Rattle.index_updates.proofs.single.settle_watched.Goals as goal
 
-pub returns-in-Ok-clause-monitor : goal.returns-in-Ok-clause-monitor
-returns-in-Ok-clause-monitor c = λ o.
-    let es = c.args.entries.now.items in
-    let s = c.args.storage.now.items in
-    let edited = c.settle-2.new.entries.items in
-    let t = c.settle-2.new.storage.items in
-    let same = c.in_ok-edited.ensures ∙ c.deref.ensures.value in
-    let ordered = subst (λ l. IsStrictlyOrdered (records_in s l)) (sym same) o in
-    let staged = subst (λ l. IsStagedInto (with_path c.args.path.now c.args.entry) (records_in s l) (records_in t edited)) same
-    (c.in_ok-told.ensures.staged ordered) in
-    told_of (Stage c.args.entry c.args.path ∷ []) s t es edited c.new.result c.new-2.result
-    (option_map monitor_of c.args.monitor.now) _ c.requires.placed (grown_by s t c.args.path.now c.in_ok-told.ensures.storage)
-    (c.new.ensures ∙ ap (λ l. records_in c.deref-3.result.now l) c.deref-2.ensures.value
-    ∙ ap (λ x. records_in x es) c.deref-3.ensures.value)
-    (c.new-2.ensures ∙ ap (λ l. records_in c.deref-5.result.now l) c.deref-4.ensures.value
-    ∙ ap (λ x. records_in x edited) c.deref-5.ensures.value)
-    (one_staged _ (records_in s es) _ (with_path c.args.path.now c.args.entry) refl (λ r. refl) staged) c.in-Ok.ensures.is
+pub returns-in-Ok-clause-settled : goal.returns-in-Ok-clause-settled
+returns-in-Ok-clause-settled c = record {
+  told = search rules;
+  monitor = λ o.
+      let es = c.args.entries.now.items in
+      let s = c.args.storage.now.items in
+      let edited = c.settle-2.new.entries.items in
+      let t = c.settle-2.new.storage.items in
+      let same = c.in_ok-edited.ensures ∙ c.deref.ensures.value in
+      let ordered = subst (λ l. IsStrictlyOrdered (records_in s l)) (sym same) o in
+      let staged = subst (λ l. IsStagedInto (with_path c.args.path.now c.args.entry) (records_in s l) (records_in t edited)) same
+      (c.in_ok-told.ensures.staged.made ordered) in
+      told_of (Stage c.args.entry c.args.path ∷ []) s t es edited c.new.result c.new-2.result
+      (option_map monitor_of c.args.monitor.now) _ c.requires.placed (grown_by s t c.args.path.now c.in_ok-told.ensures.staged.storage)
+      (c.new.ensures ∙ ap (λ l. records_in c.deref-3.result.now l) c.deref-2.ensures.value
+      ∙ ap (λ x. records_in x es) c.deref-3.ensures.value)
+      (c.new-2.ensures ∙ ap (λ l. records_in c.deref-5.result.now l) c.deref-4.ensures.value
+      ∙ ap (λ x. records_in x edited) c.deref-5.ensures.value)
+      (one_staged _ (records_in s es) _ (with_path c.args.path.now c.args.entry) refl (λ r. refl) staged) c.in-Ok.ensures.is;
+}
 
-pub returns-in-Err-clause-placed : goal.returns-in-Err-clause-placed
-returns-in-Err-clause-placed c =
+pub returns-in-Err-clause-staged : goal.returns-in-Err-clause-staged
+returns-in-Err-clause-staged c =
     let s = c.args.storage.now.items in
     let t = c.settle-2.new.storage.items in
     let left = cut_back s t c.truncate.new.self.items c.len-len.result (c.len-len.ensures ∙ c.args.storage.now.ok.0)
-    (grown_by s t c.args.path.now c.in_ok-told.ensures.storage) c.truncate.ensures.items in
-    subst (λ l. All (IsPlaced (length l)) c.args.entries.now.items) (sym left) c.requires.placed
+    (grown_by s t c.args.path.now c.in_ok-told.ensures.staged.storage) c.truncate.ensures.items in
+    record {
+      made = search rules;
+      placed = subst (λ l. All (IsPlaced (length l)) c.args.entries.now.items) (sym left) c.requires.placed;
+      storage = inl left;
+      err_entries = search rules;
+      err_storage = left;
+    }

@@ -1,4 +1,4 @@
-use Rattle.std.proofs.Common.{◌∙◌, subst, sym}
+use Rattle.std.proofs.Common.{rules, ◌∙◌, subst, sym}
 use Rattle.std.specs.Prelude.{IfSome}
 use Rattle.std.proofs.lemmas.Result.{IfOk-weaker}
 use Rattle.index_entries.specs.Record.{records_in}
@@ -11,15 +11,16 @@ reordered : (c : goal.After-drop-ordered) → IsReorderedTo c.args.changes.now c
 reordered c = subst (IsReorderedTo c.args.changes.now) (sym c.deref.ensures.value)
     (subst (λ made. IfSome made (λ ds. IsReorderedTo c.args.changes.now ds.items)) c.in-Some.is c.in_ok-ordered.ensures.same)
 
-pub returns-in-Some-clause-applied : goal.returns-in-Some-clause-applied
-returns-in-Some-clause-applied c =
+pub returns-in-Some : goal.returns-in-Some
+returns-in-Some c =
     let old = records_in c.args.storage.now.items c.args.entries.now in
-    IfOk-weaker c.update_each.result _ _ (λ made a o. reordered_into c.args.changes.now c.deref.result.now old (reordered c) o
-    (records_in c.update_each.new.storage.items made.entries.items) (a o)) c.update_each.ensures.applied
-
-pub returns-in-Some-clause-undone : goal.returns-in-Some-clause-undone
-returns-in-Some-clause-undone c =
-    let old = records_in c.args.storage.now.items c.args.entries.now in
-    IfOk-weaker c.update_each.result _ _ (λ made a o. a o
-    ∙ reordered_undone c.args.changes.now c.deref.result.now old (reordered c) o (undo_paths c.args.undo.now))
-    c.update_each.ensures.undone
+    let cs = c.args.changes.now in
+    record {
+      made = IfOk-weaker c.update_each.result _ _ (λ made m. record {
+        applied = λ o. reordered_into cs c.deref.result.now old (reordered c) o
+            (records_in c.update_each.new.storage.items made.entries.items) (m.applied o);
+        undone = λ o. m.undone o ∙ reordered_undone cs c.deref.result.now old (reordered c) o (undo_paths c.args.undo.now);
+        placed = m.placed;
+      }) c.update_each.ensures.made;
+      storage = search rules;
+    }

@@ -1,4 +1,4 @@
-use Rattle.std.proofs.Common.{◌≡◌, ◌∙◌, ◌++◌, [], All, ap, append-nil, arith, drop, length, subst, sym}
+use Rattle.std.proofs.Common.{rules, ◌≡◌, ◌∙◌, ◌++◌, [], All, ap, append-nil, arith, drop, length, subst, sym}
 use Rattle.std.proofs.lemmas.List.{length-drop, take_all}
 use Rattle.std.proofs.lemmas.List.Elements.{All-append, All-drop, same_from_all_zip}
 use Rattle.index_entries.specs.Record.{IsPlaced, records_in}
@@ -40,49 +40,50 @@ loop-change-preserved c =
     record {
       inside = omega (
         arith,
-        told.inside,
+        told.applied.inside,
         inv.inside,
         ap length c.split_at.ensures.back,
         length-drop c.loop-change.at c.args.entries.now,
       );
-      placed = told.placed;
+      placed = told.applied.placed;
       applied = λ o. one_more changes i _ c.loop-change.storage.items
           c.loop-change.done.items c.args.entries.now c.split_at.result.1.now c.loop-change.at c.split_at.ensures.back
           (inv.applied o) _ c.update_next.new.storage.items c.update_next.new.done.items c.in_ok-at.field-0
-          (omega (arith, c.loop-change-test.true)) told.applied;
+          (omega (arith, c.loop-change-test.true)) told.applied.applied;
       undone = λ o. one_more_undone changes i _ c.loop-change.storage.items
           c.loop-change.done.items c.args.entries.now c.split_at.result.1.now c.loop-change.at c.split_at.ensures.back
           (inv.applied o) _ (undo_paths c.in_ok-undo.undo) (undo_paths c.loop-change.undo)
           (undo_paths c.update_next.new.undo) (omega (arith, c.loop-change-test.true)) (inv.undone o) told.undone;
-      storage = grown_twice _ _ _ inv.storage told.storage;
+      storage = grown_twice _ _ _ inv.storage told.applied.storage;
     }
 
-pub returns-clause-applied : goal.returns-clause-applied
-returns-clause-applied c = λ o.
-    let more = c.in_ok-extend_from_slice.ensures.items in
-    all_made c.args.changes.now c.loop-change.change-index _ c.loop-change.storage.items c.loop-change.done.items
-    c.args.entries.now c.split_at-2.result.1.now c.loop-change.at c.split_at-2.ensures.back
-    (c.loop-change.invariant.applied o) _ (omega (arith, c.loop-change-test.false))
-    (more.1 ∙ ap (λ l. c.loop-change.done.items ++ l) (same_from_all_zip _ _ more.0 more.2 same_entry))
-
-pub returns-clause-undone : goal.returns-clause-undone
-returns-clause-undone c = λ o.
-    let old = records_in c.args.storage.now.items c.args.entries.now in
-    c.loop-change.invariant.undone o
-    ∙ ap (λ l. undone l old (undo_paths c.in_ok-undo.undo))
-    (take_all c.loop-change.change-index c.args.changes.now (omega (arith, c.loop-change-test.false)))
-    ∙ ap (undone c.args.changes.now old) c.in_ok-undo.ensures
-
-pub returns-clause-placed : goal.returns-clause-placed
-returns-clause-placed c =
-    let more = c.in_ok-extend_from_slice.ensures.items in
-    let s = c.args.storage.now.items in
-    let t = c.loop-change.storage.items in
-    let at = c.loop-change.at in
-    let grown = c.loop-change.invariant.storage in
-    let P = All (IsPlaced (length t)) in
-    let is = more.1 ∙ ap (λ l. c.loop-change.done.items ++ l)
-    (same_from_all_zip _ _ more.0 more.2 same_entry ∙ c.split_at-2.ensures.back) in
-    subst P (sym is) (All-append (IsPlaced (length t)) c.loop-change.done.items (drop at c.args.entries.now)
-    c.loop-change.invariant.placed (All-drop (IsPlaced (length t)) at c.args.entries.now
-    (placed_wider s grown.0 t c.args.entries.now grown.1 c.requires.placed)))
+pub returns : goal.returns
+returns c = record {
+  made = record {
+    applied = λ o.
+        let more = c.in_ok-extend_from_slice.ensures.items in
+        all_made c.args.changes.now c.loop-change.change-index _ c.loop-change.storage.items c.loop-change.done.items
+        c.args.entries.now c.split_at-2.result.1.now c.loop-change.at c.split_at-2.ensures.back
+        (c.loop-change.invariant.applied o) _ (omega (arith, c.loop-change-test.false))
+        (more.1 ∙ ap (λ l. c.loop-change.done.items ++ l) (same_from_all_zip _ _ more.0 more.2 same_entry));
+    undone = λ o.
+        let old = records_in c.args.storage.now.items c.args.entries.now in
+        c.loop-change.invariant.undone o
+        ∙ ap (λ l. undone l old (undo_paths c.in_ok-undo.undo))
+        (take_all c.loop-change.change-index c.args.changes.now (omega (arith, c.loop-change-test.false)))
+        ∙ ap (undone c.args.changes.now old) c.in_ok-undo.ensures;
+    placed =
+        let more = c.in_ok-extend_from_slice.ensures.items in
+        let s = c.args.storage.now.items in
+        let t = c.loop-change.storage.items in
+        let at = c.loop-change.at in
+        let grown = c.loop-change.invariant.storage in
+        let P = All (IsPlaced (length t)) in
+        let is = more.1 ∙ ap (λ l. c.loop-change.done.items ++ l)
+        (same_from_all_zip _ _ more.0 more.2 same_entry ∙ c.split_at-2.ensures.back) in
+        subst P (sym is) (All-append (IsPlaced (length t)) c.loop-change.done.items (drop at c.args.entries.now)
+        c.loop-change.invariant.placed (All-drop (IsPlaced (length t)) at c.args.entries.now
+        (placed_wider s grown.0 t c.args.entries.now grown.1 c.requires.placed)));
+  };
+  storage = search rules;
+}

@@ -1,4 +1,4 @@
-use Rattle.std.proofs.Common.{◌≡◌, ◌∙◌, All, ap, drop, subst}
+use Rattle.std.proofs.Common.{rules, ◌≡◌, ◌∙◌, All, ap, drop, subst}
 use Rattle.index_entries.specs.Order.{IsOrderedByPath, IsStrictlyOrdered}
 use Rattle.index_entries.specs.Record.{records_in}
 use Rattle.index_edits.specs.Changes.{path_of}
@@ -21,9 +21,14 @@ beyond c =
 pub returns-clause-applied : goal.returns-clause-applied
 returns-clause-applied c =
     let grown = c.in_ok-apply_one.ensures.storage in
-    next_applied c.args.change.now c.args.storage.now.items grown.0 c.apply_one.new.storage.items c.args.done.now.items
-    c.args.rest.now c.pass.new.done.items c.apply_one.new.entries.items c.in_ok-count.count grown.1 c.requires.rest_placed
-    c.in_ok-count.ensures.copied (beyond c) c.in_ok-apply_one.ensures.applied
+    record {
+      inside = search rules;
+      applied = next_applied c.args.change.now c.args.storage.now.items grown.0 c.apply_one.new.storage.items
+          c.args.done.now.items c.args.rest.now c.pass.new.done.items c.apply_one.new.entries.items c.in_ok-count.count grown.1
+          c.requires.rest_placed c.in_ok-count.ensures.copied (beyond c) c.in_ok-apply_one.ensures.applied;
+      placed = search rules;
+      storage = search rules;
+    }
 
 pub returns-clause-undone : goal.returns-clause-undone
 returns-clause-undone c = λ o.

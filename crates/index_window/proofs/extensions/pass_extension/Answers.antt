@@ -1,7 +1,7 @@
 use Rattle.std.proofs.Common.{rules, ◌≡◌, ◌≤◌, ◌+◌, ◌-◌, ◌++◌, List, ℕ, [], length, take, drop, refl, ap, ◌∙◌, arith}
 use Rattle.std.proofs.Common.{length-append, length-drop, length-take}
 use Rattle.std.specs.Prelude.{if◌then◌else◌}
-use Rattle.index_window.specs.Windowed.{Moment, IsPassedOn}
+use Rattle.index_window.specs.Windowed.{Moment, IsPassedOn, moment_of}
 use Rattle.index_window.proofs.Steps.{pass_none, pass_piece, pass_trans, pass_on, held_none, held_more}
 use Rattle.index_window.proofs.extensions.pass_extension.Goals as goal
 
@@ -32,34 +32,12 @@ pieces-preserved g c =
     let piece : List ℕ = take len (drop start w) in
     let inside : start ≤ length w = omega (arith, c.pieces.invariant.inside, c.pieces.window.ok.0) in
     let least : len ≤ length w - start = search rules in
-    let a : Moment = record {
-      left = g.S.Source.remaining c.args.file.now;
-      hasher = c.args.hasher.now;
-      window = c.args.window.now.items;
-      decoded = c.args.place.start;
-      records = [];
-    } in
-    let old : Moment = record {
-      left = g.S.Source.remaining c.pieces.file;
-      hasher = c.pieces.hasher;
-      window = w;
-      decoded = start;
-      records = [];
-    } in
-    let mid : Moment = record {
-      left = g.S.Source.remaining c.pieces.file;
-      hasher = c.pieces.hasher;
-      window = w;
-      decoded = start + len;
-      records = [];
-    } in
-    let new : Moment = record {
-      left = g.S.Source.remaining c.read_on.new.file;
-      hasher = c.read_on.new.hasher;
-      window = c.read_on.new.window.items;
-      decoded = c.in-Some.next.start;
-      records = [];
-    } in
+    let a : Moment =
+    moment_of g.S.Source c.args.file.now c.args.hasher.now c.args.window.now.items c.args.place.start [] in
+    let old : Moment = moment_of g.S.Source c.pieces.file c.pieces.hasher w start [] in
+    let mid : Moment = moment_of g.S.Source c.pieces.file c.pieces.hasher w (start + len) [] in
+    let new : Moment =
+    moment_of g.S.Source c.read_on.new.file c.read_on.new.hasher c.read_on.new.window.items c.in-Some.next.start [] in
     let took : IsPassedOn plan a mid (so-far.0 + 0) (xs ++ piece) =
     pass_trans plan a old mid so-far.0 0 xs piece so-far.5
     (pass_piece plan old.left old.hasher w start len [] (omega (arith, inside, least))) in
@@ -93,8 +71,8 @@ pieces-preserved g c =
       works = c.in_ok-next.ensures.works ∙ c.pieces.invariant.works;
     }
 
-pub returns-then-rest-eq0-clause-passed : goal.returns-then-rest-eq0-clause-passed
-returns-then-rest-eq0-clause-passed g c =
+pub returns-then-rest-eq0 : goal.returns-then-rest-eq0
+returns-then-rest-eq0 g c =
     let b = c.args.extension.is_held in
     let so-far = c.pieces.invariant.passed in
     let w = c.pieces.window.items in
@@ -104,33 +82,32 @@ returns-then-rest-eq0-clause-passed g c =
     let piece : List ℕ = take len (drop start w) in
     let inside : start ≤ length w = omega (arith, c.pieces.invariant.inside, c.pieces.window.ok.0) in
     let least : len ≤ length w - start = search rules in
-    let old : Moment = record {
-      left = g.S.Source.remaining c.pieces.file;
-      hasher = c.pieces.hasher;
-      window = w;
-      decoded = start;
-      records = [];
-    } in
+    let old : Moment = moment_of g.S.Source c.pieces.file c.pieces.hasher w start [] in
     let slice : take (start + len - start) (drop start c.deref.result.now) ≡ piece =
     let same : start + len - start ≡ len = omega arith in
     ap (λ (n : ℕ). take n (drop start c.deref.result.now)) same
-    ∙ ap (λ (l : List ℕ). take len (drop start l)) c.deref.ensures.value in (
-      so-far.0 + 0,
-      omega (arith, so-far.1),
-      xs ++ piece,
-      omega (
-        arith,
-        so-far.3,
-        length-append xs piece,
-        length-take len (drop start w),
-        length-drop start w,
-        least,
-        c.min-len.ensures,
-        c.if-rest-eq0.true,
-      ),
-      c.in_ok-hold.ensures ∙ ap (λ (l : List ℕ). c.pieces.held.items ++ (if b then l else [])) slice
-          ∙ ap (λ (l : List ℕ). l ++ (if b then piece else [])) so-far.4
-          ∙ held_more b c.args.held.now.items xs piece,
-      pass_trans c.args.plan _ old _ so-far.0 0 xs piece so-far.5
-          (pass_piece c.args.plan old.left old.hasher w start len [] (omega (arith, inside, least))),
-    )
+    ∙ ap (λ (l : List ℕ). take len (drop start l)) c.deref.ensures.value in
+    record {
+      passed = (
+        so-far.0 + 0,
+        omega (arith, so-far.1),
+        xs ++ piece,
+        omega (
+          arith,
+          so-far.3,
+          length-append xs piece,
+          length-take len (drop start w),
+          length-drop start w,
+          least,
+          c.min-len.ensures,
+          c.if-rest-eq0.true,
+        ),
+        c.in_ok-hold.ensures ∙ ap (λ (l : List ℕ). c.pieces.held.items ++ (if b then l else [])) slice
+            ∙ ap (λ (l : List ℕ). l ++ (if b then piece else [])) so-far.4
+            ∙ held_more b c.args.held.now.items xs piece,
+        pass_trans c.args.plan _ old _ so-far.0 0 xs piece so-far.5
+            (pass_piece c.args.plan old.left old.hasher w start len [] (omega (arith, inside, least))),
+      );
+      stored = search rules;
+      works = search rules;
+    }

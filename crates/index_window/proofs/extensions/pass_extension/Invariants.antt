@@ -1,6 +1,6 @@
 use Rattle.std.proofs.Common.{◌≡◌, ◌≤◌, ◌+◌, ◌++◌, ℕ, List, [], length}
 use Rattle.std.specs.Prelude.{vec_len, if◌then◌else◌}
-use Rattle.index_window.specs.Windowed.{IsPassedOn}
+use Rattle.index_window.specs.Windowed.{IsPassedOn, moment_of}
 use Rattle.index_window.proofs.extensions.pass_extension.Given as goal
 
 abbrev pub invariant-pieces : goal.invariant-pieces
@@ -10,20 +10,8 @@ invariant-pieces g l = record {
       × (length passed + l.rest ≡ l.extension.len)
       × (l.held.items ≡ l.fn.held.items ++ (if l.extension.is_held then passed else []))
       × IsPassedOn l.plan
-      (record {
-        left = g.S.Source.remaining l.fn.file;
-        hasher = l.fn.hasher;
-        window = l.fn.window.items;
-        decoded = l.fn.place.start;
-        records = [];
-      })
-      (record {
-        left = g.S.Source.remaining l.file;
-        hasher = l.hasher;
-        window = l.window.items;
-        decoded = l.place.start;
-        records = [];
-      })
+      (moment_of g.S.Source l.fn.file l.fn.hasher l.fn.window.items l.fn.place.start [])
+      (moment_of g.S.Source l.file l.hasher l.window.items l.place.start [])
       count passed;
   stored : g.S.Source.stored l.file ≡ g.S.Source.stored l.fn.file;
   works : g.S.Source.works l.file ≡ g.S.Source.works l.fn.file;

@@ -1,7 +1,8 @@
-use Rattle.std.proofs.Common.{◌≡◌, ◌+◌, ◌-◌, ◌++◌, ℕ, List, [], length, take, drop, refl, sym, ap, subst, ◌∙◌, arith}
-use Rattle.std.proofs.Common.{length-drop, take_all}
-use Rattle.std.specs.Prelude.{if◌then◌else◌}
-use Rattle.index_window.specs.Windowed.{Moment}
+use Rattle.std.proofs.Common.{rules, ◌≡◌, ◌≤◌, ◌+◌, ◌-◌, ◌++◌, ℕ, List, [], length, take, drop, refl, sym, ap, subst}
+use Rattle.std.proofs.Common.{◌∙◌, arith, length-drop, take_all}
+use Rattle.std.specs.Prelude.{if◌then◌else◌, vec_len}
+use Rattle.index_parts.specs.Id.{id_len}
+use Rattle.index_window.specs.Windowed.{Moment, moment_of}
 use Rattle.index_parts.specs.Digest.{Holds}
 use Rattle.index_window.proofs.Abridging.{abridged_none, abridged_on, abridged_more, head_of}
 use Rattle.index_window.proofs.Steps.{pass_len}
@@ -25,36 +26,16 @@ pub extensions-preserved : goal.extensions-preserved
 extensions-preserved g c =
     let plan = c.args.plan in
     let so-far = c.extensions.invariant.abridged in
-    let a : Moment = record {
-      left = g.S.Source.remaining c.args.file.now;
-      hasher = c.args.hasher.now;
-      window = c.args.window.now.items;
-      decoded = c.args.place.start;
-      records = [];
-    } in
-    let old : Moment = record {
-      left = g.S.Source.remaining c.extensions.file;
-      hasher = c.extensions.hasher;
-      window = c.extensions.window.items;
-      decoded = c.extensions.place.start;
-      records = [];
-    } in
+    let a : Moment =
+    moment_of g.S.Source c.args.file.now c.args.hasher.now c.args.window.now.items c.args.place.start [] in
+    let old : Moment =
+    moment_of g.S.Source c.extensions.file c.extensions.hasher c.extensions.window.items c.extensions.place.start [] in
     let w = c.read_on.new.window.items in
     let start = c.in-Some-2.next.start in
-    let mid : Moment = record {
-      left = g.S.Source.remaining c.read_on.new.file;
-      hasher = c.read_on.new.hasher;
-      window = w;
-      decoded = start;
-      records = [];
-    } in
-    let new : Moment = record {
-      left = g.S.Source.remaining c.pass_extension.new.file;
-      hasher = c.pass_extension.new.hasher;
-      window = c.pass_extension.new.window.items;
-      decoded = c.in-Some-3.behind.start;
-      records = [];
-    } in
+    let mid : Moment = moment_of g.S.Source c.read_on.new.file c.read_on.new.hasher w start [] in
+    let new : Moment =
+    moment_of g.S.Source c.pass_extension.new.file c.pass_extension.new.hasher c.pass_extension.new.window.items
+    c.in-Some-3.behind.start [] in
     let held = c.extensions.held.bytes.items in
     let heads = c.extensions.held.heads in
     let on = rw c.in-Some-2.is at c.in_ok-next.ensures.passed in
@@ -82,14 +63,31 @@ extensions-preserved g c =
       works = c.in_ok-behind.ensures.works ∙ c.in_ok-next.ensures.works ∙ c.extensions.invariant.works;
     }
 
-pub returns-then-before-extension-clause-abridged : goal.returns-then-before-extension-clause-abridged
-returns-then-before-extension-clause-abridged g c =
+pub returns-then-before-extension : goal.returns-then-before-extension
+returns-then-before-extension g c =
     let so-far = c.extensions.invariant.abridged in
-    let on = rw c.in-Some-2.is at c.in_ok-next.ensures.passed in (
-      so-far.0 + on.0,
-      omega (arith, so-far.1, on.1),
-      abridged_on c.args.plan _ _ _ so-far.0 on.0 c.extensions.held.bytes.items c.extensions.held.heads so-far.2 on.2,
-    )
+    let on = rw c.in-Some-2.is at c.in_ok-next.ensures.passed in
+    let next = c.in-Some-2.next in
+    let trailer : id_len c.args.plan.kind ≤ vec_len c.read_on.new.window - next.start + next.left =
+    omega (
+      arith,
+      pass_len c.args.plan _ _ on.0 [] on.2,
+      on.1,
+      c.in-Some.ensures,
+      c.extensions.window.ok.0,
+      c.read_on.new.window.ok.0,
+    ) in
+    record {
+      abridged = (
+        so-far.0 + on.0,
+        omega (arith, so-far.1, on.1),
+        abridged_on c.args.plan _ _ _ so-far.0 on.0 c.extensions.held.bytes.items c.extensions.held.heads so-far.2
+            on.2,
+      );
+      trailer = trailer;
+      stored = search rules;
+      works = search rules;
+    }
 
 pub extensions-smaller : goal.extensions-smaller
 extensions-smaller g c =

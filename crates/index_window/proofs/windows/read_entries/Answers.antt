@@ -1,25 +1,31 @@
-use Rattle.std.proofs.Common.{◌≡◌, ◌+◌, ◌++◌, List, ℕ, length, drop, arith, length-drop, refl, ◌∙◌}
+use Rattle.std.proofs.Common.{rules, ◌≡◌, ◌+◌, ◌++◌, List, ℕ, length, drop, arith, length-drop, refl, ◌∙◌}
 use Rattle.std.proofs.KnownBytes.{starts_with_rest}
 use Rattle.index_window.proofs.Steps.{on_none, on_trans, on_fill}
 use Rattle.index_window.proofs.windows.read_entries.Goals as goal
 
 pub windows-init : goal.windows-init
 windows-init g c = record {
-  ids = c.requires.ids;
-  sparse = c.requires.sparse;
-  count = c.requires.count;
+  fit = c.requires.first;
   stored = refl;
   works = refl;
   read = (0, omega arith, on_none c.args.plan _ (omega (arith, c.requires.header, c.args.window.now.ok.0)));
 }
 
-pub returns-then-len-plan-clause-read : goal.returns-then-len-plan-clause-read
-returns-then-len-plan-clause-read g c =
-    let so-far = c.windows.invariant.read in (
-      so-far.0 + 0,
-      omega (arith, so-far.1),
-      on_trans c.args.plan _ _ _ so-far.0 0 so-far.2 (c.in_ok-start.ensures.read _),
-    )
+pub returns-then-len-plan : goal.returns-then-len-plan
+returns-then-len-plan g c =
+    let so-far = c.windows.invariant.read in
+    record {
+      fit = c.in_ok-start.ensures.fit;
+      whole = search rules;
+      read = (
+        so-far.0 + 0,
+        omega (arith, so-far.1),
+        on_trans c.args.plan _ _ _ so-far.0 0 so-far.2 (c.in_ok-start.ensures.read _),
+      );
+      named = search rules;
+      stored = search rules;
+      works = search rules;
+    }
 
 pub windows-preserved : goal.windows-preserved
 windows-preserved g c =
@@ -41,11 +47,9 @@ windows-preserved g c =
     (g.S.Source.remaining c.fill.new.file) c.take_entries.new.hasher old new more c.in_ok-start.start
     c.take_entries.new.first.list.records took.moved.inside grown c.in_ok-came.ensures.consumes in
     record {
-      ids = c.in_ok-start.ensures.ids;
+      fit = c.in_ok-start.ensures.fit;
       stored = c.in_ok-came.ensures.stored ∙ c.windows.invariant.stored;
       works = c.in_ok-came.ensures.works ∙ c.windows.invariant.works;
-      sparse = c.in_ok-start.ensures.sparse;
-      count = c.in_ok-start.ensures.count;
       read = (
         so-far.0 + 0 + length more,
         omega (arith, so-far.1, size, c.if-came-left.false),

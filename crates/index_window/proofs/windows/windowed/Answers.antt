@@ -16,10 +16,10 @@ use Rattle.index_window.specs.Abridged.{IsAbridgedOn}
 use Rattle.index_window.specs.Behind.{FollowEntries}
 use Rattle.index_window.specs.Intact.{IsIntact}
 use Rattle.index_window.specs.Marked.{HasPassed}
-use Rattle.index_window.specs.Windowed.{Moment, IsMovedOn, IsReadOn}
+use Rattle.index_window.specs.Windowed.{Moment, IsMovedOn, IsReadOn, moment_of}
 use Rattle.index_window.specs.declared.plan.Plan.{Plan}
 use Rattle.index_window.proofs.Abridging.{ending_whole}
-use Rattle.index_window.proofs.Wholes.{answer_of_windows, ending_of_windows, some_then, some_two}
+use Rattle.index_window.proofs.Wholes.{answer_of_windows, ending_of_windows, some_then}
 use Rattle.index_window.proofs.Wholes.{behind_passed, bytes_of_passed, whole_of_windows}
 use Rattle.index_window.proofs.windows.windowed.Goals as goal
 
@@ -27,7 +27,7 @@ pub returns-clause-read : goal.returns-clause-read
 returns-clause-read g c =
     let reading = c.args.reading in
     let kind = reading.object_hash in
-    let declared = c.in-Some.declared in
+    let declared = c.in-Ok.declared in
     let plan : Plan = record {
       version = declared.version;
       kind = kind;
@@ -41,43 +41,20 @@ returns-clause-read g c =
     let w1 = c.read_entries.new.window.items in
     let w2 = c.pass_extensions.new.window.items in
     let tail = c.read_rest.new.window.items in
-    let start = c.in-Some-2.start in
-    let at = c.in-Some-3.place.start in
+    let start = c.in-Some.start in
+    let at = c.in-Some-2.place.start in
     let records = c.read_entries.new.first.list.records in
-    let r = rw c.in-Some-2.is at c.in_ok-start.ensures.read in
-    let whole = rw c.in-Some-2.is at c.in_ok-start.ensures.whole in
-    let s = rw c.in-Some-3.is at c.in_ok-place.ensures.abridged in
-    let trailer = rw c.in-Some-3.is at c.in_ok-place.ensures.trailer in
+    let r = rw c.in-Some.is at c.in_ok-start.ensures.read in
+    let whole = rw c.in-Some.is at c.in_ok-start.ensures.whole in
+    let s = rw c.in-Some-2.is at c.in_ok-place.ensures.abridged in
+    let trailer = rw c.in-Some-2.is at c.in_ok-place.ensures.trailer in
     let all-held : c.in_ok-read_rest.field-0 ≡ true = search rules in
     let t = c.in_ok-read_rest.ensures.rest all-held in
-    let a : Moment = record {
-      left = g.S.Source.remaining c.fill.new.file;
-      hasher = c.new-hasher.result;
-      window = first;
-      decoded = 12;
-      records = c.in_ok-first.first.list.records;
-    } in
-    let b : Moment = record {
-      left = g.S.Source.remaining c.read_entries.new.file;
-      hasher = c.read_entries.new.hasher;
-      window = w1;
-      decoded = start;
-      records = records;
-    } in
-    let entries : Moment = record {
-      left = g.S.Source.remaining c.read_entries.new.file;
-      hasher = c.read_entries.new.hasher;
-      window = w1;
-      decoded = start;
-      records = [];
-    } in
-    let passed : Moment = record {
-      left = g.S.Source.remaining c.pass_extensions.new.file;
-      hasher = c.pass_extensions.new.hasher;
-      window = w2;
-      decoded = at;
-      records = [];
-    } in
+    let a : Moment =
+    moment_of g.S.Source c.fill.new.file c.new-hasher.result first 12 c.in_ok-first.first.list.records in
+    let b : Moment = moment_of g.S.Source c.read_entries.new.file c.read_entries.new.hasher w1 start records in
+    let entries : Moment = moment_of g.S.Source c.read_entries.new.file c.read_entries.new.hasher w1 start [] in
+    let passed : Moment = moment_of g.S.Source c.pass_extensions.new.file c.pass_extensions.new.hasher w2 at [] in
     let end = g.S.Source.remaining c.read_rest.new.file in
     let held = c.pass_extensions.new.held.bytes.items in
     let heads = c.pass_extensions.new.held.heads in
@@ -107,8 +84,8 @@ returns-clause-read g c =
     let within : c.in_ok-came.came ≤ c.args.len = search rules in
     let count : length more ≡ s.0 + length rest = omega (arith, length-append p.more rest, p.len) in
     let size : length first + r.0 + length more ≡ c.args.len = omega (arith, r.1, s.1, t.2, got, within, count) in
-    let header : header_of kind first ≡ Ok declared.version = rw c.deref.ensures.value at c.in-Some.ensures.header in
-    let counted : declared.count ≡ count_of first = rw c.deref.ensures.value at c.in-Some.ensures.count in
+    let header : header_of kind first ≡ Ok declared.version = rw c.deref.ensures.value at c.in-Ok.ensures.declared.header in
+    let counted : declared.count ≡ count_of first = rw c.deref.ensures.value at c.in-Ok.ensures.declared.count in
     let none : a.records ≡ [] = c.in_ok-first.ensures.0 in
     let total : length hashed + length lent ≡ c.args.len = omega (
       arith,
@@ -152,7 +129,7 @@ returns-clause-read g c =
       length-append w1 more,
       step.moved.inside,
     ) in
-    let at-marker = rw c.in-Some-2.is at c.in_ok-start.ensures.named in
+    let at-marker = rw c.in-Some.is at c.in_ok-start.ensures.named in
     let named : IfSome c.args.offset (λ place. length before ≡ place) =
     some_then c.args.offset _ (λ place. length before ≡ place)
     (λ place e. omega (
@@ -188,24 +165,29 @@ returns-clause-read g c =
     let marker : IsMarker kind (step.moved.taken ++ all) c.args.offset =
     c.is_sound.ensures.marker is-sound (step.moved.taken ++ all) has-passed in
     let answer = answer_of_windows plan a b r.0 all more reading.timestamp reading.options c.args.offset c.args.len in
-    some_two c.ending_of.result _ _ _ c.ending_of.ensures.ending c.ending_of.ensures.behind (λ x ending behind-is. (
-      step.moved.taken ++ all,
-      whole_of_windows plan a b r.0 all more (g.S.Source.remaining c.args.file.now) end step refl front
-          (Consumes-trans b.left passed.left end p.more rest p.consumed t.3) t.4,
-      are-bytes,
-      intact,
-      answer (x.parts, x.checksum) header counted c.in-Some.ensures.fits c.in-Some.ensures.small refl none whole step
-          refl size marker (rw behind (ending_whole kind reading.timestamp reading.options declared.version records
-          h.items h.passed held (drop at tail) (parts_contents x.parts, x.checksum) h.are
-          h.held_are room (subst (λ (l : List ℕ). IsEnding kind reading.timestamp reading.options declared.version
-          records l (Ok (parts_contents x.parts, x.checksum))) held-is ending))),
-      λ keeps. subst (FollowEntries kind (step.moved.taken ++ all))
-          (behind ∙ ap (λ (l : List ℕ). l ++ drop at tail) (sym (h.whole keeps)) ∙ sym held-is ∙ sym behind-is)
-          (ending_of_windows plan a b r.0 all more header counted refl none whole step refl),
-    ))
-
-pub returns-clause-storable : goal.returns-clause-storable
-returns-clause-storable g c =
-    let reading = c.args.reading in
-    some_then c.ending_of.result _ _ (λ x h. says_storable reading.object_hash reading.timestamp reading.options h.0
-    (Ok (x.parts, x.checksum)) h.2 h.4) (returns-clause-read g c)
+    some_then c.ending_of.result _ _ (λ x ended.
+    let are = answer (x.parts, x.checksum) header counted c.in-Ok.ensures.declared.fits c.in-Ok.ensures.declared.small refl none whole
+    step refl size marker (rw behind (ending_whole kind reading.timestamp reading.options declared.version records
+    h.items h.passed held (drop at tail) (parts_contents x.parts, x.checksum) h.are h.held_are room
+    (subst (λ (l : List ℕ). IsEnding kind reading.timestamp reading.options declared.version records l
+    (Ok (parts_contents x.parts, x.checksum))) held-is ended.ending))) in
+    record {
+      read = (
+        step.moved.taken ++ all,
+        (
+          whole_of_windows plan a b r.0 all more (g.S.Source.remaining c.args.file.now) end step refl front
+              (Consumes-trans b.left passed.left end p.more rest p.consumed t.3) t.4,
+          are-bytes,
+        ),
+        intact,
+        are,
+        λ keeps. subst (FollowEntries kind (step.moved.taken ++ all))
+            (behind ∙ ap (λ (l : List ℕ). l ++ drop at tail) (sym (h.whole keeps)) ∙ sym held-is ∙ sym ended.behind)
+            (ending_of_windows plan a b r.0 all more header counted refl none whole step refl),
+      );
+      placed = ended.parts.placed;
+      ids = ended.parts.ids;
+      storable = says_storable kind reading.timestamp reading.options (step.moved.taken ++ all)
+          (Ok (x.parts, x.checksum)) are-bytes are;
+      extension_ids = ended.parts.extension_ids;
+    }) c.ending_of.ensures

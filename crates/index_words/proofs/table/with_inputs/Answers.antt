@@ -3,6 +3,8 @@ use Rattle.std.proofs.lemmas.Result.{IfOk-weaker}
 use Rattle.index_words.proofs.Tables.{local_with}
 use Rattle.index_words.proofs.table.with_inputs.Goals as goal
 
-pub returns-clause-local : goal.returns-clause-local
-returns-clause-local c =
-    IfOk-weaker c.arg-2.result _ _ (λ r h before. local_with _ r _ h (search rules) (local_with _ _ _ c.in_ok-arg.ensures (search rules) before)) c.arg-2.ensures
+pub returns : goal.returns
+returns c = record {
+  app = search rules;
+  local = IfOk-weaker c.arg-2.result _ _ (λ r h before. local_with _ r _ h (search rules) (local_with _ _ _ c.in_ok-arg.ensures (search rules) before)) c.arg-2.ensures;
+}

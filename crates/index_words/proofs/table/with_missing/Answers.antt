@@ -6,15 +6,14 @@ use Rattle.index_words.specs.Table.{long_flag}
 use Rattle.index_words.proofs.Tables.{app_with, local_with}
 use Rattle.index_words.proofs.table.with_missing.Goals as goal
 
-pub returns-clause-app : goal.returns-clause-app
-returns-clause-app c =
+pub returns : goal.returns
+returns c =
     let rule : rule_of c.long.result ≡ long_flag (codes "missing-ok") =
     ap rule_of c.long.ensures ∙ ap (λ (r : Rule). record r { long = Some (codes "missing-ok") }) c.flag-missing.ensures.rule in
     let local : c.long.result.global ≡ false = ap (λ (a : Arg). a.global) c.long.ensures ∙ c.flag-missing.ensures.global in
-    IfOk-weaker c.arg.result _ _ (λ r h. app_with c.args.command r c.long.result (long_flag (codes "missing-ok")) h local rule)
-    c.arg.ensures
-
-pub returns-clause-local : goal.returns-clause-local
-returns-clause-local c =
-    let local : c.long.result.global ≡ false = ap (λ (a : Arg). a.global) c.long.ensures ∙ c.flag-missing.ensures.global in
-    IfOk-weaker c.arg.result _ _ (λ r h before. local_with c.args.command r c.long.result h local before) c.arg.ensures
+    record {
+      app = IfOk-weaker c.arg.result _ _
+          (λ r h. app_with c.args.command r c.long.result (long_flag (codes "missing-ok")) h local rule) c.arg.ensures;
+      local = IfOk-weaker c.arg.result _ _ (λ r h before. local_with c.args.command r c.long.result h local before)
+          c.arg.ensures;
+    }

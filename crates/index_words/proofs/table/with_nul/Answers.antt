@@ -3,5 +3,8 @@ use Rattle.std.proofs.lemmas.Result.{IfOk-weaker}
 use Rattle.index_words.proofs.Tables.{local_with}
 use Rattle.index_words.proofs.table.with_nul.Goals as goal
 
-pub returns-clause-local : goal.returns-clause-local
-returns-clause-local c = IfOk-weaker c.arg.result _ _ (λ r h before. local_with _ r _ h (search rules) before) c.arg.ensures
+pub returns : goal.returns
+returns c = record {
+  app = search rules;
+  local = IfOk-weaker c.arg.result _ _ (λ r h before. local_with _ r _ h (search rules) before) c.arg.ensures;
+}

@@ -1,6 +1,10 @@
+use Rattle.std.proofs.Common.{rules}
 use Rattle.std.proofs.lemmas.Result.{IfOk-weaker}
 use Rattle.index_words.proofs.table.written.Goals as goal
 
-pub returns-then-eq-clause-local : goal.returns-then-eq-clause-local
-returns-then-eq-clause-local c =
-    IfOk-weaker c.with_missing.result _ _ (λ r h before. h (c.in_ok-command.ensures.local before)) c.with_missing.ensures.local
+pub returns-then-eq : goal.returns-then-eq
+returns-then-eq c = record {
+  app = search rules;
+  local = IfOk-weaker c.with_missing.result _ _ (λ r h before. h (c.in_ok-command.ensures.local before))
+      c.with_missing.ensures.local;
+}

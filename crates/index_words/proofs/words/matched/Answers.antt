@@ -16,23 +16,23 @@ simple_program : is_simple program ≡ true
 unfolding clap_on_literals
 simple_program = refl
 
-pub returns-in_err-try_get_matches_from-clause-answer : goal.returns-in_err-try_get_matches_from-clause-answer
-returns-in_err-try_get_matches_from-clause-answer g c =
+pub returns-in_err-try_get_matches_from : goal.returns-in_err-try_get_matches_from
+returns-in_err-try_get_matches_from g c =
     let words = map g.S.AsStr.text c.args.words.now in
     let is : app_of c.in_ok-program.field-0 ≡ program = c.in_ok-program.ensures in
     let fault = subst (λ (a : App). HasKind (fault_of a words) c.in_err-try_get_matches_from.field-0.0) is
     (c.in_err-try_get_matches_from.ensures.kinds (ap is_simple_and_free is ∙ free_program)) in
     let p = err_from_is_err_and c.from_residual-in_err-try_get_matches_from.result c.from_residual-in_err-try_get_matches_from.ensures.1 in
-    rw (p.1, p.2) (says_fault _ _ fault)
+    rw (p.1, p.2) (record { fault = tt; matches = tt; answer = says_fault _ _ fault })
 
-pub returns-clause-fault : goal.returns-clause-fault
-returns-clause-fault g c =
+pub returns : goal.returns
+returns g c =
     let words = map g.S.AsStr.text c.args.words.now in
     let is : app_of c.in_ok-program.field-0 ≡ program = c.in_ok-program.ensures in
-    sym (ap (λ (a : App). fault_of a words) is) ∙ c.in_ok-try_get_matches_from.ensures.kinds (ap is_simple_and_free is ∙ free_program)
-
-pub returns-clause-matches : goal.returns-clause-matches
-returns-clause-matches g c =
-    let words = map g.S.AsStr.text c.args.words.now in
-    let is : app_of c.in_ok-program.field-0 ≡ program = c.in_ok-program.ensures in
-    (c.in_ok-try_get_matches_from.ensures.matches (ap is_simple is ∙ simple_program)).1 ∙ ap (λ (a : App). subcommand_of a words) is
+    record {
+      fault = sym (ap (λ (a : App). fault_of a words) is)
+          ∙ c.in_ok-try_get_matches_from.ensures.kinds (ap is_simple_and_free is ∙ free_program);
+      matches = (c.in_ok-try_get_matches_from.ensures.matches (ap is_simple is ∙ simple_program)).1
+          ∙ ap (λ (a : App). subcommand_of a words) is;
+      answer = tt;
+    }

@@ -7,7 +7,7 @@ use Rattle.gix_index.proofs.file.at.read_file.Goals as goal
 
 pub returns-in-Ok-Some-clause-read : goal.returns-in-Ok-Some-clause-read
 returns-in-Ok-Some-clause-read g c =
-    let h = rw c.in-Ok-Some.field-0-is at c.in-Ok-Some.ensures.read in
+    let h = (rw c.in-Ok-Some.field-0-is at c.in-Ok-Some.ensures.read).read in
     let r = c.args.reading in
     record {
       bytes = h.0;
@@ -24,10 +24,10 @@ returns-in-Ok-clause-read g c =
     let bytes = c.in-Ok.bytes.items in
     read_some r.skip_hash r.object_hash r.timestamp r.options (known_of (g.S.Source.stored c.args.file)) bytes
     c.decoded.result
-    (subst (λ (o : Option Stored). MayHave (known_of o) bytes) c.in_windows.ensures.stored
+    (subst (λ (o : Option Stored). MayHave (known_of o) bytes) c.in_windows.ensures.left.stored
     (held_by (g.S.Source.stored c.in_windows.new.file) bytes c.in-Ok.ensures.whole))
     (rw c.deref.ensures.value at c.decoded.ensures.answer)
 
 pub returns-in-Err-bytes_of-clause-fault : goal.returns-in-Err-bytes_of-clause-fault
 returns-in-Err-bytes_of-clause-fault g c = c.read_fault-in-Err-bytes_of.ensures _ _
-    (λ is. inl (c.in-Err-bytes_of.ensures.fault (c.in_windows.ensures.works ∙ is))) _ _ _ _
+    (λ is. inl (c.in-Err-bytes_of.ensures.fault (c.in_windows.ensures.left.works ∙ is))) _ _ _ _

@@ -5,7 +5,7 @@ use Rattle.gix_index.proofs.file.unfollowed.read_alone.Goals as goal
 
 pub returns-in-Ok-Some-clause-read : goal.returns-in-Ok-Some-clause-read
 returns-in-Ok-Some-clause-read g c =
-    let h = rw c.in-Ok-Some.field-0-is at c.in-Ok-Some.ensures.read in
+    let h = (rw c.in-Ok-Some.field-0-is at c.in-Ok-Some.ensures.read).read in
     let r = c.args.reading in (
       h.0,
       held_by (g.S.Source.stored c.args.file) h.0 h.1,
@@ -20,4 +20,4 @@ returns-in-Err-clause-fault g c = c.read_fault.ensures _ _ (λ is. inl (c.in-Err
 
 pub returns-in-Err-bytes_of-clause-fault : goal.returns-in-Err-bytes_of-clause-fault
 returns-in-Err-bytes_of-clause-fault g c = c.read_fault-in-Err-bytes_of.ensures _ _
-    (λ is. inl (c.in-Err-bytes_of.ensures.fault (c.in_windows.ensures.works ∙ is))) _ _ _ _
+    (λ is. inl (c.in-Err-bytes_of.ensures.fault (c.in_windows.ensures.left.works ∙ is))) _ _ _ _

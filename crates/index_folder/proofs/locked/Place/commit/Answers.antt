@@ -1,7 +1,15 @@
+use Rattle.std.proofs.Common.{rules}
 use Rattle.index_folder.proofs.Moved.{committed_so}
 use Rattle.index_folder.proofs.locked.Place.commit.Goals as goal
 
-pub returns-in-Ok-clause-committed : goal.returns-in-Ok-clause-committed
-returns-in-Ok-clause-committed g c = λ alone.
-    committed_so _ _ c.args.self _ _ _ _ _ c.args.time c.args.self.beside (c.in-Ok.ensures.moved alone) c.as_path.ensures
-    c.as_path-2.ensures c.finish.ensures.contents c.in_default.ensures.given
+pub returns-in-Ok : goal.returns-in-Ok
+returns-in-Ok g c = record {
+  asked = search rules;
+  committed = λ alone. committed_so _ _ c.args.self _ _ _ _ _ c.args.time c.args.self.beside
+      (c.in-Ok.ensures.moved alone) c.as_path.ensures c.as_path-2.ensures c.finish.ensures.contents
+      c.in_default.ensures.given;
+  released = tt;
+  fault = tt;
+  alone = search rules;
+  works = search rules;
+}

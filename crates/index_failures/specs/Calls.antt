@@ -1,0 +1,83 @@
+-- What each call answers that reads a file, or locks or writes one, of a folder (the program's own).
+use Rattle.std.specs.Prelude.{◌≡◌, ◌++◌, ℕ, [], List, Option, Some, true, codes, Result, IfErr, IfOk, OnErr, OnOk}
+use Rattle.std.specs.Global.{Vec}
+use Rattle.gix_index.specs.Disk.{MayHave, disk_at}
+use Rattle.gix_index.specs.Disk.World.{MayBe}
+use Rattle.gix_index.specs.File.{checksum_of, path_of, state_of}
+use Rattle.gix_index.specs.FileTime.{FileTime}
+use Rattle.gix_index.specs.InPlace.{IsPutSince}
+use Rattle.gix_index.specs.InPlace.Locks.{IsReleased, asked_of, lock_of, target_of}
+use Rattle.gix_index.specs.Kind.{Kind}
+use Rattle.gix_index.specs.State.{PathsInStorage, contents}
+use Rattle.gix_index.specs.VersionChoice.{VersionChoice}
+use Rattle.gix_index.specs.WrittenFile.{IsWrittenTo}
+use Rattle.gix_index.specs.declared.file.File.{File}
+use Rattle.gix_index.specs.OnDisk.FolderTrait.{Ghosts}
+use Rattle.gix_index.specs.InPlace.Lock.{Lock}
+use Rattle.index_failures.specs.declared.failure.Failure.{Failure}
+use Rattle.gix_index.specs.OnDisk.Folders.{KeepsManner}
+use Rattle.index_failures.specs.Options.{rewrite_options}
+use Rattle.index_failures.specs.Reading.{FailsReading, IsInFile, IsInFileSince, SaysOfBytes, SaysOfIndex}
+use Rattle.index_failures.specs.Storing.{FailsCommitting, FailsLocking, IsUnderLock}
+
+-- ---- what is read
+
+-- the bytes of the file at a path, and when it was changed last; or why they can't be had
+pub record ReadsBytes {S F M : Type 0} (folder : Ghosts S F M) (now : S) (path : List ℕ)
+    (answer : Result (Vec ℕ × FileTime) Failure) : Type 0 where
+  pub held : IfOk answer (λ read. MayHave (folder.known now path) read.0.items)
+  pub since : IfOk answer (λ read. MayBe (folder.known now path) (λ file. read.1 ≡ file.time))
+  pub fault : IfErr answer (FailsReading (SaysOfBytes (folder.works now) (folder.known now) path) path)
+
+-- the index in the file at a path can't be read, for what the failure says
+abbrev pub FailsToRead : {S F M : Type 0} → Ghosts S F M → S → Kind → List ℕ → Failure → Type 0
+FailsToRead folder now kind path failure =
+    FailsReading (SaysOfIndex (folder.works now) (folder.known now) kind path) path failure
+
+-- the index in the file at a path, under that path; or why it can't be read
+pub record ReadsIndex {S F M : Type 0} (folder : Ghosts S F M) (now : S) (kind : Kind) (at : List ℕ)
+    (answer : Result File Failure) : Type 0 where
+  pub read : IfOk answer
+      (λ index. IsInFile (disk_at (folder.known now) at) kind (contents (state_of index)) (checksum_of index))
+  pub path : IfOk answer (λ index. path_of index ≡ at)
+  pub placed : IfOk answer (λ index. PathsInStorage (state_of index))
+  pub fault : IfErr answer (FailsToRead folder now kind at)
+
+-- an index of which this holds, and whose paths lie in its storage; or why there is none
+pub record GivesIndex (Read : File → Type 0) (Fault : Failure → Type 0) (answer : Result File Failure) : Type 0 where
+  pub read : IfOk answer Read
+  pub placed : IfOk answer (λ index. PathsInStorage (state_of index))
+  pub fault : IfErr answer Fault
+
+-- the index in the file at a path, with the file's time; or why it can't be read
+abbrev pub OpensIndex : {S F M : Type 0} → Ghosts S F M → S → Kind → List ℕ → Result File Failure → Type 0
+OpensIndex folder now kind path answer = GivesIndex
+    (λ index. IsInFileSince (disk_at (folder.known now) path) kind (contents (state_of index)) (checksum_of index))
+    (FailsToRead folder now kind path) answer
+
+-- ---- what is written
+
+-- The lock of the file that a path leads to, beside that file, and empty where nobody else changes files, by what is
+-- known of a file that was made; or why it can't be locked.
+pub record LocksTarget {S F M : Type 0} (folder : Ghosts S F M) (made : M → Option (List ℕ)) (old new : S) (to : List ℕ)
+    (answer : Result (Lock M) Failure) : Type 0 where
+  pub locked : IfOk answer
+      (λ lock. IsUnderLock (folder.guards old) (folder.known old) (folder.known new) to lock.place)
+  pub beside : IfOk answer (λ lock. lock_of lock.place ≡ target_of lock.place ++ codes ".lock")
+  pub empty : IfOk answer (λ lock. folder.alone old ≡ true → made lock.file ≡ Some [])
+  pub unmade : OnErr answer (folder.known new ≡ folder.known old)
+  pub fault : IfErr answer (FailsLocking (folder.works old) (folder.known old) to)
+  pub manner : KeepsManner folder old new
+
+-- The index was written in the place of the file that was locked, with all extensions that it has and that fit, in this
+-- version; or the lock was given up, and why.
+pub record CommitsIndex {S F M : Type 0} (folder : Ghosts S F M) (made : M → Option (List ℕ)) (old new : S) (lock : Lock M)
+    (index : File) (version : VersionChoice) (to : List ℕ) (answer : Result (Unit {0}) Failure) : Type 0 where
+  pub written : OnOk answer ((written : File) × IsWrittenTo (asked_of lock.place) index written (rewrite_options version))
+  pub put : OnOk answer (folder.alone old ≡ true → made lock.file ≡ Some []
+      → IsPutSince (folder.known old) (folder.known new) lock.place (contents (state_of index)) (rewrite_options version))
+  pub released : OnErr answer (folder.alone old ≡ true
+      → IsReleased (folder.works old) (folder.known old) (folder.known new) (lock_of lock.place))
+  pub fault : IfErr answer
+      (FailsCommitting (folder.works old) lock.place (contents (state_of index)) (rewrite_options version) to)
+  pub manner : KeepsManner folder old new

@@ -1,0 +1,100 @@
+-- What a call on a place for files answers and leaves, over all that is known of the place (the library's own).
+use Rattle.std.specs.Prelude.{◌≡◌, ◌⊎◌, ◌++◌, ℕ, List, [], codes, true, Option, Some, Result, IfErr, IfOk, OnErr, OnOk}
+use Rattle.std.specs.IoError.{error_kind}
+use Rattle.std.specs.Path.{path_buf_bytes, path_bytes, path_with_file_name}
+use Rattle.std.specs.Global.{Global, Vec}
+use Rattle.std.specs.declared.io.Error.{Error as IoError}
+use Rattle.std.specs.declared.io.ErrorKind.TheVariants.{OutOfMemory}
+use Rattle.std.specs.declared.path.Path.{Path}
+use Rattle.std.specs.declared.path.buf.PathBuf.{PathBuf}
+use Rattle.index_metadata.specs.declared.entry.stat.FileTime.{FileTime}
+use Rattle.index_folder.specs.Calls.{FailsAs}
+use Rattle.index_folder.specs.Locks.{IsCommitted, IsReleased, LeadsTo, SaysOfCommit, SaysOfLock, asked_of, lock_of}
+use Rattle.index_folder.specs.Locks.{target_of}
+use Rattle.index_folder.specs.World.{Makes, MayBe, MayBeNoLink, MayLead, Stored}
+use Rattle.index_folder.specs.declared.folder.Folder.{Ghosts}
+use Rattle.index_folder.specs.declared.lock.CommitError.{CommitError}
+use Rattle.index_folder.specs.declared.lock.Error.{Error}
+use Rattle.index_folder.specs.declared.lock.Lock.{Lock}
+use Rattle.index_folder.specs.declared.locked.Place.{Place}
+
+-- calls fail where they did, and others change what is there where they did
+pub record KeepsManner {D F M : Type 0} (folder : Ghosts D F M) (old new : D) : Type 0 where
+  pub alone : folder.alone new ≡ folder.alone old
+  pub works : folder.works new ≡ folder.works old
+
+-- all that is known of the place stays
+pub record LeavesFolder {D F M : Type 0} (folder : Ghosts D F M) (old new : D) : Type 0 where
+  pub known : folder.known new ≡ folder.known old
+  pub alone : folder.alone new ≡ folder.alone old
+  pub guards : folder.guards new ≡ folder.guards old
+  pub works : folder.works new ≡ folder.works old
+
+-- ---- reading
+
+-- what is had of the file at a path is so of the one that is known to be there
+abbrev pub GivesOfFile : {D F M T : Type 0} → Ghosts D F M → D → Path → Result T IoError → (T → Stored → Type 0)
+    → Type 0
+GivesOfFile folder now path result P = IfOk result (λ read. MayBe (folder.known now (path_bytes path)) (P read))
+
+-- where the place works, a fault comes of what is known of the path
+abbrev pub FailsAt : {D F M T : Type 0} → Ghosts D F M → D → Path → Result T IoError → Type 0
+FailsAt folder now path result = FailsAs (folder.works now) (folder.known now (path_bytes path)) result
+
+-- all bytes of the file at a path, and when it was changed last
+pub record ReadsBytesAt {D F M : Type 0} (folder : Ghosts D F M) (now : D) (path : Path)
+    (result : Result (Vec ℕ × FileTime) IoError) : Type 0 where
+  pub held : GivesOfFile folder now path result (λ read file. read.0.items ≡ file.bytes)
+  pub since : GivesOfFile folder now path result (λ read file. read.1 ≡ file.time)
+  pub fault : FailsAt folder now path result
+
+-- ---- links
+
+-- where the link at a path leads, seen from the folder that it is in
+pub record FollowsLink {D F M : Type 0} (folder : Ghosts D F M) (now : D) (link : List ℕ)
+    (result : Result (PathBuf Global) IoError) : Type 0 where
+  pub next : IfOk result (λ path. (text : List ℕ) × MayLead (folder.known now link) text
+      × (path_buf_bytes path ≡ path_with_file_name link text))
+  pub fault : folder.works now ≡ true
+      → IfErr result (λ e. (error_kind e ≡ OutOfMemory) ⊎ MayBeNoLink (folder.known now link))
+
+-- the file that a path leads to by at most five links
+pub record FindsTarget {D F M : Type 0} (folder : Ghosts D F M) (now : D) (path : List ℕ)
+    (result : Result (PathBuf Global) Error) : Type 0 where
+  pub leads : IfOk result (λ target. LeadsTo (folder.known now) 5 path (path_buf_bytes target))
+  pub fault : IfErr result (SaysOfLock (folder.works now) (folder.known now) path)
+
+-- ---- locks
+
+-- The lock beside the file that a path leads to was made new, or all that is known stays.
+pub record Acquires {D F M : Type 0} (folder : Ghosts D F M) (bytes_of : M → Option (List ℕ)) (old new : D)
+    (path : List ℕ) (result : Result (Lock M) Error) : Type 0 where
+  pub asked : IfOk result (λ l. asked_of l.place ≡ path)
+  pub target : IfOk result (λ l. LeadsTo (folder.known old) 5 path (target_of l.place))
+  pub lock : IfOk result (λ l. lock_of l.place ≡ target_of l.place ++ codes ".lock")
+  pub made : IfOk result (λ l. Makes (folder.guards old) (folder.known old) (folder.known new) (lock_of l.place))
+  pub empty : IfOk result (λ l. folder.alone old ≡ true → bytes_of l.file ≡ Some [])
+  pub unmade : OnErr result (folder.known new ≡ folder.known old)
+  pub fault : IfErr result (SaysOfLock (folder.works old) (folder.known old) path)
+  pub alone : folder.alone new ≡ folder.alone old
+  pub works : folder.works new ≡ folder.works old
+
+-- A lock was given up, whose path is told.
+pub record Releases {D F M : Type 0} (folder : Ghosts D F M) (old new : D) (lock : List ℕ) (told : PathBuf Global)
+    : Type 0 where
+  pub path : path_buf_bytes told ≡ lock
+  pub released : folder.alone old ≡ true → IsReleased (folder.works old) (folder.known old) (folder.known new) lock
+  pub alone : folder.alone new ≡ folder.alone old
+  pub works : folder.works new ≡ folder.works old
+
+-- A lock with these bytes took the place of its file, or it was given up.
+pub record Commits {D F M : Type 0} (folder : Ghosts D F M) (old new : D) (place : Place) (bytes : Option (List ℕ))
+    (time : FileTime) (result : Result (PathBuf Global) CommitError) : Type 0 where
+  pub asked : IfOk result (λ path. path_buf_bytes path ≡ asked_of place)
+  pub committed : OnOk result (folder.alone old ≡ true
+      → IsCommitted (folder.known old) (folder.known new) place bytes time)
+  pub released : OnErr result (folder.alone old ≡ true
+      → IsReleased (folder.works old) (folder.known old) (folder.known new) (lock_of place))
+  pub fault : IfErr result (SaysOfCommit (folder.works old) place)
+  pub alone : folder.alone new ≡ folder.alone old
+  pub works : folder.works new ≡ folder.works old

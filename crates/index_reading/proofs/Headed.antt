@@ -1,0 +1,89 @@
+-- Behind a header that stands, with a count that can be and is within the limit, the answer is what follows.
+use Rattle.std.proofs.Common.{◌≡◌, ℕ, Bool, false, ltb, List, length, drop, Option, Result, Ok, Err, refl, subst}
+use Rattle.std.specs.Prelude.{◌↔◌, IfErr, IfOk, MatchBool, MatchResult}
+use Rattle.index_parts.specs.declared.hash.Kind.{Kind}
+use Rattle.index_parts.specs.declared.hash.ObjectId.{ObjectId}
+use Rattle.index_metadata.specs.declared.entry.stat.FileTime.{FileTime}
+use Rattle.index_extensions.specs.EndMarker.{IsMarker}
+use Rattle.index_entries.specs.declared.Version.{Version}
+use Rattle.index_entries.specs.Header.{HeaderFault, count_of, header_of}
+use Rattle.index_entries.specs.Limits.{is_too_large, most_entries}
+use Rattle.index_format.specs.declared.Parts.{Parts}
+use Rattle.index_format.specs.declared.decode.Options.{Options}
+use Rattle.index_format.specs.declared.error.Error.{Error}
+use Rattle.index_format.specs.Answer.{Answer, IsAnswer, IsBehindHeader, IsCounted}
+use Rattle.index_format.specs.Contents.{parts_contents}
+use Rattle.index_format.specs.DecodeErrors.{Says, SaysFault}
+use Rattle.index_format.proofs.Answers.{body_late, one_marker, says_weaker}
+use Rattle.index_reading.specs.Head.{IsDeclared, LooksAt}
+use Rattle.index_reading.specs.declared.decode.Declared.{Declared}
+
+counted_both : (t u : Bool) (X Y B : Type 0) → t ≡ false → u ≡ false → B ↔ MatchBool t X (MatchBool u Y B)
+counted_both t u X Y B n m = rw (n, m) (λ b. b, λ b. b)
+
+headed_both : (r : Result Version HeaderFault) (v : Version) (B : Type 0) (C : Version → Type 0)
+    (F : HeaderFault → Type 0) → r ≡ Ok v → B ↔ C v → B ↔ MatchResult r C F
+headed_both r v B C F e h = rw e h
+
+module _ (kind : Kind) (time : FileTime) (options : Options) (bytes : List ℕ) (version : Version)
+    (offset : Option ℕ) (head : header_of kind bytes ≡ Ok version) (marked : IsMarker kind bytes offset)
+    (few : ltb (most_entries (length bytes) offset kind version) (count_of bytes) ≡ false)
+    (small : is_too_large options.alloc_limit_bytes (count_of bytes) (length bytes) offset kind version ≡ false) where
+  counted_is : (a : Answer) → IsBehindHeader kind time options version (count_of bytes) (drop 12 bytes) a
+      ↔ IsCounted offset kind time options bytes a version
+  counted_is a = counted_both _ _ _ _ (IsBehindHeader kind time options version (count_of bytes) (drop 12 bytes) a)
+      few small
+
+  marked_is : (a : Answer) → IsBehindHeader kind time options version (count_of bytes) (drop 12 bytes) a
+      ↔ ((o : Option ℕ) × IsMarker kind bytes o × IsCounted o kind time options bytes a version)
+  marked_is a = (
+    λ b. (offset, marked, (counted_is a).0 b),
+    λ c. (counted_is a).1 (subst (λ (o : Option ℕ). IsCounted o kind time options bytes a version)
+        (one_marker kind bytes c.0 offset c.1 marked) c.2),
+  )
+
+  pub answer_is : (a : Answer) → IsBehindHeader kind time options version (count_of bytes) (drop 12 bytes) a
+      ↔ IsAnswer kind time options bytes a
+  answer_is a =
+      headed_both (header_of kind bytes) version
+      (IsBehindHeader kind time options version (count_of bytes) (drop 12 bytes) a)
+      (λ v. (o : Option ℕ) × IsMarker kind bytes o × IsCounted o kind time options bytes a v) _ head (marked_is a)
+
+-- what a result says of what follows, it says of the answer to all bytes
+pub says_answer : (kind : Kind) (time : FileTime) (options : Options) (version : Version) (count : ℕ)
+    (rest bytes : List ℕ) (r : Result (Parts × Option ObjectId) Error)
+    → ((a : Answer) → IsBehindHeader kind time options version count rest a ↔ IsAnswer kind time options bytes a)
+    → Says parts_contents r (IsBehindHeader kind time options version count rest)
+    → Says parts_contents r (IsAnswer kind time options bytes)
+says_answer kind time options version count rest bytes r same =
+    says_weaker r (IsBehindHeader kind time options version count rest) (IsAnswer kind time options bytes)
+    (λ a. (same a).0) (λ f early q. body_late kind time options version count rest f early ((same (Err f)).1 q))
+
+-- what is declared is what a look gives
+looks_behind : (kind : Kind) (options : Options) (bytes : List ℕ) (offset : Option ℕ) (r : Result Declared Error)
+    → IsMarker kind bytes offset → IfOk r (IsDeclared kind options bytes (length bytes) offset)
+    → IfOk r (λ d. (time : FileTime) (a : Answer) → IsBehindHeader kind time options d.version d.count d.rest.now a
+    ↔ IsAnswer kind time options bytes a)
+looks_behind kind options bytes offset (Ok d) marked h = λ time a.
+    let few : ltb (most_entries (length bytes) offset kind d.version) (count_of bytes) ≡ false = rw h.count at h.fits in
+    let small : is_too_large options.alloc_limit_bytes (count_of bytes) (length bytes) offset kind d.version ≡ false =
+    rw h.count at h.small in
+    rw (h.count, h.rest) (answer_is kind time options bytes d.version offset h.header marked few small a)
+looks_behind kind options bytes offset (Err e) marked h = h
+
+looks_fault : (kind : Kind) (options : Options) (bytes : List ℕ) (offset : Option ℕ) (r : Result Declared Error)
+    → IsMarker kind bytes offset → IfErr r (λ e. length bytes ≡ length bytes → IsMarker kind bytes offset
+    → (time : FileTime) → SaysFault e (IsAnswer kind time options bytes))
+    → IfErr r (λ e. (time : FileTime) → SaysFault e (IsAnswer kind time options bytes))
+looks_fault kind options bytes offset (Ok d) marked h = h
+looks_fault kind options bytes offset (Err e) marked h = h refl marked
+
+pub looks_at : (kind : Kind) (options : Options) (bytes : List ℕ) (offset : Option ℕ) (r : Result Declared Error)
+    → IsMarker kind bytes offset → IfOk r (IsDeclared kind options bytes (length bytes) offset)
+    → IfErr r (λ e. length bytes ≡ length bytes → IsMarker kind bytes offset
+    → (time : FileTime) → SaysFault e (IsAnswer kind time options bytes))
+    → LooksAt kind options bytes r
+looks_at kind options bytes offset r marked declared fault = record {
+  behind = looks_behind kind options bytes offset r marked declared;
+  fault = looks_fault kind options bytes offset r marked fault;
+}

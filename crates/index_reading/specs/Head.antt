@@ -1,0 +1,28 @@
+-- What the header of a file declares, and what that says of all its bytes (gitformat-index, "A 12-byte header").
+use Rattle.std.specs.Prelude.{◌≡◌, ◌↔◌, ℕ, nat_lt, List, drop, false, Option, Result, Ok, IfErr, IfOk}
+use Rattle.index_parts.specs.declared.hash.Kind.{Kind}
+use Rattle.index_metadata.specs.declared.entry.stat.FileTime.{FileTime}
+use Rattle.index_entries.specs.Header.{count_of, header_len, header_of}
+use Rattle.index_entries.specs.Limits.{is_too_large, most_entries}
+use Rattle.index_format.specs.Answer.{Answer, IsAnswer, IsBehindHeader}
+use Rattle.index_format.specs.DecodeErrors.{SaysFault}
+use Rattle.index_format.specs.declared.decode.Options.{Options}
+use Rattle.index_format.specs.declared.error.Error.{Error}
+use Rattle.index_reading.specs.declared.decode.Declared.{Declared}
+
+-- The header at the head of a file of so many bytes, whose end marker names this offset or which has none, declares a
+-- version, and a count of entries that such a file can hold and the limit allows.
+pub record IsDeclared (kind : Kind) (options : Options) (head : List ℕ) (len : ℕ) (offset : Option ℕ)
+    (declared : Declared) : Type 0 where
+  pub header : header_of kind head ≡ Ok declared.version
+  pub count : declared.count ≡ count_of head
+  pub rest : declared.rest.now ≡ drop header_len head
+  pub fits : nat_lt (most_entries len offset kind declared.version) declared.count ≡ false
+  pub small : is_too_large options.alloc_limit_bytes declared.count len offset kind declared.version ≡ false
+
+-- What a look at the header of all bytes of a file gives, whatever the file's time: the answer to all bytes is what
+-- follows behind it, or it is this fault.
+pub record LooksAt (kind : Kind) (options : Options) (bytes : List ℕ) (result : Result Declared Error) : Type 0 where
+  pub behind : IfOk result (λ d. (time : FileTime) (answer : Answer)
+      → IsBehindHeader kind time options d.version d.count d.rest.now answer ↔ IsAnswer kind time options bytes answer)
+  pub fault : IfErr result (λ e. (time : FileTime) → SaysFault e (IsAnswer kind time options bytes))

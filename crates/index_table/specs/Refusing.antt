@@ -1,0 +1,105 @@
+-- Why the rows of a table make nothing of an index, where they are changes of it, and what a call answers that writes
+-- what they make (the library's own).
+use Rattle.std.specs.Prelude.{◌≡◌, ◌⊎◌, ℕ, false, List, All, Some, None, Result, IfErr, IfOk}
+use Rattle.gix_index.specs.Changing.ApplyError.TheVariants.{Refused}
+use Rattle.gix_index.specs.Changing.Change.{Change}
+use Rattle.gix_index.specs.Changing.Changes.{refusal_of}
+use Rattle.gix_index.specs.Changing.Error.{Error}
+use Rattle.gix_index.specs.Changing.Error.TheVariants as errors
+use Rattle.gix_index.specs.Contents.{Contents}
+use Rattle.gix_index.specs.Kind.{Kind}
+use Rattle.gix_index.specs.Order.{IsStrictlyOrdered}
+use Rattle.gix_index.specs.OrderError.{Error as OrderError}
+use Rattle.gix_index.specs.OrderError.TheVariants as orders
+use Rattle.gix_index.specs.Sorted.{IsFirstFall}
+use Rattle.index_info.specs.Names as names
+use Rattle.index_table.specs.Fitting.{HasUnfitRow, IsFit}
+use Rattle.index_table.specs.Joining.{AreReadSo, FailBoth}
+use Rattle.index_table.specs.Reading.{LacksMemory}
+use Rattle.index_table.specs.Updating.{AreSaidBy, HasKeptImage, IsUnwritableKept, PassesRoomKept, Updates}
+use Rattle.index_table.specs.Writing.{IfPassed, IfRefused, IfUnwritten}
+use Rattle.index_table.specs.declared.fault.Failure.{Failure}
+use Rattle.index_table.specs.declared.row.Row.{Row}
+use Rattle.index_table.specs.declared.write.Fault.{Fault}
+use Rattle.index_table.specs.declared.write.Fault.TheVariants as faults
+use Rattle.index_table.specs.declared.write.Image.{Image}
+use Rattle.index_table.specs.declared.write.Unwritten.{Unwritten}
+use Rattle.index_table.specs.declared.write.Unwritten.TheVariants as unwritten
+
+-- ---- faults
+
+-- the fault of a change at a place that isn't made
+abbrev pub change_fault : ℕ → Error → Fault
+change_fault at errors.EmptyPath = faults.Row at
+change_fault at (errors.Nul place) = faults.Row at
+change_fault at (errors.Mode mode) = faults.Mode at
+change_fault at (errors.OtherKind expected actual) = faults.Row at
+change_fault at errors.NullId = faults.Row at
+change_fault at errors.NoSlash = faults.Row at
+change_fault at errors.EmptyName = faults.Name at
+change_fault at (errors.Name number) = faults.Name at
+change_fault at (errors.PathTooLong len) = faults.Row at
+change_fault at errors.Memory = faults.Row at
+
+-- the fault is of the value's first entry that isn't above the one before it
+pub record HasFallenEntry (fault : Fault) (v : Contents) : Type 0 where
+  pub place : ℕ
+  pub fall : IsFirstFall v.records (Some place)
+  pub fault_is : fault ≡ faults.Order place
+
+-- the entries are in order, and the fault is of the first row that isn't fit
+pub record HasUnfitChange (kind : Kind) (paths : List ℕ) (rows : List Row) (fault : Fault) (v : Contents)
+    : Type 0 where
+  pub ordered : IsStrictlyOrdered v.records
+  pub unfit : HasUnfitRow kind v.extensions.sparse paths rows fault
+
+-- the entries are in order, each row is fit, and the fault is of the first row whose change is refused
+pub record HasRefusedChange (kind : Kind) (paths : List ℕ) (rows : List Row) (fault : Fault) (v : Contents)
+    : Type 0 where
+  pub ordered : IsStrictlyOrdered v.records
+  pub fit : All (IsFit kind v.extensions.sparse paths) rows
+  pub changes : List Change
+  pub said : AreSaidBy paths rows changes
+  pub room : ℕ
+  pub at : ℕ
+  pub cause : Error
+  pub first : refusal_of names.refusal_of v.kind room changes ≡ Some (Refused at cause)
+  pub fault_is : fault ≡ change_fault at cause
+
+-- the first fault by which the rows make nothing of a value
+abbrev pub IsUnmade : Kind → List ℕ → List Row → Fault → Contents → Type 0
+IsUnmade kind paths rows fault v =
+    HasFallenEntry fault v ⊎ HasUnfitChange kind paths rows fault v ⊎ HasRefusedChange kind paths rows fault v
+
+-- why they make nothing of it; want of memory says nothing
+abbrev pub MakesNothing : Kind → List ℕ → List Row → Contents → Unwritten → Type 0
+MakesNothing kind paths rows v (unwritten.NoRoom told) = ⊥
+MakesNothing kind paths rows v (unwritten.Refused fault) = IsUnmade kind paths rows fault v
+MakesNothing kind paths rows v unwritten.Memory = Unit {0}
+
+-- entries out of order are told so, and want of memory to name them as that
+abbrev pub order_told : OrderError → Unwritten
+order_told (orders.OutOfOrder index path stage previous_path previous_stage) = unwritten.Refused (faults.Order index)
+order_told orders.Memory = unwritten.Memory
+
+-- the first fault by which nothing is written in place of the index of these bytes, joined to the shared one
+abbrev pub IsUnupdated : Kind → List ℕ → List ℕ → List ℕ → List Row → Fault → Type 0
+IsUnupdated kind bytes shared paths rows fault =
+    AreReadSo false kind bytes shared (IsUnmade kind paths rows fault)
+    ⊎ Updates kind bytes shared paths rows (IsUnwritableKept fault)
+
+-- ---- what is answered
+
+-- What is answered where what the rows make of an index is to be written into a room. Ok: what became of it. Err: why
+-- the bytes, or those of the shared index, aren't read. Where nothing is written, the room is as it was.
+pub record WritesUpdate (kind : Kind) (bytes shared paths : List ℕ) (rows : List Row) (old new : List ℕ)
+    (r : Result (Result Image Unwritten) Failure) : Type 0 where
+  pub done : IfOk r (λ written. IfOk written
+      (λ told. Updates kind bytes shared paths rows (HasKeptImage told old new)))
+  pub refused : IfOk r (λ written. IfRefused written (IsUnupdated kind bytes shared paths rows))
+  pub memory : IfOk r (λ written. IfUnwritten written (LacksMemory None false kind bytes))
+  pub no_room : IfOk r (λ written. IfPassed written
+      (λ told. Updates kind bytes shared paths rows (PassesRoomKept told old)))
+  pub unread : IfErr r (FailBoth false kind bytes shared)
+  pub room : IfErr r (λ _. new ≡ old)
+  pub kept : IfOk r (λ written. IfErr written (λ _. new ≡ old))

@@ -1,0 +1,72 @@
+-- What a call that reads a state answers, and what one that changes it leaves (the library's own).
+use Rattle.std.specs.Prelude.{◌≡◌, ℕ, ◌++◌, Bool, false, List, Option, Ok, Result, IfErr, IfOk, OnOk, MatchOption}
+use Rattle.gix_index.specs.Contents.{Contents}
+use Rattle.gix_index.specs.Edits.{refit, with_cached_tree}
+use Rattle.gix_index.specs.EntryImage.{written}
+use Rattle.gix_index.specs.FileFaults.ReadError.{Error as ReadError}
+use Rattle.gix_index.specs.Kind.{Kind}
+use Rattle.gix_index.specs.Link.{LinkValue}
+use Rattle.gix_index.specs.ObjectId.{ObjectId}
+use Rattle.gix_index.specs.State.{PathsInStorage, contents, records}
+use Rattle.gix_index.specs.StateType.{State}
+use Rattle.gix_index.specs.Storable.{IsStorable}
+use Rattle.index_table.specs.Joining.{AreReadSo, FailBoth, FailsJoined, IsJoinedBy}
+use Rattle.index_table.specs.Reading.{BytesEndAs, FailsSo}
+use Rattle.index_table.specs.Refusing.{MakesNothing}
+use Rattle.index_table.specs.Table.{records_of}
+use Rattle.index_table.specs.Updating.{IsChangedBy}
+use Rattle.index_table.specs.declared.fault.Failure.{Failure}
+use Rattle.index_table.specs.declared.row.Row.{Row}
+use Rattle.index_table.specs.declared.write.Unwritten.{Unwritten}
+
+-- ---- what is read
+
+-- a state is given whose value is so and can stand in a file, and whose paths lie in its storage; or why none is
+pub record GivesState {E : Type 0} (P : Contents → Type 0) (Fails : E → Type 0) (r : Result State E) : Type 0 where
+  pub read : IfOk r (λ state. P (contents state))
+  pub placed : IfOk r PathsInStorage
+  pub storable : IfOk r (λ state. IsStorable (contents state))
+  pub failed : IfErr r Fails
+
+-- the index of these bytes, whose trailer has to be this id, where there is one, unless it is null
+abbrev pub ReadsState : Option ObjectId → Bool → Kind → List ℕ → Result State ReadError → Type 0
+ReadsState expected skip kind bytes r =
+    GivesState (λ v. (checksum : Option ObjectId) × BytesEndAs expected skip kind bytes (Ok (v, checksum)))
+    (FailsSo expected skip kind bytes) r
+
+-- what a value comes to that is joined to the shared index of these bytes by the link that it had
+abbrev pub JoinsBy : Bool → Kind → LinkValue → List ℕ → Contents → Result State Failure → Type 0
+JoinsBy skip kind link shared split r =
+    GivesState (λ v. IsJoinedBy skip kind link shared (λ w. w ≡ v) split) (FailsJoined skip kind link shared split) r
+
+-- the index of these bytes, joined to the shared index that they link to
+abbrev pub ReadsBoth : Bool → Kind → List ℕ → List ℕ → Result State Failure → Type 0
+ReadsBoth skip kind bytes shared r =
+    GivesState (λ v. AreReadSo skip kind bytes shared (λ w. w ≡ v)) (FailBoth skip kind bytes shared) r
+
+-- ---- what is changed
+
+-- behind an Ok the value is so, and the paths lie in storage
+pub record BecomesSo {E : Type 0} (P : Contents → Type 0) (new : State) (r : Result (Unit {0}) E) : Type 0 where
+  pub value : OnOk r (P (contents new))
+  pub placed : OnOk r (PathsInStorage new)
+
+-- behind an Ok the records of the rows that aren't left out stand behind those that were there; where there are any,
+-- the extensions aren't known to fit them
+pub record PushesRows {E : Type 0} (paths : List ℕ) (rows : List Row) (old new : State) (r : Result (Unit {0}) E)
+    : Type 0 where
+  pub value : OnOk r (contents new ≡ refit (contents old) (records old ++ written (records_of paths rows))
+      (contents new).fit)
+  pub unfit : (contents old).fit ≡ false → (contents new).fit ≡ false
+  pub placed : OnOk r (PathsInStorage new)
+
+-- the value has its cached tree put in anew, where it has one
+abbrev pub PutsTreeAnew : Contents → Contents → Type 0
+PutsTreeAnew v w = MatchOption v.extensions.tree (w ≡ v) (λ t. w ≡ with_cached_tree v t)
+
+-- all changes that rows say are made, or none, and then why; paths lie in storage, whichever it is
+pub record MakesChanges (kind : Kind) (paths : List ℕ) (rows : List Row) (old new : State)
+    (r : Result (Unit {0}) Unwritten) : Type 0 where
+  pub changed : OnOk r (IsChangedBy kind paths rows (contents old) (contents new))
+  pub placed : PathsInStorage new
+  pub why : IfErr r (MakesNothing kind paths rows (contents old))

@@ -1,0 +1,77 @@
+-- Entries and resolve-undo between the changes of a list (the library's own). Public clauses cite none of these. `s` is the
+-- storage before, and `t` that afterwards.
+use Rattle.std.specs.Prelude.{◌≡◌, ℕ, ◌≤◌, List, [], ◌∷◌, ◌++◌, All, drop, length, Option, Result, IfOk, OnOk}
+use Rattle.std.specs.Borrow.{Bor}
+use Rattle.index_entries.specs.Order.{IsStrictlyOrdered}
+use Rattle.index_entries.specs.Record.{IsPlaced, records_in}
+use Rattle.index_entries.specs.declared.Entry.{Entry}
+use Rattle.index_entries.specs.declared.Pathless.{Pathless}
+use Rattle.index_edits.specs.Changes.{IsAppliedTo}
+use Rattle.index_edits.specs.EntryEdits.{ChangesOrdered, CountsAt, Entries, Storage, TellsOf}
+use Rattle.index_edits.specs.declared.change.Change.{Change}
+use Rattle.index_edits.specs.declared.change.Change.TheVariants.{Stage, Unstage}
+use Rattle.index_small_extensions.specs.declared.fs_monitor.FsMonitor.{FsMonitor}
+use Rattle.index_updates.specs.EntryUpdates.{IsWatchedAfter}
+use Rattle.index_updates.specs.RecordingSteps.{AddsAllLost, Paths}
+use Rattle.index_updates.specs.Undone.{undo_paths, undone}
+use Rattle.index_updates.specs.declared.kept.Kept.{Kept}
+use Rattle.index_updates.specs.declared.single.Cut.{Cut}
+use Rattle.index_updates.specs.declared.single.Settled.{Settled}
+use Rattle.index_updates.specs.declared.update.Updated.{Updated}
+use Rattle.index_updates.specs.declared.update.Watched.{Watched}
+
+-- ---- one change
+
+-- over records that strictly increase, this is recorded after the changes
+abbrev pub IsUndoneAfter : List Change → List ℕ → List Entry → Option Paths → Option Paths → Type 0
+IsUndoneAfter cs s es old made =
+    IsStrictlyOrdered (records_in s es) → undo_paths made ≡ undone cs (records_in s es) (undo_paths old)
+
+-- what is told of an entry that is staged at a path, and what a monitor says then
+pub record TellsSettled (entry : Pathless) (path : Bor (List ℕ)) (s : Storage) (es : Entries)
+    (before : Option FsMonitor) (made : Settled) : Type 0 where
+  pub told : TellsOf entry path.now s es made.told
+  pub monitor : IsWatchedAfter (Stage entry path ∷ []) s.items es.items before made.monitor
+
+-- how many entries at a path are taken out, and what a monitor says then
+pub record TellsCut (path : Bor (List ℕ)) (s : Storage) (es : Entries) (before : Option FsMonitor) (made : Cut)
+    : Type 0 where
+  pub count : CountsAt path.now s.items es made.count
+  pub monitor : IsWatchedAfter (Unstage path ∷ []) s.items es.items before made.monitor
+
+-- ---- several changes
+
+-- A change is made of the entries that are done and the rest behind them, of which so many are done then. Each path lies
+-- in the storage, which has more at its end.
+pub record AppliesNext {E : Type 0} (c : Change) (rest : List Entry) (s : Storage) (es : Entries) (t : Storage)
+    (ds : Entries) (r : Result ℕ E) : Type 0 where
+  pub inside : IfOk r (λ count. count ≤ length rest)
+  pub applied : IfOk r (λ count. ChangesOrdered (IsAppliedTo (c ∷ [])) s.items (es.items ++ rest) t.items
+      (ds.items ++ drop count rest))
+  pub placed : OnOk r (All (IsPlaced (length t.items)) ds.items)
+  pub storage : (more : List ℕ) × (t.items ≡ s.items ++ more)
+
+-- what it takes out of these is recorded
+abbrev pub RecordsNext : {T E : Type 0} → Change → List Entry → Storage → Entries → Option Paths → Option Paths
+    → Result T E → Type 0
+RecordsNext c rest s es old now r = OnOk r (AddsAllLost c (records_in s.items (es.items ++ rest)) old now)
+
+-- the entries and what is recorded after the changes
+pub record AreUpdated (cs : List Change) (s t : Storage) (es : List Entry) (undo : Option Paths) (made : Entries)
+    (recorded_then : Option Paths) : Type 0 where
+  pub applied : ChangesOrdered (IsAppliedTo cs) s.items es t.items made.items
+  pub undone : IsUndoneAfter cs s.items es undo recorded_then
+  pub placed : All (IsPlaced (length t.items)) made.items
+
+-- so they are given, and the storage has more at its end
+pub record UpdatesEntries {E : Type 0} (cs : List Change) (s t : Storage) (es : List Entry) (undo : Option Paths)
+    (r : Result Updated E) : Type 0 where
+  pub made : IfOk r (λ m. AreUpdated cs s t es undo m.entries m.undo)
+  pub storage : (more : List ℕ) × (t.items ≡ s.items ++ more)
+
+-- the same, with what a monitor says then
+pub record UpdatesWatched {E : Type 0} (cs : List Change) (s t : Storage) (es : List Entry) (kept : Kept)
+    (r : Result Watched E) : Type 0 where
+  pub made : IfOk r (λ m. AreUpdated cs s t es kept.undo m.entries m.undo)
+  pub monitor : IfOk r (λ m. IsWatchedAfter cs s.items es kept.monitor m.monitor)
+  pub storage : (more : List ℕ) × (t.items ≡ s.items ++ more)

@@ -1,0 +1,52 @@
+-- Entries that are read in windows, and those that are passed (the library's own).
+use Rattle.std.specs.Prelude.{◌≡◌, ◌≤◌, ◌+◌, ◌-◌, ℕ, All, List, length, None, Option, Result, IfOk, IfSome, OnOk}
+use Rattle.std.specs.Prelude.{vec_len}
+use Rattle.std.specs.Global.{Vec}
+use Rattle.std.specs.declared.alloc.AllocError.{AllocError}
+use Rattle.std.specs.declared.io.Error.{Error}
+use Rattle.index_entries.specs.Entries.{AreEntries}
+use Rattle.index_entries.specs.Record.{Record, has_directory}
+use Rattle.index_entries.specs.declared.Version.{Version}
+use Rattle.index_entry_reading.specs.declared.entries.FirstEntries.{FirstEntries}
+use Rattle.index_folder.specs.declared.folder.Source.{Ghosts}
+use Rattle.index_parts.specs.Id.{id_kind}
+use Rattle.index_parts.specs.declared.hash.Hasher.{Hasher}
+use Rattle.index_parts.specs.declared.hash.Kind.{Kind}
+use Rattle.index_window.specs.Passed.{in_64_bits, paths_len}
+use Rattle.index_window.specs.Windowed.{IfGiven, IsReadOn, moment_of}
+use Rattle.index_window.specs.declared.passed.Passed.{Passed}
+use Rattle.index_window.specs.declared.plan.Plan.{Plan}
+
+-- the ids are of the plan's kind, a directory among the entries is told, and there are no more than are to be
+pub record FitPlan (plan : Plan) (first : FirstEntries) : Type 0 where
+  pub ids : All (λ r. id_kind r.id ≡ plan.kind) first.list.records
+  pub sparse : first.sparse ≡ has_directory first.list.records
+  pub count : length first.list.records ≤ plan.count
+
+-- Entries that stand whole in the window from a place on were taken, up to the place that is given.
+pub record Scans (plan : Plan) (start : ℕ) (h i : Hasher) (old new : Vec ℕ) (before after : FirstEntries)
+    (result : Result ℕ AllocError) : Type 0 where
+  pub fit : OnOk result (FitPlan plan after)
+  pub read : IfOk result (λ place. (left : Option (List ℕ)) → IsReadOn plan
+      (record { left = left; hasher = h; window = old.items; decoded = start; records = before.list.records })
+      (record { left = left; hasher = i; window = new.items; decoded = place; records = after.list.records }) 0)
+
+-- All entries were taken: the place in the window behind them is given, and how many bytes are left to come. It is the
+-- place that the end marker names.
+pub record ReadsEntries {S : Type 0} (source : Ghosts S) (plan : Plan) (left : ℕ) (file rest : S) (h i : Hasher)
+    (old new : Vec ℕ) (before after : FirstEntries) (result : Result (Option (ℕ × ℕ)) Error) : Type 0 where
+  pub fit : OnOk result (FitPlan plan after)
+  pub whole : IfGiven result (λ _. length after.list.records ≡ plan.count)
+  pub read : IfGiven result (λ x. (count : ℕ) × (count + x.1 ≡ left) × IsReadOn plan
+      (moment_of source file h old.items 12 before.list.records)
+      (moment_of source rest i new.items x.0 after.list.records) count)
+  pub named : IfGiven result
+      (λ x. IfSome plan.offset (λ place. place + (vec_len new - x.0) + x.1 ≡ plan.len))
+  pub stored : source.stored rest ≡ source.stored file
+  pub works : source.works rest ≡ source.works file
+
+-- so many entries stand before the rest: what their paths come to, and whether a directory is among them
+abbrev pub ArePassed : Version → Kind → ℕ → List ℕ → Passed → Type 0
+ArePassed version kind count bytes x =
+    (records : List Record) × AreEntries version kind None bytes records x.rest.now × (length records ≡ count)
+    × (x.path_bytes ≡ in_64_bits (paths_len records)) × (x.sparse ≡ has_directory records)
