@@ -1,8 +1,9 @@
 -- Whether some of a list, or of a part of it, pass a test.
 use Rattle.std.proofs.Common.{◌≡◌, ℕ, ◌+◌, ◌-◌, ◌<◌, ◌≤◌, Bool, true, false, ◌&&◌, ◌||◌, List, [], ◌∷◌, length}
-use Rattle.std.proofs.Common.{get_or, drop, filter, refl, ap, ◌∙◌, arith, length-take}
+use Rattle.std.proofs.Common.{get_or, drop, filter, ◌⊎◌, inl, inr, refl, ap, ◌∙◌, arith, length-take}
 use Rattle.std.specs.List.{AllWithin, HoldsAt, list_any}
 use Rattle.std.specs.Prelude.{slice_range, cond}
+use Rattle.std.proofs.lemmas.Bool.{cases_lt}
 use Rattle.std.proofs.lemmas.List.{get_or-take, get_or-drop, length-drop}
 use Rattle.std.proofs.lemmas.List.Folds.{list_any_none}
 use Rattle.index_lookups.proofs.Closest.{any_here}
@@ -27,6 +28,15 @@ none_part p xs start end fits h = list_any_none p (slice_range xs start end) (λ
     let n : length (slice_range xs start end) ≤ end - start =
     omega (arith, length-take (end - start) (drop start xs)) in
     rw (part_at xs start end k d (omega arith)) (h (start + k) d (omega arith) (omega arith)))
+
+-- one place more
+pub none_more : {X : Type 0} (p : X → Bool) (xs : List X) (k : ℕ) → AllWithin (λ x. p x ≡ false) xs 0 k
+    → HoldsAt (λ x. p x ≡ false) xs k → AllWithin (λ x. p x ≡ false) xs 0 (k + 1)
+none_more {X} p xs k before here i d low high = by (cases_lt i k)
+  where
+    by : (i < k) ⊎ (k ≤ i) → p (get_or xs i d) ≡ false
+    by (inl l) = before i d low l
+    by (inr g) = let e : i ≡ k = omega arith in ap (λ j. p (get_or xs j d)) e ∙ here d
 
 pub any_agree : {X : Type 0} (p q : X → Bool) → ((x : X) → p x ≡ q x) → (xs : List X) → list_any p xs ≡ list_any q xs
 any_agree p q h [] = refl

@@ -1,17 +1,19 @@
 -- Changes in the order of their paths, and whether one lies in a folder.
 use Rattle.std.proofs.Common.{◌≡◌, ◌≢◌, ℕ, ◌+◌, ◌<◌, ◌≤◌, ◌⊎◌, inl, inr, Bool, true, false, List, [], ◌∷◌, ◌++◌, length}
-use Rattle.std.proofs.Common.{get_or, take, refl, sym, ap, ◌∙◌, Bor, Result, Ok, Err, IfOk, IfErr, arith}
+use Rattle.std.proofs.Common.{get_or, take, map, refl, sym, ap, ◌∙◌, Bor, ◌-◌, arith}
 use denote.Param.Members.{Mut}
 use Rattle.std.specs.Cmp.{IsStrictWeakOrder}
 use Rattle.std.specs.Cmp.Lexicographic.{texts_ties, nat_list_eq_equiv}
 use Rattle.std.specs.Fn.{Called, ComputesOnPairs}
-use Rattle.std.specs.List.{AllPairs, IsAllAdjacentAnswer, list_any}
+use Rattle.std.specs.List.{AllPairs, AllWithin, HoldsAt, IsAllAdjacentAnswer, list_any}
 use Rattle.std.specs.List.Sorted.{IsPermutation, IsSortedByClosure, IsStableBy, IsStableByClosure}
-use Rattle.std.specs.Ordering.{is_eq, is_le, is_lt, ordering_reverse}
-use Rattle.std.specs.Prelude.{is_ok}
+use Rattle.std.specs.Ordering.{is_eq, is_le, is_lt, nat_cmp, ordering_reverse, ordering_then}
 use Rattle.std.specs.declared.cmp.Ordering.{Ordering}
 use Rattle.std.specs.declared.cmp.Ordering.TheVariants.{Less, Equal, Greater}
 use Rattle.std.proofs.lemmas.Bool.{cases_lt}
+use Rattle.std.proofs.lemmas.Cmp.{tied_itself}
+use Rattle.std.proofs.lemmas.List.{length-map, get_or_default, get_or-map as at_map}
+use Rattle.std.proofs.Math.ListN.{get_or-map as shift}
 use Rattle.std.proofs.lemmas.Fn.{always_returns_same}
 use Rattle.std.proofs.lemmas.List.Elements.{All-contains, Contains-get_or}
 use Rattle.std.proofs.lemmas.List.Folds.{list_any_none}
@@ -19,13 +21,17 @@ use Rattle.std.proofs.lemmas.List.Sorted.{Contains-permutation, IsPermutation-sy
 use Rattle.index_entries.specs.Order.{path_cmp}
 use Rattle.index_entries.proofs.Orders.{paths_total}
 use Rattle.index_lookups.proofs.Closest.{any_here}
+use Rattle.index_lookups.proofs.RunsFound.{within_map}
 use Rattle.index_lookups.proofs.TableSearch.{all_none}
-use Rattle.index_search.specs.Halving.{IsEqualAt, IsGapAt, IsSplitBy}
+use Rattle.index_search.specs.Halving.{IsPartedAt, IsRising, IsSplitBy, is_before}
 use Rattle.index_search.specs.Prefix.{prefix_cmp}
 use Rattle.index_search.proofs.Halving.{split_by}
+use Rattle.index_search.proofs.OrderedAnswers.{rising_of}
+use Rattle.index_search.proofs.Parting.{greater_from}
+use Rattle.index_search.proofs.Places.{some_of}
 use Rattle.index_search.proofs.Prefixes.{prefixes_rise}
 use Rattle.index_edits.specs.Changes.{path_of}
-use Rattle.index_edits.specs.Reorders.{AreInOrder, AreUnnested, are_nested, is_change_before, lies_in}
+use Rattle.index_edits.specs.Reorders.{AreInOrder, AreUnnested, are_nested, has_within, is_change_before, lies_in}
 use Rattle.index_edits.specs.declared.change.Change.{Change}
 
 pub weak : IsStrictWeakOrder is_change_before
@@ -58,16 +64,100 @@ lies_is folder path =
     let prefix = folder ++ 47 ∷ [] in
     sym (texts_ties (take (length prefix) path) prefix) ∙ nat_list_eq_equiv.symm (take (length prefix) path) prefix
 
-pub below_told : (folder : List ℕ) (cs : List Change) (r : Result ℕ ℕ) → IfOk r (IsEqualAt (answer folder) cs)
-    → IfErr r (IsGapAt (answer folder) cs) → is_ok r ≡ list_any (λ c. lies_in folder (path_of c)) cs
-below_told folder cs (Ok i) here gap = sym (any_here (λ c. lies_in folder (path_of c)) cs i
-    (here.in_range, λ d. sym (lies_is folder (path_of (get_or cs i d))) ∙ ap is_eq (here.here d)))
-below_told folder cs (Err i) here gap =
-    sym (list_any_none (λ c. lies_in folder (path_of c)) cs (λ k d within. by k d within (cases_lt k i)))
+then_less : (o p q : Ordering) → ordering_then o p ≢ Greater → (p ≢ Greater → q ≡ Less) → ordering_then o q ≡ Less
+then_less Less p q h f = refl
+then_less Equal p q h f = f h
+then_less Greater p q h f = absurd (h refl)
+
+-- what stands no further than a folder isn't in it, and stands in front of what is
+upto_folder : (x f : List ℕ) → path_cmp x f ≢ Greater → prefix_cmp (f ++ 47 ∷ []) x ≡ Less
+upto_folder [] [] h = refl
+upto_folder (b ∷ x) [] h = absurd (h refl)
+upto_folder [] (a ∷ f) h = refl
+upto_folder (b ∷ x) (a ∷ f) h =
+    then_less (nat_cmp b a) (path_cmp x f) (prefix_cmp (f ++ 47 ∷ []) x) h (upto_folder x f)
+
+not_after : (o : Ordering) → o ≡ Equal → o ≢ Greater
+not_after o e g = cc
+
+front_folder : (cs : List Change) (place : ℕ) → AreInOrder cs → place < length cs → (d : Change) (k : ℕ)
+    → k < place + 1 → answer (path_of (get_or cs place d)) (get_or cs k d) ≡ Less
+front_folder cs place up within d k l =
+    upto_folder (path_of (get_or cs k d)) (path_of (get_or cs place d)) (by (cases_lt k place))
   where
-    by : (k : ℕ) (d : Change) → k < length cs → (k < i) ⊎ (i ≤ k) → lies_in folder (path_of (get_or cs k d)) ≡ false
-    by k d within (inl u) = sym (lies_is folder (path_of (get_or cs k d))) ∙ ap is_eq (gap.below k d (omega arith) u)
-    by k d within (inr l) = sym (lies_is folder (path_of (get_or cs k d))) ∙ ap is_eq (gap.above k d l within)
+    by : (k < place) ⊎ (place ≤ k) → path_cmp (path_of (get_or cs k d)) (path_of (get_or cs place d)) ≢ Greater
+    by (inl f) = never_fall cs up k place d f within
+    by (inr g) =
+        let e : k ≡ place = omega arith in
+        not_after _ (ap (λ i. path_cmp (path_of (get_or cs i d)) (path_of (get_or cs place d))) e
+        ∙ tied_itself paths_total (path_of (get_or cs place d)))
+
+-- ---- whether the last in front of those behind a folder lies in it
+
+is_le_only : (o : Ordering) → is_le o ≡ true → is_eq o ≡ false → o ≡ Less
+is_le_only Less e f = refl
+is_le_only Equal e f = cc
+is_le_only Greater e f = cc
+
+lt_not_eq : (o : Ordering) → o ≡ Less → is_eq o ≡ false
+lt_not_eq o e = ap is_eq e
+
+module _ (folder : List ℕ) (cs : List Change) (end : ℕ) (split : IsSplitBy (answer folder) cs)
+    (p : IsPartedAt true (map (answer folder) cs) end) where
+  upto : (k : ℕ) (d : Change) → k < end → is_le (answer folder (get_or cs k d)) ≡ true
+  upto k d l = within_map is_le (answer folder) (λ c. is_le (answer folder c)) true cs 0 end (λ c. refl) p.before k d
+      (omega arith) l
+
+  from : (k : ℕ) (d : Change) → end ≤ k → k < length cs → is_le (answer folder (get_or cs k d)) ≡ false
+  from k d l within = within_map is_le (answer folder) (λ c. is_le (answer folder c)) false cs end
+      (length (map (answer folder) cs)) (λ c. refl) p.behind k d l (omega (arith, length-map cs (answer folder)))
+
+  fits : end ≤ length cs
+  fits = omega (arith, p.in_range, length-map cs (answer folder))
+
+  last_told : (o : Ordering) → 0 < end → HoldsAt (λ c. answer folder c ≡ o) cs (end - 1)
+      → is_eq o ≡ has_within cs folder
+  last_told o some here = by (is_eq o) refl
+    where
+      other : is_eq o ≡ false → (k : ℕ) (d : Change) → k < length cs → (k < end) ⊎ (end ≤ k)
+          → is_eq (answer folder (get_or cs k d)) ≡ false
+      other e k d within (inr l) = ap is_eq (greater_from (answer folder (get_or cs k d)) (from k d l within))
+      other e k d within (inl l) =
+          let last : answer folder (get_or cs (end - 1) d) ≡ Less =
+          here d ∙ is_le_only o (ap is_le (sym (here d)) ∙ upto (end - 1) d (omega arith)) e in
+          lt_not_eq _ (by2 (cases_lt k (end - 1)) last)
+        where
+          by2 : (k < end - 1) ⊎ (end - 1 ≤ k) → answer folder (get_or cs (end - 1) d) ≡ Less
+              → answer folder (get_or cs k d) ≡ Less
+          by2 (inl f) last = split.below k (end - 1) d f (omega (arith, fits)) last
+          by2 (inr g) last =
+              let e : k ≡ end - 1 = omega arith in
+              ap (λ i. answer folder (get_or cs i d)) e ∙ last
+
+      by : (b : Bool) → is_eq o ≡ b → is_eq o ≡ has_within cs folder
+      by true e = e ∙ sym (any_here (λ c. lies_in folder (path_of c)) cs (end - 1)
+          (omega (arith, fits), λ d. sym (lies_is folder (path_of (get_or cs (end - 1) d))) ∙ ap is_eq (here d) ∙ e))
+      by false e = e ∙ sym (list_any_none (λ c. lies_in folder (path_of c)) cs (λ k d within.
+          sym (lies_is folder (path_of (get_or cs k d))) ∙ other e k d within (cases_lt k end)))
+
+pub below_told : (cs : List Change) (place : ℕ) → AreInOrder cs → place < length cs → (d : Change) (folder : List ℕ)
+    → (z : Change) → folder ≡ path_of (get_or cs place z) → (end : ℕ) → place + 1 ≤ end
+    → (IsRising (map (answer folder) cs) → AllWithin (λ o. is_before true o ≡ true) (map (answer folder) cs) 0 (place + 1)
+    → IsPartedAt true (map (answer folder) cs) end)
+    → (o : Ordering) → HoldsAt (λ q. q ≡ o) (map (answer folder) cs) (end - 1)
+    → is_eq o ≡ has_within cs (path_of (get_or cs place d))
+below_told cs place up within d folder z is end past parts o read =
+    let here : HoldsAt (λ c. folder ≡ path_of c) cs place = λ x. is ∙ ap path_of (get_or_default cs place z x within) in
+    let split = split_folder folder cs up in
+    let front : AllWithin (λ o. is_before true o ≡ true) (map (answer folder) cs) 0 (place + 1) =
+    λ k e low high.
+    let x = some_of cs place within in
+    let less : answer (path_of (get_or cs place x)) (get_or cs k x) ≡ Less = front_folder cs place up within x k high in
+    ap (is_before true) (at_map (answer folder) cs k x e (omega arith)
+    ∙ ap (λ f. answer f (get_or cs k x)) (here x) ∙ less) in
+    let p = parts (rising_of (answer folder) cs split) front in
+    last_told folder cs end split p o (omega arith) (λ x. sym (shift (answer folder) cs (end - 1) x) ∙ read (answer folder x))
+    ∙ ap (has_within cs) (here d)
 
 module _ {F : Type 0} (g : Mut F (Bor Change × (Bor Change × Unit {0})) Ordering) (f : F)
     (h : (a : Bor Change × (Bor Change × Unit {0})) (r : Ordering) (f' : F) → Called g f a r f'

@@ -1,12 +1,12 @@
 -- Entries that are passed by on the way to a path, and those beyond.
 use Rattle.std.proofs.Common.{◌≡◌, ◌≢◌, ℕ, ◌+◌, ◌<◌, ◌≤◌, true, false, List, [], ◌∷◌, ◌++◌, All, length, get_or, take}
-use Rattle.std.proofs.Common.{drop, Some, None, refl, sym, ap, ◌∙◌, subst, arith, append_assoc}
-use Rattle.std.specs.List.{AllPairs, AllWithin}
+use Rattle.std.proofs.Common.{drop, map, refl, sym, ap, ◌∙◌, subst, arith, append_assoc}
+use Rattle.std.specs.List.{AllPairs}
+use Rattle.std.specs.Ordering.{is_eq, is_le, is_lt}
 use Rattle.std.specs.declared.cmp.Ordering.{Ordering}
 use Rattle.std.specs.declared.cmp.Ordering.TheVariants.{Less, Equal, Greater}
-use Rattle.std.specs.declared.ops.Range.{Range}
 use Rattle.std.proofs.Math.Seq.{drop-append_seam, take-append_seam}
-use Rattle.std.proofs.lemmas.List.{drop-map, get_or-drop, length-append, length-drop, map-append, take-append-drop, take_all}
+use Rattle.std.proofs.lemmas.List.{drop-map, get_or-drop, length-append, length-drop, length-map, map-append, take-append-drop, take_all}
 use Rattle.std.proofs.lemmas.List.Elements.{All-drop, All-weaker}
 use Rattle.std.proofs.lemmas.List.{drop-drop, take_more}
 use Rattle.index_entries.specs.declared.Entry.{Entry}
@@ -14,11 +14,14 @@ use Rattle.index_entries.specs.Order.{IsOrderedByPath, IsStrictlyOrdered, path_c
 use Rattle.index_entries.specs.Record.{IsPlaced, Record, record_in, records_in}
 use Rattle.index_entries.proofs.Orders.{same_path}
 use Rattle.index_entries.proofs.Storing.{records_grow}
-use Rattle.index_lookups.specs.Lookup.{insertion_of_path}
-use Rattle.index_lookups.specs.Range.{IsPrefixRange, begins_with}
-use Rattle.index_lookups.proofs.Insertion.{insertion_of_path-splits}
+use Rattle.index_search.specs.Halving.{IsPartedAt}
+use Rattle.index_search.specs.Prefix.{prefix_cmp}
+use Rattle.index_search.proofs.Parting.{greater_from}
+use Rattle.index_search.proofs.Prefixes.{below_by_prefix}
+use Rattle.index_lookups.specs.Range.{begins_with}
 use Rattle.index_lookups.proofs.Lookup.{ordered_by_path}
 use Rattle.index_lookups.proofs.Pairs.{pairs_drop, pairs_take}
+use Rattle.index_lookups.proofs.RunsFound.{begins_is, within_map}
 use Rattle.index_lookups.proofs.TableMade.{same_to}
 use Rattle.index_edits.specs.Changes.{IsAppliedTo, applied, path_of}
 use Rattle.index_edits.specs.EditSteps.{IsBeyond}
@@ -35,28 +38,27 @@ own_begins : (path : List ℕ) (r : Record) → r.path ≡ path → begins_with 
 own_begins path r e = same_to path (take (length path) r.path)
     (sym (ap (take (length path)) e ∙ take_all (length path) path (omega arith)))
 
-pub beyond_from : (path : List ℕ) (rs : List Record) (k : ℕ) → IsOrderedByPath rs → insertion_of_path path rs ≤ k
-    → AllWithin (λ r. begins_with path r ≡ false) rs k (length rs) → All (IsBeyond path) (drop k rs)
-beyond_from path rs k o low h j d within =
+not_less : (o : Ordering) → is_lt o ≡ false → o ≢ Less
+not_less o e f = let both : true ≡ false = sym (ap is_lt f) ∙ e in cc
+
+-- those behind where the answers part
+pub beyond_parted : (path : List ℕ) (rs : List Record) (k : ℕ)
+    → IsPartedAt true (map (λ r. prefix_cmp path r.path) rs) k → All (IsBeyond path) (drop k rs)
+beyond_parted path rs k p j d within =
+    let f : Record → Ordering = λ r. prefix_cmp path r.path in
     let n : k + j < length rs = omega (arith, within, length-drop k rs) in
     let r = get_or rs (k + j) d in
-    let apart : begins_with path r ≡ false = h (k + j) d (omega arith) n in
+    let le : is_le (f r) ≡ false =
+    within_map is_le f (λ r. is_le (f r)) false rs k (length (map f rs)) (λ r. refl) p.behind (k + j) d (omega arith)
+    (omega (arith, length-map rs f)) in
+    let after : f r ≡ Greater = greater_from (f r) le in
+    let apart : begins_with path r ≡ false = sym (begins_is path r) ∙ ap is_eq after in
     let b : IsBeyond path r = record {
-      greater = greater_is (path_cmp r.path path) ((insertion_of_path-splits path rs o).1 (k + j) d (omega arith) n)
+      greater = greater_is (path_cmp r.path path) (not_less _ (below_by_prefix r.path path ∙ ap is_lt after))
           (λ e. let both : true ≡ false = sym (own_begins path r ((same_path r.path path).0 e)) ∙ apart in cc);
       apart = apart;
     } in
     subst (IsBeyond path) (sym (get_or-drop k rs j d)) b
-
-pub prefix_behind : (path : List ℕ) (rs : List Record) (p : Range ℕ) (k : ℕ) → IsPrefixRange path rs (Some p) → p.end ≤ k
-    → AllWithin (λ r. begins_with path r ≡ false) rs k (length rs)
-prefix_behind [] rs p k h low i d l u = absurd (omega (arith, h.1))
-prefix_behind (b ∷ bs) rs p k h low i d l u = h.1.behind i d (omega arith) u
-
-pub prefix_none : (path : List ℕ) (rs : List Record) (k : ℕ) → IsPrefixRange path rs None
-    → AllWithin (λ r. begins_with path r ≡ false) rs k (length rs)
-prefix_none [] rs k h i d l u = absurd h
-prefix_none (b ∷ bs) rs k h i d l u = h i d u
 
 -- ---- a change of what is done and what was passed by
 

@@ -16,9 +16,17 @@ lies_in folder path = starts_with nat_eq path (folder ++ 47 ∷ [])
 pub record AreUnnested (cs : List Change) : Type 0 where
   pub apart : (c d : Change) → Contains cs c → Contains cs d → lies_in (path_of c) (path_of d) ≡ false
 
+-- one of the paths lies in this folder
+abbrev pub has_within : List Change → List ℕ → Bool
+has_within cs folder = list_any (λ d. lies_in folder (path_of d)) cs
+
 -- one of the paths is a folder that another lies in
 abbrev pub are_nested : List Change → Bool
-are_nested cs = list_any (λ c. list_any (λ d. lies_in (path_of c) (path_of d)) cs) cs
+are_nested cs = list_any (λ c. has_within cs (path_of c)) cs
+
+-- the answer says whether one of the paths lies in the change's
+abbrev pub IsAnswerBelow : List Change → Bool → Change → Type 0
+IsAnswerBelow cs answer c = answer ≡ has_within cs (path_of c)
 
 -- the first change's path is below the second's
 abbrev pub is_change_before : Change → Change → Bool

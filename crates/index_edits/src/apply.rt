@@ -2,6 +2,7 @@
 
 ghost use Rattle.std.specs.Prelude.{◌≡◌, ◌≤◌, ◌++◌, ◌∷◌, [], All, IfOk, length, take};
 ghost use Rattle.index_entries.specs.Record.{IsPlaced, records_in};
+ghost use Rattle.index_lookups.specs.SearchSteps.{prefix_answers};
 ghost use Rattle.index_edits.specs.EditSteps.{AreBeyond};
 ghost use Rattle.index_edits.specs.EntryEdits.{AppliesAll};
 
@@ -10,8 +11,10 @@ use crate::stage::settle;
 use crate::unstage::unstage;
 use index_entries::slice::EntrySlice;
 use index_entries::{Entry, PathStorage};
-use index_lookups::range::{prefixed_entries_range, search_prefix};
+use index_search::ordered::{Ordered, end_from};
+use index_search::prefix::compare_prefix;
 use std::alloc::AllocError;
+use std::cmp::Ordering;
 
 /// Makes one change that [`check_changes`](crate::change::check_changes) lets pass: the entries are then as
 /// [`stage`](crate::stage::stage) or [`unstage`](crate::unstage::unstage) leave them. A want of memory leaves all as it
@@ -35,16 +38,33 @@ pub fn apply_one(
     Ok(())
 }
 
-/// How many of the entries are passed by on the way to a path: those in front of it, and all that begin with it.
+/// Entries by what their paths begin with, to a path.
+#[derive(Clone, Copy)]
+struct ToPath<'a> {
+    entries: &'a EntrySlice<'a>,
+    path: &'a [u8],
+}
+
+impl Ordered for ToPath<'_> {
+    ghost answers = { λ s. prefix_answers s.path.now s.entries.now };
+
+    fn len(&self) -> usize {
+        self.entries.len()
+    }
+
+    fn compare(&self, place: usize) -> Ordering {
+        compare_prefix(self.entries.path(place), self.path)
+    }
+}
+
+/// How many of the entries are passed by on the way to a path: those in front of it, and all that begin with it. It
+/// looks at few where they are few.
 fn passed(rest: &EntrySlice<'_>, path: &[u8]) -> usize
     ensures inside { result ≤ length rest.now }
     ensures beyond { AreBeyond path.now rest.now result }
 {
-    let low = search_prefix(rest, path).0;
-    match prefixed_entries_range(rest, path) {
-        Some(places) => low.max(places.end),
-        None => low,
-    }
+    let entries = rest;
+    end_from(&ToPath { entries, path }, 0)
 }
 
 /// Copies those of the rest that a change of the path may concern behind the entries that are done, and tells how many:

@@ -1,13 +1,13 @@
 //! Changes in the order of their paths, where the order makes no difference.
 
-ghost use Rattle.std.specs.Prelude.{◌≡◌, IsNone, ◌++◌, ◌∷◌, [], IfOk, IfSome, IsTrue, map};
-ghost use Rattle.std.specs.List.{list_any};
+ghost use Rattle.std.specs.Prelude.{◌≡◌, ◌<◌, IsNone, ◌++◌, ◌∷◌, [], IfOk, IfSome, IsTrue, length, map};
+ghost use Rattle.std.specs.List.{HoldsAt};
 ghost use Rattle.index_edits.specs.Changes.{path_of};
-ghost use Rattle.index_edits.specs.Reorders.{AreInOrder, IsReorderedTo, StayAsTheyAre, are_nested, lies_in};
+ghost use Rattle.index_edits.specs.Reorders.{AreInOrder, IsAnswerBelow, IsReorderedTo, StayAsTheyAre, are_nested};
 ghost use Rattle.index_search.specs.Prefix.{prefix_cmp};
 
 use crate::change::Change;
-use index_search::ordered::{Ordered, search_within};
+use index_search::ordered::{Ordered, end_from};
 use index_search::prefix::compare_pieces;
 use std::alloc::{AllocError, Global};
 use std::cmp::Ordering;
@@ -31,13 +31,17 @@ impl Ordered for InFolder<'_> {
     }
 }
 
-/// Whether the path of one of the changes lies in the folder.
-fn has_below(changes: &[Change<'_>], folder: &[u8]) -> bool
-    requires { AreInOrder changes.now }
-    ensures { result ≡ list_any (λ c. lies_in folder.now (path_of c)) changes.now }
+/// Whether the path of one of the changes lies in that of the one at a place, as in a folder. None in front of it does, so
+/// those behind it are looked at, and few where few stand in front of what the folder has.
+fn has_below(changes: &[Change<'_>], place: usize) -> bool
+    requires ordered { AreInOrder changes.now }
+    requires inside { place < length changes.now }
+    ensures { HoldsAt (IsAnswerBelow changes.now result) changes.now place }
 {
+    let folder = changes[place].path();
     let places = InFolder { changes, folder };
-    search_within(&places, 0, changes.len()).0.is_ok()
+    let end = end_from(&places, place + 1);
+    places.compare(end - 1).is_eq()
 }
 
 /// Whether one of the paths is a folder that another lies in.
@@ -45,9 +49,12 @@ fn are_nested(changes: &[Change<'_>]) -> bool
     requires { AreInOrder changes.now }
     ensures { result ≡ are_nested changes.now }
 {
-    changes
-        .iter()
-        .any(|change| has_below(changes, change.path()))
+    for place in 0..changes.len() {
+        if has_below(changes, place) {
+            return true;
+        }
+    }
+    false
 }
 
 /// Whether the paths never fall.
