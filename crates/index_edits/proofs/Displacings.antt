@@ -244,3 +244,17 @@ module _ (new : Record) (old : List Record) where
   conflict_unmerged e = all_any (λ r. nat_lt 0 (record_stage r)) (displaced new old)
       (All-weaker (λ r. is_displaced new r ≡ true) (λ r. nat_lt 0 (record_stage r) ≡ true) (unmerged_above e)
       (displaced new old) (filter_passes (is_displaced new) old))
+
+  -- what is told of the conflict, where so many go
+  pub conflict_told : (sides told : Bool) (count : ℕ)
+      → sides ≡ ((record_stage new == 0) && list_any (is_side_at new.path) old) → count ≡ length (displaced new old)
+      → (record_stage new ≡ 0 → told ≡ sides) → (record_stage new ≢ 0 → told ≡ nat_lt 0 count)
+      → told ≡ list_any (λ r. nat_lt 0 (record_stage r)) (displaced new old)
+  conflict_told sides told count s n merged unmerged = by (record_stage new == 0) refl
+    where
+      by : (b : Bool) → (record_stage new == 0) ≡ b
+          → told ≡ list_any (λ r. nat_lt 0 (record_stage r)) (displaced new old)
+      by true e =
+          let zero = same_number (record_stage new) 0 e in
+          merged zero ∙ s ∙ ap (λ b. b && list_any (is_side_at new.path) old) e ∙ sym (conflict_merged zero)
+      by false e = unmerged (other_number (record_stage new) 0 e) ∙ ap (nat_lt 0) n ∙ sym (conflict_unmerged e)

@@ -4,6 +4,7 @@ pub mod Checks
 pub mod Displacings
 pub mod Members
 pub mod Names
+pub mod NearEnds
 pub mod Orderings
 pub mod Passes
 pub mod Puts

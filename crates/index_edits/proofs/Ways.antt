@@ -14,10 +14,10 @@ use Rattle.index_entries.specs.Order.{IsStrictlyOrdered, record_stage}
 use Rattle.index_entries.specs.Record.{Record}
 use Rattle.index_lookups.specs.Closest.{is_below}
 use Rattle.index_lookups.specs.Lookup.{HasKey, IsKeyAt, has_key, place_of}
-use Rattle.index_lookups.specs.Range.{IsPrefixRange, IsRange, begins_with, is_at, part_of}
+use Rattle.index_lookups.specs.Range.{IsRange, is_at, part_of}
 use Rattle.index_lookups.proofs.Closest.{any_here}
 use Rattle.index_lookups.proofs.Lookup.{key_place}
-use Rattle.index_lookups.proofs.RunFilters.{prefix_is_filter, range_is_filter}
+use Rattle.index_lookups.proofs.RunFilters.{range_is_filter}
 use Rattle.index_lookups.proofs.TableMade.{and_both, and_to, begins_at, begins_to, same_from, same_to}
 use Rattle.index_edits.specs.Edits.{are_at_odds}
 use Rattle.index_edits.specs.EditSteps.{is_of_stage, is_side_at, stands_above, stands_below}
@@ -111,12 +111,12 @@ sides_at path rs range h =
     ap (list_any (λ (r : Record). is_of_stage false 0 (record_stage r))) (range_is_filter (is_at path) rs range h)
     ∙ any_filter (λ (r : Record). is_of_stage false 0 (record_stage r)) (is_at path) rs
 
-pub those_below : (folder : List ℕ) (stage : ℕ) (rs : List Record) (range : Option (Range ℕ))
-    → IsPrefixRange folder rs range → list_any (λ r. is_of_stage true stage (record_stage r)) (part_of rs range)
-    ≡ list_any (stands_below folder stage) rs
-those_below folder stage rs range h =
-    ap (list_any (λ (r : Record). is_of_stage true stage (record_stage r))) (prefix_is_filter folder rs range h)
-    ∙ any_filter (λ (r : Record). is_of_stage true stage (record_stage r)) (begins_with folder) rs
+pub those_below : (path : List ℕ) (stage : ℕ) (rs : List Record) (range : Option (Range ℕ))
+    → IsRange (is_below path) rs range → list_any (λ r. is_of_stage true stage (record_stage r)) (part_of rs range)
+    ≡ list_any (stands_below path stage) rs
+those_below path stage rs range h =
+    ap (list_any (λ (r : Record). is_of_stage true stage (record_stage r))) (range_is_filter (is_below path) rs range h)
+    ∙ any_filter (λ (r : Record). is_of_stage true stage (record_stage r)) (is_below path) rs
 
 -- ---- both
 
@@ -130,17 +130,15 @@ odds_are false true false = refl
 odds_are false false true = refl
 odds_are false false false = refl
 
-pub odds_any : (new : Record) (folder : List ℕ) (rs : List Record) → folder ≡ new.path ++ 47 ∷ []
-    → (list_any (stands_below folder (record_stage new)) rs || list_any (stands_above new.path (record_stage new)) rs)
+pub odds_any : (new : Record) (rs : List Record)
+    → (list_any (stands_below new.path (record_stage new)) rs || list_any (stands_above new.path (record_stage new)) rs)
     ≡ list_any (are_at_odds new) rs
-odds_any new folder rs e =
-    sym (any_or (stands_below folder (record_stage new)) (stands_above new.path (record_stage new)) rs)
-    ∙ any_agree (λ r. stands_below folder (record_stage new) r || stands_above new.path (record_stage new) r)
-    (are_at_odds new) (λ r.
-    ap (λ f. (begins_with f r && (record_stage r == record_stage new)) || stands_above new.path (record_stage new) r) e
-    ∙ odds_are (is_below new.path r) (is_below r.path new) (record_stage r == record_stage new)) rs
+odds_any new rs =
+    sym (any_or (stands_below new.path (record_stage new)) (stands_above new.path (record_stage new)) rs)
+    ∙ any_agree (λ r. stands_below new.path (record_stage new) r || stands_above new.path (record_stage new) r)
+    (are_at_odds new) (λ r. odds_are (is_below new.path r) (is_below r.path new) (record_stage r == record_stage new)) rs
 
-pub odds_told : (new : Record) (folder : List ℕ) (rs : List Record) (below above : Bool) → folder ≡ new.path ++ 47 ∷ []
-    → below ≡ list_any (stands_below folder (record_stage new)) rs
+pub odds_told : (new : Record) (rs : List Record) (below above : Bool)
+    → below ≡ list_any (stands_below new.path (record_stage new)) rs
     → above ≡ list_any (stands_above new.path (record_stage new)) rs → (below || above) ≡ list_any (are_at_odds new) rs
-odds_told new folder rs below above e b a = rw (b, a) (odds_any new folder rs e)
+odds_told new rs below above b a = rw (b, a) (odds_any new rs)

@@ -8,6 +8,7 @@ use Rattle.index_entries.specs.Order.{IsOrderedByPath, IsStrictlyOrdered, path_c
 use Rattle.index_entries.specs.Record.{IsPlaced, Record, records_in, with_path}
 use Rattle.index_entries.specs.declared.Entry.{Entry}
 use Rattle.index_entries.specs.declared.Pathless.{Pathless}
+use Rattle.index_lookups.specs.Closest.{is_below}
 use Rattle.index_lookups.specs.Lookup.{HasKey}
 use Rattle.index_lookups.specs.Range.{begins_with, is_at}
 use Rattle.index_metadata.specs.Flags.{stage_code, stage_number}
@@ -47,9 +48,9 @@ is_of_stage same stage n = if same then n == stage else not (n == stage)
 abbrev pub is_side_at : List ℕ → Record → Bool
 is_side_at path r = is_at path r && not (record_stage r == 0)
 
--- the record has the stage, and lies below a folder whose path has the slash at its end
+-- the record has the stage, and lies below the path, as in a folder
 abbrev pub stands_below : List ℕ → ℕ → Record → Bool
-stands_below folder stage r = begins_with folder r && (record_stage r == stage)
+stands_below path stage r = is_below path r && (record_stage r == stage)
 
 -- the record has the stage, and is a file where the path needs a folder
 abbrev pub stands_above : List ℕ → ℕ → Record → Bool
@@ -78,9 +79,9 @@ AreBeyond path rs count = IsOrderedByPath rs → All (IsBeyond path) (drop count
 abbrev pub has_stage : Bool → ℕ → List Record → Bool
 has_stage same stage rs = list_any (λ r. is_of_stage same stage (record_stage r)) rs
 
--- one of the stage lies below the folder, whose path has the slash at its end
+-- one of the stage lies below the path, as in a folder
 abbrev pub has_below : List ℕ → ℕ → List Record → Bool
-has_below folder stage rs = list_any (stands_below folder stage) rs
+has_below path stage rs = list_any (stands_below path stage) rs
 
 -- one of the stage is a file where the path needs a folder
 abbrev pub has_above : List ℕ → Stage → List Record → Bool

@@ -7,6 +7,7 @@
 pub mod apply;
 pub mod change;
 pub mod error;
+pub mod near_end;
 pub mod odds;
 pub mod order;
 pub mod others;

@@ -1,15 +1,16 @@
 //! What stands in the way of an entry, told without looking at all others.
 
-ghost use Rattle.std.specs.Prelude.{◌≡◌, ◌++◌, ◌∷◌, [], IfSome};
+ghost use Rattle.std.specs.Prelude.{◌≡◌, IfSome};
 ghost use Rattle.std.specs.List.{list_any};
 ghost use Rattle.index_entries.specs.Order.{IsOrderedByPath, IsStrictlyOrdered};
 ghost use Rattle.index_lookups.specs.Range.{LiesWithin, part_of};
 ghost use Rattle.index_metadata.specs.Flags.{stage_number};
 ghost use Rattle.index_edits.specs.EditSteps.{has_above, has_below, has_odds, has_stage, is_of_stage, is_side_at};
 
+use crate::near_end::{folder_range, path_range};
 use index_entries::slice::EntrySlice;
 use index_entries::{Entry, Pathless};
-use index_lookups::range::{entry_index_by_path_and_stage, entry_range, prefixed_entries_range};
+use index_lookups::range::entry_index_by_path_and_stage;
 use index_metadata::entry::{Stage, StageRaw};
 use std::ops::Range;
 
@@ -49,15 +50,14 @@ pub fn has_sides(entries: &EntrySlice<'_>, path: &[u8]) -> bool
     ensures { IsOrderedByPath entries.now
         → result ≡ list_any (is_side_at path.now) entries.now }
 {
-    has_stage(entries, entry_range(entries, path), 0, false)
+    has_stage(entries, path_range(entries, path), 0, false)
 }
 
-/// Whether entries of the stage lie below the folder, whose path is given with the slash at its end.
-fn has_below(entries: &EntrySlice<'_>, folder: &[u8], stage: StageRaw) -> bool
-    ensures { IsOrderedByPath entries.now → result ≡ has_below folder.now stage entries.now }
+/// Whether entries of the stage lie below the path, as in a folder.
+fn has_below(entries: &EntrySlice<'_>, path: &[u8], stage: StageRaw) -> bool
+    ensures { IsOrderedByPath entries.now → result ≡ has_below path.now stage entries.now }
 {
-    let places = prefixed_entries_range(entries, folder);
-    has_stage(entries, places, stage, true)
+    has_stage(entries, folder_range(entries, path), stage, true)
 }
 
 /// Whether an entry of the stage is a file where the path needs a folder.
@@ -72,12 +72,10 @@ fn has_above(entries: &EntrySlice<'_>, path: &[u8], stage: Stage) -> bool
     false
 }
 
-/// Whether an entry is a file where the new one needs a folder, or the other way round. The folder is the path with a
-/// slash at its end.
-pub fn has_odds(entries: &EntrySlice<'_>, entry: Pathless, path: &[u8], folder: &[u8]) -> bool
-    requires { folder.now ≡ path.now ++ 47 ∷ [] }
+/// Whether an entry is a file where the new one needs a folder, or the other way round.
+pub fn has_odds(entries: &EntrySlice<'_>, entry: Pathless, path: &[u8]) -> bool
     ensures { IsStrictlyOrdered entries.now → result ≡ has_odds path.now entry entries.now }
 {
-    has_below(entries, folder, entry.flags.stage_raw())
+    has_below(entries, path, entry.flags.stage_raw())
         || has_above(entries, path, entry.flags.stage())
 }

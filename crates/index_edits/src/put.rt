@@ -4,10 +4,10 @@ ghost use Rattle.std.specs.Prelude.{◌≡◌, ◌+◌, ◌<◌, ◌≤◌, All,
 ghost use Rattle.index_entries.specs.Record.{IsPlaced, made_entry};
 ghost use Rattle.index_edits.specs.EditSteps.{MovesLast, Puts};
 
+use crate::near_end::key_place;
 use index_entries::list::append;
 use index_entries::slice::EntrySlice;
 use index_entries::{Entry, PathStorage, Pathless};
-use index_lookups::search::search_path_and_stage;
 use std::alloc::AllocError;
 
 /// Gives an entry other parts. It keeps its path.
@@ -42,7 +42,7 @@ pub(crate) fn put(
     ensures more { length entries.new.items ≤ length entries.old.items + 1 }
 {
     let there = EntrySlice::new(entries, storage);
-    match search_path_and_stage(&there, path, entry.flags.stage()).0 {
+    match key_place(&there, path, entry.flags.stage()) {
         Ok(place) => overwrite(&mut entries[place], entry),
         Err(place) => {
             append(entries, storage, entry, path)?;

@@ -1,8 +1,9 @@
 //! Staging an entry.
 
-ghost use Rattle.std.specs.Prelude.{◌≡◌, ◌++◌, ◌∷◌, [], All, length, IfOk};
+ghost use Rattle.std.specs.Prelude.{◌≡◌, ◌≢◌, All, length, nat_lt};
 ghost use Rattle.index_entries.specs.Order.{IsStrictlyOrdered};
 ghost use Rattle.index_entries.specs.Record.{IsPlaced};
+ghost use Rattle.index_metadata.specs.Flags.{stage_number};
 ghost use Rattle.index_edits.specs.EditSteps.{TellsInTheWay, ends_conflict};
 ghost use Rattle.index_edits.specs.EntryEdits.{SaysWhy, SettlesEntry};
 ghost use Rattle.index_edits.specs.Refusals.{SaysReason, fault_of};
@@ -17,7 +18,7 @@ use index_entries::slice::EntrySlice;
 use index_entries::{Entry, PathStorage, Pathless};
 use index_objects::check::ComponentCheck;
 use index_parts::hash::Kind;
-use std::alloc::{AllocError, Global};
+use std::alloc::AllocError;
 
 /// What went where an entry came.
 #[derive(Clone, Copy, Debug, PartialEq, Eq)]
@@ -26,16 +27,6 @@ pub struct Displaced {
     pub count: usize,
     /// Whether the stages of a conflict were among them.
     pub conflict: bool,
-}
-
-/// The path with a slash at its end. An error is want of memory.
-pub fn folder_of(alloc: Global, path: &[u8]) -> Result<Vec<u8>, AllocError>
-    ensures { IfOk result (λ folder. folder.items ≡ path.now ++ 47 ∷ []) }
-{
-    let mut folder = Vec::with_capacity(alloc, path.len() + 1)?;
-    folder.extend_from_slice(path)?;
-    folder.push(b'/')?;
-    Ok(folder)
 }
 
 /// Whether the entry is merged, and sides of a conflict stand at its path.
@@ -55,13 +46,23 @@ struct InTheWay {
 }
 
 /// Tells what is in the way.
-fn in_the_way(entries: &EntrySlice<'_>, entry: Pathless, path: &[u8], folder: &[u8]) -> InTheWay
-    requires { folder.now ≡ path.now ++ 47 ∷ [] }
+fn in_the_way(entries: &EntrySlice<'_>, entry: Pathless, path: &[u8]) -> InTheWay
     ensures { TellsInTheWay path.now entry entries.now result.sides result.others }
 {
     let sides = ends_conflict(entries, entry, path);
-    let others = sides || has_odds(entries, entry, path, folder);
+    let others = sides || has_odds(entries, entry, path);
     InTheWay { sides, others }
+}
+
+/// Whether stages of a conflict are among those that go: the sides where the entry is merged, else all that go.
+fn takes_conflict(entry: Pathless, sides: bool, count: usize) -> bool
+    ensures merged { stage_number entry.flags.0 ≡ 0 → result ≡ sides }
+    ensures unmerged { stage_number entry.flags.0 ≢ 0 → result ≡ nat_lt 0 count }
+{
+    if entry.flags.stage_raw() == 0 {
+        return sides;
+    }
+    count > 0
 }
 
 /// Stages an entry that [`check_stage`] lets pass, as [`stage`] does it. A want of memory leaves all as it was.
@@ -74,19 +75,14 @@ pub fn settle(
     requires placed { All (IsPlaced (length storage.old.items)) entries.old.items }
     ensures { SettlesEntry entry path.now storage.old entries.old storage.new entries.new result }
 {
-    let folder = folder_of(*storage.allocator(), path)?;
-    let way = in_the_way(&EntrySlice::new(entries, storage), entry, path, &folder);
+    let way = in_the_way(&EntrySlice::new(entries, storage), entry, path);
     let before = entries.len();
     put(entries, storage, entry, path)?;
     if way.others {
         remove_others(entries, storage, entry, path);
     }
     let count = before + 1 - entries.len();
-    let conflict = if entry.flags.stage_raw() == 0 {
-        way.sides
-    } else {
-        count > 0
-    };
+    let conflict = takes_conflict(entry, way.sides, count);
     Ok(Displaced { count, conflict })
 }
 

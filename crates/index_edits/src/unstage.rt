@@ -4,9 +4,9 @@ ghost use Rattle.std.specs.Prelude.{◌≡◌, ◌≤◌, ◌++◌, All, drop, l
 ghost use Rattle.index_entries.specs.Record.{IsPlaced};
 ghost use Rattle.index_edits.specs.EntryEdits.{UnstagesPath};
 
+use crate::near_end::path_range;
 use index_entries::Entry;
 use index_entries::slice::EntrySlice;
-use index_lookups::range::entry_range;
 
 /// Takes the elements from one place up to another out.
 fn cut(entries: &mut Vec<Entry>, start: usize, end: usize)
@@ -28,7 +28,7 @@ pub fn unstage(entries: &mut Vec<Entry>, storage: &[u8], path: &[u8]) -> usize
     requires { All (IsPlaced (length storage.now)) entries.old.items }
     ensures { UnstagesPath path.now storage.now entries.old entries.new result }
 {
-    let Some(places) = entry_range(&EntrySlice::new(entries, storage), path) else {
+    let Some(places) = path_range(&EntrySlice::new(entries, storage), path) else {
         return 0;
     };
     cut(entries, places.start, places.end);

@@ -1,6 +1,6 @@
 //! Sides of conflicts that a change takes out, and recording them.
 
-ghost use Rattle.std.specs.Prelude.{◌≡◌, ◌≢◌, ◌∷◌, [], IfOk, IfSome, OnOk};
+ghost use Rattle.std.specs.Prelude.{◌≡◌, ◌≢◌, ◌∷◌, [], IfSome, OnOk};
 ghost use Rattle.index_entries.specs.Order.{record_stage};
 ghost use Rattle.index_lookups.specs.Range.{LiesWithin, part_at};
 ghost use Rattle.index_edits.specs.EditSteps.{record_at};
@@ -9,12 +9,11 @@ ghost use Rattle.index_updates.specs.RecordingSteps.{AddsAllLost, AddsLost, HasL
 
 use crate::recording::record_side;
 use index_edits::change::Change;
+use index_edits::near_end::path_range;
 use index_edits::odds::has_odds;
 use index_edits::others::is_other;
-use index_edits::stage::folder_of;
 use index_entries::slice::EntrySlice;
 use index_entries::{Entry, Pathless};
-use index_lookups::range::entry_range;
 use index_small_extensions::resolve_undo::Paths;
 use std::alloc::{AllocError, Global};
 use std::ops::Range;
@@ -35,41 +34,30 @@ fn is_lost(change: &Change<'_>, entry: &Entry, path: &[u8]) -> bool
     }
 }
 
-/// All places, where an entry is a file where the new one needs a folder, or the other way round; else None. An error is
-/// want of memory.
-fn odd_places(
-    alloc: Global,
-    entries: &EntrySlice<'_>,
-    entry: Pathless,
-    path: &[u8],
-) -> Result<Option<Range<usize>>, AllocError>
-    ensures all { IfOk result (IsWholeIfOdd path.now entry entries.now) }
-    ensures inside { IfOk result (λ places. IfSome places (LiesWithin entries.now)) }
+/// All places, where an entry is a file where the new one needs a folder, or the other way round; else None.
+fn odd_places(entries: &EntrySlice<'_>, entry: Pathless, path: &[u8]) -> Option<Range<usize>>
+    ensures all { IsWholeIfOdd path.now entry entries.now result }
+    ensures inside { IfSome result (LiesWithin entries.now) }
 {
-    let folder = folder_of(alloc, path)?;
-    if has_odds(entries, entry, path, &folder) {
-        return Ok(Some(0..entries.len()));
+    if has_odds(entries, entry, path) {
+        return Some(0..entries.len());
     }
-    Ok(None)
+    None
 }
 
-/// Places among which all sides that go have theirs, or None where none goes. An error is want of memory.
-fn lost_places(
-    alloc: Global,
-    entries: &EntrySlice<'_>,
-    change: &Change<'_>,
-) -> Result<Option<Range<usize>>, AllocError>
-    ensures all { IfOk result (HasLost change.now entries.now) }
-    ensures inside { IfOk result (λ places. IfSome places (LiesWithin entries.now)) }
+/// Places among which all sides that go have theirs, or None where none goes.
+fn lost_places(entries: &EntrySlice<'_>, change: &Change<'_>) -> Option<Range<usize>>
+    ensures all { HasLost change.now entries.now result }
+    ensures inside { IfSome result (LiesWithin entries.now) }
 {
     match change {
         Change::Stage { entry, path } => {
             if entry.flags.stage_raw() != 0 {
-                return odd_places(alloc, entries, *entry, path);
+                return odd_places(entries, *entry, path);
             }
-            Ok(entry_range(entries, path))
+            path_range(entries, path)
         }
-        Change::Unstage { path } => Ok(entry_range(entries, path)),
+        Change::Unstage { path } => path_range(entries, path),
     }
 }
 
@@ -138,7 +126,7 @@ pub(crate) fn record_lost(
 ) -> Result<(), AllocError>
     ensures { OnOk result (AddsAllLost change.now entries.now undo.old undo.new) }
 {
-    if let Some(places) = lost_places(alloc, entries, change)? {
+    if let Some(places) = lost_places(entries, change) {
         record_lost_at(undo, alloc, entries, places, change)?;
     }
     Ok(())

@@ -4,5 +4,5 @@ use Rattle.index_edits.proofs.odds.has_below.Goals as goal
 
 pub returns : goal.returns
 returns c = λ o.
-    c.has_stage.ensures ∙ those_below c.args.folder.now c.args.stage c.args.entries.now
-    c.prefixed_entries_range-places.result (c.prefixed_entries_range-places.ensures.exactly o)
+    c.has_stage.ensures ∙ those_below c.args.path.now c.args.stage c.args.entries.now c.folder_range.result
+    (c.folder_range.ensures.exactly o)

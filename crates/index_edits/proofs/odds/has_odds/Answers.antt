@@ -13,15 +13,15 @@ returns-then-has_below c = λ o.
     let new = with_path c.args.path.now c.args.entry in
     let rs = c.args.entries.now in
     let below = c.if-has_below.true in
-    let told = odds_told new c.args.folder.now rs c.has_below.result _ c.requires
-    (c.has_below.ensures (ordered_by_path rs o) ∙ ap (λ n. list_any (stands_below c.args.folder.now n) rs) c.stage_raw.ensures) refl in
+    let told = odds_told new rs c.has_below.result _
+    (c.has_below.ensures (ordered_by_path rs o) ∙ ap (λ n. list_any (stands_below c.args.path.now n) rs) c.stage_raw.ensures) refl in
     c.if-has_below.true ∙ rw c.if-has_below.true at told
 
 pub returns-else-has_below : goal.returns-else-has_below
 returns-else-has_below c = λ o.
     let new = with_path c.args.path.now c.args.entry in
     let rs = c.args.entries.now in
-    let told = odds_told new c.args.folder.now rs c.has_below.result c.has_above.result c.requires
-    (c.has_below.ensures (ordered_by_path rs o) ∙ ap (λ n. list_any (stands_below c.args.folder.now n) rs) c.stage_raw.ensures)
+    let told = odds_told new rs c.has_below.result c.has_above.result
+    (c.has_below.ensures (ordered_by_path rs o) ∙ ap (λ n. list_any (stands_below c.args.path.now n) rs) c.stage_raw.ensures)
     (c.has_above.ensures o ∙ ap (λ n. list_any (stands_above c.args.path.now n) rs) (ap stage_code c.stage.ensures ∙ stage_is c.args.entry.flags.0)) in
     ap (λ b. b || c.has_above.result) (sym c.if-has_below.false) ∙ told

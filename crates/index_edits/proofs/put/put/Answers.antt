@@ -16,8 +16,8 @@ returns-in-Ok-clause-put c =
     ∙ ap (records_in s) c.deref.ensures.value in
     record {
       made = λ o. put_replaced c.args.entry c.args.path.now s es c.index_mut.result.now c.overwrite.new.slot c.in-Ok.place _
-          c.new-there.result c.search_path_and_stage.result.0 c.in-Ok.is there (ap stage_code c.stage.ensures ∙ stage_is _)
-          c.search_path_and_stage.ensures.found c.index_mut.ensures.value c.overwrite.ensures o;
+          c.new-there.result c.key_place.result c.in-Ok.is there (ap stage_code c.stage.ensures ∙ stage_is _)
+          c.key_place.ensures.found c.index_mut.ensures.value c.overwrite.ensures o;
       placed = search rules;
       storage = search rules;
       err_entries = search rules;
@@ -39,9 +39,9 @@ returns-in_ok-append-in-Err-clause-put c =
     ∙ c.move_last.ensures es a.entry (c.as_mut_slice.ensures.value ∙ a.entries) in
     record {
       made = λ o. put_more new s c.append.new.storage.items es v.items _ c.in-Err.place
-          c.requires.placed a is c.search_path_and_stage.result.0 c.in-Err.is
-          (rw there at c.search_path_and_stage.ensures.in_range)
-          (rw (there, stage) at c.search_path_and_stage.ensures.answer) o;
+          c.requires.placed a is c.key_place.result c.in-Err.is
+          (rw there at c.key_place.ensures.in_range)
+          (rw (there, stage) at c.key_place.ensures.answer) o;
       placed = placed_more new s c.append.new.storage.items es v.items _ c.in-Err.place
           c.requires.placed a is (appended_placed s es _ c.append.new.storage.items v.items c.requires.placed a);
       storage = search rules;

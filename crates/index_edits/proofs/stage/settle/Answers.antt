@@ -1,23 +1,23 @@
 use Rattle.std.proofs.Common.{rules, ◌≡◌, ◌+◌, ◌-◌, ◌∙◌, ◌&&◌, ◌==◌, length, sym, ap, subst, arith}
 use Rattle.std.proofs.lemmas.List.{length-map}
 use Rattle.std.specs.List.{filter, list_any}
-use Rattle.std.specs.Prelude.{nat_lt, not}
+use Rattle.std.specs.Prelude.{not}
 use Rattle.index_entries.specs.Order.{IsStrictlyOrdered, record_stage}
 use Rattle.index_entries.specs.Record.{record_in, records_in, with_path}
 use Rattle.index_edits.specs.Edits.{IsStagedInto, displaced}
 use Rattle.index_edits.specs.EntryEdits.{ChangesOrdered}
 use Rattle.index_edits.specs.EditSteps.{is_other, is_side_at}
-use Rattle.index_edits.proofs.Displacings.{conflict_merged, conflict_unmerged, not_number, number_to}
+use Rattle.index_edits.proofs.Displacings.{conflict_told}
 use Rattle.index_edits.proofs.Stagings.{left_staged, none_staged, staged_count, staged_into}
 use Rattle.index_edits.proofs.stage.settle.Goals as goal
-use Rattle.index_edits.proofs.stage.settle.Goals.{then-way, else-way, then-stage_raw-eq0, else-stage_raw-eq0}
+use Rattle.index_edits.proofs.stage.settle.Goals.{then-way, else-way}
 
-there : (c : goal.After-drop-folder-2) → c.new.result ≡ records_in c.args.storage.now.items c.args.entries.now.items
+there : (c : goal.After-takes_conflict-conflict) → c.new.result ≡ records_in c.args.storage.now.items c.args.entries.now.items
 there c =
     c.new.ensures ∙ ap (λ x. records_in x c.deref.result.now) c.deref-2.ensures.value
     ∙ ap (records_in c.args.storage.now.items) c.deref.ensures.value
 
-made : (c : goal.After-drop-folder-2)
+made : (c : goal.After-takes_conflict-conflict)
     → ChangesOrdered (IsStagedInto (with_path c.args.path.now c.args.entry)) c.args.storage.now.items c.args.entries.now.items
     c.put.new.storage.items c.if-way.entries.items
 made c = λ o.
@@ -66,15 +66,9 @@ returns c = record {
       let sides = subst (λ rs. IsStrictlyOrdered rs
       → c.in_the_way-way.result.sides ≡ ((record_stage new == 0) && list_any (is_side_at new.path) rs))
       (there c) c.in_the_way-way.ensures.sides o in
-      let stage : c.stage_raw.result ≡ record_stage new = c.stage_raw.ensures in
       record {
         count = count;
-        conflict = elim c.if-stage_raw-eq0.branch [
-          | then-stage_raw-eq0 w ↦ rw w.conflict-is (sides
-              ∙ ap (λ b. b && list_any (is_side_at new.path) old) (number_to (record_stage new) 0 (sym stage ∙ w.if-stage_raw-eq0.true))
-              ∙ sym (conflict_merged new old (sym stage ∙ w.if-stage_raw-eq0.true)))
-          | else-stage_raw-eq0 w ↦ rw w.conflict-is (ap (nat_lt 0) count
-              ∙ sym (conflict_unmerged new old (not_number (record_stage new) 0 (λ e. w.if-stage_raw-eq0.false (stage ∙ e)))))
-        ];
+        conflict = conflict_told new old c.in_the_way-way.result.sides _ _ sides count
+            c.takes_conflict-conflict.ensures.merged c.takes_conflict-conflict.ensures.unmerged;
       };
 }

@@ -20,8 +20,8 @@ returns-in_default c =
     let path = c.args.path.now in
     let s = c.args.storage.now in
     let old = records_in s c.args.entries.now.items in
-    let range = range_is path c.new.result old c.entry_range.result None
-    (c.new.ensures ∙ ap (records_in s) c.deref.ensures.value) c.in_default.is c.entry_range.ensures.exactly in
+    let range = range_is path c.new.result old c.path_range.result None
+    (c.new.ensures ∙ ap (records_in s) c.deref.ensures.value) c.in_default.is c.path_range.ensures.exactly in
     record {
       unstaged = λ o. unstaged_none path old o (range o);
       count = λ o. count_none path old o (range o);
@@ -34,8 +34,8 @@ returns c =
     let s = c.args.storage.now in
     let es = c.args.entries.now.items in
     let p = c.in-Some.places in
-    let range = range_is path c.new.result (records_in s es) c.entry_range.result (Some p)
-    (c.new.ensures ∙ ap (records_in s) c.deref.ensures.value) c.in-Some.is c.entry_range.ensures.exactly in
+    let range = range_is path c.new.result (records_in s es) c.path_range.result (Some p)
+    (c.new.ensures ∙ ap (records_in s) c.deref.ensures.value) c.in-Some.is c.path_range.ensures.exactly in
     record {
       unstaged = λ o. unstaged_some path (records_in s es) o p (range o) _
           (ap (records_in s) c.cut.ensures ∙ outside_records s es p.start p.end);

@@ -10,4 +10,4 @@ returns-in_default c = λ o.
     let undo = undo_paths c.args.undo.now in
     recorded_none undo
     ∙ ap (λ l. all_recorded l undo) (subst (λ p. lost c.args.change.now (part_of rs p) ≡ lost c.args.change.now rs)
-    c.in_default.is (c.in_ok-places.ensures.all o))
+    c.in_default.is (c.lost_places.ensures.all o))

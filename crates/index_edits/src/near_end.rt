@@ -1,0 +1,171 @@
+//! Searches that begin near the end of a list, where the entries that a change concerns mostly stand.
+
+ghost use Rattle.std.specs.Prelude.{◌≡◌, ◌<◌, ◌≤◌, ◌++◌, ◌∷◌, [], IfErr, IfOk, IfSome, false};
+ghost use Rattle.std.specs.Prelude.{length, map, ok_or};
+ghost use Rattle.std.specs.List.{HoldsAt};
+ghost use Rattle.std.specs.Ordering.{is_eq};
+ghost use Rattle.index_entries.specs.Order.{IsOrderedByPath, IsStrictlyOrdered};
+ghost use Rattle.index_lookups.specs.Closest.{is_below};
+ghost use Rattle.index_lookups.specs.Lookup.{IsKeyAt, insertion_of, place_of};
+ghost use Rattle.index_lookups.specs.Range.{IsPart, IsRange, is_at};
+ghost use Rattle.index_lookups.specs.SearchSteps.{asked_cmp, prefix_answers};
+ghost use Rattle.index_metadata.specs.Flags.{stage_code};
+ghost use Rattle.index_search.specs.Halving.{IsAround, IsPartedAt, IsRising};
+
+use index_entries::Entry;
+use index_entries::slice::EntrySlice;
+use index_metadata::entry::{Stage, StageRaw};
+use index_search::ordered::{Ordered, end_from, part_within};
+use index_search::prefix::compare_pieces;
+use std::cmp::Ordering;
+use std::ops::Range;
+
+/// How many entries a search passes from the end on before it halves all in front of them.
+const NEAR: usize = 64;
+
+/// Entries by path and, where one is asked, by stage, to what is looked for.
+#[derive(Clone, Copy)]
+struct Asked<'a> {
+    entries: &'a EntrySlice<'a>,
+    path: &'a [u8],
+    stage: Option<Stage>,
+}
+
+/// Where the entry at a place stands to a path, and to a stage where one is asked.
+fn compare(entries: &EntrySlice<'_>, place: usize, path: &[u8], stage: Option<Stage>) -> Ordering
+    requires { place < length entries.now }
+    ensures { HoldsAt (λ r. asked_cmp path.now stage r ≡ result) entries.now place }
+{
+    let by_path = Entry::cmp_filepaths(entries.path(place), path);
+    match stage {
+        None => by_path,
+        Some(stage) => by_path.then(entries.entry(place).stage_raw().cmp(&(stage as StageRaw))),
+    }
+}
+
+impl Ordered for Asked<'_> {
+    ghost answers = { λ s. map (asked_cmp s.path.now s.stage) s.entries.now };
+
+    fn len(&self) -> usize {
+        self.entries.len()
+    }
+
+    fn compare(&self, place: usize) -> Ordering {
+        compare(self.entries, place, self.path, self.stage)
+    }
+}
+
+/// Entries by whether their paths lie in a folder.
+#[derive(Clone, Copy)]
+struct InFolder<'a> {
+    entries: &'a EntrySlice<'a>,
+    folder: &'a [u8],
+}
+
+impl Ordered for InFolder<'_> {
+    ghost answers = { λ s. prefix_answers (s.folder.now ++ 47 ∷ []) s.entries.now };
+
+    fn len(&self) -> usize {
+        self.entries.len()
+    }
+
+    fn compare(&self, place: usize) -> Ordering {
+        compare_pieces(self.entries.path(place), self.folder, b"/")
+    }
+}
+
+/// Between which places the first that isn't before what is looked for stands. It looks one place back from the end,
+/// then two more, then four, as long as few are passed.
+fn gallop_back<R: Ordered>(places: &R) -> (usize, usize)
+    ensures in_order { result.0 ≤ result.1 }
+    ensures inside { result.1 ≤ length (R.answers places.now) }
+    ensures around { IsRising (R.answers places.now)
+        → IsAround false (R.answers places.now) result.0 result.1 }
+{
+    let len = places.len();
+    let mut high = len;
+    while high > 0 && len - high < NEAR {
+        let step = (len - high).min(high - 1);
+        let first = high - 1 - step;
+        if places.compare(first).is_lt() {
+            return (first + 1, high);
+        }
+        high = first;
+    }
+    (0, high)
+}
+
+/// The first place that isn't before what is looked for. It takes few looks where that place is near the end.
+fn first_near_end<R: Ordered>(places: &R) -> usize
+    ensures in_range { result ≤ length (R.answers places.now) }
+    ensures parts { IsRising (R.answers places.now)
+        → IsPartedAt false (R.answers places.now) result }
+{
+    let (low, high) = gallop_back(places);
+    part_within(places, false, low, high).0
+}
+
+/// The places that are what is looked for, where there are any.
+fn run_near_end<R: Ordered>(places: &R) -> Option<Range<usize>>
+    ensures in_range { IfSome result (IsPart (R.answers places.now)) }
+    ensures exactly { IsRising (R.answers places.now)
+        → IsRange is_eq (R.answers places.now) result }
+{
+    let low = first_near_end(places);
+    let high = end_from(places, low);
+    if low < high { Some(low..high) } else { None }
+}
+
+/// The indices of the entries at the path, counted from 0, or None where there are none. It takes few looks where they
+/// stand near the end.
+///
+/// Over entries whose paths never fall they are all such indices. Over other entries they are indices into the list,
+/// and no more is said.
+pub fn path_range(entries: &EntrySlice<'_>, path: &[u8]) -> Option<Range<usize>>
+    ensures in_range { IfSome result (IsPart entries.now) }
+    ensures exactly { IsOrderedByPath entries.now
+        → IsRange (is_at path.now) entries.now result }
+{
+    let stage = None;
+    run_near_end(&Asked {
+        entries,
+        path,
+        stage,
+    })
+}
+
+/// The same of the entries whose paths lie in the folder.
+pub(crate) fn folder_range(entries: &EntrySlice<'_>, folder: &[u8]) -> Option<Range<usize>>
+    ensures in_range { IfSome result (IsPart entries.now) }
+    ensures exactly { IsOrderedByPath entries.now
+        → IsRange (is_below folder.now) entries.now result }
+{
+    run_near_end(&InFolder { entries, folder })
+}
+
+/// The index of the entry at the path and the stage or, as an error, the index where it would be put in. It takes few
+/// looks where that is near the end.
+///
+/// It is promised over entries that strictly increase. Over other entries an index still has that path and stage, and
+/// an error is at most the number of entries and says no more.
+pub(crate) fn key_place(entries: &EntrySlice<'_>, path: &[u8], stage: Stage) -> Result<usize, usize>
+    ensures found { IfOk result (IsKeyAt path.now (stage_code stage) entries.now) }
+    ensures in_range { IfErr result (λ i. i ≤ length entries.now) }
+    ensures answer { IsStrictlyOrdered entries.now
+        → result ≡ ok_or (place_of path.now (stage_code stage) entries.now)
+        (insertion_of path.now (stage_code stage) entries.now) }
+{
+    let places = Asked {
+        entries,
+        path,
+        stage: Some(stage),
+    };
+    let low = first_near_end(&places);
+    if low == entries.len() {
+        return Err(low);
+    }
+    if places.compare(low).is_eq() {
+        return Ok(low);
+    }
+    Err(low)
+}
