@@ -1,6 +1,7 @@
 pub mod Anys
 pub mod Applied
 pub mod Checks
+pub mod Clears
 pub mod Displacings
 pub mod Members
 pub mod Names

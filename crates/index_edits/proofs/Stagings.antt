@@ -53,7 +53,7 @@ filter_none p (x ∷ xs) h =
     ap (λ b. cond b (x ∷ filter p xs) (filter p xs)) (All-head (λ x. p x ≡ false) x xs h)
     ∙ filter_none p xs (All-tail (λ x. p x ≡ false) x xs h)
 
-All-front : {X : Type 0} (P : X → Type 0) (xs ys : List X) → All P (xs ++ ys) → All P xs
+pub All-front : {X : Type 0} (P : X → Type 0) (xs ys : List X) → All P (xs ++ ys) → All P xs
 All-front P xs ys h k d within =
     subst P (get_or_append_left xs ys d k within) (h k d (omega (arith, length-append xs ys)))
 

@@ -1,24 +1,23 @@
 -- What stands in the way of a record, above it, below it or at its path.
 use Rattle.std.proofs.Common.{◌≡◌, ℕ, ◌+◌, ◌<◌, ◌≤◌, ◌==◌, Bool, true, false, ◌&&◌, ◌||◌, not, List, [], ◌∷◌}
-use Rattle.std.proofs.Common.{◌++◌, length, get_or, take, All, Option, Some, None, IfSome, ◌⊎◌, inl, inr, refl, sym, ap}
-use Rattle.std.proofs.Common.{◌∙◌, arith}
+use Rattle.std.proofs.Common.{◌++◌, length, get_or, take, All, Option, Some, None, ◌⊎◌, inl, inr, refl, sym, ap}
+use Rattle.std.proofs.Common.{◌∙◌, arith, Result, Ok, Err, IfOk}
 use Rattle.std.specs.List.{HoldsAt, list_any, starts_with}
-use Rattle.std.specs.Option.{is_some}
-use Rattle.std.specs.Prelude.{nat_eq}
+use Rattle.std.specs.Option.{is_some, ok_or}
+use Rattle.std.specs.Prelude.{is_ok, nat_eq}
 use Rattle.std.specs.declared.ops.Range.{Range}
 use Rattle.std.proofs.lemmas.Bool.{cases_lt}
 use Rattle.std.proofs.lemmas.Bool.Decides.{nat_tests}
 use Rattle.std.proofs.lemmas.List.{get_or_default}
-use Rattle.std.proofs.lemmas.List.Folds.{list_any_none}
 use Rattle.index_entries.specs.Order.{IsStrictlyOrdered, record_stage}
 use Rattle.index_entries.specs.Record.{Record}
 use Rattle.index_lookups.specs.Closest.{is_below}
-use Rattle.index_lookups.specs.Lookup.{HasKey, IsKeyAt, has_key, place_of}
+use Rattle.index_lookups.specs.Lookup.{HasKey, IsKeyAt, has_key, insertion_of, place_of}
 use Rattle.index_lookups.specs.Range.{IsRange, is_at, part_of}
 use Rattle.index_lookups.proofs.Closest.{any_here}
 use Rattle.index_lookups.proofs.Lookup.{key_place}
 use Rattle.index_lookups.proofs.RunFilters.{range_is_filter}
-use Rattle.index_lookups.proofs.TableMade.{and_both, and_to, begins_at, begins_to, same_from, same_to}
+use Rattle.index_lookups.proofs.TableMade.{and_both, and_to, begins_to, same_from, same_to}
 use Rattle.index_edits.specs.Edits.{are_at_odds}
 use Rattle.index_edits.specs.EditSteps.{is_of_stage, is_side_at, stands_above, stands_below}
 use Rattle.index_edits.proofs.Anys.{any_agree, any_filter, any_or}
@@ -46,11 +45,11 @@ false_from false h = refl
 
 -- ---- above
 
-pub above_at : (path : List ℕ) (stage : ℕ) (rs : List Record) (at : ℕ) (o : Option ℕ) → at < length path
-    → get_or path at 0 ≡ 47 → is_some o ≡ true → IfSome o (IsKeyAt (take at path) stage rs)
+pub above_at : (path : List ℕ) (stage : ℕ) (rs : List Record) (at : ℕ) (o : Result ℕ ℕ) → at < length path
+    → get_or path at 0 ≡ 47 → is_ok o ≡ true → IfOk o (IsKeyAt (take at path) stage rs)
     → list_any (stands_above path stage) rs ≡ true
-above_at path stage rs at None within slash some h = cc
-above_at path stage rs at (Some i) within slash some h =
+above_at path stage rs at (Err i) within slash some h = cc
+above_at path stage rs at (Ok i) within slash some h =
     any_here (stands_above path stage) rs i (
       h.in_range,
       λ d.
@@ -60,6 +59,10 @@ above_at path stage rs at (Some i) within slash some h =
           (number_to (record_stage r) stage key.stage_is)
           (rw key.path_is (begins_to path at 47 within slash)),
     )
+
+nowhere : (o : Option ℕ) (i n : ℕ) → Err i ≡ ok_or o n → o ≡ None
+nowhere None i n e = refl
+nowhere (Some k) i n e = cc
 
 pub none_has : (path : List ℕ) (stage : ℕ) (rs : List Record) (o : Option ℕ) → is_some o ≡ false → o ≡ place_of path stage rs
     → IsStrictlyOrdered rs → All (λ r. has_key path stage r ≡ false) rs
@@ -71,33 +74,26 @@ none_has path stage rs None none e ordered k d within = false_from (has_key path
     let nowhere = sym there ∙ sym e in
     cc)
 
-pub one_more : (path : List ℕ) (stage : ℕ) (rs : List Record) (at : ℕ)
-    → ((k : ℕ) → k < at → get_or path k 0 ≡ 47 → IsStrictlyOrdered rs
+pub none_found : (path : List ℕ) (stage : ℕ) (rs : List Record) (o : Result ℕ ℕ) → is_ok o ≡ false
+    → o ≡ ok_or (place_of path stage rs) (insertion_of path stage rs)
+    → IsStrictlyOrdered rs → All (λ r. has_key path stage r ≡ false) rs
+none_found path stage rs (Ok i) none e ordered k d within = cc
+none_found path stage rs (Err i) none e ordered k d within =
+    none_has path stage rs None refl (sym (nowhere (place_of path stage rs) i (insertion_of path stage rs) e)) ordered k d within
+
+pub one_more : (path : List ℕ) (stage : ℕ) (rs : List Record) (known at : ℕ)
+    → ((k : ℕ) → known ≤ k → k < at → get_or path k 0 ≡ 47 → IsStrictlyOrdered rs
     → All (λ r. has_key (take k path) stage r ≡ false) rs)
     → (get_or path at 0 ≡ 47 → All (λ r. has_key (take at path) stage r ≡ false) rs)
-    → (k : ℕ) → k < at + 1 → get_or path k 0 ≡ 47 → IsStrictlyOrdered rs
+    → (k : ℕ) → known ≤ k → k < at + 1 → get_or path k 0 ≡ 47 → IsStrictlyOrdered rs
     → All (λ r. has_key (take k path) stage r ≡ false) rs
-one_more path stage rs at before here k within slash o = by (cases_lt k at)
+one_more path stage rs known at before here k low within slash o = by (cases_lt k at)
   where
     by : (k < at) ⊎ (at ≤ k) → All (λ r. has_key (take k path) stage r ≡ false) rs
-    by (inl lt) = before k lt slash o
+    by (inl lt) = before k low lt slash o
     by (inr ge) =
         let e : k ≡ at = omega arith in
         rw e (here (rw e at slash))
-
-pub none_above : (path : List ℕ) (stage : ℕ) (rs : List Record)
-    → ((k : ℕ) → k < length path → get_or path k 0 ≡ 47 → All (λ r. has_key (take k path) stage r ≡ false) rs)
-    → false ≡ list_any (stands_above path stage) rs
-none_above path stage rs h = sym (list_any_none (stands_above path stage) rs (λ k d within.
-    let r = get_or rs k d in
-    false_from (stands_above path stage r) (λ t.
-    let both = and_both (record_stage r == stage) (starts_with nat_eq path (r.path ++ 47 ∷ [])) t in
-    let at = begins_at r.path path 47 both.1 in
-    let none = h (length r.path) at.0 at.1 k d within in
-    let some = key_to (take (length r.path) path) stage r
-    (record { path_is = sym at.2; stage_is = same_number (record_stage r) stage both.0 }) in
-    let both : true ≡ false = sym some ∙ none in
-    cc)))
 
 -- ---- at the path, and below it
 

@@ -95,11 +95,21 @@ has_odds path entry rs = list_any (are_at_odds (with_path path entry)) rs
 abbrev pub ends_conflict : List ℕ → Pathless → List Record → Bool
 ends_conflict path entry rs = (stage_number entry.flags.0 == 0) && list_any (is_side_at path) rs
 
--- where the records strictly increase: whether the entry at the path ends a conflict, and whether others go where it comes
-pub record TellsInTheWay (path : List ℕ) (entry : Pathless) (rs : List Record) (told_sides told_others : Bool)
-    : Type 0 where
+-- no record of the stage is a file where the path needs a folder
+abbrev pub IsClear : List ℕ → ℕ → List Record → Type 0
+IsClear path stage rs = All (λ r. stands_above path stage r ≡ false) rs
+
+-- none of the entry's stage is one where so many bytes at the front of its path need a folder
+abbrev pub IsClearUpto : ℕ → List ℕ → Pathless → List Record → Type 0
+IsClearUpto known path entry rs = IsClear (take known path) (stage_number entry.flags.0) rs
+
+-- Where the records strictly increase: whether the entry at the path ends a conflict. And whether others go where it
+-- comes, where so many bytes at the front of the path are clear.
+pub record TellsInTheWay (known : ℕ) (path : List ℕ) (entry : Pathless) (rs : List Record)
+    (told_sides told_others : Bool) : Type 0 where
   pub sides : IsStrictlyOrdered rs → told_sides ≡ ends_conflict path entry rs
-  pub others : IsStrictlyOrdered rs → told_others ≡ list_any (is_other (with_path path entry)) rs
+  pub others : IsStrictlyOrdered rs → IsClearUpto known path entry rs
+      → told_others ≡ list_any (is_other (with_path path entry)) rs
 
 -- those entries are taken out that go where the new record comes, and have another path or another stage
 pub record RemovesOthers (new : Record) (storage : List ℕ) (old now : Entries) : Type 0 where

@@ -1,4 +1,5 @@
 pub mod Changes
+pub mod ClearSteps
 pub mod EditSteps
 pub mod Edits
 pub mod EntryEdits

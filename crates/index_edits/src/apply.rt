@@ -1,14 +1,15 @@
 //! Making one change of several, over entries that are copied on the way to its path.
 
-ghost use Rattle.std.specs.Prelude.{◌≡◌, ◌≤◌, ◌++◌, ◌∷◌, [], All, IfOk, length, take};
-ghost use Rattle.index_entries.specs.Record.{IsPlaced, records_in};
+ghost use Rattle.std.specs.Prelude.{◌≡◌, ◌≤◌, ◌++◌, List, All, IfOk, length, take};
+ghost use Rattle.index_entries.specs.Record.{IsPlaced, Record, records_in};
 ghost use Rattle.index_lookups.specs.SearchSteps.{prefix_answers};
+ghost use Rattle.index_edits.specs.ClearSteps.{AppliesClear, IsClearAfter, IsClearFor};
 ghost use Rattle.index_edits.specs.EditSteps.{AreBeyond};
-ghost use Rattle.index_edits.specs.EntryEdits.{AppliesAll};
 
 use crate::change::Change;
-use crate::stage::settle;
+use crate::stage::settle_clear;
 use crate::unstage::unstage;
+use index_entries::paths::shared_len;
 use index_entries::slice::EntrySlice;
 use index_entries::{Entry, PathStorage};
 use index_search::ordered::{Ordered, end_from};
@@ -16,20 +17,38 @@ use index_search::prefix::compare_prefix;
 use std::alloc::AllocError;
 use std::cmp::Ordering;
 
+/// How many bytes at the front of a change's path need no folder where a file of its stage is, once the change before it
+/// is made: as many as both paths begin with, where both stage an entry at the same stage.
+pub fn clear_after(before: &Change<'_>, change: &Change<'_>) -> usize
+    ensures { (rs : List Record) → IsClearAfter before.now rs → IsClearFor result change.now rs }
+{
+    match (before, change) {
+        (
+            Change::Stage {
+                entry: last,
+                path: front,
+            },
+            Change::Stage { entry, path },
+        ) if last.flags.stage_raw() == entry.flags.stage_raw() => shared_len(front, path),
+        _ => 0,
+    }
+}
+
 /// Makes one change that [`check_changes`](crate::change::check_changes) lets pass: the entries are then as
-/// [`stage`](crate::stage::stage) or [`unstage`](crate::unstage::unstage) leave them. A want of memory leaves all as it
-/// was.
+/// [`stage`](crate::stage::stage) or [`unstage`](crate::unstage::unstage) leave them. The first `known` bytes of its
+/// path are known to need no folder where a file of its stage is. A want of memory leaves all as it was.
 pub fn apply_one(
     entries: &mut Vec<Entry>,
     storage: &mut PathStorage,
     change: &Change<'_>,
+    known: usize,
 ) -> Result<(), AllocError>
     requires placed { All (IsPlaced (length storage.old.items)) entries.old.items }
-    ensures { AppliesAll (change.now ∷ []) storage.old entries.old storage.new entries.new result }
+    ensures { AppliesClear known change.now storage.old entries.old storage.new entries.new result }
 {
     match change {
         Change::Stage { entry, path } => {
-            settle(entries, storage, *entry, path)?;
+            settle_clear(entries, storage, *entry, path, known)?;
         }
         Change::Unstage { path } => {
             unstage(entries, storage, path);

@@ -1,16 +1,16 @@
 //! What stands in the way of an entry, told without looking at all others.
 
-ghost use Rattle.std.specs.Prelude.{◌≡◌, IfSome};
+ghost use Rattle.std.specs.Prelude.{◌≡◌, IfSome, take};
 ghost use Rattle.std.specs.List.{list_any};
 ghost use Rattle.index_entries.specs.Order.{IsOrderedByPath, IsStrictlyOrdered};
 ghost use Rattle.index_lookups.specs.Range.{LiesWithin, part_of};
-ghost use Rattle.index_metadata.specs.Flags.{stage_number};
-ghost use Rattle.index_edits.specs.EditSteps.{has_above, has_below, has_odds, has_stage, is_of_stage, is_side_at};
+ghost use Rattle.index_metadata.specs.Flags.{stage_code, stage_number};
+ghost use Rattle.index_edits.specs.EditSteps.{IsClear, IsClearUpto, has_above, has_below, has_odds, has_stage};
+ghost use Rattle.index_edits.specs.EditSteps.{is_of_stage, is_side_at};
 
-use crate::near_end::{folder_range, path_range};
+use crate::near_end::{folder_range, key_place, path_range};
 use index_entries::slice::EntrySlice;
 use index_entries::{Entry, Pathless};
-use index_lookups::range::entry_index_by_path_and_stage;
 use index_metadata::entry::{Stage, StageRaw};
 use std::ops::Range;
 
@@ -60,22 +60,27 @@ fn has_below(entries: &EntrySlice<'_>, path: &[u8], stage: StageRaw) -> bool
     has_stage(entries, folder_range(entries, path), stage, true)
 }
 
-/// Whether an entry of the stage is a file where the path needs a folder.
-fn has_above(entries: &EntrySlice<'_>, path: &[u8], stage: Stage) -> bool
-    ensures { IsStrictlyOrdered entries.now → result ≡ has_above path.now stage entries.now }
+/// Whether an entry of the stage is a file where the path needs a folder, other than at the slashes among its first
+/// `known` bytes, where none is known to be.
+fn has_above(entries: &EntrySlice<'_>, path: &[u8], stage: Stage, known: usize) -> bool
+    ensures { IsStrictlyOrdered entries.now
+        → IsClear (take known path.now) (stage_code stage) entries.now
+        → result ≡ has_above path.now stage entries.now }
 {
-    for (at, byte) in path.iter().enumerate() {
-        if *byte == b'/' && entry_index_by_path_and_stage(entries, &path[..at], stage).is_some() {
+    for at in known..path.len() {
+        if path[at] == b'/' && key_place(entries, &path[..at], stage).is_ok() {
             return true;
         }
     }
     false
 }
 
-/// Whether an entry is a file where the new one needs a folder, or the other way round.
-pub fn has_odds(entries: &EntrySlice<'_>, entry: Pathless, path: &[u8]) -> bool
-    ensures { IsStrictlyOrdered entries.now → result ≡ has_odds path.now entry entries.now }
+/// Whether an entry is a file where the new one needs a folder, or the other way round. The first `known` bytes of the
+/// path are known to need no folder where a file of its stage is.
+pub fn has_odds(entries: &EntrySlice<'_>, entry: Pathless, path: &[u8], known: usize) -> bool
+    ensures { IsStrictlyOrdered entries.now → IsClearUpto known path.now entry entries.now
+        → result ≡ has_odds path.now entry entries.now }
 {
     has_below(entries, path, entry.flags.stage_raw())
-        || has_above(entries, path, entry.flags.stage())
+        || has_above(entries, path, entry.flags.stage(), known)
 }

@@ -4,6 +4,7 @@ ghost use Rattle.std.specs.Prelude.{◌≡◌, ◌≢◌, All, length, nat_lt};
 ghost use Rattle.index_entries.specs.Order.{IsStrictlyOrdered};
 ghost use Rattle.index_entries.specs.Record.{IsPlaced};
 ghost use Rattle.index_metadata.specs.Flags.{stage_number};
+ghost use Rattle.index_edits.specs.ClearSteps.{SettlesClear};
 ghost use Rattle.index_edits.specs.EditSteps.{TellsInTheWay, ends_conflict};
 ghost use Rattle.index_edits.specs.EntryEdits.{SaysWhy, SettlesEntry};
 ghost use Rattle.index_edits.specs.Refusals.{SaysReason, fault_of};
@@ -46,11 +47,11 @@ struct InTheWay {
 }
 
 /// Tells what is in the way.
-fn in_the_way(entries: &EntrySlice<'_>, entry: Pathless, path: &[u8]) -> InTheWay
-    ensures { TellsInTheWay path.now entry entries.now result.sides result.others }
+fn in_the_way(entries: &EntrySlice<'_>, entry: Pathless, path: &[u8], known: usize) -> InTheWay
+    ensures { TellsInTheWay known path.now entry entries.now result.sides result.others }
 {
     let sides = ends_conflict(entries, entry, path);
-    let others = sides || has_odds(entries, entry, path);
+    let others = sides || has_odds(entries, entry, path, known);
     InTheWay { sides, others }
 }
 
@@ -65,6 +66,30 @@ fn takes_conflict(entry: Pathless, sides: bool, count: usize) -> bool
     count > 0
 }
 
+/// Does the same as [`settle`], where the first `known` bytes of the path are known to need no folder where a file of
+/// its stage is: at the slashes among them none is looked for.
+pub(crate) fn settle_clear(
+    entries: &mut Vec<Entry>,
+    storage: &mut PathStorage,
+    entry: Pathless,
+    path: &[u8],
+    known: usize,
+) -> Result<Displaced, AllocError>
+    requires placed { All (IsPlaced (length storage.old.items)) entries.old.items }
+    ensures { SettlesClear known entry path.now storage.old entries.old storage.new entries.new
+        result }
+{
+    let way = in_the_way(&EntrySlice::new(entries, storage), entry, path, known);
+    let before = entries.len();
+    put(entries, storage, entry, path)?;
+    if way.others {
+        remove_others(entries, storage, entry, path);
+    }
+    let count = before + 1 - entries.len();
+    let conflict = takes_conflict(entry, way.sides, count);
+    Ok(Displaced { count, conflict })
+}
+
 /// Stages an entry that [`check_stage`] lets pass, as [`stage`] does it. A want of memory leaves all as it was.
 pub fn settle(
     entries: &mut Vec<Entry>,
@@ -75,15 +100,7 @@ pub fn settle(
     requires placed { All (IsPlaced (length storage.old.items)) entries.old.items }
     ensures { SettlesEntry entry path.now storage.old entries.old storage.new entries.new result }
 {
-    let way = in_the_way(&EntrySlice::new(entries, storage), entry, path);
-    let before = entries.len();
-    put(entries, storage, entry, path)?;
-    if way.others {
-        remove_others(entries, storage, entry, path);
-    }
-    let count = before + 1 - entries.len();
-    let conflict = takes_conflict(entry, way.sides, count);
-    Ok(Displaced { count, conflict })
+    settle_clear(entries, storage, entry, path, 0)
 }
 
 /// That an entry may be staged at a path in an index of the kind, whose storage of paths has so many bytes. An error is

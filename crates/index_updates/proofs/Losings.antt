@@ -1,6 +1,6 @@
 -- Sides that go from a list of records, and what is recorded of them.
 use Rattle.std.proofs.Common.{◌≡◌, ◌≢◌, ℕ, suc, ◌+◌, ◌-◌, ◌<◌, ◌≤◌, Bool, true, false, ◌&&◌, ◌||◌, ◌==◌, not, List, [], ◌∷◌, ◌++◌, length, take, drop}
-use Rattle.std.proofs.Common.{get_or, filter, All, Option, Some, None, refl, sym, ap, ◌∙◌, arith, Bor, Result, Ok, Err, IfOk}
+use Rattle.std.proofs.Common.{get_or, filter, All, Option, Some, None, refl, sym, ap, ◌∙◌, arith, Bor}
 use Rattle.std.specs.List.{list_any}
 use Rattle.std.specs.Prelude.{MatchOption, slice_range}
 use Rattle.std.specs.declared.ops.Range.{Range}
@@ -155,7 +155,3 @@ lost_odds entry path rs None some none =
     let both : true ≡ false = sym (list_any_at odds rs k d u t) ∙ none in cc))))
 lost_odds entry path rs (Some p) some all =
     ap (lost (Stage entry path)) (ap (λ k. slice_range rs k p.end) all.0 ∙ ap (slice_range rs 0) all.1 ∙ range_all rs)
-
-pub if_ok : {T E : Type 0} (r : Result T E) (P Q : T → Type 0) → ((x : T) → P x → Q x) → IfOk r P → IfOk r Q
-if_ok (Ok x) P Q f h = f x h
-if_ok (Err e) P Q f h = tt

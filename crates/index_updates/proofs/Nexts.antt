@@ -1,7 +1,7 @@
 -- What one change takes out of entries that are done and the rest, and what several do.
-use Rattle.std.proofs.Common.{◌≡◌, ℕ, ◌+◌, ◌<◌, get_or, length, Bool, true, false, ◌&&◌, ◌||◌, ◌==◌, not, List, [], ◌∷◌, ◌++◌, All, take, drop}
+use Rattle.std.proofs.Common.{◌≡◌, ◌≢◌, ℕ, ◌+◌, ◌-◌, ◌<◌, arith, get_or, length, Bool, true, false, ◌&&◌, ◌||◌, ◌==◌, not, List, [], ◌∷◌, ◌++◌, All, take, drop}
 use Rattle.std.proofs.Common.{Option, refl, sym, ap, ◌∙◌, subst, append-nil, append_assoc}
-use Rattle.std.proofs.lemmas.List.{drop-map, map-append, take-append-drop, take_more}
+use Rattle.std.proofs.lemmas.List.{drop-map, get_or_default, map-append, take-append-drop, take_more}
 use Rattle.std.proofs.lemmas.List.Elements.{All-weaker}
 use Rattle.index_entries.specs.Order.{IsOrderedByPath, IsStrictlyOrdered, record_stage}
 use Rattle.index_entries.specs.Record.{Record, record_in, records_in, with_path}
@@ -11,9 +11,12 @@ use Rattle.index_lookups.specs.Closest.{is_below}
 use Rattle.index_lookups.specs.Lookup.{has_key}
 use Rattle.index_lookups.specs.Range.{is_at}
 use Rattle.index_metadata.specs.Flags.{stage_number}
+use Rattle.index_edits.proofs.Applied.{applied-append}
+use Rattle.index_edits.proofs.Clears.{clear_applied, clear_split, clear_unknown}
 use Rattle.index_edits.proofs.Passes.{back_ordered, front_ordered}
 use Rattle.index_edits.proofs.Splits.{beyond_above, beyond_at, beyond_below}
-use Rattle.index_edits.specs.Changes.{IsAppliedTo, applied, path_of}
+use Rattle.index_edits.specs.Changes.{IsAppliedTo, applied, applied_one, path_of}
+use Rattle.index_edits.specs.ClearSteps.{IsClearAfter, IsClearFor}
 use Rattle.index_edits.specs.EditSteps.{IsBeyond}
 use Rattle.index_edits.specs.declared.change.Change.{Change}
 use Rattle.index_edits.specs.declared.change.Change.TheVariants.{Stage, Unstage}
@@ -59,6 +62,10 @@ module _ (c : Change) (s : List ℕ) (done rest mid : List Entry) (k : ℕ) (pas
   pub mid_ordered : IsStrictlyOrdered (records_in s mid)
   mid_ordered = front_ordered (records_in s mid) (drop k (records_in s rest)) (subst IsStrictlyOrdered split_records o)
 
+  pub mid_clear : (known : ℕ) → IsClearFor known c (records_in s (done ++ rest)) → IsClearFor known c (records_in s mid)
+  mid_clear known h = clear_split known c (records_in s mid) (drop k (records_in s rest))
+      (subst (IsClearFor known c) split_records h)
+
   -- so all that goes goes from those that are done
   pub next_lost : lost c (records_in s mid) ≡ lost c (records_in s (done ++ rest))
   next_lost =
@@ -69,6 +76,26 @@ module _ (c : Change) (s : List ℕ) (done rest mid : List Entry) (k : ℕ) (pas
       (All-weaker (IsBeyond (path_of c)) (λ r. is_lost c r ≡ false) (beyond_lost c) behind (beyond ordered)) in
       sym (ap (lost c) split_records ∙ lost-append c (records_in s mid) behind
       ∙ ap (λ l. lost c (records_in s mid) ++ l) none ∙ append-nil (lost c (records_in s mid)))
+
+-- ---- what is known of the next one
+
+pub known_first : (c : Change) (cs : List Change) (place : ℕ) → place ≡ 0 → (rs : List Record)
+    → IsClearFor 0 c (applied (take place cs) rs)
+known_first c cs place e rs = clear_unknown c (applied (take place cs) rs)
+
+pub known_after : (cs : List Change) (place : ℕ) (b z d : Change) (known : ℕ) → place ≢ 0 → place < length cs
+    → ((rs : List Record) → IsClearAfter (get_or cs (place - 1) b) rs → IsClearFor known (get_or cs place z) rs)
+    → (rs : List Record) → IsClearFor known (get_or cs place d) (applied (take place cs) rs)
+unfolding applied
+known_after cs place b z d known some within h rs =
+    let c = get_or cs (place - 1) b in
+    let n : (place - 1) + 1 ≡ place = omega arith in
+    let is : take place cs ≡ take (place - 1) cs ++ c ∷ [] =
+    ap (λ k. take k cs) (sym n) ∙ take_more cs (place - 1) b (omega arith) in
+    subst (λ x. IsClearFor known x (applied (take place cs) rs)) (get_or_default cs place z d within)
+    (subst (IsClearFor known (get_or cs place z))
+    (sym (ap (λ l. applied l rs) is ∙ applied-append (take (place - 1) cs) (c ∷ []) rs))
+    (h (applied_one c (applied (take (place - 1) cs) rs)) (clear_applied c (applied (take (place - 1) cs) rs))))
 
 -- ---- several changes
 
@@ -98,6 +125,10 @@ undone_then cs c old mid undo before now is h one =
 module _ (cs : List Change) (i : ℕ) (old : List Record) (s : List ℕ) (done entries rest : List Entry) (at : ℕ)
     (is : rest ≡ drop at entries)
     (p : IsAppliedTo (take i cs) old (records_in s (done ++ drop at entries))) where
+  pub one_clear : (d : Change) (known : ℕ) → IsClearFor known d (applied (take i cs) old)
+      → IsClearFor known d (records_in s (done ++ rest))
+  one_clear d known h = subst (IsClearFor known d) (sym (ap (λ l. records_in s (done ++ l)) is ∙ p.is)) h
+
   pub one_more_undone : (d : Change) (undo before now : Option (List PathStages)) → i < length cs
       → before ≡ undone (take i cs) old undo
       → (IsStrictlyOrdered (records_in s (done ++ rest))

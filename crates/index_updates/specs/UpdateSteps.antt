@@ -1,12 +1,14 @@
 -- Entries and resolve-undo between the changes of a list (the library's own). Public clauses cite none of these. `s` is the
 -- storage before, and `t` that afterwards.
-use Rattle.std.specs.Prelude.{◌≡◌, ℕ, ◌≤◌, List, [], ◌∷◌, ◌++◌, All, drop, length, Option, Result, IfOk, OnOk}
+use Rattle.std.specs.Prelude.{◌≡◌, ℕ, ◌≤◌, List, [], ◌∷◌, ◌++◌, All, drop, length, take, Option, Result, IfOk, OnOk}
+use Rattle.std.specs.List.{HoldsAt}
 use Rattle.std.specs.Borrow.{Bor}
 use Rattle.index_entries.specs.Order.{IsStrictlyOrdered}
-use Rattle.index_entries.specs.Record.{IsPlaced, records_in}
+use Rattle.index_entries.specs.Record.{IsPlaced, Record, records_in}
 use Rattle.index_entries.specs.declared.Entry.{Entry}
 use Rattle.index_entries.specs.declared.Pathless.{Pathless}
-use Rattle.index_edits.specs.Changes.{IsAppliedTo}
+use Rattle.index_edits.specs.Changes.{IsAppliedTo, applied}
+use Rattle.index_edits.specs.ClearSteps.{IsClearFor}
 use Rattle.index_edits.specs.EntryEdits.{ChangesOrdered, CountsAt, Entries, Storage, TellsOf}
 use Rattle.index_edits.specs.declared.change.Change.{Change}
 use Rattle.index_edits.specs.declared.change.Change.TheVariants.{Stage, Unstage}
@@ -41,13 +43,17 @@ pub record TellsCut (path : Bor (List ℕ)) (s : Storage) (es : Entries) (before
 
 -- ---- several changes
 
--- A change is made of the entries that are done and the rest behind them, of which so many are done then. Each path lies
--- in the storage, which has more at its end.
-pub record AppliesNext {E : Type 0} (c : Change) (rest : List Entry) (s : Storage) (es : Entries) (t : Storage)
-    (ds : Entries) (r : Result ℕ E) : Type 0 where
+-- so many bytes at the front of the path of the change at a place are clear once those before it are made
+abbrev pub IsKnownAt : List Change → ℕ → ℕ → Type 0
+IsKnownAt cs place known = HoldsAt (λ c. (rs : List Record) → IsClearFor known c (applied (take place cs) rs)) cs place
+
+-- A change is made of the entries that are done and the rest behind them, of which so many are done then, where so many
+-- bytes of its path are clear. Each path lies in the storage, which has more at its end.
+pub record AppliesNext {E : Type 0} (known : ℕ) (c : Change) (rest : List Entry) (s : Storage) (es : Entries)
+    (t : Storage) (ds : Entries) (r : Result ℕ E) : Type 0 where
   pub inside : IfOk r (λ count. count ≤ length rest)
-  pub applied : IfOk r (λ count. ChangesOrdered (IsAppliedTo (c ∷ [])) s.items (es.items ++ rest) t.items
-      (ds.items ++ drop count rest))
+  pub applied : IfOk r (λ count. ChangesOrdered (λ old now. IsClearFor known c old → IsAppliedTo (c ∷ []) old now)
+      s.items (es.items ++ rest) t.items (ds.items ++ drop count rest))
   pub placed : OnOk r (All (IsPlaced (length t.items)) ds.items)
   pub storage : (more : List ℕ) × (t.items ≡ s.items ++ more)
 

@@ -39,7 +39,7 @@ fn odd_places(entries: &EntrySlice<'_>, entry: Pathless, path: &[u8]) -> Option<
     ensures all { IsWholeIfOdd path.now entry entries.now result }
     ensures inside { IfSome result (LiesWithin entries.now) }
 {
-    if has_odds(entries, entry, path) {
+    if has_odds(entries, entry, path, 0) {
         return Some(0..entries.len());
     }
     None

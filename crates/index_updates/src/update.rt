@@ -1,17 +1,18 @@
 //! Making several changes of an index, all or none, with what speaks of its entries.
 
-ghost use Rattle.std.specs.Prelude.{◌≡◌, All, IfOk, OnOk, length};
+ghost use Rattle.std.specs.Prelude.{◌≡◌, ◌<◌, All, IfOk, OnOk, length};
 ghost use Rattle.index_entries.specs.Record.{IsPlaced};
 ghost use Rattle.index_edits.specs.EntryEdits.{AppliesAll, SaysFirstRefused};
 ghost use Rattle.index_updates.specs.EntryUpdates.{KeepsAll};
 ghost use Rattle.index_updates.specs.Invalidated.{CountsNoMore, InvalidatesAll, UnlistsAll};
 ghost use Rattle.index_updates.specs.Undone.{undo_paths};
-ghost use Rattle.index_updates.specs.UpdateSteps.{AppliesNext, RecordsNext, UpdatesEntries, UpdatesWatched};
+ghost use Rattle.index_updates.specs.UpdateSteps.{AppliesNext, IsKnownAt, RecordsNext, UpdatesEntries};
+ghost use Rattle.index_updates.specs.UpdateSteps.{UpdatesWatched};
 
 use crate::invalidating::{invalidate_all, unlist_all};
 use crate::kept::Kept;
 use crate::losing::record_lost;
-use index_edits::apply::{apply_one, pass};
+use index_edits::apply::{apply_one, clear_after, pass};
 use index_edits::change::{ApplyError, Change, check_changes};
 use index_edits::order::in_order;
 use index_entries::slice::EntrySlice;
@@ -24,17 +25,20 @@ use index_small_extensions::resolve_undo::Paths;
 use std::alloc::AllocError;
 
 /// Makes one change of entries of which the first are done, and the rest are still to be copied behind these, and
-/// records the sides that go. Copies those entries that the change may concern, and tells how many.
+/// records the sides that go. Copies those entries that the change may concern, and tells how many. The first `known`
+/// bytes of its path are known to need no folder where a file of its stage is.
 fn update_next(
     done: &mut Vec<Entry>,
     storage: &mut PathStorage,
     undo: &mut Option<Paths>,
     rest: &[Entry],
     change: &Change<'_>,
+    known: usize,
 ) -> Result<usize, AllocError>
     requires placed { All (IsPlaced (length storage.old.items)) done.old.items }
     requires rest_placed { All (IsPlaced (length storage.old.items)) rest.now }
-    ensures applied { AppliesNext change.now rest.now storage.old done.old storage.new done.new
+    ensures applied { AppliesNext known change.now rest.now storage.old done.old storage.new
+        done.new
         result }
     ensures undone { RecordsNext change.now rest.now storage.old done.old undo.old undo.new result }
 {
@@ -45,7 +49,7 @@ fn update_next(
         &EntrySlice::new(done, storage),
         change,
     )?;
-    apply_one(done, storage, change)?;
+    apply_one(done, storage, change, known)?;
     Ok(count)
 }
 
@@ -85,6 +89,18 @@ struct Updated {
     undo: Option<Paths>,
 }
 
+/// How many bytes at the front of the path of the change at a place are known to need no folder where a file of its
+/// stage is, once those before it are made.
+fn known_at(changes: &[Change<'_>], place: usize) -> usize
+    requires { place < length changes.now }
+    ensures { IsKnownAt changes.now place result }
+{
+    if place == 0 {
+        return 0;
+    }
+    clear_after(&changes[place - 1], &changes[place])
+}
+
 /// The same as `entries` and `undo` after all changes, one after another, or a want of memory.
 fn update_each(
     entries: &[Entry],
@@ -99,9 +115,10 @@ fn update_each(
     let room = entries.len().saturating_add(changes.len());
     let mut done = Vec::with_capacity(*storage.allocator(), room)?;
     let mut at = 0;
-    for change in changes {
+    for (place, change) in changes.iter().enumerate() {
+        let known = known_at(changes, place);
         let (_, rest) = entries.split_at(at);
-        at += update_next(&mut done, storage, &mut undo, rest, change)?;
+        at += update_next(&mut done, storage, &mut undo, rest, change, known)?;
     }
     let (_, rest) = entries.split_at(at);
     done.extend_from_slice(rest)?;

@@ -1,18 +1,20 @@
 use Rattle.std.proofs.Common.{rules, [], ap, append-nil, subst, sym}
 use Rattle.index_entries.specs.Record.{records_in, with_path}
 use Rattle.index_edits.specs.Changes.{applied_one, takes_out}
+use Rattle.index_edits.specs.ClearSteps.{IsClearFor}
 use Rattle.index_edits.specs.Edits.{IsUnstagedFrom}
 use Rattle.index_edits.specs.EntryEdits.{ChangesOrdered}
 use Rattle.index_edits.proofs.Applied.{one_staged, one_unstaged}
 use Rattle.index_edits.proofs.apply.apply_one.Goals as goal
 
-pub returns-in_ok-settle-in-Stage : goal.returns-in_ok-settle-in-Stage
-returns-in_ok-settle-in-Stage c =
+pub returns-in_ok-settle_clear-in-Stage : goal.returns-in_ok-settle_clear-in-Stage
+returns-in_ok-settle_clear-in-Stage c =
     let old = records_in c.args.storage.now.items c.args.entries.now.items in
     record {
-      applied = λ o. one_staged c.args.change.now old _ (with_path c.in-Stage.path.now c.in-Stage.entry)
+      applied = λ o clear. one_staged c.args.change.now old _ (with_path c.in-Stage.path.now c.in-Stage.entry)
           (ap (λ x. applied_one x old) c.in-Stage.is) (λ r. ap (λ x. takes_out x r) c.in-Stage.is)
-          (c.in_ok-settle-in-Stage.ensures.staged.made o);
+          (c.in_ok-settle_clear-in-Stage.ensures.staged.made o
+          (subst (λ x. IsClearFor c.args.known x old) c.in-Stage.is clear));
       placed = search rules;
       storage = search rules;
       err_entries = search rules;
@@ -27,7 +29,7 @@ returns-in-Unstage c =
     let old = records_in s es in
     let path = c.in-Unstage.path.now in
     record {
-      applied = λ o. one_unstaged c.args.change.now old _ path
+      applied = λ o clear. one_unstaged c.args.change.now old _ path
           (ap (λ x. applied_one x old) c.in-Unstage.is) (λ r. ap (λ x. takes_out x r) c.in-Unstage.is)
           (subst (λ t. ChangesOrdered (IsUnstagedFrom path) t es t ds) c.deref.ensures.value c.unstage.ensures.unstaged o);
       placed = search rules;

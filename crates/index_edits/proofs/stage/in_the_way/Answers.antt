@@ -8,7 +8,7 @@ use Rattle.index_edits.proofs.stage.in_the_way.Goals as goal
 pub returns-then-sides : goal.returns-then-sides
 returns-then-sides c = record {
   sides = search rules;
-  others = λ o.
+  others = λ o clear.
       let new = with_path c.args.path.now c.args.entry in
       let rs = c.args.entries.now in
       c.if-sides.true ∙ rw c.if-sides.true at (others_told new rs c.ends_conflict-sides.result (list_any (are_at_odds new) rs)
@@ -18,10 +18,10 @@ returns-then-sides c = record {
 pub returns-else-sides : goal.returns-else-sides
 returns-else-sides c = record {
   sides = search rules;
-  others = λ o.
+  others = λ o clear.
       let new = with_path c.args.path.now c.args.entry in
       let rs = c.args.entries.now in
       ap (λ b. b || c.has_odds-others.result) (sym c.if-sides.false)
       ∙ others_told new rs c.ends_conflict-sides.result c.has_odds-others.result (c.ends_conflict-sides.ensures o)
-      (c.has_odds-others.ensures o);
+      (c.has_odds-others.ensures o clear);
 }

@@ -6,11 +6,11 @@ use Rattle.index_edits.specs.Changes.{IsAppliedTo}
 use Rattle.index_edits.proofs.Applied.{applied_none, grown_twice}
 use Rattle.index_edits.proofs.Passes.{all_made, one_more, placed_wider, same_entry}
 use Rattle.index_updates.specs.Undone.{undo_paths, undone}
-use Rattle.index_updates.proofs.Nexts.{one_more_undone, undone_none}
+use Rattle.index_updates.proofs.Nexts.{one_clear, one_more_undone, undone_none}
 use Rattle.index_updates.proofs.update.update_each.Goals as goal
 
-pub loop-change-init : goal.loop-change-init
-loop-change-init c =
+pub loop-place-init : goal.loop-place-init
+loop-place-init c =
     let s = c.args.storage.now.items in
     let es = c.args.entries.now in
     let none : c.in_ok-done.done.items ≡ [] = c.in_ok-done.ensures.items in
@@ -25,35 +25,38 @@ loop-change-init c =
 pub update_next-requires-clause-rest_placed : goal.update_next-requires-clause-rest_placed
 update_next-requires-clause-rest_placed c =
     let s = c.args.storage.now.items in
-    let t = c.loop-change.storage.items in
-    let at = c.loop-change.at in
-    let grown = c.loop-change.invariant.storage in
+    let t = c.loop-place.storage.items in
+    let at = c.loop-place.at in
+    let grown = c.loop-place.invariant.storage in
     subst (All (IsPlaced (length t))) (sym c.split_at.ensures.back) (All-drop (IsPlaced (length t)) at c.args.entries.now
     (placed_wider s grown.0 t c.args.entries.now grown.1 c.requires.placed))
 
-pub loop-change-preserved : goal.loop-change-preserved
-loop-change-preserved c =
-    let inv = c.loop-change.invariant in
+pub loop-place-preserved : goal.loop-place-preserved
+loop-place-preserved c =
+    let inv = c.loop-place.invariant in
     let told = c.in_ok-at.ensures in
     let changes = c.args.changes.now in
-    let i = c.loop-change.change-index in
+    let i = c.loop-place.place in
     record {
       inside = omega (
         arith,
         told.applied.inside,
         inv.inside,
         ap length c.split_at.ensures.back,
-        length-drop c.loop-change.at c.args.entries.now,
+        length-drop c.loop-place.at c.args.entries.now,
       );
       placed = told.applied.placed;
-      applied = λ o. one_more changes i _ c.loop-change.storage.items
-          c.loop-change.done.items c.args.entries.now c.split_at.result.1.now c.loop-change.at c.split_at.ensures.back
+      applied = λ o. one_more changes i _ c.loop-place.storage.items
+          c.loop-place.done.items c.args.entries.now c.split_at.result.1.now c.loop-place.at c.split_at.ensures.back
           (inv.applied o) _ c.update_next.new.storage.items c.update_next.new.done.items c.in_ok-at.field-0
-          (omega (arith, c.loop-change-test.true)) told.applied.applied;
-      undone = λ o. one_more_undone changes i _ c.loop-change.storage.items
-          c.loop-change.done.items c.args.entries.now c.split_at.result.1.now c.loop-change.at c.split_at.ensures.back
-          (inv.applied o) _ (undo_paths c.in_ok-undo.undo) (undo_paths c.loop-change.undo)
-          (undo_paths c.update_next.new.undo) (omega (arith, c.loop-change-test.true)) (inv.undone o) told.undone;
+          (omega (arith, c.loop-place-test.true)) (λ w. told.applied.applied w
+          (one_clear changes i _ c.loop-place.storage.items c.loop-place.done.items c.args.entries.now
+          c.split_at.result.1.now c.loop-place.at c.split_at.ensures.back (inv.applied o) _ c.known_at-known.result
+          (c.known_at-known.ensures _ _)));
+      undone = λ o. one_more_undone changes i _ c.loop-place.storage.items
+          c.loop-place.done.items c.args.entries.now c.split_at.result.1.now c.loop-place.at c.split_at.ensures.back
+          (inv.applied o) _ (undo_paths c.in_ok-undo.undo) (undo_paths c.loop-place.undo)
+          (undo_paths c.update_next.new.undo) (omega (arith, c.loop-place-test.true)) (inv.undone o) told.undone;
       storage = grown_twice _ _ _ inv.storage told.applied.storage;
     }
 
@@ -62,27 +65,27 @@ returns c = record {
   made = record {
     applied = λ o.
         let more = c.in_ok-extend_from_slice.ensures.items in
-        all_made c.args.changes.now c.loop-change.change-index _ c.loop-change.storage.items c.loop-change.done.items
-        c.args.entries.now c.split_at-2.result.1.now c.loop-change.at c.split_at-2.ensures.back
-        (c.loop-change.invariant.applied o) _ (omega (arith, c.loop-change-test.false))
-        (more.1 ∙ ap (λ l. c.loop-change.done.items ++ l) (same_from_all_zip _ _ more.0 more.2 same_entry));
+        all_made c.args.changes.now c.loop-place.place _ c.loop-place.storage.items c.loop-place.done.items
+        c.args.entries.now c.split_at-2.result.1.now c.loop-place.at c.split_at-2.ensures.back
+        (c.loop-place.invariant.applied o) _ (omega (arith, c.loop-place-test.false))
+        (more.1 ∙ ap (λ l. c.loop-place.done.items ++ l) (same_from_all_zip _ _ more.0 more.2 same_entry));
     undone = λ o.
         let old = records_in c.args.storage.now.items c.args.entries.now in
-        c.loop-change.invariant.undone o
+        c.loop-place.invariant.undone o
         ∙ ap (λ l. undone l old (undo_paths c.in_ok-undo.undo))
-        (take_all c.loop-change.change-index c.args.changes.now (omega (arith, c.loop-change-test.false)))
+        (take_all c.loop-place.place c.args.changes.now (omega (arith, c.loop-place-test.false)))
         ∙ ap (undone c.args.changes.now old) c.in_ok-undo.ensures;
     placed =
         let more = c.in_ok-extend_from_slice.ensures.items in
         let s = c.args.storage.now.items in
-        let t = c.loop-change.storage.items in
-        let at = c.loop-change.at in
-        let grown = c.loop-change.invariant.storage in
+        let t = c.loop-place.storage.items in
+        let at = c.loop-place.at in
+        let grown = c.loop-place.invariant.storage in
         let P = All (IsPlaced (length t)) in
-        let is = more.1 ∙ ap (λ l. c.loop-change.done.items ++ l)
+        let is = more.1 ∙ ap (λ l. c.loop-place.done.items ++ l)
         (same_from_all_zip _ _ more.0 more.2 same_entry ∙ c.split_at-2.ensures.back) in
-        subst P (sym is) (All-append (IsPlaced (length t)) c.loop-change.done.items (drop at c.args.entries.now)
-        c.loop-change.invariant.placed (All-drop (IsPlaced (length t)) at c.args.entries.now
+        subst P (sym is) (All-append (IsPlaced (length t)) c.loop-place.done.items (drop at c.args.entries.now)
+        c.loop-place.invariant.placed (All-drop (IsPlaced (length t)) at c.args.entries.now
         (placed_wider s grown.0 t c.args.entries.now grown.1 c.requires.placed)));
   };
   storage = search rules;

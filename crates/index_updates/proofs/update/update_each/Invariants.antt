@@ -6,15 +6,15 @@ use Rattle.index_updates.specs.Undone.{undo_paths, undone}
 use Rattle.index_updates.proofs.update.update_each.Given as goal
 
 -- the changes so far are made, of those that are done and the rest, and what they take out is recorded
-abbrev pub invariant-loop-change : goal.invariant-loop-change
-invariant-loop-change l = record {
+abbrev pub invariant-loop-place : goal.invariant-loop-place
+invariant-loop-place l = record {
   inside : l.at ≤ length l.entries;
   placed : All (IsPlaced (length l.storage.items)) l.done.items;
   applied : IsStrictlyOrdered (records_in l.initial.storage.items l.entries)
-      → IsAppliedTo (take l.change-index l.changes) (records_in l.initial.storage.items l.entries)
+      → IsAppliedTo (take l.place l.changes) (records_in l.initial.storage.items l.entries)
       (records_in l.storage.items (l.done.items ++ drop l.at l.entries));
   undone : IsStrictlyOrdered (records_in l.initial.storage.items l.entries) → undo_paths l.undo
-      ≡ undone (take l.change-index l.changes) (records_in l.initial.storage.items l.entries)
+      ≡ undone (take l.place l.changes) (records_in l.initial.storage.items l.entries)
       (undo_paths l.initial.undo);
   storage : (more : List ℕ) × (l.storage.items ≡ l.initial.storage.items ++ more);
 }

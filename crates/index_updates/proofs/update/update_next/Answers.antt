@@ -5,7 +5,7 @@ use Rattle.index_edits.specs.Changes.{path_of}
 use Rattle.index_edits.specs.EditSteps.{IsBeyond}
 use Rattle.index_edits.proofs.Passes.{next_applied}
 use Rattle.index_updates.specs.Undone.{all_recorded, lost, undo_paths}
-use Rattle.index_updates.proofs.Nexts.{mid_ordered, next_lost}
+use Rattle.index_updates.proofs.Nexts.{mid_clear, mid_ordered, next_lost}
 use Rattle.index_updates.proofs.update.update_next.Goals as goal
 
 beyond : (c : goal.In_ok-apply_one) → IsOrderedByPath (records_in c.args.storage.now.items c.args.rest.now)
@@ -23,9 +23,12 @@ returns-clause-applied c =
     let grown = c.in_ok-apply_one.ensures.storage in
     record {
       inside = search rules;
-      applied = next_applied c.args.change.now c.args.storage.now.items grown.0 c.apply_one.new.storage.items
+      applied = λ o clear. next_applied c.args.change.now c.args.storage.now.items grown.0 c.apply_one.new.storage.items
           c.args.done.now.items c.args.rest.now c.pass.new.done.items c.apply_one.new.entries.items c.in_ok-count.count grown.1
-          c.requires.rest_placed c.in_ok-count.ensures.copied (beyond c) c.in_ok-apply_one.ensures.applied;
+          c.requires.rest_placed c.in_ok-count.ensures.copied (beyond c)
+          (λ m. c.in_ok-apply_one.ensures.applied m (mid_clear c.args.change.now c.args.storage.now.items
+          c.args.done.now.items c.args.rest.now c.pass.new.done.items c.in_ok-count.count c.in_ok-count.ensures.copied
+          (beyond c) o c.args.known clear)) o;
       placed = search rules;
       storage = search rules;
     }
