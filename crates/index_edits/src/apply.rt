@@ -2,7 +2,6 @@
 
 ghost use Rattle.std.specs.Prelude.{◌≡◌, ◌≤◌, ◌++◌, List, All, IfOk, length, take};
 ghost use Rattle.index_entries.specs.Record.{IsPlaced, Record, records_in};
-ghost use Rattle.index_lookups.specs.SearchSteps.{prefix_answers};
 ghost use Rattle.index_edits.specs.ClearSteps.{AppliesClear, IsClearAfter, IsClearFor};
 ghost use Rattle.index_edits.specs.EditSteps.{AreBeyond};
 
@@ -12,10 +11,9 @@ use crate::unstage::unstage;
 use index_entries::paths::shared_len;
 use index_entries::slice::EntrySlice;
 use index_entries::{Entry, PathStorage};
-use index_search::ordered::{Ordered, end_from};
-use index_search::prefix::compare_prefix;
+use index_lookups::search::Prefix;
+use index_search::ordered::end_from;
 use std::alloc::AllocError;
-use std::cmp::Ordering;
 
 /// How many bytes at the front of a change's path need no folder where a file of its stage is, once the change before it
 /// is made: as many as both paths begin with, where both stage an entry at the same stage.
@@ -57,33 +55,19 @@ pub fn apply_one(
     Ok(())
 }
 
-/// Entries by what their paths begin with, to a path.
-#[derive(Clone, Copy)]
-struct ToPath<'a> {
-    entries: &'a EntrySlice<'a>,
-    path: &'a [u8],
-}
-
-impl Ordered for ToPath<'_> {
-    ghost answers = { λ s. prefix_answers s.path.now s.entries.now };
-
-    fn len(&self) -> usize {
-        self.entries.len()
-    }
-
-    fn compare(&self, place: usize) -> Ordering {
-        compare_prefix(self.entries.path(place), self.path)
-    }
-}
-
 /// How many of the entries are passed by on the way to a path: those in front of it, and all that begin with it. It
 /// looks at few where they are few.
 fn passed(rest: &EntrySlice<'_>, path: &[u8]) -> usize
     ensures inside { result ≤ length rest.now }
     ensures beyond { AreBeyond path.now rest.now result }
 {
-    let entries = rest;
-    end_from(&ToPath { entries, path }, 0)
+    let tail = &[];
+    let places = Prefix {
+        entries: rest,
+        prefix: path,
+        tail,
+    };
+    end_from(&places, 0)
 }
 
 /// Copies those of the rest that a change of the path may concern behind the entries that are done, and tells how many:

@@ -1,78 +1,23 @@
 //! Searches that begin near the end of a list, where the entries that a change concerns mostly stand.
 
-ghost use Rattle.std.specs.Prelude.{◌≡◌, ◌<◌, ◌≤◌, ◌++◌, ◌∷◌, [], IfErr, IfOk, IfSome, false};
-ghost use Rattle.std.specs.Prelude.{length, map, ok_or};
-ghost use Rattle.std.specs.List.{HoldsAt};
+ghost use Rattle.std.specs.Prelude.{◌≡◌, ◌≤◌, IfErr, IfOk, IfSome, false};
+ghost use Rattle.std.specs.Prelude.{length, ok_or};
 ghost use Rattle.std.specs.Ordering.{is_eq};
 ghost use Rattle.index_entries.specs.Order.{IsOrderedByPath, IsStrictlyOrdered};
 ghost use Rattle.index_lookups.specs.Closest.{is_below};
 ghost use Rattle.index_lookups.specs.Lookup.{IsKeyAt, insertion_of, place_of};
 ghost use Rattle.index_lookups.specs.Range.{IsPart, IsRange, is_at};
-ghost use Rattle.index_lookups.specs.SearchSteps.{asked_cmp, prefix_answers};
 ghost use Rattle.index_metadata.specs.Flags.{stage_code};
 ghost use Rattle.index_search.specs.Halving.{IsAround, IsPartedAt, IsRising};
 
-use index_entries::Entry;
 use index_entries::slice::EntrySlice;
-use index_metadata::entry::{Stage, StageRaw};
+use index_lookups::search::{Asked, Prefix};
+use index_metadata::entry::Stage;
 use index_search::ordered::{Ordered, end_from, part_within};
-use index_search::prefix::compare_pieces;
-use std::cmp::Ordering;
 use std::ops::Range;
 
 /// How many entries a search passes from the end on before it halves all in front of them.
 const NEAR: usize = 64;
-
-/// Entries by path and, where one is asked, by stage, to what is looked for.
-#[derive(Clone, Copy)]
-struct Asked<'a> {
-    entries: &'a EntrySlice<'a>,
-    path: &'a [u8],
-    stage: Option<Stage>,
-}
-
-/// Where the entry at a place stands to a path, and to a stage where one is asked.
-fn compare(entries: &EntrySlice<'_>, place: usize, path: &[u8], stage: Option<Stage>) -> Ordering
-    requires { place < length entries.now }
-    ensures { HoldsAt (λ r. asked_cmp path.now stage r ≡ result) entries.now place }
-{
-    let by_path = Entry::cmp_filepaths(entries.path(place), path);
-    match stage {
-        None => by_path,
-        Some(stage) => by_path.then(entries.entry(place).stage_raw().cmp(&(stage as StageRaw))),
-    }
-}
-
-impl Ordered for Asked<'_> {
-    ghost answers = { λ s. map (asked_cmp s.path.now s.stage) s.entries.now };
-
-    fn len(&self) -> usize {
-        self.entries.len()
-    }
-
-    fn compare(&self, place: usize) -> Ordering {
-        compare(self.entries, place, self.path, self.stage)
-    }
-}
-
-/// Entries by whether their paths lie in a folder.
-#[derive(Clone, Copy)]
-struct InFolder<'a> {
-    entries: &'a EntrySlice<'a>,
-    folder: &'a [u8],
-}
-
-impl Ordered for InFolder<'_> {
-    ghost answers = { λ s. prefix_answers (s.folder.now ++ 47 ∷ []) s.entries.now };
-
-    fn len(&self) -> usize {
-        self.entries.len()
-    }
-
-    fn compare(&self, place: usize) -> Ordering {
-        compare_pieces(self.entries.path(place), self.folder, b"/")
-    }
-}
 
 /// Between which places the first that isn't before what is looked for stands. It looks one place back from the end,
 /// then two more, then four, as long as few are passed.
@@ -140,7 +85,11 @@ pub(crate) fn folder_range(entries: &EntrySlice<'_>, folder: &[u8]) -> Option<Ra
     ensures exactly { IsOrderedByPath entries.now
         → IsRange (is_below folder.now) entries.now result }
 {
-    run_near_end(&InFolder { entries, folder })
+    run_near_end(&Prefix {
+        entries,
+        prefix: folder,
+        tail: b"/",
+    })
 }
 
 /// The index of the entry at the path and the stage or, as an error, the index where it would be put in. It takes few

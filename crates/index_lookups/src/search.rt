@@ -18,10 +18,13 @@ use std::cmp::Ordering;
 
 /// Entries by path and, where one is asked, by stage, to what is looked for.
 #[derive(Clone, Copy)]
-pub(crate) struct Asked<'a> {
-    pub(crate) entries: &'a EntrySlice<'a>,
-    pub(crate) path: &'a [u8],
-    pub(crate) stage: Option<Stage>,
+pub struct Asked<'a> {
+    /// The entries.
+    pub entries: &'a EntrySlice<'a>,
+    /// The path that is looked for.
+    pub path: &'a [u8],
+    /// The stage, where one is asked.
+    pub stage: Option<Stage>,
 }
 
 /// Where the entry at a place stands to a path, and to a stage where one is asked. It compares one path.
@@ -50,10 +53,13 @@ impl Ordered for Asked<'_> {
 
 /// Entries by what their paths begin with, to a prefix that is given in two pieces.
 #[derive(Clone, Copy)]
-pub(crate) struct Prefix<'a> {
-    pub(crate) entries: &'a EntrySlice<'a>,
-    pub(crate) prefix: &'a [u8],
-    pub(crate) tail: &'a [u8],
+pub struct Prefix<'a> {
+    /// The entries.
+    pub entries: &'a EntrySlice<'a>,
+    /// The prefix up to its tail.
+    pub prefix: &'a [u8],
+    /// The rest of it, such as the slash behind a folder's path, or nothing.
+    pub tail: &'a [u8],
 }
 
 impl Ordered for Prefix<'_> {

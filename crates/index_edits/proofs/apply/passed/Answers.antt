@@ -1,5 +1,7 @@
-use Rattle.std.proofs.Common.{arith}
+use Rattle.std.proofs.Common.{ℕ, List, [], ◌++◌, All, arith, drop, subst}
+use Rattle.std.proofs.lemmas.List.{append-nil}
 use Rattle.index_lookups.proofs.RunsFound.{rising_prefixes}
+use Rattle.index_edits.specs.EditSteps.{IsBeyond}
 use Rattle.index_edits.proofs.Passes.{beyond_parted}
 use Rattle.index_edits.proofs.apply.passed.Goals as goal
 
@@ -7,5 +9,7 @@ pub returns-clause-beyond : goal.returns-clause-beyond
 returns-clause-beyond c = λ o.
     let path = c.args.path.now in
     let rs = c.args.rest.now in
-    beyond_parted path rs c.end_from.result
-    (c.end_from.ensures.parts (rising_prefixes path rs o) (λ k d low high. absurd (omega arith)))
+    let P : List ℕ → Type 0 = λ p. All (IsBeyond p) (drop c.end_from.result rs) in
+    subst P (append-nil path)
+    (beyond_parted (path ++ []) rs c.end_from.result
+    (c.end_from.ensures.parts (rising_prefixes (path ++ []) rs o) (λ k d low high. absurd (omega arith))))
