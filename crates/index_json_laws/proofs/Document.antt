@@ -1,71 +1,216 @@
--- What is printed of an index is the text of its value, and a newline.
-use Rattle.std.proofs.Common.{◌≡◌, ℕ, true, List, [], ◌∷◌, ◌++◌, append_assoc, append-nil, ap, codes, decimal}
-use Rattle.std.proofs.Common.{Option, refl, ◌∙◌}
+-- The events of an index tell a value, whatever is told: parts that have no lists in them by computation, for each of
+-- their cases, and the others by those that they have.
+use Rattle.std.proofs.Common.{◌≡◌, ℕ, ◌+◌, Bool, true, false, List, [], ◌∷◌, ◌++◌, min, nat_lt, refl, codes, Option, Some}
+use Rattle.std.proofs.Common.{None}
+use Rattle.std.proofs.lemmas.Bool.{cond_both}
 use Rattle.std.specs.Option.{option_map}
-use Rattle.json.specs.Print.{escape_byte}
-use Rattle.index_entries.specs.EntryImage.{version_code}
+use Rattle.index_bitmaps.specs.Bitmap.{Bitmap}
+use Rattle.index_cached_tree.specs.Tree.{Node, Nodes, node, none, more}
 use Rattle.index_entries.specs.Record.{Record}
 use Rattle.index_format.specs.Contents.{Contents}
+use Rattle.index_marks.specs.declared.EndMark.{EndMark}
 use Rattle.index_marks.specs.declared.Marks.{Marks}
+use Rattle.index_metadata.specs.declared.entry.stat.Stat.{Stat}
 use Rattle.index_parts.specs.declared.hash.ObjectId.{ObjectId}
-use Rattle.index_events.specs.Bitmaps.{link_events, monitor_events}
+use Rattle.index_small_extensions.specs.FsMonitor.{Monitor, TokenValue, nanoseconds, opaque}
+use Rattle.index_small_extensions.specs.ResolveUndo.{PathStages}
+use Rattle.index_small_extensions.specs.declared.index_entry_offset_table.Offset.{Offset}
+use Rattle.index_split.specs.Link.{BitmapPair, LinkValue}
+use Rattle.index_untracked.specs.Blocks.{DirectoryValue}
+use Rattle.index_untracked.specs.Untracked.{Cache, Preamble}
+use Rattle.index_untracked.specs.declared.OidStat.{OidStat}
+use Rattle.index_events.specs.Bitmaps.{bits_events, link_events, monitor_events, pair_events, token_event}
+use Rattle.index_events.specs.Bitmaps.{watch_events}
 use Rattle.index_events.specs.Document.{behind_events, document_events, entry_events, head_events, last_events}
-use Rattle.index_events.specs.Event.{Event, end_array, end_object, end_text, first_field, listed, next_field, print}
-use Rattle.index_events.specs.Marks.{end_events, table_events}
-use Rattle.index_events.specs.Trees.{cached_tree_events}
-use Rattle.index_events.specs.Undo.{undo_events}
-use Rattle.index_events.specs.Untracked.{untracked_events}
-use Rattle.index_json.specs.EntryValues.{entry_value}
-use Rattle.index_json.specs.Json.{event_text, json_text}
-use Rattle.index_json.specs.Values.{begin_of, id_or_null, json_bool, separator}
-use Rattle.index_json_laws.specs.Document.{document_value, entry_object}
-use Rattle.index_json_laws.specs.Extensions.{id_value}
-use Rattle.index_json_laws.specs.Value.{boolean, number, spelling}
-use Rattle.index_json_laws.proofs.Entries.{entry_text, id_text}
-use Rattle.index_json_laws.proofs.Extensions.{link_told, monitor_told, tree_told, undo_told}
-use Rattle.index_json_laws.proofs.Told.{array_told, listed_held, member_told, no_more_told, whole_text}
-use Rattle.index_json_laws.proofs.Untracked.{marker_told, table_told, untracked_told}
+use Rattle.index_events.specs.Event.{Event, count_line, element, element_field, first_field, next_field}
+use Rattle.index_events.specs.Marks.{block_events, blocks_events, end_events, marker_events, table_events}
+use Rattle.index_events.specs.Trees.{all_tree_events, below, cached_tree_events, deepest_indent, depth_events, indent}
+use Rattle.index_events.specs.Trees.{known_events, node_events, tree_events}
+use Rattle.index_events.specs.Undo.{path_events, sides_events, undo_begin, undo_events}
+use Rattle.index_events.specs.Untracked.{cache_begin, cached_events, content_events, exclude_events, name_events}
+use Rattle.index_events.specs.Untracked.{naming_events, own_events, preamble_events, stat_events}
+use Rattle.index_events.specs.Untracked.{subdirectory_events, untracked_events}
+use Rattle.index_json.specs.Json.{json_text}
+use Rattle.index_json_laws.specs.Telling.{Behind, are_plain, document_value, told, value_of}
+use Rattle.index_json_laws.specs.Value.{spelling}
+use Rattle.index_json_laws.proofs.Parts.{TellsItem, TellsItems, TellsMembers, item_and, item_told}
+use Rattle.index_json_laws.proofs.Parts.{listed_told, members_and, members_told, no_items_told, told_append, whole_array}
+use Rattle.index_json_laws.proofs.Spelled.{value_spelled}
 
-each_entry : (place : ℕ) (r : Record)
-    → print event_text (entry_events place r) ≡ separator place ++ spelling (entry_object r)
-each_entry place r =
-    append-nil (separator place ++ entry_value r) ∙ ap (λ (l : List ℕ). separator place ++ l) (entry_text r)
+entry_told : (r : Record) → TellsItem (λ place. entry_events place r)
+entry_told r = item_told (λ place b. refl)
 
-all_and : (t k u n m b e s : List Event) → (((t ++ k) ++ u) ++ n) ++ ((m ++ (b ++ e)) ++ s)
-    ≡ t ++ (k ++ (u ++ (n ++ (m ++ (b ++ (e ++ s))))))
-all_and t k u n m b e s = simp append_assoc
+-- ---- a cached tree
+
+depth_told : (depth : ℕ) (b : Behind) → told (depth_events depth) b ≡ b
+unfolding depth_events
+depth_told depth b =
+    cond_both (nat_lt deepest_indent depth)
+    (count_line (indent (deepest_indent + 2)) (codes "depth") depth ∷ []) []
+    (λ (events : List Event). told events b ≡ b) (λ e. refl) (λ e. refl)
+
+counted_told : (indent : List ℕ) (id : ObjectId) (count : Option ℕ) → TellsMembers true (node_events indent id count)
+unfolding node_events next_field
+counted_told indent id None = members_told (λ ms b. refl)
+counted_told indent id (Some n) = members_told (λ ms b. refl)
+
+known_told : (depth : ℕ) (name : List ℕ) (id : ObjectId) (count : Option ℕ)
+    → TellsMembers false (known_events depth name id count)
+unfolding known_events first_field next_field
+known_told depth name id count =
+    let counted = counted_told (indent (min depth deepest_indent + 2)) id count in
+    members_told (λ ms b. simp told_append (simp (depth_told, counted.is) refl))
+
+mutual
+  node_told : (depth : ℕ) (t : Node) → TellsItem (λ place. tree_events (element place) depth t)
+  node_told depth (node name id count children) =
+      let known = known_told depth name id count in
+      let inside = whole_array _ (nodes_told 0 (below depth) children) in
+      item_told (λ place b. simp told_append (simp (known.is, inside.is) refl))
+
+  nodes_told : (place depth : ℕ) (ts : Nodes) → TellsItems place (all_tree_events place depth ts)
+  nodes_told place depth none = no_items_told place
+  nodes_told place depth (more t ts) =
+      item_and place (λ p. tree_events (element p) depth t) (all_tree_events (place + 1) depth ts) (node_told depth t)
+      (nodes_told (place + 1) depth ts)
+
+tree_told : (t : Option Node) → TellsMembers true (cached_tree_events t)
+unfolding next_field
+tree_told None = members_told (λ ms b. refl)
+tree_told (Some (node name id count children)) =
+    let known = known_told 0 name id count in
+    let inside = whole_array _ (nodes_told 0 (below 0) children) in
+    members_told (λ ms b. simp told_append (simp (known.is, inside.is) refl))
+
+-- ---- bitmaps
+
+pair_told : (pair : Option BitmapPair) → TellsMembers true (pair_events pair)
+unfolding pair_events bits_events first_field next_field
+pair_told None = members_told (λ ms b. refl)
+pair_told (Some pair) = members_told (λ ms b. refl)
+
+link_told : (link : Option LinkValue) → TellsMembers true (link_events link)
+unfolding link_events first_field next_field
+link_told None = members_told (λ ms b. refl)
+link_told (Some link) =
+    let pair = pair_told link.bitmaps in
+    members_told (λ ms b. simp (told_append, pair.is) refl)
+
+watch_told : (token : TokenValue) (dirty : Bitmap) → TellsMembers true (watch_events token dirty)
+unfolding watch_events token_event bits_events first_field next_field
+watch_told (nanoseconds time) dirty = members_told (λ ms b. refl)
+watch_told (opaque text) dirty = members_told (λ ms b. refl)
+
+monitor_told : (monitor : Option Monitor) → TellsMembers true (monitor_events monitor)
+unfolding next_field
+monitor_told None = members_told (λ ms b. refl)
+monitor_told (Some monitor) = watch_told monitor.token monitor.dirty
+
+-- ---- resolved conflicts
+
+path_told : (p : PathStages) → TellsItem (λ place. path_events place p)
+unfolding path_events sides_events first_field next_field element_field
+path_told p = item_told (λ place b. refl)
+
+undo_told : (paths : Option (List PathStages)) → TellsMembers true (undo_events paths)
+unfolding undo_begin next_field
+undo_told None = members_told (λ ms b. refl)
+undo_told (Some paths) =
+    let inside = listed_told path_events path_told paths in
+    members_told (λ ms b. simp (told_append, inside.is) refl)
+
+-- ---- an untracked cache
+
+exclude_told : (words name : List ℕ) (file : Option OidStat) → are_plain name ≡ true
+    → TellsMembers true (exclude_events true words name file)
+unfolding exclude_events first_field next_field
+exclude_told words name None p = members_told (λ ms b. simp p refl)
+exclude_told words name (Some file) p = members_told (λ ms b. simp p refl)
+
+stat_told : (s : Option Stat) → TellsMembers true (stat_events s)
+unfolding stat_events next_field
+stat_told None = members_told (λ ms b. refl)
+stat_told (Some s) = members_told (λ ms b. refl)
+
+name_told : (name : List ℕ) → TellsItem (λ place. name_events place name)
+unfolding name_events first_field next_field
+name_told name = item_told (λ place b. refl)
+
+subdirectory_told : (n : ℕ) → TellsItem (λ place. subdirectory_events place n)
+unfolding element_field
+subdirectory_told n = item_told (λ place b. refl)
+
+content_told : (d : DirectoryValue) → TellsMembers true (content_events d)
+unfolding content_events next_field
+content_told d =
+    let names = listed_told name_events name_told d.untracked in
+    let places = listed_told subdirectory_events subdirectory_told d.subs in
+    members_told (λ ms b. simp told_append (simp (names.is, places.is) refl))
+
+directory_told : (d : DirectoryValue) → TellsItem (λ place. cached_events true place d)
+unfolding cached_events own_events first_field next_field
+directory_told d =
+    let stat = stat_told d.stat in
+    let content = content_told d in
+    item_told (λ place b. simp told_append (simp (stat.is, content.is) refl))
+
+naming_told : (identifier : List ℕ) (flags : ℕ) (name : List ℕ)
+    → TellsMembers false (naming_events identifier flags name)
+unfolding naming_events first_field next_field
+naming_told identifier flags name = members_told (λ ms b. refl)
+
+preamble_told : (p : Preamble) → TellsMembers false (preamble_events true p)
+unfolding preamble_events
+preamble_told p =
+    members_and
+    (members_and (naming_told p.identifier p.dir_flags p.exclude_filename) (exclude_told _ _ p.info_exclude refl))
+    (exclude_told _ _ p.excludes_file refl)
+
+cache_told : (cache : Option Cache) → TellsMembers true (untracked_events true cache)
+unfolding cache_begin next_field
+cache_told None = members_told (λ ms b. refl)
+cache_told (Some c) =
+    let preamble = preamble_told c.preamble in
+    let inside = listed_told (cached_events true) directory_told c.directories in
+    members_told (λ ms b. simp told_append (simp (preamble.is, inside.is) refl))
+
+-- ---- an offset table and an end marker
+
+block_told : (o : Offset) → TellsItem (λ place. block_events place o)
+unfolding element_field
+block_told o = item_told (λ place b. refl)
+
+table_told : (had : Bool) (table : Option (List Offset)) → TellsMembers true (table_events had table)
+unfolding table_events blocks_events next_field
+table_told false table = members_told (λ ms b. refl)
+table_told true None = members_told (λ ms b. refl)
+table_told true (Some blocks) =
+    let inside = listed_told block_events block_told blocks in
+    members_told (λ ms b. simp (told_append, inside.is) refl)
+
+marker_told : (had : Bool) (mark : Option EndMark) → TellsMembers true (end_events had mark)
+unfolding end_events marker_events first_field next_field
+marker_told false mark = members_told (λ ms b. refl)
+marker_told true None = members_told (λ ms b. refl)
+marker_told true (Some m) = members_told (λ ms b. refl)
+
+-- ---- all of it
+
+pub document_told : (c : Contents) (checksum : Option ObjectId) (marks : Marks)
+    → value_of (document_events true c checksum marks) ≡ Some (document_value c checksum marks)
+unfolding document_value document_events head_events behind_events last_events first_field next_field
+document_told c checksum marks =
+    let o = c.extensions in
+    let entries = listed_told entry_events entry_told c.records in
+    let values = members_and (members_and (members_and (tree_told o.tree) (link_told o.link)) (undo_told o.resolve_undo))
+    (cache_told o.untracked) in
+    let monitor = monitor_told o.fs_monitor in
+    let table = table_told o.had_offset_table (option_map (λ v. v.items) marks.table) in
+    let marker = marker_told o.had_end_marker marks.end in
+    simp told_append (simp (entries.is, values.is, monitor.is, table.is, marker.is) refl)
 
 pub document_text : (c : Contents) (checksum : Option ObjectId) (marks : Marks)
     → json_text c checksum marks ≡ spelling (document_value c checksum marks) ++ codes "\n"
-unfolding document_value document_events head_events behind_events last_events first_field next_field begin_of
-    escape_byte
 document_text c checksum marks =
-    let o = c.extensions in
-    let table = option_map (λ v. v.items) marks.table in
-    let end : List Event = end_object ∷ end_text ∷ [] in
-    let markers = end_events o.had_end_marker marks.end ++ end in
-    let tables = table_events o.had_offset_table table ++ markers in
-    let monitors = monitor_events o.fs_monitor ++ tables in
-    let caches = untracked_events true o.untracked ++ monitors in
-    let undos = undo_events o.resolve_undo ++ caches in
-    let links = link_events o.link ++ undos in
-    let trees = cached_tree_events o.tree ++ links in
-    ap (λ (l : List Event). print event_text
-    (head_events c checksum ++ (listed entry_events c.records ++ (end_array ∷ l))))
-    (all_and (cached_tree_events o.tree) (link_events o.link) (undo_events o.resolve_undo)
-    (untracked_events true o.untracked) (monitor_events o.fs_monitor) (table_events o.had_offset_table table)
-    (end_events o.had_end_marker marks.end) end)
-    ∙ whole_text
-    (member_told [] (codes "version") (decimal (version_code c.version)) (number (version_code c.version)) refl refl
-    (member_told (codes ",") (codes "checksum") (id_or_null checksum) (id_value checksum) refl (id_text checksum)
-    (member_told (codes ",") (codes "is_sparse") (json_bool o.sparse) (boolean o.sparse) refl refl
-    (array_told (codes ",") (codes "entries") refl
-    (listed_held entry_events entry_object c.records (end_array ∷ trees) each_entry)
-    (tree_told o.tree links
-    (link_told o.link undos
-    (undo_told o.resolve_undo caches
-    (untracked_told o.untracked monitors
-    (monitor_told o.fs_monitor tables
-    (table_told o.had_offset_table table markers
-    (marker_told o.had_end_marker marks.end end
-    (no_more_told (codes ",") (codes "}" ++ codes "\n")))))))))))))
+    value_spelled (document_events true c checksum marks) (document_value c checksum marks)
+    (document_told c checksum marks)

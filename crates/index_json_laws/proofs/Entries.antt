@@ -1,6 +1,6 @@
 -- The text of an entry is that of its value, and so are those of a stat, a range, a side and a block.
-use Rattle.std.proofs.Common.{◌≡◌, ◌-◌, ℕ, List, [], ◌∷◌, ◌++◌, append_assoc, append-nil, ap, codes, decimal}
-use Rattle.std.proofs.Common.{Option, Some, None, refl, sym, ◌∙◌}
+use Rattle.std.proofs.Common.{◌≡◌, ℕ, List, ◌∷◌, ◌++◌, append_assoc, append-nil, ap, codes, decimal}
+use Rattle.std.proofs.Common.{Option, Some, None, refl, ◌∙◌}
 use Rattle.json.specs.Print.{escape_byte}
 use Rattle.index_bitmaps.specs.declared.ranges.Range.{Range}
 use Rattle.index_entries.specs.Record.{Record}
@@ -17,16 +17,13 @@ use Rattle.index_json.specs.Json.{block_value, range_value, side_or_null}
 use Rattle.index_json.specs.Values.{array as written_array, id_or_null, member as written_member}
 use Rattle.index_events.specs.Event.{first}
 use Rattle.index_json.specs.Values.{text_value}
-use Rattle.index_json_laws.specs.Document.{block_object, entry_object}
-use Rattle.index_json_laws.specs.Extensions.{id_value, range_array, side_value, stat_object, time_object}
+use Rattle.index_json_laws.specs.EventValues.{block_object, entry_object, id_value, range_array, side_value, stat_object}
+use Rattle.index_json_laws.specs.EventValues.{time_object}
 use Rattle.index_json_laws.specs.Value.{array, digits, items_of, number, spelling}
 use Rattle.index_json_laws.proofs.Pieces.{values_text}
-use Rattle.index_json_laws.proofs.Told.{first_told, member_told, no_more_told}
+use Rattle.index_json_laws.proofs.Members.{member_spelled, none_spelled, text_spelled}
 
 -- pieces one after another, whichever are put together first
-two_and : (a b z : List ℕ) → a ++ b ++ z ≡ a ++ (b ++ z)
-two_and a b z = append_assoc a b z
-
 seven_and : (a b c d e f g z : List ℕ) → (a ++ b) ++ (c ++ d ++ e ++ f ++ g) ++ z
     ≡ a ++ (b ++ (c ++ (d ++ (e ++ (f ++ (g ++ z))))))
 seven_and a b c d e f g z = simp append_assoc
@@ -37,12 +34,7 @@ six_and o a b c d e f z = simp append_assoc
 
 pub time_text : (t : Time) → time_value t ≡ spelling (time_object t)
 unfolding written_member escape_byte
-time_text t =
-    two_and (written_member (codes "{") (codes "secs") (decimal t.secs))
-    (written_member (codes ",") (codes "nsecs") (decimal t.nsecs)) (codes "}")
-    ∙ (member_told (codes "{") (codes "secs") (decimal t.secs) (number t.secs) refl refl
-    (member_told (codes ",") (codes "nsecs") (decimal t.nsecs) (number t.nsecs) refl refl
-    (no_more_told (codes ",") (codes "}")))).is
+time_text t = simp (append_assoc, append-nil) refl
 
 pub stat_text : (s : Stat) → stat_value s ≡ spelling (stat_object s)
 unfolding stat_value time_members file_members written_member escape_byte
@@ -54,14 +46,14 @@ stat_text s =
     (written_member (codes ",") (codes "uid") (decimal s.uid))
     (written_member (codes ",") (codes "gid") (decimal s.gid))
     (written_member (codes ",") (codes "size") (decimal s.size)) (codes "}")
-    ∙ (member_told (codes "{") (codes "mtime") (time_value s.mtime) (time_object s.mtime) refl (time_text s.mtime)
-    (member_told (codes ",") (codes "ctime") (time_value s.ctime) (time_object s.ctime) refl (time_text s.ctime)
-    (member_told (codes ",") (codes "dev") (decimal s.dev) (number s.dev) refl refl
-    (member_told (codes ",") (codes "ino") (decimal s.ino) (number s.ino) refl refl
-    (member_told (codes ",") (codes "uid") (decimal s.uid) (number s.uid) refl refl
-    (member_told (codes ",") (codes "gid") (decimal s.gid) (number s.gid) refl refl
-    (member_told (codes ",") (codes "size") (decimal s.size) (number s.size) refl refl
-    (no_more_told (codes ",") (codes "}"))))))))).is
+    ∙ (member_spelled (codes "{") (codes "mtime") (time_value s.mtime) (time_object s.mtime) refl (time_text s.mtime)
+    (member_spelled (codes ",") (codes "ctime") (time_value s.ctime) (time_object s.ctime) refl (time_text s.ctime)
+    (member_spelled (codes ",") (codes "dev") (decimal s.dev) (number s.dev) refl refl
+    (member_spelled (codes ",") (codes "ino") (decimal s.ino) (number s.ino) refl refl
+    (member_spelled (codes ",") (codes "uid") (decimal s.uid) (number s.uid) refl refl
+    (member_spelled (codes ",") (codes "gid") (decimal s.gid) (number s.gid) refl refl
+    (member_spelled (codes ",") (codes "size") (decimal s.size) (number s.size) refl refl
+    (none_spelled (codes ",") (codes "}"))))))))).is
 
 pub id_text : (o : Option ObjectId) → id_or_null o ≡ spelling (id_value o)
 id_text None = refl
@@ -69,12 +61,7 @@ id_text (Some id) = refl
 
 pub range_text : (r : Range) → range_value r ≡ spelling (range_array r)
 unfolding range_value
-range_text r = grouped (decimal r.first) (decimal (r.end - r.first))
-  where
-    grouped : (a b : List ℕ) → codes "[" ++ a ++ codes "," ++ b ++ codes "]"
-        ≡ codes "[" ++ (a ++ (codes "," ++ b ++ [])) ++ codes "]"
-    grouped a b = ap (λ (l : List ℕ). 91 ∷ (l ++ codes "]"))
-        (append_assoc a (codes ",") b ∙ ap (λ (l : List ℕ). a ++ (codes "," ++ l)) (sym (append-nil b)))
+range_text r = simp (append_assoc, append-nil) refl
 
 pub ranges_text : (rs : List Range) → written_array range_value rs ≡ spelling (array (items_of range_array rs))
 ranges_text rs = ap (λ (l : List ℕ). codes "[" ++ l ++ codes "]") (values_text range_value range_array range_text 0 rs)
@@ -82,22 +69,11 @@ ranges_text rs = ap (λ (l : List ℕ). codes "[" ++ l ++ codes "]") (values_tex
 pub side_text : (o : Option Stage) → side_or_null o ≡ spelling (side_value o)
 unfolding side_or_null written_member escape_byte
 side_text None = refl
-side_text (Some side) =
-    two_and (written_member (codes "{") (codes "mode") (decimal side.mode))
-    (written_member (codes ",") (codes "id") (spelling (digits (id_bytes side.id)))) (codes "}")
-    ∙ (member_told (codes "{") (codes "mode") (decimal side.mode) (number side.mode) refl refl
-    (member_told (codes ",") (codes "id") (spelling (digits (id_bytes side.id))) (digits (id_bytes side.id)) refl refl
-    (no_more_told (codes ",") (codes "}")))).is
+side_text (Some side) = simp (append_assoc, append-nil) refl
 
 pub block_text : (o : Offset) → block_value o ≡ spelling (block_object o)
 unfolding block_value written_member escape_byte
-block_text o =
-    two_and (written_member (codes "{") (codes "from_beginning_of_file") (decimal o.from_beginning_of_file))
-    (written_member (codes ",") (codes "num_entries") (decimal o.num_entries)) (codes "}")
-    ∙ (member_told (codes "{") (codes "from_beginning_of_file") (decimal o.from_beginning_of_file)
-    (number o.from_beginning_of_file) refl refl
-    (member_told (codes ",") (codes "num_entries") (decimal o.num_entries) (number o.num_entries) refl refl
-    (no_more_told (codes ",") (codes "}")))).is
+block_text o = simp (append_assoc, append-nil) refl
 
 pub entry_text : (r : Record) → entry_value r ≡ spelling (entry_object r)
 unfolding entry_value entry_members written_member escape_byte
@@ -109,10 +85,10 @@ entry_text r =
     (written_member (codes ",") (codes "flags") (decimal r.flags))
     (written_member (codes ",") (codes "stat") (stat_value r.stat)) (codes "}")
     ∙ ap (λ (l : List ℕ). 123 ∷ l)
-    (first_told (codes "path") r.path refl refl
-    (member_told (codes ",") (codes "id") (spelling (digits (id_bytes r.id))) (digits (id_bytes r.id)) refl refl
-    (member_told (codes ",") (codes "mode") (decimal r.mode) (number r.mode) refl refl
-    (member_told (codes ",") (codes "stage") (decimal (stage_number r.flags)) (number (stage_number r.flags)) refl refl
-    (member_told (codes ",") (codes "flags") (decimal r.flags) (number r.flags) refl refl
-    (member_told (codes ",") (codes "stat") (stat_value r.stat) (stat_object r.stat) refl (stat_text r.stat)
-    (no_more_told (codes ",") (codes "}")))))))).is
+    (text_spelled (codes "path") r.path refl
+    (member_spelled (codes ",") (codes "id") (spelling (digits (id_bytes r.id))) (digits (id_bytes r.id)) refl refl
+    (member_spelled (codes ",") (codes "mode") (decimal r.mode) (number r.mode) refl refl
+    (member_spelled (codes ",") (codes "stage") (decimal (stage_number r.flags)) (number (stage_number r.flags)) refl refl
+    (member_spelled (codes ",") (codes "flags") (decimal r.flags) (number r.flags) refl refl
+    (member_spelled (codes ",") (codes "stat") (stat_value r.stat) (stat_object r.stat) refl (stat_text r.stat)
+    (none_spelled (codes ",") (codes "}")))))))).is

@@ -1,8 +1,8 @@
 mod Document
 mod Entries
-mod Extensions
+mod Members
 mod OneReading
+mod Parts
 mod Pieces
 mod Printed
-mod Told
-mod Untracked
+mod Spelled

@@ -1,52 +1,59 @@
--- Texts of lists of events, of values in an array, and of members that are told as strings or as digits.
-use Rattle.std.proofs.Common.{◌≡◌, ℕ, ◌+◌, Bool, true, false, List, [], ◌∷◌, ◌++◌, append_assoc, arith, ap, ap₂}
-use Rattle.std.proofs.Common.{codes, refl, sym, ◌∙◌}
-use Rattle.std.proofs.lemmas.Bool.{ne_eqb}
-use Rattle.std.proofs.lemmas.Grind.{flat_map-append}
+-- Texts of values in an array, of names and of texts.
+use Rattle.std.proofs.Common.{◌≡◌, ℕ, ◌+◌, Bool, true, false, not, ◌==◌, ◌&&◌, nat_le, List, [], ◌∷◌, ◌++◌}
+use Rattle.std.proofs.Common.{append_assoc, arith, ap, ap₂, codes, refl, sym, ◌∙◌}
+use Rattle.std.proofs.lemmas.Bool.{and_from, and_parts, eqb-false, leb-true, ne_eqb, not-true}
 use Rattle.std.specs.List.{enumerate_from, flat_map}
 use Rattle.std.specs.Prelude.{if◌then◌else◌}
 use Rattle.std.specs.Str.{is_utf8}
-use Rattle.json.specs.Print.{escape, quoted}
-use Rattle.index_events.specs.Event.{Event, first, next, print}
-use Rattle.index_json.specs.Json.{event_text}
-use Rattle.index_json.specs.Values.{begin_of, bytes_position, hex_string, separator, text_value}
-use Rattle.index_json_laws.specs.Extensions.{text_member}
-use Rattle.index_json_laws.specs.Value.{Members, Value, digits, items_of, items_spelling, member}
-use Rattle.index_json_laws.specs.Value.{members_spelling, spelling, string}
-
-pub print_append : (a b : List Event) → print event_text (a ++ b) ≡ print event_text a ++ print event_text b
-print_append a b = flat_map-append event_text a b
+use Rattle.json.proofs.Printed.Strings.{escape_byte_plain}
+use Rattle.json.specs.Print.{escape, escape_byte, quoted}
+use Rattle.index_events.specs.Event.{Position, alone, element, first, next}
+use Rattle.index_json.specs.Values.{begin_of, hex_string, json_string, separator, text_value}
+use Rattle.index_json_laws.specs.EventValues.{text_name, text_or_digits}
+use Rattle.index_json_laws.specs.Telling.{are_plain, has_plain_name, is_plain, text_position}
+use Rattle.index_json_laws.specs.Value.{Value, digits, items_of, items_spelling, spelling, string}
 
 pub later : (place : ℕ) → separator (place + 1) ≡ codes ","
 later place = rw (ne_eqb (place + 1) 0 (λ e. omega arith)) refl
 
--- the events of items with their places are the text of an array's values
-pub items_text : {X : Type 0} (events : ℕ → X → List Event) (value : X → Value)
-    → ((place : ℕ) (x : X) → print event_text (events place x) ≡ separator place ++ spelling (value x))
-    → (place : ℕ) (xs : List X)
-    → print event_text (flat_map (λ (p : ℕ × X). events p.0 p.1) (enumerate_from place xs))
-    ≡ items_spelling (separator place) (items_of value xs)
-items_text events value each place [] = refl
-items_text {X} events value each place (x ∷ xs) =
-    print_append (events place x) (flat_map (λ (p : ℕ × X). events p.0 p.1) (enumerate_from (place + 1) xs))
-    ∙ ap₂ (λ (a b : List ℕ). a ++ b) (each place x)
-    (items_text events value each (place + 1) xs
-    ∙ ap (λ (s : List ℕ). items_spelling s (items_of value xs)) (later place))
-
--- the same of texts
+-- the texts of items, with commas between them, are the text of an array's values
 pub values_text : {X : Type 0} (text : X → List ℕ) (value : X → Value) → ((x : X) → text x ≡ spelling (value x))
     → (place : ℕ) (xs : List X)
     → flat_map (λ (p : ℕ × X). separator p.0 ++ text p.1) (enumerate_from place xs)
     ≡ items_spelling (separator place) (items_of value xs)
 values_text text value each place [] = refl
-values_text {X} text value each place (x ∷ xs) =
+values_text text value each place (x ∷ xs) =
     ap₂ (λ (a b : List ℕ). (separator place ++ a) ++ b) (each x)
     (values_text text value each (place + 1) xs
     ∙ ap (λ (s : List ℕ). items_spelling s (items_of value xs)) (later place))
 
+-- what stands between brackets, and what is behind them
+pub between : (begin bracket inner close rest text : List ℕ) → text ≡ inner ++ (close ++ rest)
+    → begin ++ bracket ++ text ≡ begin ++ (bracket ++ inner ++ close) ++ rest
+between begin bracket inner close rest text e =
+    ap (λ (l : List ℕ). begin ++ bracket ++ l) e ∙ regrouped begin bracket inner close rest
+  where
+    regrouped : (a b c d e : List ℕ) → a ++ b ++ (c ++ (d ++ e)) ≡ a ++ (b ++ c ++ d) ++ e
+    regrouped a b c d e = simp append_assoc
+
+-- ---- names
+
 -- a name that stands for itself in a string
 abbrev pub IsPlain : List ℕ → Type 0
 IsPlain name = escape name ≡ name
+
+pub plain_alone : (x : ℕ) → is_plain x ≡ true → escape_byte x ≡ x ∷ []
+plain_alone x e =
+    let p = and_parts (nat_le 32 x) (not (x == 34) && not (x == 92)) e in
+    let q = and_parts (not (x == 34)) (not (x == 92)) p.1 in
+    escape_byte_plain x (eqb-false x 34 (not-true (x == 34) q.0)) (eqb-false x 92 (not-true (x == 92) q.1))
+    (leb-true 32 x p.0)
+
+pub plain_name : (name : List ℕ) → are_plain name ≡ true → IsPlain name
+plain_name [] e = refl
+plain_name (x ∷ xs) e =
+    let p = and_parts (is_plain x) (are_plain xs) e in
+    ap₂ (λ (a b : List ℕ). a ++ b) (plain_alone x p.0) (plain_name xs p.1)
 
 -- a name, and its colon
 pub name_text : (name : List ℕ) → IsPlain name → codes "\"" ++ name ++ codes "\":" ≡ quoted name ++ codes ":"
@@ -54,34 +61,40 @@ name_text name p =
     ap (λ (l : List ℕ). 34 ∷ l)
     (ap (λ (l : List ℕ). l ++ codes "\":") (sym p) ∙ sym (append_assoc (escape name) (34 ∷ []) (58 ∷ [])))
 
--- a text as the first member of an object
-pub first_text : (name bytes : List ℕ) (ms : Members) → IsPlain name → IsPlain (name ++ codes "_bytes")
-    → text_value (first name) bytes ++ members_spelling (codes ",") ms
-    ≡ members_spelling [] (text_member name bytes ms)
-unfolding text_value begin_of
-first_text name bytes ms p q = go (is_utf8 bytes)
-  where
-    go : (b : Bool) → (if b then begin_of (first name) ++ quoted bytes
-        else begin_of (bytes_position (first name)) ++ hex_string bytes) ++ members_spelling (codes ",") ms
-        ≡ members_spelling [] (if b then member name (string bytes) ms
-        else member (name ++ codes "_bytes") (digits bytes) ms)
-    go true = ap (λ (l : List ℕ). l ++ quoted bytes ++ members_spelling (codes ",") ms) (name_text name p)
-    go false =
-        ap (λ (l : List ℕ). l ++ hex_string bytes ++ members_spelling (codes ",") ms)
-        (name_text (name ++ codes "_bytes") q)
+-- ---- texts
 
--- and as another one
-pub next_text : (name bytes : List ℕ) (ms : Members) → IsPlain name → IsPlain (name ++ codes "_bytes")
-    → text_value (next name) bytes ++ members_spelling (codes ",") ms
-    ≡ members_spelling (codes ",") (text_member name bytes ms)
-unfolding text_value begin_of
-next_text name bytes ms p q = go (is_utf8 bytes)
+plain_bytes : (name : List ℕ) → are_plain name ≡ true → are_plain (name ++ codes "_bytes") ≡ true
+plain_bytes [] e = refl
+plain_bytes (x ∷ xs) e =
+    let p = and_parts (is_plain x) (are_plain xs) e in
+    and_from (is_plain x) (are_plain (xs ++ codes "_bytes")) p.0 (plain_bytes xs p.1)
+
+-- the name of a text is plain in both cases
+pub plain_text_name : (name bytes : List ℕ) → are_plain name ≡ true → are_plain (text_name name bytes) ≡ true
+plain_text_name name bytes e = go (is_utf8 bytes)
   where
-    go : (b : Bool) → (if b then begin_of (next name) ++ quoted bytes
-        else begin_of (bytes_position (next name)) ++ hex_string bytes) ++ members_spelling (codes ",") ms
-        ≡ members_spelling (codes ",") (if b then member name (string bytes) ms
-        else member (name ++ codes "_bytes") (digits bytes) ms)
-    go true = ap (λ (l : List ℕ). 44 ∷ (l ++ quoted bytes ++ members_spelling (codes ",") ms)) (name_text name p)
-    go false =
-        ap (λ (l : List ℕ). 44 ∷ (l ++ hex_string bytes ++ members_spelling (codes ",") ms))
-        (name_text (name ++ codes "_bytes") q)
+    go : (b : Bool) → are_plain (if b then name else name ++ codes "_bytes") ≡ true
+    go true = e
+    go false = plain_bytes name e
+
+pub plain_text_position : (position : Position) (bytes : List ℕ) → has_plain_name position ≡ true
+    → has_plain_name (text_position position bytes) ≡ true
+plain_text_position alone bytes e = e
+plain_text_position (first name) bytes e = plain_text_name name bytes e
+plain_text_position (next name) bytes e = plain_text_name name bytes e
+plain_text_position (element place) bytes e = e
+
+string_or_digits : (at : List ℕ → Position) (name bytes : List ℕ) (b : Bool)
+    → (if b then begin_of (at name) ++ json_string bytes else begin_of (at (name ++ codes "_bytes")) ++ hex_string bytes)
+    ≡ begin_of (at (if b then name else name ++ codes "_bytes")) ++ spelling (if b then string bytes else digits bytes)
+string_or_digits at name bytes true = refl
+string_or_digits at name bytes false = refl
+
+-- a text is told as a value at its position
+pub text_told : (position : Position) (bytes : List ℕ)
+    → text_value position bytes ≡ begin_of (text_position position bytes) ++ spelling (text_or_digits bytes)
+unfolding text_value
+text_told alone bytes = string_or_digits (λ name. alone) [] bytes (is_utf8 bytes)
+text_told (first name) bytes = string_or_digits first name bytes (is_utf8 bytes)
+text_told (next name) bytes = string_or_digits next name bytes (is_utf8 bytes)
+text_told (element place) bytes = string_or_digits (λ name. element place) [] bytes (is_utf8 bytes)

@@ -1,13 +1,12 @@
 -- The text of a value is what the kit's grammar reads as that value.
-use Rattle.std.proofs.Common.{◌≡◌, ℕ, zero, suc, ◌<◌, ◌/◌, ◌%◌, Bool, true, false, not, cond, nat_le, ◌==◌}
+use Rattle.std.proofs.Common.{◌≡◌, ℕ, zero, suc, ◌<◌, ◌/◌, ◌%◌, Bool, true, false, cond}
 use Rattle.std.proofs.Common.{◌&&◌, List, [], ◌∷◌, ◌++◌}
 use Rattle.std.proofs.Common.{All, append_assoc, append-nil, ap, ap₂, arith, codes, decimal, refl, subst, sym}
 use Rattle.std.proofs.Common.{◌∙◌, inl, inr}
 use Rattle.std.specs.Prelude.{slice_index}
-use Rattle.std.proofs.lemmas.Bool.{and_parts, cases_eq, eqb-false, leb-true}
+use Rattle.std.proofs.lemmas.Bool.{and_parts, cases_eq}
 use Rattle.hex.specs.Hex.{encode_lower, encode_with, lower_digits}
 use Rattle.json.proofs.Printed.Decimals.{IsNumber-decimal}
-use Rattle.json.proofs.Printed.Strings.{escape_byte_plain}
 use Rattle.json.proofs.Printed.Tokens.{tokens-print}
 use Rattle.json.proofs.Printed.Trees.{ArePrintable-json_tokens, value-json_tokens}
 use Rattle.json.specs.Json.{value}
@@ -22,36 +21,23 @@ use Rattle.index_json_laws.specs.Value.{Items, Members, Value, array, boolean, d
 use Rattle.index_json_laws.specs.Value.{member, members_spelling}
 use Rattle.index_json_laws.specs.Value.{no_items, no_members, null, number, object, spelling, string}
 use Rattle.index_json_laws.proofs.OneReading.{one_value}
-use Rattle.index_json_laws.proofs.Told.{spread}
+use Rattle.index_json_laws.specs.Telling.{is_plain}
+use Rattle.index_json_laws.proofs.Pieces.{between, plain_alone}
 
 -- ---- digits stand for themselves
 
-abbrev stands : ℕ → Bool
-stands x = nat_le 32 x && (not (x == 34) && not (x == 92))
-
-not_false : (b : Bool) → not b ≡ true → b ≡ false
-not_false true e = sym e
-not_false false e = refl
-
-stands_alone : (x : ℕ) → stands x ≡ true → escape_byte x ≡ x ∷ []
-stands_alone x e =
-    let p = and_parts (nat_le 32 x) (not (x == 34) && not (x == 92)) e in
-    let q = and_parts (not (x == 34)) (not (x == 92)) p.1 in
-    escape_byte_plain x (eqb-false x 34 (not_false (x == 34) q.0)) (eqb-false x 92 (not_false (x == 92) q.1))
-    (leb-true 32 x p.0)
-
 abbrev digits_below : ℕ → Bool
 digits_below zero = true
-digits_below (suc n) = stands (slice_index lower_digits n) && digits_below n
+digits_below (suc n) = is_plain (slice_index lower_digits n) && digits_below n
 
-digit_below : (n : ℕ) → digits_below n ≡ true → (d : ℕ) → d < n → stands (slice_index lower_digits d) ≡ true
+digit_below : (n : ℕ) → digits_below n ≡ true → (d : ℕ) → d < n → is_plain (slice_index lower_digits d) ≡ true
 digit_below zero e d h = absurd (omega arith)
 digit_below (suc n) e d h =
-    let p = and_parts (stands (slice_index lower_digits n)) (digits_below n) e in
+    let p = and_parts (is_plain (slice_index lower_digits n)) (digits_below n) e in
     elim (cases_eq d n) [ inl same ↦ rw same p.0 | inr other ↦ digit_below n p.1 d (omega arith) ]
 
 digit : (d : ℕ) → d < 16 → escape_byte (slice_index lower_digits d) ≡ slice_index lower_digits d ∷ []
-digit d h = stands_alone (slice_index lower_digits d) (digit_below 16 refl d h)
+digit d h = plain_alone (slice_index lower_digits d) (digit_below 16 refl d h)
 
 hex_plain : (bytes : List ℕ) → All (λ b. b < 256) bytes → escape (encode_lower bytes) ≡ encode_lower bytes
 unfolding encode_with
@@ -92,12 +78,12 @@ mutual
       ∙ ap (λ (l : List ℕ). comma b ++ (34 ∷ (l ++ codes "\"")) ++ print_from true ts) (hex_plain bytes h)
   value_print (array xs) b ts h =
       atom b (codes "[") (print_from false (items_tokens (json_items xs) ++ ts))
-      ∙ spread (comma b) (codes "[") (print_from false (items_tokens (json_items xs) ++ ts)) (codes "]")
-      (print_from true ts) (items_spelling [] xs) (items_print xs false ts h)
+      ∙ between (comma b) (codes "[") (items_spelling [] xs) (codes "]") (print_from true ts)
+      (print_from false (items_tokens (json_items xs) ++ ts)) (items_print xs false ts h)
   value_print (object ms) b ts h =
       atom b (codes "{") (print_from false (members_tokens (json_members ms) ++ ts))
-      ∙ spread (comma b) (codes "{") (print_from false (members_tokens (json_members ms) ++ ts)) (codes "}")
-      (print_from true ts) (members_spelling [] ms) (members_print ms false ts h)
+      ∙ between (comma b) (codes "{") (members_spelling [] ms) (codes "}") (print_from true ts)
+      (print_from false (members_tokens (json_members ms) ++ ts)) (members_print ms false ts h)
 
   items_print : (xs : Items) (b : Bool) (ts : List Token) → ItemsFitWords xs
       → print_from b (items_tokens (json_items xs) ++ ts)

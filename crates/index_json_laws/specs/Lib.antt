@@ -1,4 +1,4 @@
-pub mod Document
-pub mod Extensions
+pub mod EventValues
 pub mod Reading
+pub mod Telling
 pub mod Value

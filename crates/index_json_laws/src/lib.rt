@@ -1,19 +1,26 @@
 //! Laws of the text that the contract of `index_json::write_json` cites. A law computes nothing.
 #![tactic(auto)]
 
-ghost use Rattle.std.specs.Prelude.{◌≡◌, ◌++◌, List, codes, Option, ℕ};
+ghost use Rattle.std.specs.Prelude.{◌≡◌, ◌++◌, List, codes, Option, Some, true, ℕ};
+ghost use Rattle.index_events.specs.Event.{Event, print};
+ghost use Rattle.index_events.specs.Document.{document_events};
 ghost use Rattle.index_format.specs.Contents.{Contents};
 ghost use Rattle.index_marks.specs.declared.Marks.{Marks};
 ghost use Rattle.index_parts.specs.declared.hash.ObjectId.{ObjectId};
 ghost use Rattle.json.specs.Json.{Json};
-ghost use Rattle.index_json.specs.Json.{json_text};
-ghost use Rattle.index_json_laws.specs.Document.{document_value};
+ghost use Rattle.index_json.specs.Json.{event_text, json_text};
 ghost use Rattle.index_json_laws.specs.Reading.{FitsWords, IsJson, json_of};
+ghost use Rattle.index_json_laws.specs.Telling.{document_value, value_of};
 ghost use Rattle.index_json_laws.specs.Value.{Value, spelling};
 
-/// What is printed of an index is the text of its value, and a newline. The law names the value, member by member.
+/// What is printed of events that tell a value is the text of that value, and a newline, whatever the events tell. Those
+/// of an index tell one, for each index, id at the end and marks.
 pub fn text_spells_value()
-    ensures { (c : Contents) (checksum : Option ObjectId) (marks : Marks)
+    ensures events { (es : List Event) (v : Value) → value_of es ≡ Some v
+        → print event_text es ≡ spelling v ++ codes "\n" }
+    ensures told { (c : Contents) (checksum : Option ObjectId) (marks : Marks)
+        → value_of (document_events true c checksum marks) ≡ Some (document_value c checksum marks) }
+    ensures spelled { (c : Contents) (checksum : Option ObjectId) (marks : Marks)
         → json_text c checksum marks ≡ spelling (document_value c checksum marks) ++ codes "\n" }
 {}
 

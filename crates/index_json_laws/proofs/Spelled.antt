@@ -1,0 +1,163 @@
+-- What events tell is spelled as they are printed.
+use Rattle.std.proofs.Common.{◌≡◌, ℕ, zero, suc, Bool, true, false, List, [], ◌∷◌, ◌++◌, append_assoc, ap}
+use Rattle.std.proofs.Common.{arith, codes, decimal, refl, subst, sym, ◌∙◌, Option, Some, None, ◌==◌}
+use Rattle.std.proofs.lemmas.Bool.{cond_both, ne_eqb}
+use Rattle.std.specs.Prelude.{if◌then◌else◌}
+use Rattle.index_events.specs.Event.{Event, Position, alone, answer_field, begin_array, begin_object, block_field}
+use Rattle.index_events.specs.Event.{count_line, element, empty_field, end_array, end_object, end_text, entry_item}
+use Rattle.index_events.specs.Event.{first, heading, id_field, next, number_field, presence, print, ranges_field}
+use Rattle.index_events.specs.Event.{side_field, stat_field, text_field}
+use Rattle.index_json.specs.EntryValues.{entry_value, stat_value}
+use Rattle.index_json.specs.Json.{block_value, event_text, range_value, side_or_null}
+use Rattle.index_json.specs.Values.{array as written_array, begin_of, id_or_null, json_bool, separator, text_value}
+use Rattle.index_json_laws.specs.EventValues.{block_object, entry_object, id_value, range_array, side_value}
+use Rattle.index_json_laws.specs.EventValues.{stat_object, text_or_digits}
+use Rattle.index_json_laws.specs.Telling.{Behind, astray, has_plain_name, in_array, in_object, nothing, place_before}
+use Rattle.index_json_laws.specs.Telling.{put, put_array, put_before, put_end, put_object, put_text, tell, text_end}
+use Rattle.index_json_laws.specs.Telling.{text_position, told, value_of, whole, whole_value}
+use Rattle.index_json_laws.specs.Value.{Items, Value, array, boolean, item, items_of, items_spelling}
+use Rattle.index_json_laws.specs.Value.{members_spelling, no_items, no_members, null, number, object, spelling}
+use Rattle.index_json_laws.proofs.Entries.{block_text, entry_text, id_text, ranges_text, side_text, stat_text}
+use Rattle.index_json_laws.proofs.Members.{member_spelled}
+use Rattle.index_json_laws.proofs.Pieces.{between, plain_name, plain_text_position, text_told}
+
+abbrev comma_if : Bool → List ℕ
+comma_if follows = if follows then codes "," else []
+
+abbrev comma_behind : Option ℕ → List ℕ
+comma_behind None = []
+comma_behind (Some place) = codes ","
+
+-- The text of what stands behind a place; of what is astray nothing is said.
+abbrev IsText : Behind → List ℕ → Type 0
+IsText nothing text = text ≡ []
+IsText astray text = Unit {0}
+IsText text_end text = text ≡ codes "\n"
+IsText (whole x) text = text ≡ spelling x ++ codes "\n"
+IsText (in_object ms follows b) text = (rest : List ℕ)
+    × IsText b rest × (text ≡ members_spelling (comma_if follows) ms ++ (codes "}" ++ rest))
+IsText (in_array xs before b) text = (rest : List ℕ)
+    × IsText b rest × (text ≡ items_spelling (comma_behind before) xs ++ (codes "]" ++ rest))
+
+-- ---- a value before what stands behind it
+
+place_text : (place : ℕ) → separator place ≡ comma_behind (place_before place)
+place_text zero = refl
+place_text (suc place) = rw (ne_eqb (suc place) 0 (λ e. omega arith)) refl
+
+item_spelled : (place : ℕ) (x : Value) (xs : Items) (rest text : List ℕ)
+    → text ≡ items_spelling (codes ",") xs ++ rest → separator place ++ spelling x ++ text
+    ≡ items_spelling (comma_behind (place_before place)) (item x xs) ++ rest
+item_spelled place x xs rest text e =
+    ap (λ (l : List ℕ). l ++ spelling x ++ text) (place_text place)
+    ∙ ap (λ (l : List ℕ). comma_behind (place_before place) ++ spelling x ++ l) e
+    ∙ sym (append_assoc (comma_behind (place_before place) ++ spelling x) (items_spelling (codes ",") xs) rest)
+
+put_before_spelled : (position : Position) (x : Value) (b : Behind) (text : List ℕ) → has_plain_name position ≡ true
+    → IsText b text → IsText (put_before position x b) (begin_of position ++ spelling x ++ text)
+unfolding begin_of
+put_before_spelled alone x text_end text p h = ap (λ (l : List ℕ). spelling x ++ l) h
+put_before_spelled (first name) x (in_object ms true b) text p h =
+    (h.0, h.1, (member_spelled [] name (spelling x) x (plain_name name p) refl (record { is = h.2 })).is)
+put_before_spelled (next name) x (in_object ms true b) text p h =
+    (h.0, h.1, (member_spelled (codes ",") name (spelling x) x (plain_name name p) refl (record { is = h.2 })).is)
+put_before_spelled (element place) x (in_array no_items None b) text p h =
+    (h.0, h.1, item_spelled place x no_items (codes "]" ++ h.0) text h.2)
+put_before_spelled (element place) x (in_array xs (Some before) b) text p h =
+    cond_both (place == before) (in_array (item x xs) (place_before place) b) astray
+    (λ (c : Behind). IsText c (separator place ++ spelling x ++ text))
+    (λ e. (h.0, h.1, item_spelled place x xs (codes "]" ++ h.0) text h.2)) (λ e. tt)
+put_before_spelled position x b text p h = tt
+
+put_spelled : (position : Position) (x : Value) (b : Behind) (printed text : List ℕ) → printed ≡ spelling x
+    → IsText b text → IsText (put position x b) (begin_of position ++ printed ++ text)
+put_spelled position x b printed text e h =
+    cond_both (has_plain_name position) (put_before position x b) astray
+    (λ (c : Behind). IsText c (begin_of position ++ printed ++ text))
+    (λ p. subst (λ (l : List ℕ). IsText (put_before position x b) (begin_of position ++ l ++ text)) (sym e)
+    (put_before_spelled position x b text p h)) (λ p. tt)
+
+text_spelled : (position : Position) (bytes : List ℕ) (b : Behind) (text : List ℕ) → IsText b text
+    → IsText (put_text position bytes b) (text_value position bytes ++ text)
+text_spelled position bytes b text h =
+    let at = text_position position bytes in
+    let x = text_or_digits bytes in
+    cond_both (has_plain_name position) (put_before at x b) astray
+    (λ (c : Behind). IsText c (text_value position bytes ++ text))
+    (λ p. subst (λ (l : List ℕ). IsText (put_before at x b) (l ++ text)) (sym (text_told position bytes))
+    (put_before_spelled at x b text (plain_text_position position bytes p) h)) (λ p. tt)
+
+-- ---- an object or an array
+
+object_spelled : (position : Position) (b : Behind) (text : List ℕ) → IsText b text
+    → IsText (put_object position b) (begin_of position ++ codes "{" ++ text)
+object_spelled position (in_object ms false b) text h =
+    subst (IsText (put position (object ms) b))
+    (sym (between (begin_of position) (codes "{") (members_spelling [] ms) (codes "}") h.0 text h.2))
+    (put_spelled position (object ms) b (spelling (object ms)) h.0 refl h.1)
+object_spelled position (in_object no_members true b) text h =
+    subst (IsText (put position (object no_members) b))
+    (sym (between (begin_of position) (codes "{") [] (codes "}") h.0 text h.2))
+    (put_spelled position (object no_members) b (spelling (object no_members)) h.0 refl h.1)
+object_spelled position b text h = tt
+
+array_spelled : (position : Position) (b : Behind) (text : List ℕ) → IsText b text
+    → IsText (put_array position b) (begin_of position ++ codes "[" ++ text)
+array_spelled position (in_array xs None b) text h =
+    subst (IsText (put position (array xs) b))
+    (sym (between (begin_of position) (codes "[") (items_spelling [] xs) (codes "]") h.0 text h.2))
+    (put_spelled position (array xs) b (spelling (array xs)) h.0 refl h.1)
+array_spelled position b text h = tt
+
+end_spelled : (b : Behind) (text : List ℕ) → IsText b text → IsText (put_end b) (codes "\n" ++ text)
+end_spelled nothing text h = ap (λ (l : List ℕ). codes "\n" ++ l) h
+end_spelled b text h = tt
+
+-- ---- events
+
+event_spelled : (event : Event) (b : Behind) (text : List ℕ) → IsText b text
+    → IsText (tell event b) (event_text event ++ text)
+unfolding begin_of
+event_spelled (number_field f n) b text h = put_spelled f.position (number n) b (decimal n) text refl h
+event_spelled (text_field f bytes) b text h = text_spelled f.position bytes b text h
+event_spelled (id_field f id) b text h = put_spelled f.position (id_value id) b (id_or_null id) text (id_text id) h
+event_spelled (answer_field f holds) b text h = put_spelled f.position (boolean holds) b (json_bool holds) text refl h
+event_spelled (ranges_field f ranges) b text h =
+    put_spelled f.position (array (items_of range_array ranges)) b (written_array range_value ranges) text
+    (ranges_text ranges) h
+event_spelled (side_field f side) b text h =
+    put_spelled f.position (side_value side) b (side_or_null side) text (side_text side) h
+event_spelled (block_field f o) b text h =
+    put_spelled f.position (block_object o) b (block_value o) text (block_text o) h
+event_spelled (empty_field f word) b text h = put_spelled f.position null b (codes "null") text refl h
+event_spelled (stat_field indent position s) b text h =
+    put_spelled position (stat_object s) b (stat_value s) text (stat_text s) h
+event_spelled (entry_item place r) b text h =
+    put_spelled (element place) (entry_object r) b (entry_value r) text (entry_text r) h
+event_spelled (heading indent words) b text h = h
+event_spelled (count_line indent words n) b text h = h
+event_spelled (begin_object position) b text h = object_spelled position b text h
+event_spelled end_object b text h = (text, h, refl)
+event_spelled (begin_array position) b text h = array_spelled position b text h
+event_spelled end_array b text h = (text, h, refl)
+event_spelled (presence position is_there) b text h =
+    put_spelled position (boolean is_there) b (json_bool is_there) text refl h
+event_spelled end_text b text h = end_spelled b text h
+
+events_spelled : (events : List Event) → IsText (told events nothing) (print event_text events)
+events_spelled [] = refl
+events_spelled (event ∷ events) =
+    event_spelled event (told events nothing) (print event_text events) (events_spelled events)
+
+-- events that tell a value are printed as its text, and a newline
+pub value_spelled : (events : List Event) (x : Value) → value_of events ≡ Some x
+    → print event_text events ≡ spelling x ++ codes "\n"
+value_spelled events x e = go (told events nothing) (events_spelled events) e
+  where
+    same : (y z : Value) → Some y ≡ Some z → y ≡ z
+    same y z e = cc
+
+    go : (b : Behind) → IsText b (print event_text events) → whole_value b ≡ Some x
+        → print event_text events ≡ spelling x ++ codes "\n"
+    go (whole y) h e = h ∙ ap (λ (l : Value). spelling l ++ codes "\n") (same y x e)
+    go b h e = cc

@@ -1,0 +1,69 @@
+-- The values that an event tells by itself (the library's own; the parts of each are those of gitformat-index).
+use Rattle.std.specs.Prelude.{ℕ, List, ◌-◌, ◌++◌, codes, Option, Some, None, if◌then◌else◌}
+use Rattle.std.specs.Str.{is_utf8}
+use Rattle.index_bitmaps.specs.declared.ranges.Range.{Range}
+use Rattle.index_entries.specs.Record.{Record}
+use Rattle.index_metadata.specs.Flags.{stage_number}
+use Rattle.index_metadata.specs.declared.entry.stat.Stat.{Stat}
+use Rattle.index_metadata.specs.declared.entry.stat.Time.{Time}
+use Rattle.index_parts.specs.Id.{id_bytes}
+use Rattle.index_parts.specs.declared.hash.ObjectId.{ObjectId}
+use Rattle.index_small_extensions.specs.declared.index_entry_offset_table.Offset.{Offset}
+use Rattle.index_small_extensions.specs.declared.resolve_undo.Stage.{Stage}
+use Rattle.index_json_laws.specs.Value.{Members, Value, array, digits, item, member, no_items, no_members, null}
+use Rattle.index_json_laws.specs.Value.{number, object, string}
+
+-- ---- a text: a string, or where its bytes aren't UTF-8 their digits, under a name that says so
+
+abbrev pub text_name : List ℕ → List ℕ → List ℕ
+text_name name bytes = if is_utf8 bytes then name else name ++ codes "_bytes"
+
+abbrev pub text_or_digits : List ℕ → Value
+text_or_digits bytes = if is_utf8 bytes then string bytes else digits bytes
+
+-- ---- values of an index
+
+abbrev pub id_value : Option ObjectId → Value
+id_value None = null
+id_value (Some id) = digits (id_bytes id)
+
+abbrev pub number_member : List ℕ → ℕ → Members → Members
+number_member name n others = member name (number n) others
+
+abbrev pub time_object : Time → Value
+time_object t =
+    object (number_member (codes "secs") t.secs (number_member (codes "nsecs") t.nsecs no_members))
+
+abbrev pub stat_object : Stat → Value
+stat_object s =
+    object
+    (member (codes "mtime") (time_object s.mtime)
+    (member (codes "ctime") (time_object s.ctime)
+    (number_member (codes "dev") s.dev
+    (number_member (codes "ino") s.ino
+    (number_member (codes "uid") s.uid
+    (number_member (codes "gid") s.gid (number_member (codes "size") s.size no_members)))))))
+
+abbrev pub entry_object : Record → Value
+entry_object r =
+    object
+    (member (text_name (codes "path") r.path) (text_or_digits r.path)
+    (member (codes "id") (digits (id_bytes r.id))
+    (number_member (codes "mode") r.mode
+    (number_member (codes "stage") (stage_number r.flags)
+    (number_member (codes "flags") r.flags (member (codes "stat") (stat_object r.stat) no_members))))))
+
+-- a range's first place, and how many places it has
+abbrev pub range_array : Range → Value
+range_array r = array (item (number r.first) (item (number (r.end - r.first)) no_items))
+
+abbrev pub side_value : Option Stage → Value
+side_value None = null
+side_value (Some side) =
+    object (number_member (codes "mode") side.mode (member (codes "id") (digits (id_bytes side.id)) no_members))
+
+abbrev pub block_object : Offset → Value
+block_object o =
+    object
+    (number_member (codes "from_beginning_of_file") o.from_beginning_of_file
+    (number_member (codes "num_entries") o.num_entries no_members))

@@ -1,0 +1,129 @@
+-- Which JSON value a list of events tells, whatever is told (the library's own). The events are read from the last to
+-- the first, and each is put before what stands behind it, so that members and items come to stand in their order.
+use Rattle.std.specs.Prelude.{ℕ, suc, zero, ◌==◌, ◌&&◌, Bool, true, false, not, nat_le, List, [], ◌∷◌}
+use Rattle.std.specs.Prelude.{Option, Some, None, unwrap_or, if◌then◌else◌}
+use Rattle.index_events.specs.Document.{document_events}
+use Rattle.index_events.specs.Event.{Event, Position, alone, answer_field, begin_array, begin_object, block_field}
+use Rattle.index_events.specs.Event.{count_line, element, empty_field, end_array, end_object, end_text, entry_item}
+use Rattle.index_events.specs.Event.{first, heading, id_field, next, number_field, presence, ranges_field, side_field}
+use Rattle.index_events.specs.Event.{stat_field, text_field}
+use Rattle.index_format.specs.Contents.{Contents}
+use Rattle.index_marks.specs.declared.Marks.{Marks}
+use Rattle.index_parts.specs.declared.hash.ObjectId.{ObjectId}
+use Rattle.index_json_laws.specs.EventValues.{block_object, entry_object, id_value, range_array, side_value}
+use Rattle.index_json_laws.specs.EventValues.{stat_object, text_name, text_or_digits}
+use Rattle.index_json_laws.specs.Value.{Items, Members, Value, array, boolean, item, items_of, member, no_items}
+use Rattle.index_json_laws.specs.Value.{no_members, null, number, object}
+
+-- What events tell that stand behind others.
+pub data Behind : Type 0 where
+  nothing : Behind
+  -- what is no part of one value
+  astray : Behind
+  -- the end of the text
+  text_end : Behind
+  -- a value, and the end of the text
+  whole : Value → Behind
+  -- members up to the end of their object, whether another may stand before them, and what is behind the object
+  in_object : Members → Bool → Behind → Behind
+  -- items up to the end of their array, the place of the one that has to stand before them, where one has to, and what
+  -- is behind the array
+  in_array : Items → Option ℕ → Behind → Behind
+
+-- ---- a value at its position
+
+-- a character that stands for itself in a string, as each of a name does
+abbrev pub is_plain : ℕ → Bool
+is_plain x = nat_le 32 x && (not (x == 34) && not (x == 92))
+
+abbrev pub are_plain : List ℕ → Bool
+are_plain [] = true
+are_plain (x ∷ xs) = is_plain x && are_plain xs
+
+abbrev pub has_plain_name : Position → Bool
+has_plain_name alone = true
+has_plain_name (first name) = are_plain name
+has_plain_name (next name) = are_plain name
+has_plain_name (element place) = true
+
+abbrev pub place_before : ℕ → Option ℕ
+place_before zero = None
+place_before (suc place) = Some place
+
+abbrev pub put_before : Position → Value → Behind → Behind
+put_before alone x text_end = whole x
+put_before (first name) x (in_object ms true b) = in_object (member name x ms) false b
+put_before (next name) x (in_object ms true b) = in_object (member name x ms) true b
+put_before (element place) x (in_array no_items None b) = in_array (item x no_items) (place_before place) b
+put_before (element place) x (in_array xs (Some before) b) =
+    if place == before then in_array (item x xs) (place_before place) b else astray
+put_before position x b = astray
+
+abbrev pub put : Position → Value → Behind → Behind
+put position x b = if has_plain_name position then put_before position x b else astray
+
+-- a text's position, whose name says whether it is a string
+abbrev pub text_position : Position → List ℕ → Position
+text_position alone bytes = alone
+text_position (first name) bytes = first (text_name name bytes)
+text_position (next name) bytes = next (text_name name bytes)
+text_position (element place) bytes = element place
+
+abbrev pub put_text : Position → List ℕ → Behind → Behind
+put_text position bytes b =
+    if has_plain_name position then put_before (text_position position bytes) (text_or_digits bytes) b else astray
+
+-- ---- what more than one event tells
+
+abbrev pub put_object : Position → Behind → Behind
+put_object position (in_object ms false b) = put position (object ms) b
+put_object position (in_object no_members true b) = put position (object no_members) b
+put_object position b = astray
+
+abbrev pub put_array : Position → Behind → Behind
+put_array position (in_array xs None b) = put position (array xs) b
+put_array position b = astray
+
+abbrev pub put_end : Behind → Behind
+put_end nothing = text_end
+put_end b = astray
+
+-- an event, and what stands behind it
+abbrev pub tell : Event → Behind → Behind
+tell (number_field f n) b = put f.position (number n) b
+tell (text_field f bytes) b = put_text f.position bytes b
+tell (id_field f id) b = put f.position (id_value id) b
+tell (answer_field f holds) b = put f.position (boolean holds) b
+tell (ranges_field f ranges) b = put f.position (array (items_of range_array ranges)) b
+tell (side_field f side) b = put f.position (side_value side) b
+tell (block_field f o) b = put f.position (block_object o) b
+tell (empty_field f word) b = put f.position null b
+tell (stat_field indent position s) b = put position (stat_object s) b
+tell (entry_item place r) b = put (element place) (entry_object r) b
+tell (heading indent words) b = b
+tell (count_line indent words n) b = b
+tell (begin_object position) b = put_object position b
+tell end_object b = in_object no_members true b
+tell (begin_array position) b = put_array position b
+tell end_array b = in_array no_items None b
+tell (presence position is_there) b = put position (boolean is_there) b
+tell end_text b = put_end b
+
+-- events, and what stands behind them
+abbrev pub told : List Event → Behind → Behind
+told [] b = b
+told (event ∷ events) b = tell event (told events b)
+
+-- ---- all of it
+
+abbrev pub whole_value : Behind → Option Value
+whole_value (whole x) = Some x
+whole_value b = None
+
+-- the value that events tell, where they tell one and its end
+abbrev pub value_of : List Event → Option Value
+value_of events = whole_value (told events nothing)
+
+-- the value of all that an index file holds
+unfoldable pub document_value : Contents → Option ObjectId → Marks → Value
+document_value c checksum marks = unwrap_or (value_of (document_events true c checksum marks)) null
