@@ -15,10 +15,10 @@ use Rattle.index_json_laws.specs.EventValues.{stat_object, text_name, text_or_di
 use Rattle.index_json_laws.specs.Value.{Items, Members, Value, array, boolean, item, items_of, member, no_items}
 use Rattle.index_json_laws.specs.Value.{no_members, null, number, object}
 
--- What events tell that stand behind others.
+-- What is told behind a place in the list.
 pub data Behind : Type 0 where
   nothing : Behind
-  -- what is no part of one value
+  -- no part of one value
   astray : Behind
   -- the end of the text
   text_end : Behind
@@ -32,7 +32,7 @@ pub data Behind : Type 0 where
 
 -- ---- a value at its position
 
--- a character that stands for itself in a string, as each of a name does
+-- a character that stands for itself in a string, as each of a name has to, since names are printed as they are
 abbrev pub is_plain : ℕ → Bool
 is_plain x = nat_le 32 x && (not (x == 34) && not (x == 92))
 
@@ -46,10 +46,13 @@ has_plain_name (first name) = are_plain name
 has_plain_name (next name) = are_plain name
 has_plain_name (element place) = true
 
+-- the place of the item before that at a place
 abbrev pub place_before : ℕ → Option ℕ
 place_before zero = None
 place_before (suc place) = Some place
 
+-- Alone a value has the end behind it. A first member has none before it, and a next one has one. An item is the last of
+-- its array, or stands at the place before the next one's.
 abbrev pub put_before : Position → Value → Behind → Behind
 put_before alone x text_end = whole x
 put_before (first name) x (in_object ms true b) = in_object (member name x ms) false b

@@ -13,8 +13,8 @@ ghost use Rattle.index_json_laws.specs.Reading.{FitsWords, IsJson, json_of};
 ghost use Rattle.index_json_laws.specs.Telling.{document_value, value_of};
 ghost use Rattle.index_json_laws.specs.Value.{Value, spelling};
 
-/// What is printed of events that tell a value is the text of that value, and a newline, whatever the events tell. Those
-/// of an index tell one, for each index, id at the end and marks.
+/// Events that tell a JSON value are printed as the text of that value, and a newline, whatever they tell. The events of
+/// an index tell one, for each index, id at the end and marks, so all that is printed of an index is the text of it.
 pub fn text_spells_value()
     ensures events { (es : List Event) (v : Value) → value_of es ≡ Some v
         → print event_text es ≡ spelling v ++ codes "\n" }
