@@ -1,7 +1,7 @@
 -- The events of an index tell a value, whatever is told: parts that have no lists in them by computation, for each of
 -- their cases, and the others by those that they have.
-use Rattle.std.proofs.Common.{◌≡◌, ℕ, ◌+◌, Bool, true, false, List, [], ◌∷◌, ◌++◌, min, nat_lt, refl, codes, Option, Some}
-use Rattle.std.proofs.Common.{None}
+use Rattle.std.proofs.Common.{◌≡◌, ℕ, ◌+◌, Bool, true, false, List, [], ◌++◌, min, nat_lt, refl, codes}
+use Rattle.std.proofs.Common.{Option, Some, None}
 use Rattle.std.proofs.lemmas.Bool.{cond_both}
 use Rattle.std.specs.Option.{option_map}
 use Rattle.index_bitmaps.specs.Bitmap.{Bitmap}
@@ -22,7 +22,7 @@ use Rattle.index_untracked.specs.declared.OidStat.{OidStat}
 use Rattle.index_events.specs.Bitmaps.{bits_events, link_events, monitor_events, pair_events, token_event}
 use Rattle.index_events.specs.Bitmaps.{watch_events}
 use Rattle.index_events.specs.Document.{behind_events, document_events, entry_events, head_events, last_events}
-use Rattle.index_events.specs.Event.{Event, count_line, element, element_field, first_field, next_field}
+use Rattle.index_events.specs.Event.{Event, element, element_field, first_field, next_field}
 use Rattle.index_events.specs.Marks.{block_events, blocks_events, end_events, marker_events, table_events}
 use Rattle.index_events.specs.Trees.{all_tree_events, below, cached_tree_events, deepest_indent, depth_events, indent}
 use Rattle.index_events.specs.Trees.{known_events, node_events, tree_events}
@@ -33,8 +33,8 @@ use Rattle.index_events.specs.Untracked.{subdirectory_events, untracked_events}
 use Rattle.index_json.specs.Json.{json_text}
 use Rattle.index_json_laws.specs.Telling.{Behind, are_plain, document_value, told, value_of}
 use Rattle.index_json_laws.specs.Value.{spelling}
-use Rattle.index_json_laws.proofs.Parts.{TellsItem, TellsItems, TellsMembers, item_and, item_told}
-use Rattle.index_json_laws.proofs.Parts.{listed_told, members_and, members_told, no_items_told, told_append, whole_array}
+use Rattle.index_json_laws.proofs.Parts.{TellsItem, TellsItems, TellsMembers, item_and, item_told, listed_told}
+use Rattle.index_json_laws.proofs.Parts.{members_and, members_told, no_items_told, told_append, whole_array}
 use Rattle.index_json_laws.proofs.Spelled.{value_spelled}
 
 entry_told : (r : Record) → TellsItem (λ place. entry_events place r)
@@ -45,9 +45,7 @@ entry_told r = item_told (λ place b. refl)
 depth_told : (depth : ℕ) (b : Behind) → told (depth_events depth) b ≡ b
 unfolding depth_events
 depth_told depth b =
-    cond_both (nat_lt deepest_indent depth)
-    (count_line (indent (deepest_indent + 2)) (codes "depth") depth ∷ []) []
-    (λ (events : List Event). told events b ≡ b) (λ e. refl) (λ e. refl)
+    cond_both (nat_lt deepest_indent depth) _ [] (λ (events : List Event). told events b ≡ b) (λ e. refl) (λ e. refl)
 
 counted_told : (indent : List ℕ) (id : ObjectId) (count : Option ℕ) → TellsMembers true (node_events indent id count)
 unfolding node_events next_field
@@ -202,7 +200,8 @@ unfolding document_value document_events head_events behind_events last_events f
 document_told c checksum marks =
     let o = c.extensions in
     let entries = listed_told entry_events entry_told c.records in
-    let values = members_and (members_and (members_and (tree_told o.tree) (link_told o.link)) (undo_told o.resolve_undo))
+    let values = members_and
+    (members_and (members_and (tree_told o.tree) (link_told o.link)) (undo_told o.resolve_undo))
     (cache_told o.untracked) in
     let monitor = monitor_told o.fs_monitor in
     let table = table_told o.had_offset_table (option_map (λ v. v.items) marks.table) in

@@ -17,8 +17,8 @@ use Rattle.index_json.specs.Json.{block_value, range_value, side_or_null}
 use Rattle.index_json.specs.Values.{array as written_array, id_or_null, member as written_member}
 use Rattle.index_events.specs.Event.{first}
 use Rattle.index_json.specs.Values.{text_value}
-use Rattle.index_json_laws.specs.EventValues.{block_object, entry_object, id_value, range_array, side_value, stat_object}
-use Rattle.index_json_laws.specs.EventValues.{time_object}
+use Rattle.index_json_laws.specs.EventValues.{block_object, entry_object, id_value, range_array, side_value}
+use Rattle.index_json_laws.specs.EventValues.{stat_object, time_object}
 use Rattle.index_json_laws.specs.Value.{array, digits, items_of, number, spelling}
 use Rattle.index_json_laws.proofs.Pieces.{values_text}
 use Rattle.index_json_laws.proofs.Members.{member_spelled, none_spelled, text_spelled}
@@ -88,7 +88,8 @@ entry_text r =
     (text_spelled (codes "path") r.path refl
     (member_spelled (codes ",") (codes "id") (spelling (digits (id_bytes r.id))) (digits (id_bytes r.id)) refl refl
     (member_spelled (codes ",") (codes "mode") (decimal r.mode) (number r.mode) refl refl
-    (member_spelled (codes ",") (codes "stage") (decimal (stage_number r.flags)) (number (stage_number r.flags)) refl refl
+    (member_spelled (codes ",") (codes "stage") (decimal (stage_number r.flags)) (number (stage_number r.flags)) refl
+    refl
     (member_spelled (codes ",") (codes "flags") (decimal r.flags) (number r.flags) refl refl
     (member_spelled (codes ",") (codes "stat") (stat_value r.stat) (stat_object r.stat) refl (stat_text r.stat)
     (none_spelled (codes ",") (codes "}")))))))).is

@@ -29,7 +29,8 @@ first_of b = null
 pub members_told : {follows : Bool} {events : List Event} → ((ms : Members) (b : Behind)
     → told events (in_object ms true b) ≡ in_object (members_of (told events (in_object ms true nothing))) follows b)
     → TellsMembers follows events
-members_told {follows} {events} is = record { members = λ ms. members_of (told events (in_object ms true nothing)); is = is }
+members_told {follows} {events} is =
+    record { members = λ ms. members_of (told events (in_object ms true nothing)); is = is }
 
 pub item_told : {events : ℕ → List Event} → ((place : ℕ) (b : Behind) → told (events place) b
     ≡ put (element place) (first_of (told (events 0) (in_array no_items None nothing))) b) → TellsItem events

@@ -85,7 +85,8 @@ plain_text_position (next name) bytes e = plain_text_name name bytes e
 plain_text_position (element place) bytes e = e
 
 string_or_digits : (at : List ℕ → Position) (name bytes : List ℕ) (b : Bool)
-    → (if b then begin_of (at name) ++ json_string bytes else begin_of (at (name ++ codes "_bytes")) ++ hex_string bytes)
+    → (if b then begin_of (at name) ++ json_string bytes
+    else begin_of (at (name ++ codes "_bytes")) ++ hex_string bytes)
     ≡ begin_of (at (if b then name else name ++ codes "_bytes")) ++ spelling (if b then string bytes else digits bytes)
 string_or_digits at name bytes true = refl
 string_or_digits at name bytes false = refl

@@ -51,8 +51,8 @@ abbrev pub place_before : ℕ → Option ℕ
 place_before zero = None
 place_before (suc place) = Some place
 
--- Alone a value has the end behind it. A first member has none before it, and a next one has one. An item is the last of
--- its array, or stands at the place before the next one's.
+-- Alone a value has the end behind it. A first member has none before it, and a next one has one. An item is the last
+-- of its array, or stands at the place before the next one's.
 abbrev pub put_before : Position → Value → Behind → Behind
 put_before alone x text_end = whole x
 put_before (first name) x (in_object ms true b) = in_object (member name x ms) false b

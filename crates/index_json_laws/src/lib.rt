@@ -13,13 +13,15 @@ ghost use Rattle.index_json_laws.specs.Reading.{FitsWords, IsJson, json_of};
 ghost use Rattle.index_json_laws.specs.Telling.{document_value, value_of};
 ghost use Rattle.index_json_laws.specs.Value.{Value, spelling};
 
-/// Events that tell a JSON value are printed as the text of that value, and a newline, whatever they tell. The events of
-/// an index tell one, for each index, id at the end and marks, so all that is printed of an index is the text of it.
+/// Events that tell a JSON value are printed as the text of that value, and a newline, whatever
+/// they tell. The events of an index tell one, for each index, id at the end and marks, so what is
+/// printed of an index is the text of its value.
 pub fn text_spells_value()
     ensures events { (es : List Event) (v : Value) → value_of es ≡ Some v
         → print event_text es ≡ spelling v ++ codes "\n" }
     ensures told { (c : Contents) (checksum : Option ObjectId) (marks : Marks)
-        → value_of (document_events true c checksum marks) ≡ Some (document_value c checksum marks) }
+        → value_of (document_events true c checksum marks)
+        ≡ Some (document_value c checksum marks) }
     ensures spelled { (c : Contents) (checksum : Option ObjectId) (marks : Marks)
         → json_text c checksum marks ≡ spelling (document_value c checksum marks) ++ codes "\n" }
 {}
