@@ -1,0 +1,7 @@
+mod Aways
+mod Counts
+mod FirstNames
+mod Lists
+mod Parts
+mod RightTrees
+mod SoundTrees

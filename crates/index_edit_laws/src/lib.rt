@@ -1,0 +1,16 @@
+//! Laws of edits.
+#![tactic(auto)]
+
+ghost use Rattle.index_edit_laws.specs.Laws.{RightCountsAreWithin, SoundTreesAreInOrder, TreesStayRight, TreesStaySound};
+
+/// A cached tree that holds together does so behind an edit.
+pub fn tree_stays_sound()
+    ensures sound { TreesStaySound }
+    ensures order { SoundTreesAreInOrder }
+{}
+
+/// A cached tree that is right stays right behind an edit.
+pub fn tree_stays_right()
+    ensures right { TreesStayRight }
+    ensures counts { RightCountsAreWithin }
+{}
