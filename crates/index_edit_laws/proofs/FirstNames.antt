@@ -27,7 +27,7 @@ pub record IsFirstName (path first : List ℕ) : Type 0 where
 
 -- ---- without a slash
 
-nowhere : {X : Type 0} (p : X → Bool) (xs : List X) → position p xs ≡ None → length xs ≤ position_or_len p xs
+pub nowhere : {X : Type 0} (p : X → Bool) (xs : List X) → position p xs ≡ None → length xs ≤ position_or_len p xs
 nowhere p xs h = by (ltb (position_or_len p xs) (length xs)) refl h
   where
     by : (b : Bool) → ltb (position_or_len p xs) (length xs) ≡ b → cond b (Some (position_or_len p xs)) None ≡ None
@@ -35,7 +35,7 @@ nowhere p xs h = by (ltb (position_or_len p xs) (length xs)) refl h
     by true e k = absurd cc
     by false e k = ltb-false (position_or_len p xs) (length xs) e
 
-no_slash : (path : List ℕ) → slash_of path ≡ None → NoSlash path
+pub no_slash : (path : List ℕ) → slash_of path ≡ None → NoSlash path
 no_slash path s k d within =
     let far = nowhere (λ b. b == 47) path s in
     eqb-false (get_or path k d) 47 (fails_before_first (λ b. b == 47) path k d (omega (arith, far, within)))
@@ -47,14 +47,14 @@ whole_name path s = record {
 
 -- ---- with one
 
-front_no_slash : (path : List ℕ) (k : ℕ) → slash_of path ≡ Some k → NoSlash (take k path)
+pub front_no_slash : (path : List ℕ) (k : ℕ) → slash_of path ≡ Some k → NoSlash (take k path)
 front_no_slash path k s i d within =
     let n = length-take k path in
     let here = (position-Some (λ b. b == 47) path k d s).2 i (omega (arith, within, n)) in
     subst (λ (b : ℕ). b ≢ 47) (sym (get_or-take k path i d (omega (arith, within, n))))
     (eqb-false (get_or path i d) 47 here)
 
-split_at : (path : List ℕ) (k : ℕ) → slash_of path ≡ Some k → path ≡ take k path ++ 47 ∷ drop (k + 1) path
+pub split_at : (path : List ℕ) (k : ℕ) → slash_of path ≡ Some k → path ≡ take k path ++ 47 ∷ drop (k + 1) path
 split_at path k s =
     let p = position-Some (λ b. b == 47) path k 0 s in
     let next : suc k ≡ k + 1 = omega arith in

@@ -1,7 +1,11 @@
+mod ApartEntries
 mod Aways
 mod Counts
+mod EntriesStayFit
 mod FirstNames
+mod FitEntries
 mod Lists
+mod MadeOfNames
 mod Parts
 mod RightTrees
 mod SoundTrees

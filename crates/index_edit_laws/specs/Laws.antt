@@ -1,14 +1,22 @@
 -- What stays true of a cached tree where an index is edited (the library's own).
-use Rattle.std.specs.Prelude.{List, length}
+use Rattle.std.specs.Prelude.{List, All, length}
 use Rattle.index_parts.specs.declared.hash.Kind.{Kind}
 use Rattle.index_cached_tree.specs.Sound.{CountsAtMost, IsSoundTree}
 use Rattle.index_cached_tree.specs.Tree.{Node}
+use Rattle.index_entries.specs.Order.{IsStrictlyOrdered}
 use Rattle.index_entries.specs.Record.{Record}
 use Rattle.index_edits.specs.Changes.{applied}
 use Rattle.index_edits.specs.declared.change.Change.{Change}
 use Rattle.index_tree_writer.specs.Kept.{HasNamesInOrder}
-use Rattle.index_tree_writer.specs.TreeIds.{AreRight}
+use Rattle.index_tree_writer.specs.Refusals.{AreFit, Check}
+use Rattle.index_tree_writer.specs.Staged.{merged_in}
+use Rattle.index_tree_writer.specs.TreeIds.{AreRight, any_name}
 use Rattle.index_updates.specs.Invalidated.{all_invalidated}
+use Rattle.index_edit_laws.specs.Staging.{AreOutside, StagesFaultless, with_staged}
+
+-- where the merged ones of some records have no fault, those of others have none
+abbrev pub FitAsBefore : Check → Kind → List Record → List Record → Type 0
+FitAsBefore check kind old now = AreFit check kind (merged_in old) → AreFit check kind (merged_in now)
 
 -- a tree that holds together does so without what changes make untrue
 abbrev pub TreesStaySound : Type 0
@@ -28,3 +36,16 @@ TreesStayRight =
 -- where each node is right, none counts more than there are records
 abbrev pub RightCountsAreWithin : Type 0
 RightCountsAreWithin = (kind : Kind) (rs : List Record) (t : Node) → AreRight kind rs t → CountsAtMost (length rs) t
+
+-- after changes path and stage strictly increase, where they did
+abbrev pub EntriesStayOrdered : Type 0
+EntriesStayOrdered =
+    (cs : List Change) (rs : List Record) → IsStrictlyOrdered rs → IsStrictlyOrdered (applied cs rs)
+
+-- Where merged entries have no fault, by one check of names or by none, and neither has what the changes stage, by that
+-- one, the merged entries after the changes have none; where nothing comes to lie in a whole directory.
+abbrev pub EntriesStayFit : Type 0
+EntriesStayFit =
+    (check : Check) (kind : Kind) (cs : List Change) (rs : List Record) → All (StagesFaultless check kind) cs
+    → AreOutside (with_staged cs rs)
+    → FitAsBefore check kind rs (applied cs rs) × FitAsBefore any_name kind rs (applied cs rs)

@@ -1,7 +1,7 @@
 //! Laws of edits.
 #![tactic(auto)]
 
-ghost use Rattle.index_edit_laws.specs.Laws.{RightCountsAreWithin, SoundTreesAreInOrder, TreesStayRight, TreesStaySound};
+ghost use Rattle.index_edit_laws.specs.Laws.{EntriesStayFit, EntriesStayOrdered, RightCountsAreWithin, SoundTreesAreInOrder, TreesStayRight, TreesStaySound};
 
 /// A cached tree that holds together does so behind an edit.
 pub fn tree_stays_sound()
@@ -13,4 +13,10 @@ pub fn tree_stays_sound()
 pub fn tree_stays_right()
     ensures right { TreesStayRight }
     ensures counts { RightCountsAreWithin }
+{}
+
+/// Entries that have trees still have them behind an edit.
+pub fn entries_stay_fit()
+    ensures ordered { EntriesStayOrdered }
+    ensures fit { EntriesStayFit }
 {}

@@ -1,0 +1,207 @@
+-- Entries of which none is a file where another needs a folder stay so behind changes, and nothing comes to lie in a
+-- whole directory.
+use Rattle.std.proofs.Common.{◌≡◌, ◌⊎◌, inl, inr, ℕ, ◌==◌, List, [], ◌∷◌, ◌++◌, All, Bool, true, false}
+use Rattle.std.proofs.Common.{◌||◌, length, take, Option, Some, None, refl, sym, ap, subst, ◌∙◌, append_assoc, nat_eq, arith}
+use Rattle.std.specs.Prelude.{if◌then◌else◌}
+use Rattle.std.specs.List.{Contains, filter_map, starts_with}
+use Rattle.std.specs.Option.{option_map}
+use Rattle.std.proofs.lemmas.Bool.{eq-eqb}
+use Rattle.std.proofs.lemmas.List.{length-append}
+use Rattle.std.proofs.lemmas.List.Elements.{All-contains, All-contains_itself}
+use Rattle.std.proofs.lemmas.List.Elements.{Contains-append_cases, Contains-append_left, Contains-append_right}
+use Rattle.std.proofs.lemmas.Option.{same_Some}
+use Rattle.std.proofs.Math.Seq.{take-append_seam}
+use Rattle.index_objects.specs.Mode.{named_kind}
+use Rattle.index_objects.specs.declared.object.tree.EntryKind.{EntryKind}
+use Rattle.index_objects.specs.declared.object.tree.EntryKind.TheVariants as kinds
+use Rattle.index_entries.specs.EntryImage.{is_removed}
+use Rattle.index_entries.specs.Order.{record_stage}
+use Rattle.index_entries.specs.Record.{Record, with_path}
+use Rattle.index_lookups.specs.Closest.{is_below}
+use Rattle.index_lookups.proofs.Pairs.{contains_head, contains_tail}
+use Rattle.index_lookups.proofs.TableMade.{and_to, or_left, or_right, same_to}
+use Rattle.index_edits.specs.Changes.{applied_one, path_of, takes_out}
+use Rattle.index_edits.specs.Edits.{are_at_odds, is_displaced, is_succeeded}
+use Rattle.index_edits.specs.declared.change.Change.{Change}
+use Rattle.index_edits.specs.declared.change.Change.TheVariants as changes
+use Rattle.index_edits.proofs.Members.{contains_cases}
+use Rattle.index_edits.proofs.Swaps.{CameFrom, IsNew, came_from}
+use Rattle.index_tree_writer.specs.Refusals.{IsBelow, IsInside, LieApart}
+use Rattle.index_tree_writer.specs.Staged.{Staged, is_intended, is_unmerged, merged_in, staged_entry, staged_in}
+use Rattle.index_tree_writer.proofs.Checked.{staged_each}
+use Rattle.index_edit_laws.proofs.FitEntries.{merged_of, merged_parts, merged_stage}
+use Rattle.index_edit_laws.specs.Staging.{AreOutside, staged_by, with_staged}
+
+-- ---- what a record stages
+
+pub record IsStagedOf (r : Record) (s : Staged) : Type 0 where
+  pub path : s.path ≡ r.path
+  pub present : is_removed r.flags ≡ false
+  pub kind : named_kind r.mode ≡ Some s.kind
+
+staged_of : (r : Record) (s : Staged) → staged_entry r ≡ Some s → IsStagedOf r s
+staged_of r s e = by (is_removed r.flags) (named_kind r.mode) refl refl e
+  where
+    by : (b : Bool) (k : Option EntryKind) → is_removed r.flags ≡ b → named_kind r.mode ≡ k → (if b then None else option_map
+        (λ k. record { path = r.path; kind = k; id = r.id; later = is_intended r.flags }) k) ≡ Some s → IsStagedOf r s
+    by true k f g d = absurd cc
+    by false None f g d = absurd cc
+    by false (Some k) f g d =
+        let same = same_Some (record { path = r.path; kind = k; id = r.id; later = is_intended r.flags }) s d in
+        record {
+          path = ap (λ (x : Staged). x.path) (sym same);
+          present = f;
+          kind = g ∙ ap (λ (x : Staged). Some x.kind) same;
+        }
+
+-- ---- what comes of merged records
+
+-- a merged record of the list stages it
+pub record IsOrigin (rs : List Record) (s : Staged) : Type 0 where
+  pub origin : Record
+  pub there : Contains (merged_in rs) origin
+  pub entry : staged_entry origin ≡ Some s
+
+origin_of : (rs : List Record) (s : Staged) → Contains (staged_in (merged_in rs)) s → IsOrigin rs s
+origin_of rs s c = All-contains (IsOrigin rs) (staged_in (merged_in rs)) s
+    (staged_each (Contains (merged_in rs)) (IsOrigin rs)
+    (λ r x there e. record { origin = r; there = there; entry = e }) (merged_in rs) (All-contains_itself (merged_in rs))) c
+
+staged_there : (rs : List Record) (r : Record) (s : Staged) → Contains rs r → staged_entry r ≡ Some s
+    → Contains (staged_in rs) s
+staged_there [] r s c e = absurd (omega (arith, c.1))
+staged_there (q ∷ rs) r s c e = by (contains_cases q rs r c) (λ d. staged_there rs r s d e)
+  where
+    in_front : (o : Option Staged) → staged_entry q ≡ o → Contains (staged_in rs) s → Contains (staged_in (q ∷ rs)) s
+    in_front None g h = rw g h
+    in_front (Some x) g h = rw g (contains_tail x (staged_in rs) s h)
+
+    by : (q ≡ r) ⊎ Contains rs r → (Contains rs r → Contains (staged_in rs) s) → Contains (staged_in (q ∷ rs)) s
+    by (inl same) rest =
+        let own : staged_entry q ≡ Some s = ap staged_entry same ∙ e in
+        rw own (contains_head s (staged_in rs))
+    by (inr d) rest = in_front (staged_entry q) refl (rest d)
+
+-- ---- one below another
+
+below_to : (dir path : List ℕ) → IsBelow path dir → starts_with nat_eq path (dir ++ 47 ∷ []) ≡ true
+below_to dir path b =
+    let slashed = dir ++ 47 ∷ [] in
+    same_to slashed (take (length slashed) path)
+    (sym (ap (take (length slashed)) (b.1 ∙ sym (append_assoc dir (47 ∷ []) b.0)) ∙ take-append_seam slashed b.0))
+
+never_below_itself : (path : List ℕ) → IsBelow path path → ⊥
+never_below_itself path b = omega (arith, ap length b.1, length-append path (47 ∷ b.0))
+
+-- what lies below the new record at its stage, or above it, goes
+odds_go : (new r : Record) → record_stage r ≡ record_stage new → (is_below new.path r || is_below r.path new) ≡ true
+    → is_displaced new r ≡ true
+odds_go new r e t = or_right (is_succeeded new r) (are_at_odds new r)
+    (and_to (record_stage r == record_stage new) (is_below new.path r || is_below r.path new)
+    (eq-eqb (record_stage r) (record_stage new) e) t)
+
+module _ (rs : List Record) where
+  abbrev IsMerged : Record → Type 0
+  IsMerged r = record_stage r ≡ 0
+
+  new_over : (c : Change) (r q : Record) → IsMerged r → IsMerged q → IsNew c r → takes_out c q ≡ false
+      → IsBelow q.path r.path → ⊥
+  new_over (changes.Stage entry path) r q m n e out b =
+      let new = with_path path.now entry in
+      let goes = odds_go new q (n ∙ sym m ∙ ap record_stage e) (or_left (is_below new.path q) (is_below q.path new)
+      (below_to new.path q.path (subst (λ (x : Record). IsBelow q.path x.path) e b))) in
+      let clash : true ≡ false = sym goes ∙ out in
+      absurd cc
+  new_over (changes.Unstage path) r q m n e out b = absurd e
+
+  new_under : (c : Change) (r q : Record) → IsMerged r → IsMerged q → IsNew c q → takes_out c r ≡ false
+      → IsBelow q.path r.path → ⊥
+  new_under (changes.Stage entry path) r q m n e out b =
+      let new = with_path path.now entry in
+      let goes = odds_go new r (m ∙ sym n ∙ ap record_stage e) (or_right (is_below new.path r) (is_below r.path new)
+      (below_to r.path new.path (subst (λ (x : Record). IsBelow x.path r.path) e b))) in
+      let clash : true ≡ false = sym goes ∙ out in
+      absurd cc
+  new_under (changes.Unstage path) r q m n e out b = absurd e
+
+  same_new : (c : Change) (r q : Record) → IsNew c r → IsNew c q → r ≡ q
+  same_new (changes.Stage entry path) r q e f = e ∙ sym f
+  same_new (changes.Unstage path) r q e f = absurd e
+
+  module _ (c : Change) (apart : LieApart (staged_in (merged_in rs))) (s t : Staged) (o : IsOrigin (applied_one c rs) s)
+      (p : IsOrigin (applied_one c rs) t) where
+    one : (is_unmerged o.origin.flags ≡ false) × IsStagedOf o.origin s
+    one = ((merged_parts (applied_one c rs) o.origin o.there).1, staged_of o.origin s o.entry)
+
+    other : (is_unmerged p.origin.flags ≡ false) × IsStagedOf p.origin t
+    other = ((merged_parts (applied_one c rs) p.origin p.there).1, staged_of p.origin t p.entry)
+
+    olds_apart : IsBelow t.path s.path → Contains rs o.origin → Contains rs p.origin → ⊥
+    olds_apart b x y = apart.below s t
+        (staged_there (merged_in rs) o.origin s (merged_of rs o.origin x one.0) o.entry)
+        (staged_there (merged_in rs) p.origin t (merged_of rs p.origin y other.0) p.entry) b
+
+    below_stays : IsBelow t.path s.path → ⊥
+    below_stays b = by (came_from c rs o.origin (merged_parts (applied_one c rs) o.origin o.there).0)
+        (came_from c rs p.origin (merged_parts (applied_one c rs) p.origin p.there).0)
+        (merged_stage o.origin.flags one.0 one.1.present) (merged_stage p.origin.flags other.0 other.1.present)
+        (subst (λ (l : List ℕ). IsBelow l o.origin.path) other.1.path
+        (subst (λ (l : List ℕ). IsBelow t.path l) one.1.path b))
+      where
+        by : CameFrom c rs o.origin → CameFrom c rs p.origin → IsMerged o.origin → IsMerged p.origin
+            → IsBelow p.origin.path o.origin.path → ⊥
+        by (inr x) (inr y) m n g = olds_apart b x.0 y.0
+        by (inr x) (inl e) m n g = new_under c o.origin p.origin m n e x.1 g
+        by (inl e) (inr y) m n g = new_over c o.origin p.origin m n e y.1 g
+        by (inl e) (inl f) m n g = never_below_itself o.origin.path
+            (subst (λ (x : Record). IsBelow x.path o.origin.path) (sym (same_new c o.origin p.origin e f)) g)
+
+-- ---- whole directories
+
+head_staged : (c : Change) (cs : List Change) (r : Record) → IsNew c r → Contains (filter_map staged_by (c ∷ cs)) r
+head_staged (changes.Stage entry path) cs r e =
+    let new = with_path path.now entry in
+    subst (Contains (new ∷ filter_map staged_by cs)) (sym e) (contains_head new (filter_map staged_by cs))
+head_staged (changes.Unstage path) cs r e = absurd e
+
+tail_staged : (c : Change) (cs : List Change) (r : Record) → Contains (filter_map staged_by cs) r
+    → Contains (filter_map staged_by (c ∷ cs)) r
+tail_staged (changes.Stage entry path) cs r h =
+    contains_tail (with_path path.now entry) (filter_map staged_by cs) r h
+tail_staged (changes.Unstage path) cs r h = h
+
+module _ (c : Change) (cs : List Change) (rs : List Record) where
+  earlier : (r : Record) → Contains (with_staged cs (applied_one c rs)) r → Contains (with_staged (c ∷ cs) rs) r
+  earlier r h = by (Contains-append_cases (applied_one c rs) (filter_map staged_by cs) r h)
+    where
+      all : List Record
+      all = filter_map staged_by (c ∷ cs)
+
+      from : CameFrom c rs r → Contains (rs ++ all) r
+      from (inl e) = Contains-append_right rs all r (head_staged c cs r e)
+      from (inr p) = Contains-append_left rs all r p.0
+
+      by : Contains (applied_one c rs) r ⊎ Contains (filter_map staged_by cs) r → Contains (rs ++ all) r
+      by (inl g) = from (came_from c rs r g)
+      by (inr g) = Contains-append_right rs all r (tail_staged c cs r g)
+
+  pub outside_then : AreOutside (with_staged (c ∷ cs) rs) → AreOutside (with_staged cs (applied_one c rs))
+  outside_then a = record { outside = λ r q x y. a.outside r q (earlier r x) (earlier q y) }
+
+  pub apart_then : LieApart (staged_in (merged_in rs)) → AreOutside (with_staged (c ∷ cs) rs)
+      → LieApart (staged_in (merged_in (applied_one c rs)))
+  apart_then apart a =
+      let now = applied_one c rs in
+      record {
+        below = λ s t x y b. below_stays rs c apart s t (origin_of now s x) (origin_of now t y) b;
+        inside = λ s t x y i.
+            let o = origin_of now s x in
+            let p = origin_of now t y in
+            let m = staged_of o.origin s o.entry in
+            let n = staged_of p.origin t p.entry in
+            let later = filter_map staged_by cs in
+            n.path ∙ (outside_then a).outside o.origin p.origin
+            (Contains-append_left now later o.origin (merged_parts now o.origin o.there).0)
+            (Contains-append_left now later p.origin (merged_parts now p.origin p.there).0)
+            (m.kind ∙ ap Some i.0) (i.1.0, sym n.path ∙ i.1.1 ∙ ap (λ (l : List ℕ). l ++ i.1.0) m.path) ∙ sym m.path;
+      }

@@ -1,0 +1,52 @@
+-- Entries that have trees still have them behind changes.
+use Rattle.std.proofs.Common.{◌≡◌, ℕ, List, [], ◌∷◌, All, None, refl}
+use Rattle.std.proofs.lemmas.List.Elements.{All-head, All-tail}
+use Rattle.index_parts.specs.declared.hash.Kind.{Kind}
+use Rattle.index_objects.specs.NameCheck.{refusal_as}
+use Rattle.index_objects.specs.declared.object.tree.EntryKind.{EntryKind}
+use Rattle.index_objects.specs.declared.object.tree.EntryKind.TheVariants as kinds
+use Rattle.index_entries.specs.Order.{IsStrictlyOrdered}
+use Rattle.index_entries.specs.Record.{Record}
+use Rattle.index_edits.specs.Changes.{applied, applied_one}
+use Rattle.index_edits.specs.Refusals.{Check}
+use Rattle.index_edits.specs.declared.change.Change.{Change}
+use Rattle.index_edits.proofs.Swaps.{one_ordered}
+use Rattle.index_tree_writer.specs.TreeIds.{any_name}
+use Rattle.index_edit_laws.proofs.ApartEntries.{apart_then, outside_then}
+use Rattle.index_edit_laws.proofs.FitEntries.{each_fit}
+use Rattle.index_edit_laws.specs.Laws.{FitAsBefore}
+use Rattle.index_edit_laws.specs.Staging.{AreOutside, StagesFaultless, with_staged}
+
+pub entries_ordered : (cs : List Change) (rs : List Record) → IsStrictlyOrdered rs → IsStrictlyOrdered (applied cs rs)
+unfolding applied
+entries_ordered [] rs o = o
+entries_ordered (c ∷ cs) rs o = entries_ordered cs (applied_one c rs) (one_ordered c rs o)
+
+module _ (check pass : Check) (kind : Kind)
+    (weaker : (name : List ℕ) (j : EntryKind) → refusal_as check name j ≡ None → refusal_as pass name j ≡ None) where
+  stay_fit : (cs : List Change) (rs : List Record) → All (StagesFaultless check kind) cs → AreOutside (with_staged cs rs)
+      → FitAsBefore pass kind rs (applied cs rs)
+  unfolding applied
+  stay_fit [] rs s o a = a
+  stay_fit (c ∷ cs) rs s o a =
+      let Q = StagesFaultless check kind in
+      stay_fit cs (applied_one c rs) (All-tail Q c cs s) (outside_then c cs rs o) (record {
+        each = each_fit check pass kind weaker c rs (All-head Q c cs s) a;
+        apart = apart_then c cs rs a.apart o;
+      })
+
+-- a check that lets each name pass does
+any_passes : (name : List ℕ) (k : EntryKind) → refusal_as any_name name k ≡ None
+any_passes name kinds.Tree = refl
+any_passes name kinds.Blob = refl
+any_passes name kinds.BlobExecutable = refl
+any_passes name kinds.Link = refl
+any_passes name kinds.Commit = refl
+
+pub entries_fit : (check : Check) (kind : Kind) (cs : List Change) (rs : List Record)
+    → All (StagesFaultless check kind) cs → AreOutside (with_staged cs rs)
+    → FitAsBefore check kind rs (applied cs rs) × FitAsBefore any_name kind rs (applied cs rs)
+entries_fit check kind cs rs s o = (
+  stay_fit check check kind (λ name k e. e) cs rs s o,
+  stay_fit check any_name kind (λ name k e. any_passes name k) cs rs s o,
+)
