@@ -1,6 +1,6 @@
 -- Entries of which none is a file where another needs a folder stay so behind changes, and nothing comes to lie in a
 -- whole directory.
-use Rattle.std.proofs.Common.{◌≡◌, ◌⊎◌, inl, inr, ℕ, ◌==◌, List, [], ◌∷◌, ◌++◌, All, Bool, true, false}
+use Rattle.std.proofs.Common.{◌≡◌, ◌⊎◌, inl, inr, ℕ, ◌==◌, List, [], ◌∷◌, ◌++◌, Bool, true, false}
 use Rattle.std.proofs.Common.{◌||◌, length, take, Option, Some, None, refl, sym, ap, subst, ◌∙◌, append_assoc, nat_eq, arith}
 use Rattle.std.specs.Prelude.{if◌then◌else◌}
 use Rattle.std.specs.List.{Contains, filter_map, starts_with}
@@ -13,20 +13,19 @@ use Rattle.std.proofs.lemmas.Option.{same_Some}
 use Rattle.std.proofs.Math.Seq.{take-append_seam}
 use Rattle.index_objects.specs.Mode.{named_kind}
 use Rattle.index_objects.specs.declared.object.tree.EntryKind.{EntryKind}
-use Rattle.index_objects.specs.declared.object.tree.EntryKind.TheVariants as kinds
 use Rattle.index_entries.specs.EntryImage.{is_removed}
 use Rattle.index_entries.specs.Order.{record_stage}
 use Rattle.index_entries.specs.Record.{Record, with_path}
 use Rattle.index_lookups.specs.Closest.{is_below}
 use Rattle.index_lookups.proofs.Pairs.{contains_head, contains_tail}
 use Rattle.index_lookups.proofs.TableMade.{and_to, or_left, or_right, same_to}
-use Rattle.index_edits.specs.Changes.{applied_one, path_of, takes_out}
+use Rattle.index_edits.specs.Changes.{applied_one, takes_out}
 use Rattle.index_edits.specs.Edits.{are_at_odds, is_displaced, is_succeeded}
 use Rattle.index_edits.specs.declared.change.Change.{Change}
 use Rattle.index_edits.specs.declared.change.Change.TheVariants as changes
 use Rattle.index_edits.proofs.Members.{contains_cases}
 use Rattle.index_edits.proofs.Swaps.{CameFrom, IsNew, came_from}
-use Rattle.index_tree_writer.specs.Refusals.{IsBelow, IsInside, LieApart}
+use Rattle.index_tree_writer.specs.Refusals.{IsBelow, LieApart}
 use Rattle.index_tree_writer.specs.Staged.{Staged, is_intended, is_unmerged, merged_in, staged_entry, staged_in}
 use Rattle.index_tree_writer.proofs.Checked.{staged_each}
 use Rattle.index_edit_laws.proofs.FitEntries.{merged_of, merged_parts, merged_stage}

@@ -1,50 +1,37 @@
 -- Entries that have trees still have them behind changes.
-use Rattle.std.proofs.Common.{◌≡◌, ◌⊎◌, inl, inr, ℕ, suc, ◌+◌, ◌≤◌, ◌==◌, List, [], ◌∷◌, ◌++◌, All, Bool, true, false, cond}
-use Rattle.std.proofs.Common.{◌&&◌, ◌||◌, not, length, take, drop, filter, get_or, Option, Some, None, refl, sym, ap, subst, ◌∙◌}
-use Rattle.std.proofs.Common.{append_assoc, nat_eq, arith}
-use Rattle.std.specs.Prelude.{◌≢◌, if◌then◌else◌, position}
-use Rattle.std.specs.List.{Contains, filter_map, position_or_len, starts_with}
-use Rattle.std.specs.Option.{option_map, option_or}
-use Rattle.std.proofs.lemmas.Bool.{eqb-false, eqb-true, eq-eqb}
-use Rattle.std.proofs.lemmas.List.{length-append}
-use Rattle.std.proofs.lemmas.List.Elements.{All-contains, All-contains_itself, All-filter, All-head, All-tail, All-weaker}
-use Rattle.std.proofs.lemmas.List.Elements.{Contains-append_cases, Contains-append_left, Contains-append_right, filter_passes}
+use Rattle.std.proofs.Common.{◌≡◌, inl, inr, ℕ, ◌==◌, List, All, Bool, true, false, cond}
+use Rattle.std.proofs.Common.{◌&&◌, not, length, get_or, Option, Some, None, refl, sym, ap, subst, ◌∙◌}
+use Rattle.std.proofs.Common.{arith}
+use Rattle.std.specs.Prelude.{◌≢◌, position}
+use Rattle.std.specs.List.{Contains}
+use Rattle.std.specs.Option.{option_map}
+use Rattle.std.proofs.lemmas.Bool.{eqb-false, eqb-true}
+use Rattle.std.proofs.lemmas.List.Elements.{All-contains, All-contains_itself, All-filter}
+use Rattle.std.proofs.lemmas.List.Elements.{filter_passes}
 use Rattle.std.proofs.lemmas.List.Sums.{fails_before_first}
-use Rattle.std.proofs.lemmas.Option.{same_Some}
-use Rattle.std.proofs.Math.Seq.{take-append_seam}
 use Rattle.index_parts.specs.Id.{id_bytes, id_kind, id_len, is_null}
 use Rattle.index_parts.specs.declared.hash.Kind.{Kind}
 use Rattle.index_parts.specs.declared.hash.Kind.TheVariants as hashes
 use Rattle.index_objects.specs.Mode.{named_kind}
 use Rattle.index_objects.specs.NameCheck.{refusal_as}
 use Rattle.index_objects.specs.declared.object.tree.EntryKind.{EntryKind}
-use Rattle.index_objects.specs.declared.object.tree.EntryKind.TheVariants as kinds
 use Rattle.index_entries.specs.EntryImage.{is_removed}
-use Rattle.index_entries.specs.Order.{IsStrictlyOrdered, record_stage}
 use Rattle.index_entries.specs.Record.{Record, with_path}
 use Rattle.index_entries.specs.declared.Pathless.{Pathless}
 use Rattle.index_metadata.specs.Flags.{stage_number}
-use Rattle.index_lookups.specs.Closest.{is_below}
-use Rattle.index_lookups.proofs.Pairs.{contains_head, contains_tail}
-use Rattle.index_lookups.proofs.TableMade.{and_to, or_left, or_right, same_to}
-use Rattle.index_edits.specs.Changes.{applied, applied_one, path_of, takes_out}
-use Rattle.index_edits.specs.Edits.{are_at_odds, is_displaced, is_succeeded}
+use Rattle.index_edits.specs.Changes.{applied_one}
 use Rattle.index_edits.specs.Refusals.{Check, fault_as, fault_of, id_fault, kind_fault, path_fault, whole_path_fault}
 use Rattle.index_edits.specs.declared.change.Change.{Change}
 use Rattle.index_edits.specs.declared.change.Change.TheVariants as changes
 use Rattle.index_edits.specs.declared.error.Error.{Error}
 use Rattle.index_edits.specs.declared.error.Error.TheVariants as errors
-use Rattle.index_edits.proofs.Members.{contains_cases}
 use Rattle.index_edits.proofs.Stagings.{contains_filter}
-use Rattle.index_edits.proofs.Swaps.{CameFrom, IsNew, came_from, one_ordered}
-use Rattle.index_tree_writer.specs.Refusals.{AreFit, BeginsWith, HasPath, IsBelow, IsFit, IsInside, LieApart}
-use Rattle.index_tree_writer.specs.Staged.{Staged, is_intended, is_unmerged, merged_in, staged_entry, staged_in}
-use Rattle.index_tree_writer.specs.TreeIds.{any_name}
-use Rattle.index_tree_writer.proofs.Checked.{staged_each}
+use Rattle.index_edits.proofs.Swaps.{CameFrom, IsNew, came_from}
+use Rattle.index_tree_writer.specs.Refusals.{AreFit, IsFit}
+use Rattle.index_tree_writer.specs.Staged.{is_unmerged, merged_in}
 use Rattle.index_edit_laws.proofs.FirstNames.{nowhere}
 use Rattle.index_edit_laws.proofs.MadeOfNames.{neither, not_some, path_made}
-use Rattle.index_edit_laws.specs.Laws.{FitAsBefore}
-use Rattle.index_edit_laws.specs.Staging.{AreOutside, IsFaultless, StagesFaultless, staged_by, with_staged}
+use Rattle.index_edit_laws.specs.Staging.{IsFaultless, StagesFaultless}
 
 -- ---- which records are merged
 

@@ -4,8 +4,10 @@ mod Counts
 mod EntriesStayFit
 mod FirstNames
 mod FitEntries
+mod Granted
 mod Lists
 mod MadeOfNames
 mod Parts
 mod RightTrees
+mod SoundIndexes
 mod SoundTrees

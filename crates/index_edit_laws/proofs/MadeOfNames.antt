@@ -2,7 +2,7 @@
 use Rattle.std.proofs.Common.{◌≡◌, ℕ, zero, suc, ◌+◌, ◌-◌, ◌<◌, ◌≤◌, ◌==◌, List, [], ◌∷◌, ◌++◌, All, Bool, true, false, cond}
 use Rattle.std.proofs.Common.{Option, Some, None, length, get_or, take, drop, refl, sym, ap, subst, ◌∙◌, append_assoc, arith}
 use Rattle.std.proofs.Common.{length-take}
-use Rattle.std.specs.Prelude.{◌≢◌, count_by, position, slice_index}
+use Rattle.std.specs.Prelude.{◌≢◌, count_by, slice_index}
 use Rattle.std.specs.Option.{option_map, option_or}
 use Rattle.std.proofs.lemmas.Bool.{eqb-true}
 use Rattle.std.proofs.lemmas.List.{append-nil, drop_all, get_or-take, take-append-drop}
@@ -14,7 +14,6 @@ use Rattle.index_objects.specs.NameCheck.{refusal_as}
 use Rattle.index_objects.specs.declared.object.tree.EntryKind.{EntryKind}
 use Rattle.index_objects.specs.declared.object.tree.EntryKind.TheVariants as kinds
 use Rattle.index_edits.specs.Refusals.{Check, name_fault, names_fault, names_of, whole_path_fault}
-use Rattle.index_edits.specs.declared.error.Error.{Error}
 use Rattle.index_edits.specs.declared.error.Error.TheVariants as errors
 use Rattle.index_edits.proofs.Names.{first_name, last_name}
 use Rattle.index_invalidation.specs.Invalidation.{slash_of}

@@ -1,0 +1,58 @@
+-- What the checks of an index ask of it is true behind changes.
+use Rattle.std.proofs.Common.{List, All, Option, Some, None, length}
+use Rattle.std.specs.Prelude.{IfSome}
+use Rattle.std.specs.Option.{option_map}
+use Rattle.index_parts.specs.declared.hash.Kind.{Kind}
+use Rattle.index_cached_tree.specs.Sound.{CountsAtMost, IsSoundTree}
+use Rattle.index_cached_tree.specs.Tree.{Node}
+use Rattle.index_entries.specs.Record.{Record}
+use Rattle.index_edits.specs.Changes.{applied}
+use Rattle.index_edits.specs.Refusals.{Check}
+use Rattle.index_edits.specs.declared.change.Change.{Change}
+use Rattle.index_format.specs.Contents.{Contents}
+use Rattle.index_tree_writer.specs.Refusals.{AreFit}
+use Rattle.index_tree_writer.specs.Staged.{merged_in}
+use Rattle.index_tree_writer.specs.TreeIds.{AreRight, any_name}
+use Rattle.index_updates.specs.Invalidated.{all_invalidated}
+use Rattle.index_updates.specs.Updates.{updated}
+use Rattle.index_edit_laws.proofs.Counts.{counts_within}
+use Rattle.index_edit_laws.proofs.EntriesStayFit.{entries_fit, entries_ordered}
+use Rattle.index_edit_laws.proofs.RightTrees.{right_stays}
+use Rattle.index_edit_laws.proofs.SoundTrees.{sound_in_order, sound_stays}
+use Rattle.index_edit_laws.specs.Laws.{IsSoundIndex}
+use Rattle.index_edit_laws.specs.Staging.{AreOutside, StagesFaultless, with_staged}
+
+module _ (kind : Kind) (cs : List Change) (rs : List Record) where
+  abbrev now : List Record
+  now = applied cs rs
+
+  right_there : (o : Option Node) → IfSome o (λ t. IsSoundTree t × CountsAtMost (length rs) t)
+      → IfSome o (AreRight kind rs) → IfSome (option_map (all_invalidated cs) o) (AreRight kind now)
+  right_there None s r = tt
+  right_there (Some t) s r = right_stays kind cs rs t (sound_in_order t s.0) r
+
+  together_there : (o : Option Node) → IfSome o (λ t. IsSoundTree t × CountsAtMost (length rs) t)
+      → IfSome o (AreRight kind rs)
+      → IfSome (option_map (all_invalidated cs) o) (λ t. IsSoundTree t × CountsAtMost (length now) t)
+  together_there None s r = tt
+  together_there (Some t) s r = (
+    sound_stays cs t s.0,
+    counts_within kind now (all_invalidated cs t) (right_stays kind cs rs t (sound_in_order t s.0) r),
+  )
+
+  fit_there : (o : Option Node) → (AreFit any_name kind (merged_in rs) → AreFit any_name kind (merged_in now))
+      → IfSome o (λ t. AreFit any_name kind (merged_in rs))
+      → IfSome (option_map (all_invalidated cs) o) (λ t. AreFit any_name kind (merged_in now))
+  fit_there None f h = tt
+  fit_there (Some t) f h = f h
+
+pub index_stays : (check : Check) (cs : List Change) (v : Contents) → All (StagesFaultless check v.kind) cs
+    → AreOutside (with_staged cs v.records) → IsSoundIndex v → IsSoundIndex (updated cs v)
+index_stays check cs v s o h =
+    let tree = v.extensions.tree in
+    record {
+      ordered = entries_ordered cs v.records h.ordered;
+      together = together_there v.kind cs v.records tree h.together h.right;
+      right = right_there v.kind cs v.records tree h.together h.right;
+      fit = fit_there v.kind cs v.records tree (entries_fit check v.kind cs v.records s o).1 h.fit;
+    }
