@@ -29,7 +29,7 @@ use Rattle.index_tree_writer.specs.Refusals.{IsBelow, LieApart}
 use Rattle.index_tree_writer.specs.Staged.{Staged, is_intended, is_unmerged, merged_in, staged_entry, staged_in}
 use Rattle.index_tree_writer.proofs.Checked.{staged_each}
 use Rattle.index_edit_laws.proofs.FitEntries.{merged_of, merged_parts, merged_stage}
-use Rattle.index_edit_laws.specs.Staging.{AreOutside, staged_by, with_staged}
+use Rattle.index_edit_laws.specs.Faultless.{AreOutside, staged_by, with_staged}
 
 -- ---- what a record stages
 

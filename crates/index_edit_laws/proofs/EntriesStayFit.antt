@@ -11,11 +11,12 @@ use Rattle.index_edits.specs.Changes.{applied, applied_one}
 use Rattle.index_edits.specs.Refusals.{Check}
 use Rattle.index_edits.specs.declared.change.Change.{Change}
 use Rattle.index_edits.proofs.Swaps.{one_ordered}
+use Rattle.index_tree_writer.specs.Refusals.{AreFit}
+use Rattle.index_tree_writer.specs.Staged.{merged_in}
 use Rattle.index_tree_writer.specs.TreeIds.{any_name}
 use Rattle.index_edit_laws.proofs.ApartEntries.{apart_then, outside_then}
 use Rattle.index_edit_laws.proofs.FitEntries.{each_fit}
-use Rattle.index_edit_laws.specs.Laws.{FitAsBefore}
-use Rattle.index_edit_laws.specs.Staging.{AreOutside, StagesFaultless, with_staged}
+use Rattle.index_edit_laws.specs.Faultless.{AreFaultless, AreOutside, StagesFaultless, with_staged}
 
 pub entries_ordered : (cs : List Change) (rs : List Record) → IsStrictlyOrdered rs → IsStrictlyOrdered (applied cs rs)
 unfolding applied
@@ -24,8 +25,8 @@ entries_ordered (c ∷ cs) rs o = entries_ordered cs (applied_one c rs) (one_ord
 
 module _ (check pass : Check) (kind : Kind)
     (weaker : (name : List ℕ) (j : EntryKind) → refusal_as check name j ≡ None → refusal_as pass name j ≡ None) where
-  stay_fit : (cs : List Change) (rs : List Record) → All (StagesFaultless check kind) cs → AreOutside (with_staged cs rs)
-      → FitAsBefore pass kind rs (applied cs rs)
+  stay_fit : (cs : List Change) (rs : List Record) → All (StagesFaultless check kind) cs
+      → AreOutside (with_staged cs rs) → AreFit pass kind (merged_in rs) → AreFit pass kind (merged_in (applied cs rs))
   unfolding applied
   stay_fit [] rs s o a = a
   stay_fit (c ∷ cs) rs s o a =
@@ -43,10 +44,9 @@ any_passes name kinds.BlobExecutable = refl
 any_passes name kinds.Link = refl
 any_passes name kinds.Commit = refl
 
-pub entries_fit : (check : Check) (kind : Kind) (cs : List Change) (rs : List Record)
-    → All (StagesFaultless check kind) cs → AreOutside (with_staged cs rs)
-    → FitAsBefore check kind rs (applied cs rs) × FitAsBefore any_name kind rs (applied cs rs)
-entries_fit check kind cs rs s o = (
-  stay_fit check check kind (λ name k e. e) cs rs s o,
-  stay_fit check any_name kind (λ name k e. any_passes name k) cs rs s o,
-)
+module _ (check : Check) (kind : Kind) (cs : List Change) (rs : List Record) (f : AreFaultless check kind cs rs) where
+  pub any_fit : AreFit any_name kind (merged_in rs) → AreFit any_name kind (merged_in (applied cs rs))
+  any_fit a = stay_fit check any_name kind (λ name k e. any_passes name k) cs rs f.each f.outside a
+
+  pub checked_fit : AreFit check kind (merged_in rs) → AreFit check kind (merged_in (applied cs rs))
+  checked_fit a = stay_fit check check kind (λ name k e. e) cs rs f.each f.outside a

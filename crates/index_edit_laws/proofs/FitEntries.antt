@@ -31,7 +31,7 @@ use Rattle.index_tree_writer.specs.Refusals.{AreFit, IsFit}
 use Rattle.index_tree_writer.specs.Staged.{is_unmerged, merged_in}
 use Rattle.index_edit_laws.proofs.FirstNames.{nowhere}
 use Rattle.index_edit_laws.proofs.MadeOfNames.{neither, not_some, path_made}
-use Rattle.index_edit_laws.specs.Staging.{IsFaultless, StagesFaultless}
+use Rattle.index_edit_laws.specs.Faultless.{IsFaultless, StagesFaultless}
 
 -- ---- which records are merged
 

@@ -16,7 +16,7 @@ use Rattle.index_edits.specs.declared.change.Change.TheVariants as changes
 use Rattle.index_edits.specs.declared.error.Error.{Error}
 use Rattle.index_updates.specs.StillStorable.{StagesSized}
 use Rattle.index_edit_laws.proofs.MadeOfNames.{neither, not_some}
-use Rattle.index_edit_laws.specs.Staging.{AreOutside, StagesFaultless, StagesShallow}
+use Rattle.index_edit_laws.specs.Faultless.{AreOutside, StagesFaultless, StagesShallow}
 
 module _ (check : Check) (kind : Kind) where
   granted_one : (len : ℕ) (c : Change) → change_fault check kind len c ≡ None → StagesSized c → StagesShallow c

@@ -1,5 +1,5 @@
 -- What the checks of an index ask of it is true behind changes.
-use Rattle.std.proofs.Common.{List, All, Option, Some, None, length}
+use Rattle.std.proofs.Common.{List, Option, Some, None, length}
 use Rattle.std.specs.Prelude.{IfSome}
 use Rattle.std.specs.Option.{option_map}
 use Rattle.index_parts.specs.declared.hash.Kind.{Kind}
@@ -16,11 +16,11 @@ use Rattle.index_tree_writer.specs.TreeIds.{AreRight, any_name}
 use Rattle.index_updates.specs.Invalidated.{all_invalidated}
 use Rattle.index_updates.specs.Updates.{updated}
 use Rattle.index_edit_laws.proofs.Counts.{counts_within}
-use Rattle.index_edit_laws.proofs.EntriesStayFit.{entries_fit, entries_ordered}
+use Rattle.index_edit_laws.proofs.EntriesStayFit.{any_fit, entries_ordered}
 use Rattle.index_edit_laws.proofs.RightTrees.{right_stays}
 use Rattle.index_edit_laws.proofs.SoundTrees.{sound_in_order, sound_stays}
-use Rattle.index_edit_laws.specs.Laws.{IsSoundIndex}
-use Rattle.index_edit_laws.specs.Staging.{AreOutside, StagesFaultless, with_staged}
+use Rattle.index_edit_laws.specs.SoundIndex.{IsSoundIndex}
+use Rattle.index_edit_laws.specs.Faultless.{AreFaultless}
 
 module _ (kind : Kind) (cs : List Change) (rs : List Record) where
   abbrev now : List Record
@@ -46,13 +46,13 @@ module _ (kind : Kind) (cs : List Change) (rs : List Record) where
   fit_there None f h = tt
   fit_there (Some t) f h = f h
 
-pub index_stays : (check : Check) (cs : List Change) (v : Contents) → All (StagesFaultless check v.kind) cs
-    → AreOutside (with_staged cs v.records) → IsSoundIndex v → IsSoundIndex (updated cs v)
-index_stays check cs v s o h =
+pub index_stays : (check : Check) (cs : List Change) (v : Contents) → AreFaultless check v.kind cs v.records
+    → IsSoundIndex v → IsSoundIndex (updated cs v)
+index_stays check cs v f h =
     let tree = v.extensions.tree in
     record {
       ordered = entries_ordered cs v.records h.ordered;
       together = together_there v.kind cs v.records tree h.together h.right;
       right = right_there v.kind cs v.records tree h.together h.right;
-      fit = fit_there v.kind cs v.records tree (entries_fit check v.kind cs v.records s o).1 h.fit;
+      fit = fit_there v.kind cs v.records tree (any_fit check v.kind cs v.records f) h.fit;
     }

@@ -1,2 +1,2 @@
-pub mod Laws
-pub mod Staging
+pub mod Faultless
+pub mod SoundIndex

@@ -1,43 +1,72 @@
 //! Laws of edits of an index: what its checks ask of it stays true. A law computes nothing.
 #![tactic(auto)]
 
-ghost use Rattle.index_edit_laws.specs.Laws.{EntriesStayFit, EntriesStayOrdered, IndexesStaySound};
-ghost use Rattle.index_edit_laws.specs.Laws.{RightCountsAreWithin, SoundTreesAreInOrder, TreesStayRight, TreesStaySound};
-ghost use Rattle.index_edit_laws.specs.Staging.{FilesAreOutside, GrantedAreFaultless};
+ghost use Rattle.std.specs.Prelude.{◌≡◌, ℕ, List, All, false, length, None};
+ghost use Rattle.index_cached_tree.specs.Sound.{CountsAtMost, IsSoundTree};
+ghost use Rattle.index_cached_tree.specs.Tree.{Node};
+ghost use Rattle.index_edit_laws.specs.Faultless.{AreFaultless, AreOutside, StagesFaultless, StagesShallow};
+ghost use Rattle.index_edit_laws.specs.SoundIndex.{IsSoundIndex};
+ghost use Rattle.index_edits.specs.Changes.{applied, refusal_of};
+ghost use Rattle.index_edits.specs.Refusals.{Check};
+ghost use Rattle.index_edits.specs.declared.change.Change.{Change};
+ghost use Rattle.index_entries.specs.Order.{IsStrictlyOrdered};
+ghost use Rattle.index_entries.specs.Record.{Record, has_directory};
+ghost use Rattle.index_format.specs.Contents.{Contents};
+ghost use Rattle.index_parts.specs.declared.hash.Kind.{Kind};
+ghost use Rattle.index_tree_writer.specs.Kept.{HasNamesInOrder};
+ghost use Rattle.index_tree_writer.specs.Refusals.{AreFit};
+ghost use Rattle.index_tree_writer.specs.Staged.{merged_in};
+ghost use Rattle.index_tree_writer.specs.TreeIds.{AreRight, any_name};
+ghost use Rattle.index_updates.specs.Invalidated.{all_invalidated};
+ghost use Rattle.index_updates.specs.StillStorable.{StagesSized};
+ghost use Rattle.index_updates.specs.Updates.{updated};
 
-/// A cached tree that holds together still does behind changes, without what they make untrue. In such a tree the names
-/// of siblings increase.
+/// A cached tree that holds together still does behind changes, without what they make untrue. In such a tree the
+/// names of siblings increase.
 pub fn tree_stays_sound()
-    ensures sound { TreesStaySound }
-    ensures order { SoundTreesAreInOrder }
+    ensures sound { (cs : List Change) (t : Node) → IsSoundTree t → IsSoundTree (all_invalidated cs t) }
+    ensures order { (t : Node) → IsSoundTree t → HasNamesInOrder t }
 {}
 
-/// A cached tree each of whose counts and ids is what the records give is so behind changes of them, without what these
-/// make untrue: whatever the changes are, and in whichever order the records stand. Names of siblings have to increase,
-/// since of several of one name only the first is invalidated. No node that is right counts more than there are records.
+/// Where each node of a cached tree that has a count has the id and the count that the records give, each still has
+/// them behind changes of the records, in the tree without what these make untrue: whatever the changes are, and in
+/// whichever order the records stand. The names of siblings have to increase, as only the first of a name is
+/// invalidated. No node counts more than there are records then.
 pub fn tree_stays_right()
-    ensures right { TreesStayRight }
-    ensures counts { RightCountsAreWithin }
+    ensures right { (kind : Kind) (cs : List Change) (rs : List Record) (t : Node) → HasNamesInOrder t
+        → AreRight kind rs t → AreRight kind (applied cs rs) (all_invalidated cs t) }
+    ensures counts { (kind : Kind) (rs : List Record) (t : Node) → AreRight kind rs t
+        → CountsAtMost (length rs) t }
 {}
 
-/// Path and stage strictly increase behind changes, where they did. Merged entries that have trees still have them behind
-/// changes that stage what has no fault, by the check of names of the changes or by none: where no path that is staged
-/// has more than 2048 slashes, and nothing comes to lie in a whole directory of a sparse index.
+/// Path and stage strictly increase behind changes, where they did. Merged entries that have trees still have them
+/// behind changes that stage what has no fault, as deep as trees may be, and nothing in a whole directory of a sparse
+/// index: by a check that lets each name pass, as by that of the changes.
 pub fn entries_stay_fit()
-    ensures ordered { EntriesStayOrdered }
-    ensures fit { EntriesStayFit }
+    ensures ordered { (cs : List Change) (rs : List Record) → IsStrictlyOrdered rs
+        → IsStrictlyOrdered (applied cs rs) }
+    ensures any { (check : Check) (kind : Kind) (cs : List Change) (rs : List Record)
+        → AreFaultless check kind cs rs → AreFit any_name kind (merged_in rs)
+        → AreFit any_name kind (merged_in (applied cs rs)) }
+    ensures checked { (check : Check) (kind : Kind) (cs : List Change) (rs : List Record)
+        → AreFaultless check kind cs rs → AreFit check kind (merged_in rs)
+        → AreFit check kind (merged_in (applied cs rs)) }
 {}
 
-/// Changes of which none is refused stage what has no fault, where their paths aren't too deep. Where no record and no
-/// change stands for a whole directory, nothing comes to lie in one.
+/// Changes of which none is refused stage what has no fault, where their paths aren't too deep. Where no record stands
+/// for a whole directory, nothing lies in one.
 pub fn granted_changes_are_faultless()
-    ensures granted { GrantedAreFaultless }
-    ensures outside { FilesAreOutside }
+    ensures granted { (check : Check) (kind : Kind) (len : ℕ) (cs : List Change)
+        → refusal_of check kind len cs ≡ None → All StagesSized cs → All StagesShallow cs
+        → All (StagesFaultless check kind) cs }
+    ensures outside { (rs : List Record) → has_directory rs ≡ false → AreOutside rs }
 {}
 
 /// What `State::verify_entries`, `State::verify_extensions` and `State::verify_tree_ids` ask of an index is true of it
-/// behind changes, where it was before, with the premises of [`entries_stay_fit`]. So no edit leaves a cached tree by
-/// which the next commit would be wrong.
+/// behind changes, where it was before, with the premise of [`entries_stay_fit`]. So no edit leaves a cached tree that
+/// would make the next commit wrong. That there are fewer than 2^31 merged entries, as the last of them asks too, may
+/// end with an edit.
 pub fn index_stays_sound()
-    ensures { IndexesStaySound }
+    ensures { (check : Check) (cs : List Change) (v : Contents)
+        → AreFaultless check v.kind cs v.records → IsSoundIndex v → IsSoundIndex (updated cs v) }
 {}

@@ -1,8 +1,11 @@
-use Rattle.index_edit_laws.proofs.EntriesStayFit.{entries_fit, entries_ordered}
+use Rattle.index_edit_laws.proofs.EntriesStayFit.{any_fit, checked_fit, entries_ordered}
 use Rattle.index_edit_laws.proofs.entries_stay_fit.Goals as goal
 
 pub returns-clause-ordered : goal.returns-clause-ordered
 returns-clause-ordered c = entries_ordered
 
-pub returns-clause-fit : goal.returns-clause-fit
-returns-clause-fit c = entries_fit
+pub returns-clause-any : goal.returns-clause-any
+returns-clause-any c = any_fit
+
+pub returns-clause-checked : goal.returns-clause-checked
+returns-clause-checked c = checked_fit
