@@ -1,7 +1,8 @@
 -- Entries of which none is a file where another needs a folder stay so behind changes, and nothing comes to lie in a
 -- whole directory.
 use Rattle.std.proofs.Common.{◌≡◌, ◌⊎◌, inl, inr, ℕ, ◌==◌, List, [], ◌∷◌, ◌++◌, Bool, true, false}
-use Rattle.std.proofs.Common.{◌||◌, length, take, Option, Some, None, refl, sym, ap, subst, ◌∙◌, append_assoc, nat_eq, arith}
+use Rattle.std.proofs.Common.{◌||◌, length, take, Option, Some, None, refl, sym, ap, subst, ◌∙◌, append_assoc}
+use Rattle.std.proofs.Common.{nat_eq, arith}
 use Rattle.std.specs.Prelude.{if◌then◌else◌}
 use Rattle.std.specs.List.{Contains, filter_map, starts_with}
 use Rattle.std.specs.Option.{option_map}
@@ -41,7 +42,8 @@ pub record IsStagedOf (r : Record) (s : Staged) : Type 0 where
 staged_of : (r : Record) (s : Staged) → staged_entry r ≡ Some s → IsStagedOf r s
 staged_of r s e = by (is_removed r.flags) (named_kind r.mode) refl refl e
   where
-    by : (b : Bool) (k : Option EntryKind) → is_removed r.flags ≡ b → named_kind r.mode ≡ k → (if b then None else option_map
+    by : (b : Bool) (k : Option EntryKind) → is_removed r.flags ≡ b → named_kind r.mode ≡ k
+        → (if b then None else option_map
         (λ k. record { path = r.path; kind = k; id = r.id; later = is_intended r.flags }) k) ≡ Some s → IsStagedOf r s
     by true k f g d = absurd cc
     by false None f g d = absurd cc
@@ -64,7 +66,8 @@ pub record IsOrigin (rs : List Record) (s : Staged) : Type 0 where
 origin_of : (rs : List Record) (s : Staged) → Contains (staged_in (merged_in rs)) s → IsOrigin rs s
 origin_of rs s c = All-contains (IsOrigin rs) (staged_in (merged_in rs)) s
     (staged_each (Contains (merged_in rs)) (IsOrigin rs)
-    (λ r x there e. record { origin = r; there = there; entry = e }) (merged_in rs) (All-contains_itself (merged_in rs))) c
+    (λ r x there e. record { origin = r; there = there; entry = e }) (merged_in rs)
+    (All-contains_itself (merged_in rs))) c
 
 staged_there : (rs : List Record) (r : Record) (s : Staged) → Contains rs r → staged_entry r ≡ Some s
     → Contains (staged_in rs) s

@@ -14,7 +14,8 @@ use Rattle.index_cached_tree.specs.Tree.{Node, Nodes, node, none, more, name_of}
 use Rattle.index_entries.specs.Record.{Record}
 use Rattle.index_tree_writer.specs.Directory.{leaf_count}
 use Rattle.index_tree_writer.specs.Staged.{Staged, is_unmerged, merged_in, staged_entry, staged_in}
-use Rattle.index_tree_writer.specs.TreeIds.{AreRight, Gives, GivesId, IsRight, Spot, behind_all, moved, spots, spots_below}
+use Rattle.index_tree_writer.specs.TreeIds.{AreRight, Gives, GivesId, IsRight, Spot, behind_all, moved, spots}
+use Rattle.index_tree_writer.specs.TreeIds.{spots_below}
 use Rattle.index_tree_writer.specs.TreeIds.{staged_at}
 use Rattle.index_edit_laws.proofs.Parts.{All-back, All-front}
 

@@ -1,5 +1,6 @@
 -- The first name of a path: what is in front of its first slash, or all of it.
-use Rattle.std.proofs.Common.{◌≡◌, ℕ, suc, ◌+◌, ◌≤◌, ◌==◌, List, ◌∷◌, ◌++◌, Bool, true, false, cond, ltb, take, drop, length}
+use Rattle.std.proofs.Common.{◌≡◌, ℕ, suc, ◌+◌, ◌≤◌, ◌==◌, List, ◌∷◌, ◌++◌, Bool, true, false, cond, ltb}
+use Rattle.std.proofs.Common.{take, drop, length}
 use Rattle.std.proofs.Common.{Some, None, get_or, refl, sym, ap, subst, ◌∙◌, append_assoc, arith}
 use Rattle.std.proofs.Common.{length-take}
 use Rattle.std.specs.Prelude.{◌≢◌, position}

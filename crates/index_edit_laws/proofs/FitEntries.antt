@@ -48,7 +48,8 @@ merged_parts rs r c =
           (All-contains (λ q. keep q ≡ true) (merged_in rs) r (filter_passes keep rs) c),
     )
 
-pub merged_of : (rs : List Record) (r : Record) → Contains rs r → is_unmerged r.flags ≡ false → Contains (merged_in rs) r
+pub merged_of : (rs : List Record) (r : Record) → Contains rs r → is_unmerged r.flags ≡ false
+    → Contains (merged_in rs) r
 merged_of rs r c u = contains_filter (λ q. not (is_unmerged q.flags)) rs r c.0 c.1 c.2 (ap not u)
 
 -- ---- what nothing is wrong with
@@ -77,7 +78,8 @@ not_null false h = refl
 
 -- it isn't taken out, and no merge has yet to decide on it
 pub merged_stage : (flags : ℕ) → is_unmerged flags ≡ false → is_removed flags ≡ false → stage_number flags ≡ 0
-merged_stage flags u r = by (stage_number flags == 0) refl (sym (ap (λ b. not b && not (stage_number flags == 0)) r) ∙ u)
+merged_stage flags u r = by (stage_number flags == 0) refl
+    (sym (ap (λ b. not b && not (stage_number flags == 0)) r) ∙ u)
   where
     by : (b : Bool) → (stage_number flags == 0) ≡ b → not b ≡ false → stage_number flags ≡ 0
     by true e h = eqb-true (stage_number flags) 0 e
@@ -91,7 +93,8 @@ module _ (check pass : Check) (kind : Kind)
   of_mode entry path p f u None e h = absurd cc
   of_mode entry path p f u (Some k) e h = λ present.
       let n = neither (id_fault kind entry.id) (whole_path_fault check k path) h in
-      let i = neither (kind_fault kind (id_kind entry.id)) (cond (is_null (id_bytes entry.id)) (Some errors.NullId) None)
+      let i = neither (kind_fault kind (id_kind entry.id))
+      (cond (is_null (id_bytes entry.id)) (Some errors.NullId) None)
       n.0 in
       let same = same_kind kind (id_kind entry.id) i.0 in (
         merged_stage entry.flags.0 u present,

@@ -4,7 +4,8 @@ use Rattle.std.proofs.Common.{Option, Some, None, refl, sym, ap, ◌∙◌}
 use Rattle.std.specs.List.{Contains}
 use Rattle.std.specs.Option.{option_map}
 use Rattle.std.proofs.lemmas.List.{take-append-drop}
-use Rattle.std.proofs.lemmas.List.Elements.{All-contains, All-contains_itself, All-filter, filter-append, filter_map-append}
+use Rattle.std.proofs.lemmas.List.Elements.{All-contains, All-contains_itself, All-filter, filter-append}
+use Rattle.std.proofs.lemmas.List.Elements.{filter_map-append}
 use Rattle.std.proofs.lemmas.List.Elements.{filter_passes}
 use Rattle.index_entries.specs.EntryImage.{is_removed}
 use Rattle.index_entries.specs.Order.{record_stage}
@@ -29,7 +30,8 @@ seen_at names rs = staged_at names (staged_in (merged_in rs))
 
 -- ---- record by record
 
-seen_append : (names : List (List ℕ)) (xs ys : List Record) → seen_at names (xs ++ ys) ≡ seen_at names xs ++ seen_at names ys
+seen_append : (names : List (List ℕ)) (xs ys : List Record)
+    → seen_at names (xs ++ ys) ≡ seen_at names xs ++ seen_at names ys
 seen_append names xs ys =
     ap (staged_at names) (ap staged_in (filter-append (λ r. not (is_unmerged r.flags)) xs ys)
     ∙ filter_map-append staged_entry (merged_in xs) (merged_in ys))

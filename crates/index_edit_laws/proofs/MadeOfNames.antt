@@ -1,6 +1,8 @@
 -- A path that nothing is wrong with is made of names.
-use Rattle.std.proofs.Common.{◌≡◌, ℕ, zero, suc, ◌+◌, ◌-◌, ◌<◌, ◌≤◌, ◌==◌, List, [], ◌∷◌, ◌++◌, All, Bool, true, false, cond}
-use Rattle.std.proofs.Common.{Option, Some, None, length, get_or, take, drop, refl, sym, ap, subst, ◌∙◌, append_assoc, arith}
+use Rattle.std.proofs.Common.{◌≡◌, ℕ, zero, suc, ◌+◌, ◌-◌, ◌<◌, ◌≤◌, ◌==◌, List, [], ◌∷◌, ◌++◌, All, Bool}
+use Rattle.std.proofs.Common.{true, false, cond}
+use Rattle.std.proofs.Common.{Option, Some, None, length, get_or, take, drop, refl, sym, ap, subst, ◌∙◌}
+use Rattle.std.proofs.Common.{append_assoc, arith}
 use Rattle.std.proofs.Common.{length-take}
 use Rattle.std.specs.Prelude.{◌≢◌, count_by, slice_index}
 use Rattle.std.specs.Option.{option_map, option_or}
@@ -98,7 +100,8 @@ module _ (check pass : Check) (k : EntryKind)
   -- ---- names, one after another, and what stands behind the last of them
 
   module _ (more : ℕ) (tail : List ℕ)
-      (last : (levels : ℕ) (name : List ℕ) → Passes pass name k → IsTreePath pass (levels + more) k (name ++ tail)) where
+      (last : (levels : ℕ) (name : List ℕ) → Passes pass name k
+      → IsTreePath pass (levels + more) k (name ++ tail)) where
     abbrev Made : ℕ → List ℕ → Type 0
     Made levels path = IsTreePath pass (levels + more) k (path ++ tail)
 
@@ -122,7 +125,8 @@ module _ (check pass : Check) (k : EntryKind)
         → Passes pass (take at path) kinds.Tree × (names_fault check k (names_of (drop (at + 1) path)) ≡ None)
     front_passes path at a h s =
         let p = position-Some (λ b. b == 47) path at 0 s in
-        let n = neither (name_fault check kinds.Tree (take at path)) (names_fault check k (names_of (drop (at + 1) path)))
+        let n = neither (name_fault check kinds.Tree (take at path))
+        (names_fault check k (names_of (drop (at + 1) path)))
         (sym (first_name check k path at p.0 (eqb-true (get_or path at 0) 47 p.1) (before_slash path at s)) ∙ h) in
         (name_passes (take at path) kinds.Tree (All-take (λ b. b ≢ 0) at path a) (front_no_slash path at s) n.0, n.1)
 
@@ -143,7 +147,8 @@ module _ (check pass : Check) (k : EntryKind)
         by (Some at) s behind =
             let n = front_passes path at a h s in
             at_slash levels path (take at path) (drop (at + 1) path) (split_at path at s) n.0
-            (behind (drop (at + 1) path) (All-drop (λ b. b ≢ 0) (at + 1) path a) (omega (arith, few, fewer path at s)) n.1)
+            (behind (drop (at + 1) path) (All-drop (λ b. b ≢ 0) (at + 1) path a)
+            (omega (arith, few, fewer path at s)) n.1)
 
 -- ---- a path
 
@@ -153,7 +158,8 @@ module _ (check pass : Check)
       → names_fault check k (names_of path) ≡ None → IsTreePath pass 2048 k path
   file_made k path o a few h =
       subst (IsTreePath pass 2048 k) (append-nil path)
-      (names_made check pass k weaker 0 [] (λ levels name p. subst (IsTreePath pass (levels + 0) k) (sym (append-nil name))
+      (names_made check pass k weaker 0 []
+      (λ levels name p. subst (IsTreePath pass (levels + 0) k) (sym (append-nil name))
       (of_file (levels + 0) k name o p.0 p.1)) 2048 path a few h)
 
   whole_made : (path : List ℕ) → (length path == 0) ≡ false → All (λ b. b ≢ 0) path → slashes path ≤ 2048

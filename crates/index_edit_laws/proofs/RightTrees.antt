@@ -17,7 +17,8 @@ use Rattle.index_edits.specs.declared.change.Change.{Change}
 use Rattle.index_invalidation.specs.Invalidation.{slash_of, is_named, invalidated, invalidated_below}
 use Rattle.index_tree_writer.specs.Kept.{HasNamesInOrder, HaveNamesInOrder}
 use Rattle.index_tree_writer.specs.Staged.{Staged}
-use Rattle.index_tree_writer.specs.TreeIds.{AreRight, Gives, IsMadeOf, IsRight, IsWholeDirectory, Spot, behind, behind_all}
+use Rattle.index_tree_writer.specs.TreeIds.{AreRight, Gives, IsMadeOf, IsRight, IsWholeDirectory, Spot}
+use Rattle.index_tree_writer.specs.TreeIds.{behind, behind_all}
 use Rattle.index_tree_writer.specs.TreeIds.{spots, spots_below}
 use Rattle.index_tree_writer.proofs.Behinds.{behind_is, behind_more}
 use Rattle.index_tree_writer.proofs.Keeps.{LeadsOn, leads_on}
@@ -78,7 +79,8 @@ module _ (kind : Kind) (c : Change) (rs : List Record) where
 
   -- ---- the children
 
-  module _ (names : List (List ℕ)) (q first : List ℕ) (e : behind_all names path ≡ Some q) (f : IsFirstName q first) where
+  module _ (names : List (List ℕ)) (q first : List ℕ) (e : behind_all names path ≡ Some q)
+      (f : IsFirstName q first) where
     child_away : (t : Node) → first ≢ name_of t → All Was (spots (names ++ name_of t ∷ []) t)
         → All Is (spots (names ++ name_of t ∷ []) t)
     child_away t o r = node_away (names ++ name_of t ∷ []) t (other_away names path q first (name_of t) e f o) r
@@ -149,8 +151,8 @@ module _ (kind : Kind) (c : Change) (rs : List Record) where
 
 -- ---- a tree
 
-pub right_stays : (kind : Kind) (cs : List Change) (rs : List Record) (t : Node) → HasNamesInOrder t → AreRight kind rs t
-    → AreRight kind (applied cs rs) (all_invalidated cs t)
+pub right_stays : (kind : Kind) (cs : List Change) (rs : List Record) (t : Node) → HasNamesInOrder t
+    → AreRight kind rs t → AreRight kind (applied cs rs) (all_invalidated cs t)
 unfolding applied all_invalidated
 right_stays kind [] rs t o r = r
 right_stays kind (c ∷ cs) rs t o r =

@@ -1,9 +1,11 @@
 -- A cached tree that holds together does so where paths are invalidated.
-use Rattle.std.proofs.Common.{◌≡◌, ℕ, ◌+◌, ◌≤◌, true, false, cond, List, [], ◌∷◌, take, drop, Option, Some, None, refl, ap, ◌∙◌}
+use Rattle.std.proofs.Common.{◌≡◌, ℕ, ◌+◌, ◌≤◌, true, false, cond, List, [], ◌∷◌, take, drop, Option, Some}
+use Rattle.std.proofs.Common.{None, refl, ap, ◌∙◌}
 use Rattle.std.proofs.Common.{arith}
 use Rattle.std.specs.Cmp.Lexicographic.{slice_cmp}
 use Rattle.std.specs.Ordering.{nat_cmp}
-use Rattle.index_cached_tree.specs.Sound.{AreSoundNodes, IsSoundNode, IsSoundTree, RiseFrom, counted_entries, entries_sum}
+use Rattle.index_cached_tree.specs.Sound.{AreSoundNodes, IsSoundNode, IsSoundTree, RiseFrom, counted_entries}
+use Rattle.index_cached_tree.specs.Sound.{entries_sum}
 use Rattle.index_cached_tree.specs.StorableSteps.{IsAbove}
 use Rattle.index_cached_tree.specs.Tree.{Node, Nodes, node, none, more, name_of}
 use Rattle.index_cached_tree.proofs.Sorted.{names_total}
