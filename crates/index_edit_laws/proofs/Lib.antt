@@ -7,6 +7,7 @@ mod FitEntries
 mod Granted
 mod Lists
 mod MadeOfNames
+mod MergedCounts
 mod Parts
 mod RightTrees
 mod SoundIndexes

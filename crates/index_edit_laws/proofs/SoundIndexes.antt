@@ -1,5 +1,5 @@
 -- What the checks of an index ask of it is true behind changes.
-use Rattle.std.proofs.Common.{List, Option, Some, None, length}
+use Rattle.std.proofs.Common.{◌+◌, ◌<◌, ◌^◌, List, Option, Some, None, length, arith}
 use Rattle.std.specs.Prelude.{IfSome}
 use Rattle.std.specs.Option.{option_map}
 use Rattle.index_parts.specs.declared.hash.Kind.{Kind}
@@ -17,6 +17,7 @@ use Rattle.index_updates.specs.Invalidated.{all_invalidated}
 use Rattle.index_updates.specs.Updates.{updated}
 use Rattle.index_edit_laws.proofs.Counts.{counts_within}
 use Rattle.index_edit_laws.proofs.EntriesStayFit.{any_fit, entries_ordered}
+use Rattle.index_edit_laws.proofs.MergedCounts.{merged_more}
 use Rattle.index_edit_laws.proofs.RightTrees.{right_stays}
 use Rattle.index_edit_laws.proofs.SoundTrees.{sound_in_order, sound_stays}
 use Rattle.index_edit_laws.specs.SoundIndex.{IsSoundIndex}
@@ -46,13 +47,19 @@ module _ (kind : Kind) (cs : List Change) (rs : List Record) where
   fit_there None f h = tt
   fit_there (Some t) f h = f h
 
+  few_there : (o : Option Node) → length (merged_in now) < 2 ^ 31
+      → IfSome (option_map (all_invalidated cs) o) (λ t. length (merged_in now) < 2 ^ 31)
+  few_there None n = tt
+  few_there (Some t) n = n
+
 pub index_stays : (check : Check) (cs : List Change) (v : Contents) → AreFaultless check v.kind cs v.records
-    → IsSoundIndex v → IsSoundIndex (updated cs v)
-index_stays check cs v f h =
+    → length (merged_in v.records) + length cs < 2 ^ 31 → IsSoundIndex v → IsSoundIndex (updated cs v)
+index_stays check cs v f n h =
     let tree = v.extensions.tree in
     record {
       ordered = entries_ordered cs v.records h.ordered;
       together = together_there v.kind cs v.records tree h.together h.right;
       right = right_there v.kind cs v.records tree h.together h.right;
       fit = fit_there v.kind cs v.records tree (any_fit check v.kind cs v.records f) h.fit;
+      few = few_there v.kind cs v.records tree (omega (arith, n, merged_more cs v.records));
     }

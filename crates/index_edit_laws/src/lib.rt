@@ -1,7 +1,7 @@
 //! Laws of edits of an index: what its checks ask of it stays true. A law computes nothing.
 #![tactic(auto)]
 
-ghost use Rattle.std.specs.Prelude.{◌≡◌, ℕ, List, All, false, length, None};
+ghost use Rattle.std.specs.Prelude.{◌≡◌, ℕ, ◌+◌, ◌^◌, ◌<◌, ◌≤◌, List, All, false, length, None};
 ghost use Rattle.index_cached_tree.specs.Sound.{CountsAtMost, IsSoundTree};
 ghost use Rattle.index_cached_tree.specs.Tree.{Node};
 ghost use Rattle.index_edit_laws.specs.Faultless.{AreFaultless, AreOutside, StagesFaultless, StagesShallow};
@@ -41,7 +41,7 @@ pub fn tree_stays_right()
 
 /// Path and stage strictly increase behind changes, where they did. Merged entries that have trees still have them
 /// behind changes that stage what has no fault, as deep as trees may be, and nothing in a whole directory of a sparse
-/// index: by a check that lets each name pass, as by that of the changes.
+/// index: by a check that lets each name pass, as by that of the changes. There is at most one more for each change.
 pub fn entries_stay_fit()
     ensures ordered { (cs : List Change) (rs : List Record) → IsStrictlyOrdered rs
         → IsStrictlyOrdered (applied cs rs) }
@@ -51,6 +51,8 @@ pub fn entries_stay_fit()
     ensures checked { (check : Check) (kind : Kind) (cs : List Change) (rs : List Record)
         → AreFaultless check kind cs rs → AreFit check kind (merged_in rs)
         → AreFit check kind (merged_in (applied cs rs)) }
+    ensures few { (cs : List Change) (rs : List Record)
+        → length (merged_in (applied cs rs)) ≤ length (merged_in rs) + length cs }
 {}
 
 /// Changes of which none is refused stage what has no fault, where their paths aren't too deep. Where no record stands
@@ -63,10 +65,10 @@ pub fn granted_changes_are_faultless()
 {}
 
 /// What `State::verify_entries`, `State::verify_extensions` and `State::verify_tree_ids` ask of an index is true of it
-/// behind changes, where it was before, with the premise of [`entries_stay_fit`]. So no edit leaves a cached tree that
-/// would make the next commit wrong. That there are fewer than 2^31 merged entries, as the last of them asks too, may
-/// end with an edit.
+/// behind changes, where it was before, with the premise of [`entries_stay_fit`], and where merged entries and changes
+/// are fewer than 2^31 together. So no edit leaves a cached tree that would make the next commit wrong.
 pub fn index_stays_sound()
     ensures { (check : Check) (cs : List Change) (v : Contents)
-        → AreFaultless check v.kind cs v.records → IsSoundIndex v → IsSoundIndex (updated cs v) }
+        → AreFaultless check v.kind cs v.records → length (merged_in v.records) + length cs < 2 ^ 31
+        → IsSoundIndex v → IsSoundIndex (updated cs v) }
 {}
