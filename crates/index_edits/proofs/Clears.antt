@@ -99,7 +99,8 @@ clear_front n path stage rs h = All-weaker (λ r. stands_above path stage r ≡ 
 pub clear_shared : (front path : List ℕ) (last stage : ℕ) (rs : List Record) (n : ℕ) → n ≡ shared_len front path
     → last ≡ stage → IsClear front last rs → IsClear (take n path) stage rs
 clear_shared front path last stage rs n e same h =
-    let t : take n front ≡ take n path = ap (λ k. take k front) e ∙ shared_front front path ∙ ap (λ k. take k path) (sym e) in
+    let t : take n front ≡ take n path =
+    ap (λ k. take k front) e ∙ shared_front front path ∙ ap (λ k. take k path) (sym e) in
     subst (λ p. IsClear p stage rs) t (clear_front n front stage rs (subst (λ m. IsClear front m rs) same h))
 
 -- no folder is needed for no byte
@@ -146,7 +147,8 @@ clear_unknown (Unstage path) rs = tt
 -- ---- a path of which nothing is known
 
 pub settled_whole : {E : Type 0} (entry : Pathless) (path : List ℕ) (s : Storage) (es : Entries) (t : Storage)
-    (ds : Entries) (r : Result Displaced E) → SettlesClear 0 entry path s es t ds r → SettlesEntry entry path s es t ds r
+    (ds : Entries) (r : Result Displaced E) → SettlesClear 0 entry path s es t ds r
+    → SettlesEntry entry path s es t ds r
 settled_whole entry path s es t ds r h =
     let stage = stage_number entry.flags.0 in
     let old = records_in s.items es.items in

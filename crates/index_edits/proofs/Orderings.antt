@@ -142,7 +142,8 @@ module _ (folder : List ℕ) (cs : List Change) (end : ℕ) (split : IsSplitBy (
 
 pub below_told : (cs : List Change) (place : ℕ) → AreInOrder cs → place < length cs → (d : Change) (folder : List ℕ)
     → (z : Change) → folder ≡ path_of (get_or cs place z) → (end : ℕ) → place + 1 ≤ end
-    → (IsRising (map (answer folder) cs) → AllWithin (λ o. is_before true o ≡ true) (map (answer folder) cs) 0 (place + 1)
+    → (IsRising (map (answer folder) cs)
+    → AllWithin (λ o. is_before true o ≡ true) (map (answer folder) cs) 0 (place + 1)
     → IsPartedAt true (map (answer folder) cs) end)
     → (o : Ordering) → HoldsAt (λ q. q ≡ o) (map (answer folder) cs) (end - 1)
     → is_eq o ≡ has_within cs (path_of (get_or cs place d))
@@ -156,7 +157,8 @@ below_told cs place up within d folder z is end past parts o read =
     ap (is_before true) (at_map (answer folder) cs k x e (omega arith)
     ∙ ap (λ f. answer f (get_or cs k x)) (here x) ∙ less) in
     let p = parts (rising_of (answer folder) cs split) front in
-    last_told folder cs end split p o (omega arith) (λ x. sym (shift (answer folder) cs (end - 1) x) ∙ read (answer folder x))
+    last_told folder cs end split p o (omega arith)
+    (λ x. sym (shift (answer folder) cs (end - 1) x) ∙ read (answer folder x))
     ∙ ap (has_within cs) (here d)
 
 module _ {F : Type 0} (g : Mut F (Bor Change × (Bor Change × Unit {0})) Ordering) (f : F)

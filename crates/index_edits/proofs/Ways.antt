@@ -79,7 +79,8 @@ pub none_found : (path : List ℕ) (stage : ℕ) (rs : List Record) (o : Result 
     → IsStrictlyOrdered rs → All (λ r. has_key path stage r ≡ false) rs
 none_found path stage rs (Ok i) none e ordered k d within = cc
 none_found path stage rs (Err i) none e ordered k d within =
-    none_has path stage rs None refl (sym (nowhere (place_of path stage rs) i (insertion_of path stage rs) e)) ordered k d within
+    none_has path stage rs None refl (sym (nowhere (place_of path stage rs) i (insertion_of path stage rs) e)) ordered k d
+    within
 
 pub one_more : (path : List ℕ) (stage : ℕ) (rs : List Record) (known at : ℕ)
     → ((k : ℕ) → known ≤ k → k < at → get_or path k 0 ≡ 47 → IsStrictlyOrdered rs

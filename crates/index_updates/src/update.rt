@@ -197,10 +197,11 @@ fn update_watched(
 /// resolve-undo.
 ///
 /// The entries are copied once, into one list, and resolve-undo once. m changes to n entries take time as n + m log m,
-/// in whatever order they are given; where the path of one is a folder that another's lies in, they are made in the
-/// order in which they are given, and one that goes back moves what was copied from its place on. Each side that goes
-/// is compared with the recorded paths in front of it. Where an entry goes that hasn't the path and the stage of the
-/// new one, each entry copied so far is looked at once.
+/// in whatever order they are given: each looks for its place behind that of the one before it, by steps that double,
+/// and for what it concerns near the end of what was copied. Where the path of one is a folder that another's lies in,
+/// they are made in the order in which they are given, and one that goes back moves what was copied from its place on.
+/// Each side that goes is compared with the recorded paths in front of it. Where an entry goes that hasn't the path and
+/// the stage of the new one, each entry copied so far is looked at once.
 pub fn update<C: ComponentCheck>(
     entries: &mut Vec<Entry>,
     storage: &mut PathStorage,

@@ -24,5 +24,6 @@ returns-else-has_below c = λ o clear.
     let code = ap stage_code c.stage.ensures ∙ stage_is c.args.entry.flags.0 in
     let told = odds_told new rs c.has_below.result c.has_above.result
     (c.has_below.ensures (ordered_by_path rs o) ∙ ap (λ n. list_any (stands_below c.args.path.now n) rs) c.stage_raw.ensures)
-    (c.has_above.ensures o (subst (λ n. IsClear (take c.args.known c.args.path.now) n rs) (sym code) clear) ∙ ap (λ n. list_any (stands_above c.args.path.now n) rs) code) in
+    (c.has_above.ensures o (subst (λ n. IsClear (take c.args.known c.args.path.now) n rs) (sym code) clear)
+    ∙ ap (λ n. list_any (stands_above c.args.path.now n) rs) code) in
     ap (λ b. b || c.has_above.result) (sym c.if-has_below.false) ∙ told
