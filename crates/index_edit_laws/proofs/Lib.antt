@@ -12,3 +12,4 @@ mod Parts
 mod RightTrees
 mod SoundIndexes
 mod SoundTrees
+mod Spelled

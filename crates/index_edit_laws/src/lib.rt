@@ -1,7 +1,7 @@
 //! Laws of edits of an index: what its checks ask of it stays true. A law computes nothing.
 #![tactic(auto)]
 
-ghost use Rattle.std.specs.Prelude.{◌≡◌, ℕ, ◌+◌, ◌^◌, ◌<◌, ◌≤◌, List, All, false, length, None};
+ghost use Rattle.std.specs.Prelude.{◌≡◌, ℕ, ◌+◌, ◌^◌, ◌<◌, ◌≤◌, List, All, IfSome, false, length, None};
 ghost use Rattle.index_cached_tree.specs.Sound.{CountsAtMost, IsSoundTree};
 ghost use Rattle.index_cached_tree.specs.Tree.{Node};
 ghost use Rattle.index_edit_laws.specs.Faultless.{AreFaultless, AreOutside, StagesFaultless, StagesShallow};
@@ -11,6 +11,8 @@ ghost use Rattle.index_edits.specs.Refusals.{Check};
 ghost use Rattle.index_edits.specs.declared.change.Change.{Change};
 ghost use Rattle.index_entries.specs.Order.{IsStrictlyOrdered};
 ghost use Rattle.index_entries.specs.Record.{Record, has_directory};
+ghost use Rattle.index_extension_writing.specs.MonitorImage.{IsSpellableMonitor};
+ghost use Rattle.index_extension_writing.specs.SpellableCache.{IsSpellableCache};
 ghost use Rattle.index_format.specs.Contents.{Contents};
 ghost use Rattle.index_parts.specs.declared.hash.Kind.{Kind};
 ghost use Rattle.index_tree_writer.specs.Kept.{HasNamesInOrder};
@@ -71,4 +73,15 @@ pub fn index_stays_sound()
     ensures { (check : Check) (cs : List Change) (v : Contents)
         → AreFaultless check v.kind cs v.records → length (merged_in v.records) + length cs < 2 ^ 31
         → IsSoundIndex v → IsSoundIndex (updated cs v) }
+{}
+
+/// What bytes could hold of an untracked cache, by a kind of ids, and of what a file system monitor said, they can hold
+/// behind changes. So what was kept of a file is kept of it behind an edit, too.
+pub fn extensions_stay_spellable()
+    ensures untracked { (kind : Kind) (cs : List Change) (v : Contents)
+        → IfSome v.extensions.untracked (IsSpellableCache kind None)
+        → IfSome (updated cs v).extensions.untracked (IsSpellableCache kind None) }
+    ensures fs_monitor { (cs : List Change) (v : Contents)
+        → IfSome v.extensions.fs_monitor IsSpellableMonitor
+        → IfSome (updated cs v).extensions.fs_monitor IsSpellableMonitor }
 {}
