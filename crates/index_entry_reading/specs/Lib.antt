@@ -1,3 +1,4 @@
 pub mod EntryFaults
 pub mod Lent
 pub mod LentSteps
+pub mod Reader

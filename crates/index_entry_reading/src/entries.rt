@@ -1,13 +1,14 @@
 //! The entries behind the header.
 
 ghost use Rattle.std.specs.Prelude.{◌≡◌, ◌≤◌, ◌++◌, ℕ, List, length, None, IfOk, IfErr, OnOk, All};
+ghost use Rattle.std.specs.Option.{option_map};
 ghost use Rattle.index_parts.specs.Id.{id_kind};
-ghost use Rattle.index_entries.specs.Entries.{AreEntries};
+ghost use Rattle.index_entries.specs.Entries.{AreEntries, last_path};
 ghost use Rattle.index_entry_reading.specs.EntryFaults.{EndsEarly, LacksSome, Continues};
 ghost use Rattle.index_entries.specs.Record.{has_directory};
 ghost use Rattle.index_entry_reading.specs.declared.entries.Error.TheVariants.{Memory};
 
-use crate::entry::entry_of;
+use crate::reader::EntryReader;
 use index_entries::Version;
 use index_entries::list::EntryList;
 use index_parts::hash::Kind;
@@ -53,6 +54,18 @@ pub struct FirstEntries {
     pub sparse: bool,
 }
 
+/// The path of the last entry; None where there is none.
+fn last_path(list: &EntryList) -> Option<&[u8]>
+    ensures { option_map (λ path. path.now) result ≡ last_path None list.now.records }
+{
+    let entries = list.as_slice();
+    let len = entries.len();
+    if len == 0 {
+        return None;
+    }
+    Some(entries.path(len - 1))
+}
+
 /// Reads the entries that stand whole at the front of these bytes, behind those that were read before, until there are
 /// so many. Gives the bytes behind them. Nothing of them is copied but their paths, into one storage.
 pub fn entries_in<'a>(
@@ -73,16 +86,15 @@ pub fn entries_in<'a>(
     ensures count { OnOk result (length first.new.list.records ≤ count) }
     ensures none { IfOk result (λ rest. EndsEarly version kind count first.new rest.now) }
 {
-    let mut rest = bytes;
+    let mut reader = EntryReader::behind(version, kind, last_path(&first.list), bytes);
     'entries: for index in first.list.len()..count as usize {
-        let Some((lent, after)) = entry_of(version, kind, first.list.last_len(), rest) else {
-            return Ok(rest);
+        let Some(lent) = reader.next() else {
+            return Ok(reader.rest());
         };
         first.list.push_after(lent.entry, lent.shared, lent.path)?;
         first.sparse |= lent.entry.mode.is_sparse();
-        rest = after;
     }
-    Ok(rest)
+    Ok(reader.rest())
 }
 
 /// Entries with their paths, and the bytes after them.

@@ -1,6 +1,5 @@
 mod Abridging
 mod Endings
-pub mod EntrySkips
 mod Fronts
 mod Markers
 mod PassedSums

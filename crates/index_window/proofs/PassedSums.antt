@@ -6,10 +6,10 @@ use Rattle.std.proofs.lemmas.List.Folds.{list_any-append}
 use Rattle.std.proofs.lemmas.List.Sums.{sum_by_push}
 use Rattle.index_entries.specs.Entries.{last_path}
 use Rattle.index_entries.specs.Record.{Record, has_directory}
+use Rattle.index_entry_reading.proofs.Readers.{lent_len}
 use Rattle.index_entry_reading.specs.Lent.{lent_record}
 use Rattle.index_entry_reading.specs.declared.entry.Lent.{Lent}
 use Rattle.index_window.specs.Passed.{paths_len}
-use Rattle.index_window.proofs.EntrySkips.{lent_len}
 
 or_false : (b : Bool) → (b || false) ≡ b
 or_false true = refl

@@ -6,7 +6,7 @@ ghost use Rattle.index_window.specs.Entries.{ArePassed};
 ghost use Rattle.index_window.specs.Passed.{in_64_bits};
 
 use index_entries::Version;
-use index_entry_reading::entry::entry_of;
+use index_entry_reading::reader::EntryReader;
 use index_parts::hash::Kind;
 
 /// What entries come to that were passed.
@@ -39,21 +39,17 @@ pub fn pass_entries(
 {
     let mut path_bytes = Some(0);
     let mut sparse = false;
-    let mut room = None;
-    let mut rest = bytes;
+    let mut reader = EntryReader::new(version, kind, bytes);
     for place in 0..count {
-        let Some((lent, after)) = entry_of(version, kind, room, rest) else {
+        let Some(lent) = reader.next() else {
             return Err(place);
         };
-        let len = lent.shared + lent.path.len();
-        path_bytes = sum_of(path_bytes, len);
+        path_bytes = sum_of(path_bytes, lent.shared + lent.path.len());
         sparse |= lent.entry.mode.is_sparse();
-        room = Some(len);
-        rest = after;
     }
     Ok(Passed {
         path_bytes,
         sparse,
-        rest,
+        rest: reader.rest(),
     })
 }

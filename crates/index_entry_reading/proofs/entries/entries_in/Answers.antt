@@ -10,6 +10,7 @@ use Rattle.index_entry_reading.specs.Lent.{lent_record}
 use Rattle.index_entries.specs.Record.{Record, has_directory}
 use Rattle.index_entries.proofs.Growing.{entry_end, end_before}
 use Rattle.index_entries.proofs.Storing.{entries_push}
+use Rattle.index_entry_reading.proofs.Readers.{behind_lent, lent_entry}
 use Rattle.index_entry_reading.proofs.entries.entries_in.Goals as goal
 
 or_false : (b : Bool) → (b || false) ≡ b
@@ -28,16 +29,21 @@ entries-preserved c =
     let h = c.entries.invariant in
     let before = c.entries.first.list.records in
     let last = last_path None before in
-    let found = c.in-Some.ensures.found last (sym c.last_len.ensures) in
+    let left = c.entries.reader in
+    let after = c.next.new.self in
+    let found = lent_entry c.args.version c.args.kind last left c.in-Some.lent after h.behind c.in-Some.ensures.lent in
     let r = lent_record last c.in-Some.lent in
     let stored : c.push_after.new.self.records ≡ before ++ r ∷ [] =
     ap (λ (h : Held). h.records) c.in_ok-push_after.ensures.pushed in
     record {
-      read = λ all given. rw stored (entries_push c.args.version c.args.kind None all before r c.entries.rest.now
-          c.in-Some.after.now (h.read all given) found);
-      end = end_before c.args.bytes.now h.end.0 c.entries.rest.now c.in-Some.after.now h.end.1
-          (entry_end c.args.version c.args.kind last c.entries.rest.now r c.in-Some.after.now found);
+      read = λ all given. rw stored (entries_push c.args.version c.args.kind None all before r left.rest
+          after.rest (h.read all given) found);
+      end = end_before c.args.bytes.now h.end.0 left.rest after.rest h.end.1
+          (entry_end c.args.version c.args.kind last left.rest r after.rest found);
+      behind = rw stored (behind_lent c.args.version c.args.kind before left c.in-Some.lent after h.behind
+          c.in-Some.ensures.lent c.in-Some.ensures.shared);
       count = ap length stored ∙ omega (arith, length-append before (r ∷ []), h.count);
-      ids = rw stored (All-push (λ (x : Record). id_kind x.id ≡ c.args.kind) before r h.ids c.in-Some.ensures.kind);
+      ids = rw stored (All-push (λ (x : Record). id_kind x.id ≡ c.args.kind) before r h.ids
+          (c.in-Some.ensures.kind ∙ h.behind.kind_is));
       sparse = ap2or h.sparse c.is_sparse.ensures ∙ sym (ap has_directory stored ∙ folder_push before r);
     }
