@@ -38,6 +38,7 @@ pub use Rattle.index_entries.specs.EntryImage
 pub use Rattle.index_entries.specs.Header
 pub use Rattle.index_entries.specs.Held
 pub use Rattle.index_entry_reading.specs.Lent
+pub use Rattle.index_entry_reading.specs.Reader
 pub use Rattle.index_entries.specs.Limits
 pub use Rattle.index_entries.specs.Order
 pub use Rattle.index_entries.specs.PathRange

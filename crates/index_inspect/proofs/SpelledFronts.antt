@@ -1,6 +1,6 @@
 -- Entries that are spelled one after another: one more, and which bytes and parts they are.
-use Rattle.std.proofs.Common.{◌≡◌, ◌≤◌, ℕ, ◌+◌, List, [], ◌∷◌, ◌++◌, length, take, drop, Option, Some, None, option_map}
-use Rattle.std.proofs.Common.{unwrap_or, refl, sym, ap, subst, ◌∙◌, append_assoc, append-nil, length-append}
+use Rattle.std.proofs.Common.{◌≡◌, ◌≤◌, ℕ, ◌+◌, List, [], ◌∷◌, ◌++◌, length, take, drop, Option, Some, None}
+use Rattle.std.proofs.Common.{refl, sym, ap, subst, ◌∙◌, append_assoc, append-nil, length-append}
 use Rattle.std.proofs.Common.{length-drop, length-take, arith}
 use Rattle.gix_index.specs.Entries.{last_path}
 use Rattle.gix_index.specs.Kind.{Kind}
@@ -83,13 +83,3 @@ front_len version kind bytes ss rest le are =
       length-append (bytes_of head) middle,
       length-append (take 12 bytes) [],
     )
-
--- a path of which so many bytes are lent
-pub path_len : (o : Option (List ℕ)) (room : Option ℕ) (shared : ℕ) (path : List ℕ) → room ≡ option_map length o
-    → shared ≤ unwrap_or room 0 → length (take shared (unwrap_or o []) ++ path) ≡ shared + length path
-path_len None room shared path e le =
-    let none : shared ≤ 0 = rw e at le in
-    omega (arith, none, length-append (take shared []) path, length-take shared (let l : List ℕ = [] in l))
-path_len (Some p) room shared path e le =
-    let some : shared ≤ length p = rw e at le in
-    omega (arith, some, length-append (take shared p) path, length-take shared p)

@@ -5,7 +5,7 @@ ghost use Rattle.gix_index.specs.Header.{header_len};
 ghost use Rattle.index_inspect.specs.FrontSteps.{IsFront, own_len, head_len};
 ghost use Rattle.index_map.specs.Piece.{laid, some_piece, one_piece};
 
-use gix_index::decode::entry::{EntryList, Lent, entry_of};
+use gix_index::decode::entry::{EntryList, EntryReader, Lent};
 use gix_index::entry::Flags;
 use gix_index::hash::Kind;
 use gix_index::{BitFlags as _, Version};
@@ -92,25 +92,25 @@ pub(crate) fn read_front(
     let mut entries = EntryList::new(alloc);
     push_part(&mut parts, 0, HEADER_LEN, What::Header)?;
     let (_, behind) = bytes.split_at(HEADER_LEN);
-    let mut rest = behind;
+    let mut reader = EntryReader::new(version, kind, behind);
     for number in 0..count {
-        let Some((lent, after)) = entry_of(version, kind, entries.last_len(), rest) else {
+        let rest = reader.rest();
+        let Some(lent) = reader.next() else {
             return Ok(Front {
                 parts,
                 entries,
                 rest,
             });
         };
-        let total = rest.len() - after.len();
+        let total = rest.len() - reader.rest().len();
         let own = own_len(version, kind, &lent, total);
         let offset = bytes.len() - rest.len();
         push_entry(&mut parts, offset, number, own, total - own)?;
         entries.push_after(lent.entry, lent.shared, lent.path)?;
-        rest = after;
     }
     Ok(Front {
         parts,
         entries,
-        rest,
+        rest: reader.rest(),
     })
 }

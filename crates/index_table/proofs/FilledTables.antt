@@ -8,8 +8,8 @@ use Rattle.std.proofs.lemmas.List.Elements.{All-head, All-nil, All-push, All-tai
 use Rattle.std.proofs.lemmas.List.Sums.{sum_by-cons, sum_by_push}
 use Rattle.std.proofs.Math.Seq.{drop-append-add}
 use Rattle.index_entries.proofs.OnceEntries.{one_entry, one_row}
-use Rattle.gix_index.proofs.EntrySkips.{last_more, lent_len}
-use Rattle.gix_index.proofs.Storing.{entries_push, packed_start, placed_push, records_push}
+use Rattle.gix_index.proofs.Readers.{behind_lent, lent_entry, lent_len, lent_none}
+use Rattle.gix_index.proofs.Storing.{entries_push, last_path-push, packed_start, placed_push, records_push}
 use Rattle.gix_index.specs.Entries.{AreEntries, last_path}
 use Rattle.gix_index.specs.Entry.{IsEntry}
 use Rattle.gix_index.specs.EntryType.{Entry}
@@ -18,8 +18,10 @@ use Rattle.gix_index.specs.Lent.{lent_record}
 use Rattle.gix_index.specs.LentEntry.{Lent}
 use Rattle.gix_index.specs.Outlined.Passed.{paths_len}
 use Rattle.gix_index.specs.PathRange.{packed_range, range_end, range_start}
+use Rattle.gix_index.specs.Reader.{IsBehind, LeftToRead, Lends, LendsNone}
 use Rattle.gix_index.specs.Record.{IsPlaced, IsSized, Record, made_entry, records_in}
 use Rattle.gix_index.specs.Version.{Version}
+use Rattle.index_table.specs.Filling.{with_path_at}
 use Rattle.index_table.specs.Table.{HoldsRecords, row_from, row_of}
 use Rattle.index_table.specs.declared.row.Row.{Row}
 use Rattle.index_table.proofs.Tables.{holds_from}
@@ -81,21 +83,22 @@ path_put storage front path tail paths0 start last shared n begins ends e le =
 -- ---- how far a table is filled in
 
 module _ (version : Version) (kind : Kind) (count : ℕ) (bytes : List ℕ) (rows0 : List Row) (paths0 : List ℕ) where
-  -- entries that were read fill the rows before a place, and a storage of their paths the bytes up to a start; behind
-  -- both all is as it was, and others are left
-  pub record Progress (rest : List ℕ) (place start : ℕ) (room : Option ℕ) (rows : List Row) (paths : List ℕ)
+  -- entries that were read fill the rows before a place, and a storage of their paths the bytes up to a start, where
+  -- the last path begins at an earlier place; behind both all is as it was, and others are left
+  pub record Progress (reader : LeftToRead) (place earlier start : ℕ) (rows : List Row) (paths : List ℕ)
       : Type 0 where
     pub entries : List Entry
     pub storage : List ℕ
-    pub read : AreEntries version kind None bytes (records_in storage entries) rest
+    pub read : AreEntries version kind None bytes (records_in storage entries) reader.rest
+    pub behind : IsBehind version kind (last_path None (records_in storage entries)) reader
     pub left : List Record
     pub end : List ℕ
-    pub unread : AreEntries version kind (last_path None (records_in storage entries)) rest left end
+    pub unread : AreEntries version kind (last_path None (records_in storage entries)) reader.rest left end
     pub counted : place + length left ≡ count
     pub many : length entries ≡ place
     pub long : length storage ≡ start
-    pub room_is : option_map length (last_path None (records_in storage entries)) ≡ room
     pub front : List ℕ
+    pub before : earlier ≡ length front
     pub ends : storage ≡ front ++ unwrap_or (last_path None (records_in storage entries)) []
     pub len : start ≡ paths_len (records_in storage entries)
     pub fits : start + paths_len left ≤ length paths0
@@ -107,19 +110,21 @@ module _ (version : Version) (kind : Kind) (count : ℕ) (bytes : List ℕ) (row
     pub paths_are : paths ≡ storage ++ drop start paths0
 
   pub begun : (rs : List Record) (end : List ℕ) → AreEntries version kind None bytes rs end → length rs ≡ count
-      → paths_len rs ≤ length paths0 → All IsSized rs → Progress bytes 0 0 None rows0 paths0
+      → paths_len rs ≤ length paths0 → All IsSized rs
+      → Progress (record { version = version; kind = kind; room = None; rest = bytes }) 0 0 0 rows0 paths0
   begun rs end read counted fits sized = record {
     entries = [];
     storage = [];
     read = refl;
+    behind = record { version_is = refl; kind_is = refl; room_is = refl };
     left = rs;
     end = end;
     unread = read;
     counted = omega (arith, counted);
     many = refl;
     long = refl;
-    room_is = refl;
     front = [];
+    before = refl;
     ends = refl;
     len = refl;
     fits = omega (arith, fits);
@@ -132,18 +137,18 @@ module _ (version : Version) (kind : Kind) (count : ℕ) (bytes : List ℕ) (row
   }
 
   -- all are read
-  pub filled : (rest : List ℕ) (place start : ℕ) (room : Option ℕ) (rows : List Row) (paths : List ℕ)
-      → Progress rest place start room rows paths → place ≡ count → place ≤ length rows0
+  pub filled : (reader : LeftToRead) (place earlier start : ℕ) (rows : List Row) (paths : List ℕ)
+      → Progress reader place earlier start rows paths → place ≡ count → place ≤ length rows0
       → (rs : List Record) (after : List ℕ) → AreEntries version kind None bytes rs after → length rs ≡ count
       → HoldsRecords rs (paths_len rs) rows0 rows paths0 paths
-  filled rest place start room rows paths p is fit rs after read counted =
+  filled reader place earlier start rows paths p is fit rs after read counted =
       let long : length p.storage ≡ start = p.long in
       let many : length p.entries ≡ place = p.many in
       let fits : start + paths_len p.left ≤ length paths0 = p.fits in
       let read_many : length (records_in p.storage p.entries) ≡ length rs =
       length-map p.entries _ ∙ many ∙ is ∙ sym counted in
       let same : records_in p.storage p.entries ≡ rs =
-      (one_row version kind None bytes (records_in p.storage p.entries) rs rest after p.read read read_many).0 in
+      (one_row version kind None bytes (records_in p.storage p.entries) rs reader.rest after p.read read read_many).0 in
       let rows_are : rows ≡ map row_of p.entries ++ drop (length p.entries) rows0 =
       sym (take-append-drop place rows) ∙ rw (p.rows_front, p.rows_behind, many) refl in
       let paths_are : paths ≡ p.storage ++ drop (length p.storage) paths0 =
@@ -155,73 +160,81 @@ module _ (version : Version) (kind : Kind) (count : ℕ) (bytes : List ℕ) (row
       subst (λ (l : List Record). Holds l (paths_len l)) same
       (subst (Holds (records_in p.storage p.entries)) len holds)
 
+  -- an entry is left where not all are read
+  pub some_next : (reader : LeftToRead) (place earlier start : ℕ) (rows : List Row) (paths : List ℕ) (next : LeftToRead)
+      → Progress reader place earlier start rows paths → place < count → LendsNone reader next → ⊥
+  some_next reader place earlier start rows paths next p lt none =
+      let previous = last_path None (records_in p.storage p.entries) in
+      let counted : place + length p.left ≡ count = p.counted in
+      some_left version kind previous reader.rest p.left p.end (omega arith) p.unread
+      (lent_none version kind previous reader next p.behind none)
+
   -- ---- one entry more
 
-  abbrev IsNext : (rest : List ℕ) (place start : ℕ) (room : Option ℕ) (rows : List Row) (paths : List ℕ)
-      → Progress rest place start room rows paths → Lent → List ℕ → Type 0
-  IsNext rest place start room rows paths p lent after =
-      IsEntry version kind (last_path None (records_in p.storage p.entries)) rest
-      (lent_record (last_path None (records_in p.storage p.entries)) lent) after
+  -- the record of an entry that was lent behind those that were read
+  abbrev next_record : (reader : LeftToRead) (place earlier start : ℕ) (rows : List Row) (paths : List ℕ)
+      → Progress reader place earlier start rows paths → Lent → Record
+  next_record reader place earlier start rows paths p lent =
+      lent_record (last_path None (records_in p.storage p.entries)) lent
 
-  next_left : (rest : List ℕ) (place start : ℕ) (room : Option ℕ) (rows : List Row) (paths : List ℕ)
-      (p : Progress rest place start room rows paths) (lent : Lent) (after : List ℕ) → place < count
-      → IsNext rest place start room rows paths p lent after
-      → (others : List Record)
-      × (p.left ≡ lent_record (last_path None (records_in p.storage p.entries)) lent ∷ others)
-      × AreEntries version kind (Some (lent_record (last_path None (records_in p.storage p.entries)) lent).path) after
-      others p.end
-  next_left rest place start room rows paths p lent after lt found =
-      let counted : place + length p.left ≡ count = p.counted in
-      first_left version kind (last_path None (records_in p.storage p.entries)) rest p.left p.end _ after (omega arith)
-      p.unread found
-
-  -- the path before is no longer than the storage
-  pub room_within : (rest : List ℕ) (place start : ℕ) (room : Option ℕ) (rows : List Row) (paths : List ℕ)
-      (p : Progress rest place start room rows paths) → unwrap_or room 0 ≤ start
-  room_within rest place start room rows paths p =
+  next_left : (reader : LeftToRead) (place earlier start : ℕ) (rows : List Row) (paths : List ℕ)
+      (p : Progress reader place earlier start rows paths) (lent : Lent) (next : LeftToRead) → place < count
+      → Lends reader lent next
+      → (others : List Record) × (p.left ≡ next_record reader place earlier start rows paths p lent ∷ others)
+      × AreEntries version kind (Some (next_record reader place earlier start rows paths p lent).path) next.rest others
+      p.end
+  next_left reader place earlier start rows paths p lent next lt found =
       let previous = last_path None (records_in p.storage p.entries) in
-      let len : length (unwrap_or previous []) ≡ unwrap_or room 0 = room_len previous room p.room_is in
+      let counted : place + length p.left ≡ count = p.counted in
+      first_left version kind previous reader.rest p.left p.end _ next.rest (omega arith) p.unread
+      (lent_entry version kind previous reader lent next p.behind found)
+
+  -- the last path ends where the next one starts
+  pub room_within : (reader : LeftToRead) (place earlier start : ℕ) (rows : List Row) (paths : List ℕ)
+      (p : Progress reader place earlier start rows paths) → earlier + unwrap_or reader.room 0 ≡ start
+  room_within reader place earlier start rows paths p =
+      let previous = last_path None (records_in p.storage p.entries) in
+      let len : length (unwrap_or previous []) ≡ unwrap_or reader.room 0 =
+      room_len previous reader.room p.behind.room_is in
       let long : length p.storage ≡ start = p.long in
-      omega (arith, len, long, ap length p.ends, length-append p.front (unwrap_or previous []))
+      let before : earlier ≡ length p.front = p.before in
+      omega (arith, len, long, before, ap length p.ends, length-append p.front (unwrap_or previous []))
 
   -- there are bytes for the next path
-  pub next_fits : (rest : List ℕ) (place start : ℕ) (room : Option ℕ) (rows : List Row) (paths : List ℕ)
-      (p : Progress rest place start room rows paths) (lent : Lent) (after : List ℕ) → place < count
-      → lent.shared ≤ unwrap_or room 0 → IsNext rest place start room rows paths p lent after
+  pub next_fits : (reader : LeftToRead) (place earlier start : ℕ) (rows : List Row) (paths : List ℕ)
+      (p : Progress reader place earlier start rows paths) (lent : Lent) (next : LeftToRead) → place < count
+      → lent.shared ≤ unwrap_or reader.room 0 → Lends reader lent next
       → start + (lent.shared + length lent.path.now) ≤ length paths0
-  next_fits rest place start room rows paths p lent after lt shared found =
+  next_fits reader place earlier start rows paths p lent next lt shared found =
       let previous = last_path None (records_in p.storage p.entries) in
-      let next = next_left rest place start room rows paths p lent after lt found in
+      let others = next_left reader place earlier start rows paths p lent next lt found in
       let fits : start + paths_len p.left ≤ length paths0 = p.fits in
       omega (
         arith,
         fits,
-        ap paths_len next.1,
-        sum_by-cons (λ (r : Record). length r.path) (lent_record previous lent) next.0,
-        lent_len previous room lent.shared lent.path.now p.room_is shared,
+        ap paths_len others.1,
+        sum_by-cons (λ (r : Record). length r.path) (lent_record previous lent) others.0,
+        lent_len previous reader.room lent.shared lent.path.now p.behind.room_is shared,
       )
 
-  pub more : (rest : List ℕ) (place start : ℕ) (room : Option ℕ) (rows : List Row) (paths : List ℕ)
-      (p : Progress rest place start room rows paths) (lent : Lent) (after : List ℕ) (put : List ℕ) (end : ℕ)
-      → place < count → place < length rows → lent.shared ≤ unwrap_or room 0
-      → IsNext rest place start room rows paths p lent after
+  pub more : (reader : LeftToRead) (place earlier start : ℕ) (rows : List Row) (paths : List ℕ)
+      (p : Progress reader place earlier start rows paths) (lent : Lent) (next : LeftToRead) (put : List ℕ) (end : ℕ)
+      → place < count → place < length rows → lent.shared ≤ unwrap_or reader.room 0 → Lends reader lent next
       → end ≡ start + (lent.shared + length lent.path.now)
-      → put ≡ take start paths
-      ++ (slice_range paths (start - unwrap_or room 0) (start - unwrap_or room 0 + lent.shared) ++ lent.path.now)
-      ++ drop (start + (lent.shared + length lent.path.now)) paths
-      → Progress after (place + 1) end (Some (end - start)) (set rows place (row_from lent.entry start (end - start)))
-      put
-  more rest place start room rows paths p lent after put end lt fit shared found end_is put_is =
+      → put ≡ with_path_at paths earlier start lent.shared lent.path.now
+      → Progress next (place + 1) start end (set rows place (row_from lent.entry start (end - start))) put
+  more reader place earlier start rows paths p lent next put end lt fit shared found end_is put_is =
       let s = p.storage in
       let es = p.entries in
       let rs = records_in s es in
       let previous = last_path None rs in
       let r : Record = lent_record previous lent in
       let e : Entry = made_entry lent.entry (packed_range start (end - start)) in
-      let next = next_left rest place start room rows paths p lent after lt found in
+      let others = next_left reader place earlier start rows paths p lent next lt found in
+      let is = lent_entry version kind previous reader lent next p.behind found in
       let long : length s ≡ start = p.long in
       let len : length r.path ≡ lent.shared + length lent.path.now =
-      lent_len previous room lent.shared lent.path.now p.room_is shared in
+      lent_len previous reader.room lent.shared lent.path.now p.behind.room_is shared in
       let begins : range_start e.path ≡ start = packed_start start (end - start) in
       let starts : range_start e.path ≡ length s = begins ∙ sym long in
       let end_long : end ≡ length (s ++ r.path) = omega (arith, end_is, long, len, length-append s r.path) in
@@ -233,34 +246,32 @@ module _ (version : Version) (kind : Kind) (count : ℕ) (bytes : List ℕ) (row
       let grown : records_in (s ++ r.path) (es ++ e ∷ []) ≡ rs ++ r ∷ [] =
       records_push s r.path es e p.placed starts ends in
       let last : last_path None (records_in (s ++ r.path) (es ++ e ∷ [])) ≡ Some r.path =
-      ap (last_path None) grown ∙ last_more None rs r in
+      ap (last_path None) grown ∙ last_path-push None rs r in
       let counted : place + length p.left ≡ count = p.counted in
       let fits : start + paths_len p.left ≤ length paths0 = p.fits in
-      let sized : All IsSized (r ∷ next.0) = subst (All IsSized) next.1 p.sized_left in
+      let sized : All IsSized (r ∷ others.0) = subst (All IsSized) others.1 p.sized_left in
       let path : List ℕ = unwrap_or previous [] in
-      let path_long : length path ≡ unwrap_or room 0 = room_len previous room p.room_is in
+      let path_long : length path ≡ unwrap_or reader.room 0 = room_len previous reader.room p.behind.room_is in
       let n : ℕ = lent.shared + length lent.path.now in
-      let earlier : start - unwrap_or room 0 ≡ length p.front =
-      omega (arith, long, path_long, ap length p.ends, length-append p.front path) in
       let put_in =
-      ap (λ (l : List ℕ). take start l ++ (slice_range l (start - unwrap_or room 0)
-      (start - unwrap_or room 0 + lent.shared) ++ lent.path.now) ++ drop (start + n) l) p.paths_are
-      ∙ path_put s p.front path lent.path.now paths0 start (start - unwrap_or room 0) lent.shared n long p.ends earlier
+      ap (λ (l : List ℕ). with_path_at l earlier start lent.shared lent.path.now) p.paths_are
+      ∙ path_put s p.front path lent.path.now paths0 start earlier lent.shared n long p.ends p.before
       (omega (arith, path_long, shared))
       ∙ ap (λ (l : List ℕ). (s ++ r.path) ++ l) (drop-drop n start paths0 ∙ ap (λ (k : ℕ). drop k paths0) (sym end_is))
       in
       record {
         entries = es ++ e ∷ [];
         storage = s ++ r.path;
-        read = rw grown (entries_push version kind None bytes rs r rest after p.read found);
-        left = next.0;
+        read = rw grown (entries_push version kind None bytes rs r reader.rest next.rest p.read is);
+        behind = rw grown (behind_lent version kind rs reader lent next p.behind found shared);
+        left = others.0;
         end = p.end;
-        unread = rw last next.2;
-        counted = omega (arith, counted, ap length next.1);
+        unread = rw last others.2;
+        counted = omega (arith, counted, ap length others.1);
         many = omega (arith, p.many, length-append es (e ∷ []));
         long = sym end_long;
-        room_is = ap (option_map length) last ∙ ap Some (omega (arith, len, end_is));
         front = s;
+        before = sym long;
         ends = rw last refl;
         len = omega (arith, end_is, len, p.len, ap paths_len grown, sum_by_push (λ (x : Record). length x.path) rs r);
         fits = omega (
@@ -268,12 +279,12 @@ module _ (version : Version) (kind : Kind) (count : ℕ) (bytes : List ℕ) (row
           fits,
           end_is,
           len,
-          ap paths_len next.1,
-          sum_by-cons (λ (x : Record). length x.path) r next.0,
+          ap paths_len others.1,
+          sum_by-cons (λ (x : Record). length x.path) r others.0,
         );
         placed = placed_push s r.path es e p.placed starts ends;
-        sized = rw grown (All-push IsSized rs r p.sized (All-head IsSized r next.0 sized));
-        sized_left = All-tail IsSized r next.0 sized;
+        sized = rw grown (All-push IsSized rs r p.sized (All-head IsSized r others.0 sized));
+        sized_left = All-tail IsSized r others.0 sized;
         rows_front = take_more_set rows place (row_from lent.entry start (end - start)) fit
             ∙ ap (λ (l : List Row). l ++ row_from lent.entry start (end - start) ∷ []) p.rows_front
             ∙ ap (λ (x : Row). map row_of es ++ x ∷ []) row ∙ sym (map-append row_of es (e ∷ []));

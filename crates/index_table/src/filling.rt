@@ -12,7 +12,7 @@ ghost use Rattle.index_table.specs.Table.{FillsRecords};
 
 use crate::read::{Sizes, Unread, lacks_room, sizes_of};
 use crate::row::{Row, row_from};
-use gix_index::decode::entry::{Pathless, entry_of};
+use gix_index::decode::entry::{EntryReader, Pathless};
 use gix_index::file::Outline;
 use gix_index::hash::Kind;
 use gix_index::{Entry, Version};
@@ -42,25 +42,18 @@ fn fill_entries(
     requires rows_fit { count ≤ length rows.old }
     ensures { FillsEntries version kind count bytes.now rows.old rows.new paths.old paths.new }
 {
+    let mut earlier = 0;
     let mut start = 0;
-    let mut room = None;
-    let mut rest = bytes;
+    let mut reader = EntryReader::new(version, kind, bytes);
     for place in 0..count as usize {
-        let Some((lent, after)) = entry_of(version, kind, room, rest) else {
+        let Some(lent) = reader.next() else {
             unreachable!()
         };
         let end = start + (lent.shared + lent.path.len());
-        put_path(
-            paths,
-            start - room.unwrap_or(0),
-            start,
-            lent.shared,
-            lent.path,
-        );
+        put_path(paths, earlier, start, lent.shared, lent.path);
         rows[place] = row_from(lent.entry, start, end - start);
-        room = Some(end - start);
+        earlier = start;
         start = end;
-        rest = after;
     }
 }
 

@@ -4,3 +4,4 @@ pub use index_entries::Pathless;
 pub use index_entries::list::EntryList;
 pub use index_entries::slice::EntrySlice;
 pub use index_entry_reading::entry::{Lent, entry_of};
+pub use index_entry_reading::reader::EntryReader;

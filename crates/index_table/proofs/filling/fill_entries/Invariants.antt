@@ -3,5 +3,5 @@ use Rattle.index_table.proofs.filling.fill_entries.Given as goal
 
 abbrev pub invariant-loop-place : goal.invariant-loop-place
 invariant-loop-place l =
-    Progress l.fn.version l.fn.kind l.fn.count l.fn.bytes l.fn.rows l.fn.paths l.rest l.place l.start l.room l.rows
+    Progress l.fn.version l.fn.kind l.fn.count l.fn.bytes l.fn.rows l.fn.paths l.reader l.place l.earlier l.start l.rows
     l.paths

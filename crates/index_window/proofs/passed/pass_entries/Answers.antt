@@ -1,4 +1,4 @@
-use Rattle.std.proofs.Common.{◌++◌, [], ◌∷◌, ◌∙◌, None, arith, length, length-append, ap, sym}
+use Rattle.std.proofs.Common.{◌++◌, [], ◌∷◌, ◌∙◌, None, arith, length-append, ap, sym}
 use Rattle.index_entries.proofs.Storing.{entries_push}
 use Rattle.index_entries.specs.Entries.{last_path}
 use Rattle.index_entries.specs.Record.{Record}
