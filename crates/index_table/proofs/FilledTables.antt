@@ -288,7 +288,7 @@ module _ (version : Version) (kind : Kind) (count : ℕ) (bytes : List ℕ) (row
         rows_front = take_more_set rows place (row_from lent.entry start (end - start)) fit
             ∙ ap (λ (l : List Row). l ++ row_from lent.entry start (end - start) ∷ []) p.rows_front
             ∙ ap (λ (x : Row). map row_of es ++ x ∷ []) row ∙ sym (map-append row_of es (e ∷ []));
-        rows_behind = drop-set-lt (place + 1) rows place (row_from lent.entry start (end - start)) (omega arith) ∙ sym (drop-drop 1 place rows)
-            ∙ ap (drop 1) p.rows_behind ∙ drop-drop 1 place rows0;
+        rows_behind = drop-set-lt (place + 1) rows place (row_from lent.entry start (end - start)) (omega arith)
+            ∙ sym (drop-drop 1 place rows) ∙ ap (drop 1) p.rows_behind ∙ drop-drop 1 place rows0;
         paths_are = put_is ∙ put_in;
       }

@@ -39,7 +39,7 @@ overflow_sub-total c =
     let is = lent_entry c.args.version c.args.kind last left c.in-Some.lent after c.loop-number.invariant.2
     c.in-Some.ensures.lent in
     let sp = spelling_of c.args.version c.args.kind last left.rest _ after.rest is in
-    omega (arith, sp.whole)
+    omega (arith, sp.whole, ap length c.rest-rest.ensures, ap length c.rest.ensures)
 
 pub overflow_sub-offset : goal.overflow_sub-offset
 overflow_sub-offset c =
@@ -47,6 +47,7 @@ overflow_sub-offset c =
       arith,
       front_len c.args.version c.args.kind c.args.bytes.now c.loop-number.invariant.0 c.loop-number.reader.rest
           c.requires c.loop-number.invariant.1,
+      ap length c.rest-rest.ensures,
     )
 
 pub loop-number-preserved : goal.loop-number-preserved
@@ -65,13 +66,16 @@ loop-number-preserved c =
     let s : Spelling = record { entry = r; own = sp.own; padding = sp.padding } in
     let path : length r.path ≡ lent.shared + length lent.path.now =
     lent_len last left.room lent.shared lent.path.now inv.2.room_is c.in-Some.ensures.shared in
+    let total : length rest - length after ≡ length c.rest-rest.result.now - length c.rest.result.now =
+    rw (c.rest-rest.ensures, c.rest.ensures) refl in
     let own : length sp.own ≡ c.own_len-own.result = sp.own_is
     ∙ ap (λ (n : ℕ). own_len c.args.version c.args.kind r.flags n (length rest - length after)) path
+    ∙ ap (own_len c.args.version c.args.kind r.flags (lent.shared + length lent.path.now)) total
     ∙ sym c.own_len-own.ensures.value in
     let len = front_len c.args.version c.args.kind c.args.bytes.now ss rest c.requires inv.1 in
     let pushed : c.push_after.new.self.records ≡ c.loop-number.entries.records ++ r ∷ [] =
     ap (λ (h : Held). h.records) c.in_ok-push_after.ensures.pushed in
-    let grown = c.in_ok-push_entry.ensures sp.own sp.padding own (omega (arith, sp.whole, own)) in (
+    let grown = c.in_ok-push_entry.ensures sp.own sp.padding own (omega (arith, sp.whole, own, total)) in (
       ss ++ s ∷ [],
       spelled_push c.args.version c.args.kind None (drop header_len c.args.bytes.now) ss s rest after inv.1
           (subst (λ (p : Option (List ℕ)). IsSpelled c.args.version c.args.kind p rest s after)
@@ -82,5 +86,5 @@ loop-number-preserved c =
       pushed ∙ ap (λ (l : List Record). l ++ r ∷ []) inv.3 ∙ sym (entries_push ss s),
       omega (arith, length-append ss (s ∷ []), inv.4),
       front_grown _ c.loop-number.number (one_piece whats.Header (take header_len c.args.bytes.now)) ss s _ _
-          (sym inv.4) inv.5 (omega (arith, len)) grown,
+          (sym inv.4) inv.5 (omega (arith, len, ap length c.rest-rest.ensures)) grown,
     )
