@@ -1,5 +1,4 @@
 mod Chain
 mod Listed
-mod Marked
 mod Steps
 mod TreeEvents

@@ -1,45 +1,51 @@
--- Events that are told one after another, in a few steps.
-use Rattle.std.proofs.Common.{◌≡◌, ℕ, List, [], ◌∷◌, ◌++◌, ap, append-nil, sym, ◌∙◌}
-use Rattle.index_events.specs.Event.{Event, FieldValue, print}
+-- Events that are told one after another.
+use Rattle.std.proofs.Common.{◌≡◌, ℕ, List, [], ◌∷◌, ◌++◌, OnOk, Result, ap, append-nil, append_assoc, subst, sym, ◌∙◌}
+use Rattle.std.proofs.lemmas.Result.{on_ok_weaker}
+use Rattle.index_events.specs.Event.{Event, print}
 use Rattle.index_events.proofs.Chain.{appended_more}
 
--- these events were told
-pub record Told (spell : Event → List ℕ) (old new : List ℕ) (es : List Event) : Type 0 where
-  pub is : new ≡ old ++ print spell es
+-- one event is a list of one
+pub one_told : (spell : Event → List ℕ) {new : List ℕ} (old : List ℕ) (e : Event) → new ≡ old ++ spell e
+    → new ≡ old ++ print spell (e ∷ [])
+one_told spell old e h = h ∙ ap (λ (l : List ℕ). old ++ l) (sym (append-nil (spell e)))
 
-module _ (spell : Event → List ℕ) where
-  pub list_told : (old new : List ℕ) (es : List Event) → new ≡ old ++ print spell es → Told spell old new es
-  list_told old new es h = record { is = h }
+-- known by what it is
+pub one_as : (spell : Event → List ℕ) {new : List ℕ} (old : List ℕ) (e f : Event) → new ≡ old ++ spell e → e ≡ f
+    → new ≡ old ++ print spell (f ∷ [])
+one_as spell old e f h is = one_told spell old f (h ∙ ap (λ (x : Event). old ++ spell x) is)
 
-  -- one event
-  pub event_told : (old new : List ℕ) (e : Event) → new ≡ old ++ spell e → Told spell old new (e ∷ [])
-  event_told old new e h = record { is = h ∙ ap (λ (l : List ℕ). old ++ l) (sym (append-nil (spell e))) }
+-- what is told from here to the return, where that is an Ok
+pub record Ends {T E : Type 0} (spell : Event → List ℕ) (r : Result T E) (new old : List ℕ) (es : List Event) : Type 0
+  where
+    pub is : OnOk r (new ≡ old ++ print spell es)
 
-  -- one of a field that is known by another spelling
-  pub field_told : (old new : List ℕ) (e : FieldValue → Event) (f g : FieldValue) → new ≡ old ++ spell (e f) → f ≡ g
-      → Told spell old new (e g ∷ [])
-  field_told old new e f g h is = event_told old new (e g) (h ∙ ap (λ (x : FieldValue). old ++ spell (e x)) is)
+module _ {T E : Type 0} (spell : Event → List ℕ) (r : Result T E) (new : List ℕ) where
+  pub end_all : (old : List ℕ) (es : List Event) → OnOk r (new ≡ old ++ print spell es) → Ends spell r new old es
+  end_all old es h = record { is = h }
 
-  -- and of a value that is
-  pub value_told : (old new : List ℕ) (V : Type 0) (e : FieldValue → V → Event) (f g : FieldValue) (x y : V)
-      → new ≡ old ++ spell (e f x) → f ≡ g → x ≡ y → Told spell old new (e g y ∷ [])
-  value_told old new V e f g x y h is same = field_told old new (λ (f : FieldValue). e f y) f g
-      (h ∙ ap (λ (z : V). old ++ spell (e f z)) same) is
+  pub end_one : (old : List ℕ) (e : Event) → OnOk r (new ≡ old ++ spell e) → Ends spell r new old (e ∷ [])
+  end_one old e h = record { is = on_ok_weaker r (λ (q : new ≡ old ++ spell e). one_told spell old e q) h }
 
-  pub two : (old a b : List ℕ) (es fs : List Event) → Told spell old a es → Told spell a b fs
-      → Told spell old b (es ++ fs)
-  two old a b es fs p q = record { is = appended_more spell old es fs a b p.is q.is }
+  -- known by what it is
+  pub end_as : (old : List ℕ) (e f : Event) → OnOk r (new ≡ old ++ spell e) → e ≡ f → Ends spell r new old (f ∷ [])
+  end_as old e f h is = end_one old f
+      (on_ok_weaker r (λ (q : new ≡ old ++ spell e). q ∙ ap (λ (x : Event). old ++ spell x) is) h)
 
-  pub three : (old a b c : List ℕ) (es fs gs : List Event) → Told spell old a es → Told spell a b fs
-      → Told spell b c gs → Told spell old c ((es ++ fs) ++ gs)
-  three old a b c es fs gs p q r = two old b c (es ++ fs) gs (two old a b es fs p q) r
+  -- the same events, put together otherwise
+  pub end_is : {old : List ℕ} {es fs : List Event} → Ends spell r new old es → es ≡ fs → Ends spell r new old fs
+  end_is {old} ends is = subst (Ends spell r new old) is ends
 
-  pub four : (old a b c d : List ℕ) (es fs gs hs : List Event) → Told spell old a es → Told spell a b fs
-      → Told spell b c gs → Told spell c d hs → Told spell old d (((es ++ fs) ++ gs) ++ hs)
-  four old a b c d es fs gs hs p q r s = two old c d ((es ++ fs) ++ gs) hs (three old a b c es fs gs p q r) s
+  pub then_all : {old mid : List ℕ} {fs : List Event} (es : List Event) → mid ≡ old ++ print spell es
+      → Ends spell r new mid fs → Ends spell r new old (es ++ fs)
+  then_all {old} {mid} {fs} es h rest = record {
+    is = on_ok_weaker r (λ (q : new ≡ mid ++ print spell fs). appended_more spell old es fs mid new h q) rest.is;
+  }
 
-  pub five : (old a b c d e : List ℕ) (es fs gs hs is : List Event) → Told spell old a es → Told spell a b fs
-      → Told spell b c gs → Told spell c d hs → Told spell d e is
-      → Told spell old e ((((es ++ fs) ++ gs) ++ hs) ++ is)
-  five old a b c d e es fs gs hs is p q r s t =
-      two old d e (((es ++ fs) ++ gs) ++ hs) is (four old a b c d es fs gs hs p q r s) t
+  pub then_one : {old mid : List ℕ} {e : Event} {fs : List Event} → mid ≡ old ++ spell e → Ends spell r new mid fs
+      → Ends spell r new old (e ∷ fs)
+  then_one {old} {e = e} h rest = then_all (e ∷ []) (one_told spell old e h) rest
+
+-- what stands behind three lists, and behind their last one
+pub behind_last : (a b c d : List Event) → a ++ (b ++ (c ++ d)) ≡ (a ++ (b ++ c)) ++ d
+behind_last a b c d =
+    sym (append_assoc a (b ++ c) d ∙ ap (λ (l : List Event). a ++ l) (append_assoc b c d))

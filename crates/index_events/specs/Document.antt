@@ -9,9 +9,10 @@ use Rattle.index_parts.specs.declared.hash.ObjectId.{ObjectId}
 use Rattle.index_state.specs.State.{contents}
 use Rattle.index_state.specs.declared.State.{State}
 use Rattle.index_events.specs.Bitmaps.{link_events, monitor_events}
-use Rattle.index_events.specs.Event.{Event, alone, answer_field, begin_array, begin_object, count_line, end_array}
-use Rattle.index_events.specs.Event.{end_object, end_text, entry_item, first_field, id_field, listed, next, next_field}
-use Rattle.index_events.specs.Event.{number_field, print}
+use Rattle.index_events.specs.Event.{Event, a_number, alone, an_answer, an_id, begin_array, begin_object, count_line}
+use Rattle.index_events.specs.Event.{datum_field, end_array, end_object, end_text, entry_item, first_field, listed}
+use Rattle.index_events.specs.Event.{next}
+use Rattle.index_events.specs.Event.{next_field, print}
 use Rattle.index_events.specs.Marks.{marks_events}
 use Rattle.index_events.specs.Trees.{cached_tree_events}
 use Rattle.index_events.specs.Undo.{undo_events}
@@ -21,9 +22,10 @@ use Rattle.index_events.specs.Untracked.{untracked_events}
 -- entries there are
 unfoldable pub head_events : Contents → Option ObjectId → List Event
 head_events c checksum =
-    begin_object alone ∷ number_field (first_field [] (codes "version") (codes "version")) (version_code c.version)
-    ∷ id_field (next_field [] (codes "checksum") (codes "checksum")) checksum
-    ∷ answer_field (next_field [] (codes "sparse") (codes "is_sparse")) c.extensions.sparse
+    begin_object alone
+    ∷ datum_field (first_field [] (codes "version") (codes "version")) (a_number (version_code c.version))
+    ∷ datum_field (next_field [] (codes "checksum") (codes "checksum")) (an_id checksum)
+    ∷ datum_field (next_field [] (codes "sparse") (codes "is_sparse")) (an_answer c.extensions.sparse)
     ∷ count_line [] (codes "entries") (length c.records) ∷ begin_array (next (codes "entries")) ∷ []
 
 abbrev pub entry_events : ℕ → Record → List Event
@@ -46,13 +48,9 @@ unfoldable pub document_events : Bool → Contents → Option ObjectId → Marks
 document_events backwards c checksum marks =
     head_events c checksum ++ listed entry_events c.records ++ behind_events backwards c.extensions marks
 
--- ---- those of a state
-
+-- those of a state's entries
 abbrev pub state_entries : State → List Event
 state_entries s = listed entry_events (contents s).records
-
-abbrev pub state_behind : Bool → State → Marks → List Event
-state_behind backwards s marks = behind_events backwards (contents s).extensions marks
 
 -- all of it, as a printer spells it
 abbrev pub shown_text : (Event → List ℕ) → Bool → State → Option ObjectId → Marks → List ℕ

@@ -1,7 +1,8 @@
 -- What is told of an index, as a list of events: what a printer for people and one for programs both print (the
 -- library's own). Each field is told once, with what each of them calls it.
-use Rattle.std.specs.Prelude.{◌≡◌, ℕ, Bool, List, ◌++◌, OnOk, Option, Result, if◌then◌else◌}
+use Rattle.std.specs.Prelude.{◌≡◌, ℕ, Bool, List, ◌++◌, codes, OnOk, Option, Result, if◌then◌else◌}
 use Rattle.std.specs.declared.io.Error.{Error}
+use Rattle.std.specs.Global.{Vec}
 use Rattle.std.specs.List.{enumerate_from, flat_map}
 use Rattle.index_bitmaps.specs.declared.ranges.Range.{Range}
 use Rattle.index_entries.specs.Record.{Record}
@@ -11,6 +12,10 @@ use Rattle.index_parts.specs.declared.hash.io.Out.{Ghosts}
 use Rattle.index_small_extensions.specs.declared.index_entry_offset_table.Offset.{Offset}
 use Rattle.index_small_extensions.specs.declared.resolve_undo.Stage.{Stage}
 use Rattle.index_text.specs.Blocks.{PutsBlocks}
+use Rattle.index_events.specs.declared.event.Datum.{Datum as RustDatum}
+use Rattle.index_events.specs.declared.event.Datum.TheVariants as datums
+use Rattle.index_events.specs.declared.event.Event.{Event as RustEvent}
+use Rattle.index_events.specs.declared.event.Event.TheVariants as events
 use Rattle.index_events.specs.declared.event.Field.{Field}
 use Rattle.index_events.specs.declared.event.Member.{Member}
 use Rattle.index_events.specs.declared.event.Member.TheVariants as members
@@ -48,16 +53,20 @@ next_field indent words name = record { indent = indent; words = words; position
 unfoldable pub element_field : List ℕ → List ℕ → ℕ → FieldValue
 element_field indent words place = record { indent = indent; words = words; position = element place }
 
+-- what a field says by itself
+pub data Datum : Type 0 where
+  a_number : ℕ → Datum
+  an_id : Option ObjectId → Datum
+  an_answer : Bool → Datum
+  a_side : Option Stage → Datum
+  a_block : Offset → Datum
+  -- that there is no value, and what people read in its place
+  no_value : List ℕ → Datum
+
 pub data Event : Type 0 where
-  number_field : FieldValue → ℕ → Event
+  datum_field : FieldValue → Datum → Event
   text_field : FieldValue → List ℕ → Event
-  id_field : FieldValue → Option ObjectId → Event
-  answer_field : FieldValue → Bool → Event
   ranges_field : FieldValue → List Range → Event
-  side_field : FieldValue → Option Stage → Event
-  block_field : FieldValue → Offset → Event
-  -- a value that isn't there, and what people read in its place
-  empty_field : FieldValue → List ℕ → Event
   stat_field : (indent : List ℕ) → Position → Stat → Event
   -- an entry, and its place among the entries
   entry_item : ℕ → Record → Event
@@ -71,6 +80,32 @@ pub data Event : Type 0 where
   end_array : Event
   presence : Position → Bool → Event
   end_text : Event
+
+-- the same of data and of events in memory
+abbrev pub datum_of : RustDatum → Datum
+datum_of (datums.Number n) = a_number n
+datum_of (datums.Id id) = an_id id
+datum_of (datums.Answer holds) = an_answer holds
+datum_of (datums.Side side) = a_side side
+datum_of (datums.Block block) = a_block block
+datum_of (datums.Empty word) = no_value word.now
+
+abbrev pub told : RustEvent → Event
+told (events.Value f d) = datum_field (field_of f) (datum_of d)
+told (events.Bytes f bytes) = text_field (field_of f) bytes.now
+told (events.Ranges f ranges) = ranges_field (field_of f) ranges.now
+told (events.Heading indent words) = heading indent.now words.now
+told (events.Count indent words n) = count_line indent.now words.now n
+told (events.BeginObject member) = begin_object (position_of member)
+told events.EndObject = end_object
+told (events.BeginArray member) = begin_array (position_of member)
+told events.EndArray = end_array
+told (events.Presence member is_there) = presence (position_of member) is_there
+told events.EndText = end_text
+
+-- a field without a value
+unfoldable pub absent_field : List ℕ → List ℕ → List ℕ → Event
+absent_field indent words name = datum_field (next_field indent words name) (no_value (codes "none"))
 
 -- the bytes that wait
 abbrev pub bytes_of : Text → List ℕ
@@ -87,6 +122,10 @@ listed events xs = flat_map (λ p. events p.0 p.1) (enumerate_from 0 xs)
 -- what belongs together, in the order of the printer
 abbrev pub in_order : Bool → List Event → List Event → List Event
 in_order backwards a b = if backwards then b ++ a else a ++ b
+
+-- an Ok of a call that appends has this text behind what was there
+abbrev pub Adds : {T E : Type 0} → Result T E → Vec ℕ → Vec ℕ → List ℕ → Type 0
+Adds answer old new text = OnOk answer (new.items ≡ old.items ++ text)
 
 -- ---- what a call leaves that tells events, each as a printer spells it
 

@@ -4,14 +4,15 @@ ghost use Rattle.std.specs.Prelude.{◌≡◌, false};
 ghost use Rattle.index_entries.specs.EntryImage.{version_code};
 ghost use Rattle.index_state.specs.State.{PathsInStorage, contents};
 ghost use Rattle.index_text.specs.Blocks.{PutsText};
-ghost use Rattle.index_events.specs.Bitmaps.{state_link};
-ghost use Rattle.index_events.specs.Document.{head_events, last_events, shown_text, state_behind, state_entries};
+ghost use Rattle.index_events.specs.Document.{behind_events, head_events, last_events, shown_text, state_entries};
 ghost use Rattle.index_events.specs.Event.{Sends, Tells};
 
 use crate::bitmaps::{append_link, append_monitor};
+use crate::event::Datum::{Answer, Id, Number};
+use crate::event::Event::{BeginArray, BeginObject, Count, EndArray, EndObject, EndText, Value};
 use crate::event::Member::{Alone, Next};
 use crate::event::{first, next};
-use crate::marks::append_marks;
+use crate::marks::{append_end, append_table};
 use crate::printer::{Printer, Text};
 use crate::trees::write_tree;
 use crate::undo::write_undo;
@@ -43,12 +44,17 @@ fn append_head<P: Printer>(text: &mut Text, state: &State, checksum: Option<Obje
     ensures { Tells P.spell result text.old text.new (head_events (contents state.now) checksum) }
 {
     let version = number_of_version(state.version());
-    P::begin_object(text, Alone)?;
-    P::number(text, first(b"", b"version", b"version"), version)?;
-    P::id(text, next(b"", b"checksum", b"checksum"), checksum)?;
-    P::answer(text, next(b"", b"sparse", b"is_sparse"), state.is_sparse())?;
-    P::count(text, b"", b"entries", state.entries().len() as u64)?;
-    P::begin_array(text, Next(b"entries"))
+    text.put_all::<P>(&[
+        BeginObject(Alone),
+        Value(first(b"", b"version", b"version"), Number(version)),
+        Value(next(b"", b"checksum", b"checksum"), Id(checksum)),
+        Value(
+            next(b"", b"sparse", b"is_sparse"),
+            Answer(state.is_sparse()),
+        ),
+        Count(b"", b"entries", state.entries().len() as u64),
+        BeginArray(Next(b"entries")),
+    ])
 }
 
 /// Tells each entry; what fills a block goes out.
@@ -65,15 +71,6 @@ fn write_entries<P: Printer, W: Out>(text: &mut Text, state: &State, out: &mut W
     Ok(())
 }
 
-/// Tells the link; what fills a block goes out.
-fn write_link<P: Printer, W: Out>(text: &mut Text, state: &State, out: &mut W) -> io::Result<()>
-    requires { W.failed out.old ≡ false }
-    ensures { Sends P.spell W.Out out.old out.new result text.old text.new (state_link state.now) }
-{
-    append_link::<P>(text, state)?;
-    put_block(&mut text.bytes, out)
-}
-
 /// Tells the file system monitor, the offset table and the end marker, and the end.
 #[tactic(auto, unfolding(crate::specs::Document::last_events))]
 fn append_last<P: Printer>(text: &mut Text, state: &State, marks: &Marks) -> Appended
@@ -81,10 +78,10 @@ fn append_last<P: Printer>(text: &mut Text, state: &State, marks: &Marks) -> App
         (last_events (contents state.now).extensions marks.now) }
 {
     let (table, marker) = (state.had_offset_table(), state.had_end_of_index_marker());
-    append_monitor::<P>(text, state)?;
-    append_marks::<P>(text, table, marker, marks)?;
-    P::end_object(text)?;
-    P::end_text(text)
+    append_monitor::<P>(text, state.fs_monitor())?;
+    append_table::<P>(text, table, &marks.table)?;
+    append_end::<P>(text, marker, marks.end)?;
+    text.put_all::<P>(&[EndObject, EndText])
 }
 
 /// Tells what stands behind the entries; what fills a block goes out.
@@ -96,13 +93,13 @@ fn write_behind<P: Printer, W: Out>(
 ) -> io::Result<()>
     requires { W.failed out.old ≡ false }
     ensures { Sends P.spell W.Out out.old out.new result text.old text.new
-        (state_behind P.BACKWARDS state.now marks.now) }
+        (behind_events P.BACKWARDS (contents state.now).extensions marks.now) }
 {
-    P::end_array(text)?;
-    write_tree::<P, W>(text, state, out)?;
-    write_link::<P, W>(text, state, out)?;
-    write_undo::<P, W>(text, state, out)?;
-    write_untracked::<P, W>(text, state, out)?;
+    P::put(text, EndArray)?;
+    write_tree::<P, W>(text, state.tree(), out)?;
+    append_link::<P>(text, state.link())?;
+    write_undo::<P, W>(text, state.resolve_undo(), out)?;
+    write_untracked::<P, W>(text, state.untracked(), out)?;
     Ok(append_last::<P>(text, state, marks)?)
 }
 

@@ -1,15 +1,18 @@
 //! The events of a cached tree.
 
 ghost use Rattle.std.specs.Prelude.{◌≡◌, ◌≤◌, false};
-ghost use Rattle.index_events.specs.Event.{Sends, Spells, Tells, field_of, position_of};
-ghost use Rattle.index_events.specs.Trees.{count_event, depth_events, indent, root_tree, state_tree, subtree, subtrees, tree_known, tree_node, tree_opened};
+ghost use Rattle.std.specs.Option.{option_map};
+ghost use Rattle.index_cached_tree.specs.Tree.{node_of};
+ghost use Rattle.index_events.specs.Event.{Sends, Tells, datum_of, position_of};
+ghost use Rattle.index_events.specs.Trees.{cached_tree_events, depth_events, entry_count, indent, subtrees, tree_events, tree_known, tree_opened};
 
+use crate::event::Datum::{self, Empty, Id, Number};
+use crate::event::Event::{BeginArray, BeginObject, Bytes, Count, Heading, Value};
 use crate::event::Member::{self, Element, Next};
-use crate::event::{Field, first, next};
-use crate::printer::{Printer, Text, append_ends};
+use crate::event::{absent, first, next};
+use crate::printer::{Printer, Text};
 use index_cached_tree::Tree;
 use index_parts::hash::io::Out;
-use index_state::State;
 use index_text::append::Appended;
 use index_text::block::put_block;
 use std::io;
@@ -37,47 +40,34 @@ fn append_depth<P: Printer>(text: &mut Text, depth: u32) -> Appended
     if depth <= DEEPEST_INDENT {
         return Ok(());
     }
-    P::count(
-        text,
-        indent_of(DEEPEST_INDENT + 2),
-        b"depth",
-        u64::from(depth),
-    )
+    let indent = indent_of(DEEPEST_INDENT + 2);
+    P::put(text, Count(indent, b"depth", u64::from(depth)))
 }
 
-/// Tells a number of entries, or that it isn't known.
-fn append_count<P: Printer>(text: &mut Text, field: Field<'_>, count: Option<u32>) -> Appended
-    ensures { Spells P.spell result text.old text.new (count_event (field_of field.entry) count) }
+/// A number of entries, or that it isn't known.
+fn datum_of_count<'a>(count: Option<u32>) -> Datum<'a>
+    ensures { datum_of result ≡ entry_count count }
 {
     match count {
-        Some(n) => P::number(text, field, u64::from(n)),
-        None => P::empty(text, field, b"-1"),
+        Some(n) => Number(u64::from(n)),
+        None => Empty(b"-1"),
     }
 }
 
-/// Tells the id of a directory, and how many entries are below it.
-#[tactic(auto, unfolding(crate::specs::Trees::node_events))]
-fn append_node<P: Printer>(text: &mut Text, indent: &[u8], tree: &Tree) -> Appended
-    ensures { Tells P.spell result text.old text.new (tree_node indent.now tree.now) }
-{
-    P::id(text, next(indent, b"id", b"id"), Some(tree.id))?;
-    append_count::<P>(
-        text,
-        next(indent, b"entries", b"num_entries"),
-        tree.num_entries,
-    )
-}
-
 /// Tells what is known of a directory.
-#[tactic(auto, unfolding(crate::specs::Trees::known_events))]
 fn append_known<P: Printer>(text: &mut Text, depth: u32, tree: &Tree) -> Appended
     ensures { Tells P.spell result text.old text.new (tree_known depth tree.now) }
 {
     let level = depth.min(DEEPEST_INDENT);
-    let field = first(indent_of(level + 1), b"directory", b"name");
-    P::string(text, field, tree.name.as_slice())?;
+    let (indent, inner) = (indent_of(level + 1), indent_of(level + 2));
+    let name = tree.name.as_slice();
+    let id = next(inner, b"id", b"id");
+    let count = next(inner, b"entries", b"num_entries");
+    P::put(text, Bytes(first(indent, b"directory", b"name"), name))?;
     append_depth::<P>(text, depth)?;
-    append_node::<P>(text, indent_of(level + 2), tree)
+    P::put(text, Value(id, Id(Some(tree.id))))?;
+    P::put(text, Value(count, datum_of_count(tree.num_entries)))?;
+    P::put(text, BeginArray(Next(b"children")))
 }
 
 /// Tells a directory up to those in it.
@@ -90,9 +80,8 @@ fn append_opened<P: Printer>(
     ensures { Tells P.spell result text.old text.new
         (tree_opened (position_of member.entry) depth tree.now) }
 {
-    P::begin_object(text, member)?;
-    append_known::<P>(text, depth, tree)?;
-    P::begin_array(text, Next(b"children"))
+    P::put(text, BeginObject(member))?;
+    append_known::<P>(text, depth, tree)
 }
 
 /// Tells a directory and all below it; what fills a block goes out.
@@ -106,12 +95,12 @@ fn write_directory<P: Printer, W: Out>(
 ) -> io::Result<()>
     requires { W.failed out.old ≡ false }
     ensures { Sends P.spell W.Out out.old out.new result text.old text.new
-        (subtree member.entry depth tree.now) }
+        (tree_events (position_of member.entry) depth (node_of tree.now)) }
 {
     append_opened::<P>(text, member, depth, tree)?;
     put_block(&mut text.bytes, out)?;
     write_directories::<P, W>(text, depth.saturating_add(1), &tree.children, out)?;
-    Ok(append_ends::<P>(text)?)
+    Ok(text.put_ends::<P>()?)
 }
 
 /// Tells the directories that lie in one.
@@ -132,28 +121,19 @@ fn write_directories<P: Printer, W: Out>(
     Ok(())
 }
 
-/// Tells a tree from its root on.
-fn write_root<P: Printer, W: Out>(
+/// Tells a tree from its root on; what fills a block goes out.
+pub fn write_tree<P: Printer, W: Out>(
     text: &mut Text,
     tree: Option<&Tree>,
     out: &mut W,
 ) -> io::Result<()>
     requires { W.failed out.old ≡ false }
-    ensures { Sends P.spell W.Out out.old out.new result text.old text.new (root_tree tree.entry) }
+    ensures { Sends P.spell W.Out out.old out.new result text.old text.new
+        (cached_tree_events (option_map (λ t. node_of t.now) tree.entry)) }
 {
-    match tree {
-        Some(tree) => {
-            P::heading(text, b"", b"cached tree")?;
-            write_directory::<P, W>(text, Next(b"tree"), 0, tree, out)
-        }
-        None => Ok(P::empty(text, next(b"", b"cached tree", b"tree"), b"none")?),
-    }
-}
-
-/// Tells the cached tree of a state.
-pub fn write_tree<P: Printer, W: Out>(text: &mut Text, state: &State, out: &mut W) -> io::Result<()>
-    requires { W.failed out.old ≡ false }
-    ensures { Sends P.spell W.Out out.old out.new result text.old text.new (state_tree state.now) }
-{
-    write_root::<P, W>(text, state.tree(), out)
+    let Some(tree) = tree else {
+        return Ok(P::put(text, absent(b"", b"cached tree", b"tree"))?);
+    };
+    P::put(text, Heading(b"", b"cached tree"))?;
+    write_directory::<P, W>(text, Next(b"tree"), 0, tree, out)
 }

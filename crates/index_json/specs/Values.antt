@@ -1,7 +1,7 @@
 -- Values of a JSON text, and members of an object (RFC 8259, sections 4, 5 and 7). How a string is escaped is the kit's
 -- `quoted`: by two characters where the section on strings has such an escape, and by `\u00` and two digits at any
 -- other control character.
-use Rattle.std.specs.Prelude.{ℕ, ◌==◌, Bool, List, [], ◌++◌, codes, decimal, Option, Some, None, if◌then◌else◌}
+use Rattle.std.specs.Prelude.{ℕ, ◌==◌, List, [], ◌++◌, codes, decimal, if◌then◌else◌}
 use Rattle.std.specs.List.{enumerate_from, flat_map}
 use Rattle.std.specs.Str.{is_utf8}
 use Rattle.hex.specs.Hex.{encode_lower}
@@ -17,13 +17,6 @@ json_string text = quoted text
 -- bytes as a string of their digits in base 16
 abbrev pub hex_string : List ℕ → List ℕ
 hex_string bytes = codes "\"" ++ encode_lower bytes ++ codes "\""
-
-abbrev pub json_bool : Bool → List ℕ
-json_bool holds = if holds then codes "true" else codes "false"
-
-abbrev pub id_or_null : Option ObjectId → List ℕ
-id_or_null None = codes "null"
-id_or_null (Some id) = hex_string (id_bytes id)
 
 -- ---- members
 

@@ -1,29 +1,31 @@
 //! The JSON text of events.
 #![tactic(auto, unfolding(index_events::specs::Event::field_of))]
 
-ghost use Rattle.std.specs.Prelude.{◌≡◌, ◌≢◌, ◌++◌, IfErr, OnErr, OnOk, codes, false, true};
+ghost use Rattle.std.specs.Prelude.{◌≡◌, ◌≢◌, IfErr, OnErr, OnOk, false, true};
 ghost use Rattle.std.specs.IoError.{error_kind};
 ghost use Rattle.std.specs.Io.KnownBytes.{Appends};
 ghost use Rattle.index_parts.specs.Taking.{AppendsPrefix};
 ghost use Rattle.index_state.specs.State.{PathsInStorage, contents};
 ghost use Rattle.index_json.specs.Json.{event_text, json_text};
 
+use crate::data::{append_datum, append_ranges};
 use crate::entries::{append_entry, append_stat};
-use crate::ranges::{append_block, append_ranges, append_side};
-use crate::values::{append_begin, append_bool, append_id_or_null, append_text};
-use index_bitmaps::ranges::Range;
+use crate::values::{append_begin, append_piece, append_text};
 use index_entries::Entry;
 use index_events::document::write_document;
-use index_events::event::{Field, Member};
+use index_events::event::Datum::Answer;
+use index_events::event::Event::{
+    self, BeginArray, BeginObject, Bytes, Count, EndArray, EndObject, EndText, Heading, Presence,
+    Ranges, Value,
+};
+use index_events::event::Member;
 use index_events::printer::{Printer, Text};
 use index_marks::Marks;
 use index_metadata::entry::Stat;
 use index_parts::hash::ObjectId;
 use index_parts::hash::io::Out;
-use index_small_extensions::index_entry_offset_table::Offset;
-use index_small_extensions::resolve_undo::Stage;
 use index_state::State;
-use index_text::append::{Appended, append_decimal};
+use index_text::append::Appended;
 use std::alloc::Global;
 use std::io::{self, ErrorKind};
 
@@ -37,43 +39,22 @@ impl Printer for Json {
 
     const BACKWARDS: bool = true;
 
-    fn number(text: &mut Text, field: Field<'_>, n: u64) -> Appended {
-        append_begin(&mut text.bytes, field.member)?;
-        append_decimal(&mut text.bytes, n)
-    }
-
-    fn string(text: &mut Text, field: Field<'_>, bytes: &[u8]) -> Appended {
-        append_text(&mut text.bytes, text.alloc, field.member, bytes)
-    }
-
-    fn id(text: &mut Text, field: Field<'_>, id: Option<ObjectId>) -> Appended {
-        append_begin(&mut text.bytes, field.member)?;
-        append_id_or_null(&mut text.bytes, id)
-    }
-
-    fn answer(text: &mut Text, field: Field<'_>, holds: bool) -> Appended {
-        append_begin(&mut text.bytes, field.member)?;
-        append_bool(&mut text.bytes, holds)
-    }
-
-    fn ranges(text: &mut Text, field: Field<'_>, ranges: &[Range]) -> Appended {
-        append_begin(&mut text.bytes, field.member)?;
-        append_ranges(&mut text.bytes, ranges)
-    }
-
-    fn side(text: &mut Text, field: Field<'_>, side: Option<Stage>) -> Appended {
-        append_begin(&mut text.bytes, field.member)?;
-        append_side(&mut text.bytes, side)
-    }
-
-    fn block(text: &mut Text, field: Field<'_>, block: Offset) -> Appended {
-        append_begin(&mut text.bytes, field.member)?;
-        append_block(&mut text.bytes, block)
-    }
-
-    fn empty(text: &mut Text, field: Field<'_>, _word: &[u8]) -> Appended {
-        append_begin(&mut text.bytes, field.member)?;
-        text.bytes.extend_from_slice(b"null")
+    #[inline(always)]
+    fn put(text: &mut Text, event: Event<'_>) -> Appended {
+        let alloc = text.alloc;
+        let text = &mut text.bytes;
+        match event {
+            Value(field, datum) => append_datum(text, field.member, datum),
+            Bytes(field, bytes) => append_text(text, alloc, field.member, bytes),
+            Ranges(field, ranges) => append_ranges(text, field.member, ranges),
+            Heading(_, _) | Count(_, _, _) => Ok(()),
+            BeginObject(member) => append_piece(text, member, b"{"),
+            EndObject => text.extend_from_slice(b"}"),
+            BeginArray(member) => append_piece(text, member, b"["),
+            EndArray => text.extend_from_slice(b"]"),
+            Presence(member, is_there) => append_datum(text, member, Answer(is_there)),
+            EndText => text.extend_from_slice(b"\n"),
+        }
     }
 
     fn stat(text: &mut Text, _indent: &[u8], member: Member<'_>, stat: Stat) -> Appended {
@@ -83,41 +64,6 @@ impl Printer for Json {
 
     fn entry(text: &mut Text, state: &State, place: usize, entry: &Entry) -> Appended {
         append_entry(&mut text.bytes, text.alloc, state, place, entry)
-    }
-
-    fn heading(_text: &mut Text, _indent: &[u8], _words: &[u8]) -> Appended {
-        Ok(())
-    }
-
-    fn count(_text: &mut Text, _indent: &[u8], _words: &[u8], _n: u64) -> Appended {
-        Ok(())
-    }
-
-    fn begin_object(text: &mut Text, member: Member<'_>) -> Appended {
-        append_begin(&mut text.bytes, member)?;
-        text.bytes.extend_from_slice(b"{")
-    }
-
-    fn end_object(text: &mut Text) -> Appended {
-        text.bytes.extend_from_slice(b"}")
-    }
-
-    fn begin_array(text: &mut Text, member: Member<'_>) -> Appended {
-        append_begin(&mut text.bytes, member)?;
-        text.bytes.extend_from_slice(b"[")
-    }
-
-    fn end_array(text: &mut Text) -> Appended {
-        text.bytes.extend_from_slice(b"]")
-    }
-
-    fn presence(text: &mut Text, member: Member<'_>, is_there: bool) -> Appended {
-        append_begin(&mut text.bytes, member)?;
-        append_bool(&mut text.bytes, is_there)
-    }
-
-    fn end_text(text: &mut Text) -> Appended {
-        text.bytes.extend_from_slice(b"\n")
     }
 }
 

@@ -1,6 +1,7 @@
 //! The values of entries.
 
-ghost use Rattle.std.specs.Prelude.{◌≡◌, ◌+◌, ◌++◌, OnOk, codes, decimal, length};
+ghost use Rattle.std.specs.Prelude.{◌+◌, ◌++◌, codes, decimal, length};
+ghost use Rattle.index_events.specs.Event.{Adds};
 ghost use Rattle.index_entries.specs.Record.{IsPlaced, record_in};
 ghost use Rattle.index_metadata.specs.Flags.{stage_number};
 ghost use Rattle.index_state.specs.State.{storage_of};
@@ -69,7 +70,7 @@ fn prepend_stat(room: &mut [u8], end: usize, stat: Stat) -> usize
 
 /// Appends a stat.
 pub fn append_stat(text: &mut Vec<u8>, stat: Stat) -> Appended
-    ensures { OnOk result (text.new.items ≡ text.old.items ++ stat_value stat) }
+    ensures { Adds result text.old text.new (stat_value stat) }
 {
     let mut room = [0; STAT_LEN];
     let start = prepend_stat(&mut room, STAT_LEN, stat);
@@ -79,12 +80,12 @@ pub fn append_stat(text: &mut Vec<u8>, stat: Stat) -> Appended
 /// Appends what an entry has behind its path.
 #[tactic(auto, unfolding(crate::specs::Values::member))]
 fn append_behind_path(text: &mut Vec<u8>, entry: &Entry) -> Appended
-    ensures { OnOk result (text.new.items ≡ text.old.items
-        ++ (id_member (codes ",") (codes "id") entry.now.id
+    ensures { Adds result text.old text.new
+        (id_member (codes ",") (codes "id") entry.now.id
         ++ number_member (codes ",") (codes "mode") entry.now.mode.0
         ++ number_member (codes ",") (codes "stage") (stage_number entry.now.flags.0)
         ++ number_member (codes ",") (codes "flags") entry.now.flags.0
-        ++ member (codes ",") (codes "stat") (stat_value entry.now.stat) ++ codes "}")) }
+        ++ member (codes ",") (codes "stat") (stat_value entry.now.stat) ++ codes "}") }
 {
     let mut room = [0; BEHIND_PATH_LEN];
     let start = prepend(&mut room, BEHIND_PATH_LEN, b"}");
@@ -113,8 +114,8 @@ pub fn append_entry(
     entry: &Entry,
 ) -> Appended
     requires { IsPlaced (length (storage_of state.now)) entry.now }
-    ensures { OnOk result (text.new.items ≡ text.old.items
-        ++ (separator place ++ entry_value (record_in (storage_of state.now) entry.now))) }
+    ensures { Adds result text.old text.new
+        (separator place ++ entry_value (record_in (storage_of state.now) entry.now)) }
 {
     append_separator(text, place)?;
     text.extend_from_slice(b"{")?;

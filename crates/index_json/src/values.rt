@@ -1,11 +1,11 @@
 //! Values of a JSON text, and members of an object.
 
-ghost use Rattle.std.specs.Prelude.{◌≡◌, ◌++◌, OnOk, codes, string_bytes};
+ghost use Rattle.std.specs.Prelude.{◌≡◌, ◌++◌, codes};
 ghost use Rattle.index_parts.specs.Id.{id_bytes};
 ghost use Rattle.std.specs.Bool.{OnTrue};
 ghost use Rattle.json.specs.Print.{escape, quoted};
-ghost use Rattle.index_events.specs.Event.{position_of};
-ghost use Rattle.index_json.specs.Values.{begin_of, bytes_position, hex_string, id_or_null, json_bool, json_string, separator, text_value};
+ghost use Rattle.index_events.specs.Event.{Adds, position_of};
+ghost use Rattle.index_json.specs.Values.{begin_of, bytes_position, hex_string, json_string, separator, text_value};
 
 use index_events::event::Member;
 use index_parts::hash::ObjectId;
@@ -15,9 +15,8 @@ use std::alloc::Global;
 use std::{mem, str};
 
 /// Appends what stands before a value: what is there before its name, the name as a string, and a colon.
-pub fn append_name(text: &mut Vec<u8>, before: &[u8], name: &[u8]) -> Appended
-    ensures { OnOk result
-        (text.new.items ≡ text.old.items ++ (before.now ++ name.now ++ codes "\":")) }
+fn append_name(text: &mut Vec<u8>, before: &[u8], name: &[u8]) -> Appended
+    ensures { Adds result text.old text.new (before.now ++ name.now ++ codes "\":") }
 {
     text.extend_from_slice(before)?;
     text.extend_from_slice(name)?;
@@ -28,8 +27,7 @@ pub fn append_name(text: &mut Vec<u8>, before: &[u8], name: &[u8]) -> Appended
 #[inline(always)]
 #[tactic(auto, unfolding(crate::specs::Values::begin_of))]
 pub fn append_begin(text: &mut Vec<u8>, member: Member<'_>) -> Appended
-    ensures { OnOk result
-        (text.new.items ≡ text.old.items ++ begin_of (position_of member.entry)) }
+    ensures { Adds result text.old text.new (begin_of (position_of member.entry)) }
 {
     match member {
         Member::Alone => Ok(()),
@@ -39,37 +37,25 @@ pub fn append_begin(text: &mut Vec<u8>, member: Member<'_>) -> Appended
     }
 }
 
-/// Appends `true` or `false`.
-pub fn append_bool(text: &mut Vec<u8>, holds: bool) -> Appended
-    ensures { OnOk result (text.new.items ≡ text.old.items ++ json_bool holds) }
+/// Appends a value at its position.
+#[inline(always)]
+pub fn append_piece(text: &mut Vec<u8>, member: Member<'_>, value: &[u8]) -> Appended
+    ensures { Adds result text.old text.new (begin_of (position_of member.entry) ++ value.now) }
 {
-    if holds {
-        return text.extend_from_slice(b"true");
-    }
-    text.extend_from_slice(b"false")
+    append_begin(text, member)?;
+    text.extend_from_slice(value)
 }
 
 /// Appends an id in base 16 as a string.
 pub fn append_id(text: &mut Vec<u8>, id: &ObjectId) -> Appended
-    ensures { OnOk result (text.new.items ≡ text.old.items ++ hex_string (id_bytes id.now)) }
+    ensures { Adds result text.old text.new (hex_string (id_bytes id.now)) }
 {
     text.extend_from_slice(b"\"")?;
     append_hex(text, id)?;
     text.extend_from_slice(b"\"")
 }
 
-/// Appends an id, or `null`.
-pub fn append_id_or_null(text: &mut Vec<u8>, id: Option<ObjectId>) -> Appended
-    ensures { OnOk result (text.new.items ≡ text.old.items ++ id_or_null id) }
-{
-    match id {
-        Some(id) => append_id(text, &id),
-        None => text.extend_from_slice(b"null"),
-    }
-}
-
 /// Whether each byte stands for itself in a string. The look goes over all of them, so that many are looked at at once.
-
 fn stand_for_themselves(bytes: &[u8]) -> bool
     ensures { OnTrue result (escape bytes.now ≡ bytes.now) }
 {
@@ -82,7 +68,7 @@ fn stand_for_themselves(bytes: &[u8]) -> bool
 
 /// Appends a string with escapes in it. On an error nothing is left of the text.
 fn append_escaped(text: &mut Vec<u8>, alloc: Global, value: &str) -> Appended
-    ensures { OnOk result (text.new.items ≡ text.old.items ++ json_string value.now) }
+    ensures { Adds result text.old text.new (json_string value.now) }
 {
     let mut writer = Writer::new(mem::replace(text, Vec::new(alloc)));
     writer.string(value)?;
@@ -92,7 +78,7 @@ fn append_escaped(text: &mut Vec<u8>, alloc: Global, value: &str) -> Appended
 
 /// Appends a string. On an error nothing may be left of the text.
 fn append_string(text: &mut Vec<u8>, alloc: Global, value: &str) -> Appended
-    ensures { OnOk result (text.new.items ≡ text.old.items ++ json_string value.now) }
+    ensures { Adds result text.old text.new (json_string value.now) }
 {
     if !stand_for_themselves(value.as_bytes()) {
         return append_escaped(text, alloc, value);
@@ -104,7 +90,7 @@ fn append_string(text: &mut Vec<u8>, alloc: Global, value: &str) -> Appended
 
 /// Appends bytes in base 16 as a string.
 fn append_bytes(text: &mut Vec<u8>, alloc: Global, bytes: &[u8]) -> Appended
-    ensures { OnOk result (text.new.items ≡ text.old.items ++ hex_string bytes.now) }
+    ensures { Adds result text.old text.new (hex_string bytes.now) }
 {
     let digits = hex::encode(alloc, bytes)?;
     text.extend_from_slice(b"\"")?;
@@ -112,19 +98,10 @@ fn append_bytes(text: &mut Vec<u8>, alloc: Global, bytes: &[u8]) -> Appended
     text.extend_from_slice(b"\"")
 }
 
-/// Appends a string at its position.
-fn append_string_at(text: &mut Vec<u8>, alloc: Global, member: Member<'_>, value: &str) -> Appended
-    ensures { OnOk result (text.new.items ≡ text.old.items
-        ++ (begin_of (position_of member.entry) ++ json_string value.now)) }
-{
-    append_begin(text, member)?;
-    append_string(text, alloc, value)
-}
-
 /// Appends the name of bytes that are told by their digits.
 fn append_bytes_name(text: &mut Vec<u8>, before: &[u8], name: &[u8]) -> Appended
-    ensures { OnOk result (text.new.items
-        ≡ text.old.items ++ (before.now ++ (name.now ++ codes "_bytes") ++ codes "\":")) }
+    ensures { Adds result text.old text.new
+        (before.now ++ (name.now ++ codes "_bytes") ++ codes "\":") }
 {
     text.extend_from_slice(before)?;
     text.extend_from_slice(name)?;
@@ -132,20 +109,10 @@ fn append_bytes_name(text: &mut Vec<u8>, before: &[u8], name: &[u8]) -> Appended
     text.extend_from_slice(b"\":")
 }
 
-/// Appends the digits of bytes at their position.
-fn append_bytes_at(text: &mut Vec<u8>, alloc: Global, member: Member<'_>, bytes: &[u8]) -> Appended
-    ensures { OnOk result (text.new.items ≡ text.old.items
-        ++ (begin_of (bytes_position (position_of member.entry)) ++ hex_string bytes.now)) }
-{
-    append_bytes_begin(text, member)?;
-    append_bytes(text, alloc, bytes)
-}
-
 /// Appends what stands before the digits of bytes: the name says that they are.
 #[tactic(auto, unfolding(crate::specs::Values::begin_of))]
 fn append_bytes_begin(text: &mut Vec<u8>, member: Member<'_>) -> Appended
-    ensures { OnOk result (text.new.items
-        ≡ text.old.items ++ begin_of (bytes_position (position_of member.entry))) }
+    ensures { Adds result text.old text.new (begin_of (bytes_position (position_of member.entry))) }
 {
     match member {
         Member::First(name) => append_bytes_name(text, b"\"", name),
@@ -156,18 +123,23 @@ fn append_bytes_begin(text: &mut Vec<u8>, member: Member<'_>) -> Appended
 
 /// Appends a text as a string, or where it isn't UTF-8 the digits of its bytes.
 pub fn append_text(text: &mut Vec<u8>, alloc: Global, member: Member<'_>, bytes: &[u8]) -> Appended
-    ensures { OnOk result (text.new.items
-        ≡ text.old.items ++ text_value (position_of member.entry) bytes.now) }
+    ensures { Adds result text.old text.new (text_value (position_of member.entry) bytes.now) }
 {
     match str::from_utf8(bytes) {
-        Ok(value) => append_string_at(text, alloc, member, value),
-        Err(_) => append_bytes_at(text, alloc, member, bytes),
+        Ok(value) => {
+            append_begin(text, member)?;
+            append_string(text, alloc, value)
+        }
+        Err(_) => {
+            append_bytes_begin(text, member)?;
+            append_bytes(text, alloc, bytes)
+        }
     }
 }
 
 /// Appends the comma before each value of an array but the first.
 pub fn append_separator(text: &mut Vec<u8>, place: usize) -> Appended
-    ensures { OnOk result (text.new.items ≡ text.old.items ++ separator place) }
+    ensures { Adds result text.old text.new (separator place) }
 {
     if place != 0 {
         text.extend_from_slice(b",")?;

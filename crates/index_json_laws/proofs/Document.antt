@@ -1,7 +1,7 @@
 -- The events of an index tell a value, whatever is told: parts that have no lists in them by computation, for each of
 -- their cases, and the others by those that they have.
-use Rattle.std.proofs.Common.{◌≡◌, ℕ, ◌+◌, Bool, true, false, List, [], ◌++◌, min, nat_lt, refl, codes}
-use Rattle.std.proofs.Common.{Option, Some, None}
+use Rattle.std.proofs.Common.{◌≡◌, ℕ, ◌+◌, Bool, true, false, List, [], ◌∷◌, ◌++◌, nat_lt, refl, codes, Option, Some}
+use Rattle.std.proofs.Common.{None}
 use Rattle.std.proofs.lemmas.Bool.{cond_both}
 use Rattle.std.specs.Option.{option_map}
 use Rattle.index_bitmaps.specs.Bitmap.{Bitmap}
@@ -17,24 +17,24 @@ use Rattle.index_small_extensions.specs.ResolveUndo.{PathStages}
 use Rattle.index_small_extensions.specs.declared.index_entry_offset_table.Offset.{Offset}
 use Rattle.index_split.specs.Link.{BitmapPair, LinkValue}
 use Rattle.index_untracked.specs.Blocks.{DirectoryValue}
-use Rattle.index_untracked.specs.Untracked.{Cache, Preamble}
+use Rattle.index_untracked.specs.Untracked.{Cache}
 use Rattle.index_untracked.specs.declared.OidStat.{OidStat}
-use Rattle.index_events.specs.Bitmaps.{bits_events, link_events, monitor_events, pair_events, token_event}
-use Rattle.index_events.specs.Bitmaps.{watch_events}
+use Rattle.index_events.specs.Bitmaps.{bitmap_events, link_events, monitor_events, pair_events, token_event}
 use Rattle.index_events.specs.Document.{behind_events, document_events, entry_events, head_events, last_events}
-use Rattle.index_events.specs.Event.{Event, element, element_field, first_field, next_field}
+use Rattle.index_events.specs.Event.{Event, absent_field, count_line, element, element_field, first_field, next_field}
 use Rattle.index_events.specs.Marks.{block_events, blocks_events, end_events, marker_events, table_events}
 use Rattle.index_events.specs.Trees.{all_tree_events, below, cached_tree_events, deepest_indent, depth_events, indent}
-use Rattle.index_events.specs.Trees.{known_events, node_events, tree_events}
-use Rattle.index_events.specs.Undo.{path_events, sides_events, undo_begin, undo_events}
-use Rattle.index_events.specs.Untracked.{cache_begin, cached_events, content_events, exclude_events, name_events}
-use Rattle.index_events.specs.Untracked.{naming_events, own_events, preamble_events, stat_events}
-use Rattle.index_events.specs.Untracked.{subdirectory_events, untracked_events}
+use Rattle.index_events.specs.Trees.{known_events, tree_events}
+use Rattle.index_events.specs.Undo.{path_events, undo_events}
+use Rattle.index_events.specs.Untracked.{cache_begin, cached_events, exclude_events, name_events}
+use Rattle.index_events.specs.Untracked.{own_events, stat_events, subdirectory_events}
+use Rattle.index_events.specs.Untracked.{untracked_events}
 use Rattle.index_json.specs.Json.{json_text}
 use Rattle.index_json_laws.specs.Telling.{Behind, are_plain, document_value, told, value_of}
 use Rattle.index_json_laws.specs.Value.{spelling}
-use Rattle.index_json_laws.proofs.Parts.{TellsItem, TellsItems, TellsMembers, item_and, item_told, listed_told}
-use Rattle.index_json_laws.proofs.Parts.{members_and, members_told, no_items_told, told_append, whole_array}
+use Rattle.index_json_laws.proofs.Parts.{TellsItem, TellsItems, TellsMembers, item_and, item_told}
+use Rattle.index_json_laws.proofs.Parts.{listed_told, members_and, members_told, no_items_told, told_append}
+use Rattle.index_json_laws.proofs.Parts.{whole_array}
 use Rattle.index_json_laws.proofs.Spelled.{value_spelled}
 
 entry_told : (r : Record) → TellsItem (λ place. entry_events place r)
@@ -45,26 +45,17 @@ entry_told r = item_told (λ place b. refl)
 depth_told : (depth : ℕ) (b : Behind) → told (depth_events depth) b ≡ b
 unfolding depth_events
 depth_told depth b =
-    cond_both (nat_lt deepest_indent depth) _ [] (λ (events : List Event). told events b ≡ b) (λ e. refl) (λ e. refl)
-
-counted_told : (indent : List ℕ) (id : ObjectId) (count : Option ℕ) → TellsMembers true (node_events indent id count)
-unfolding node_events next_field
-counted_told indent id None = members_told (λ ms b. refl)
-counted_told indent id (Some n) = members_told (λ ms b. refl)
-
-known_told : (depth : ℕ) (name : List ℕ) (id : ObjectId) (count : Option ℕ)
-    → TellsMembers false (known_events depth name id count)
-unfolding known_events first_field next_field
-known_told depth name id count =
-    let counted = counted_told (indent (min depth deepest_indent + 2)) id count in
-    members_told (λ ms b. simp told_append (simp (depth_told, counted.is) refl))
+    cond_both (nat_lt deepest_indent depth)
+    (count_line (indent (deepest_indent + 2)) (codes "depth") depth ∷ []) []
+    (λ (events : List Event). told events b ≡ b) (λ e. refl) (λ e. refl)
 
 mutual
+  unfolding known_events first_field next_field
+
   node_told : (depth : ℕ) (t : Node) → TellsItem (λ place. tree_events (element place) depth t)
   node_told depth (node name id count children) =
-      let known = known_told depth name id count in
       let inside = whole_array _ (nodes_told 0 (below depth) children) in
-      item_told (λ place b. simp told_append (simp (known.is, inside.is) refl))
+      item_told (λ place b. simp told_append (simp (depth_told, inside.is) refl))
 
   nodes_told : (place depth : ℕ) (ts : Nodes) → TellsItems place (all_tree_events place depth ts)
   nodes_told place depth none = no_items_told place
@@ -73,45 +64,45 @@ mutual
       (nodes_told (place + 1) depth ts)
 
 tree_told : (t : Option Node) → TellsMembers true (cached_tree_events t)
-unfolding next_field
+unfolding absent_field known_events first_field next_field
 tree_told None = members_told (λ ms b. refl)
 tree_told (Some (node name id count children)) =
-    let known = known_told 0 name id count in
     let inside = whole_array _ (nodes_told 0 (below 0) children) in
-    members_told (λ ms b. simp told_append (simp (known.is, inside.is) refl))
+    members_told (λ ms b. simp told_append (simp (depth_told, inside.is) refl))
 
 -- ---- bitmaps
 
 pair_told : (pair : Option BitmapPair) → TellsMembers true (pair_events pair)
-unfolding pair_events bits_events first_field next_field
+unfolding pair_events bitmap_events absent_field first_field next_field
 pair_told None = members_told (λ ms b. refl)
 pair_told (Some pair) = members_told (λ ms b. refl)
 
 link_told : (link : Option LinkValue) → TellsMembers true (link_events link)
-unfolding link_events first_field next_field
+unfolding link_events absent_field first_field next_field
 link_told None = members_told (λ ms b. refl)
 link_told (Some link) =
     let pair = pair_told link.bitmaps in
     members_told (λ ms b. simp (told_append, pair.is) refl)
 
-watch_told : (token : TokenValue) (dirty : Bitmap) → TellsMembers true (watch_events token dirty)
-unfolding watch_events token_event bits_events first_field next_field
+watch_told : (token : TokenValue) (dirty : Bitmap)
+    → TellsMembers true (monitor_events (Some (record { token = token; dirty = dirty })))
+unfolding monitor_events token_event bitmap_events absent_field first_field next_field
 watch_told (nanoseconds time) dirty = members_told (λ ms b. refl)
 watch_told (opaque text) dirty = members_told (λ ms b. refl)
 
 monitor_told : (monitor : Option Monitor) → TellsMembers true (monitor_events monitor)
-unfolding next_field
+unfolding monitor_events absent_field next_field
 monitor_told None = members_told (λ ms b. refl)
 monitor_told (Some monitor) = watch_told monitor.token monitor.dirty
 
 -- ---- resolved conflicts
 
 path_told : (p : PathStages) → TellsItem (λ place. path_events place p)
-unfolding path_events sides_events first_field next_field element_field
+unfolding path_events first_field next_field element_field
 path_told p = item_told (λ place b. refl)
 
 undo_told : (paths : Option (List PathStages)) → TellsMembers true (undo_events paths)
-unfolding undo_begin next_field
+unfolding absent_field next_field
 undo_told None = members_told (λ ms b. refl)
 undo_told (Some paths) =
     let inside = listed_told path_events path_told paths in
@@ -121,12 +112,12 @@ undo_told (Some paths) =
 
 exclude_told : (words name : List ℕ) (file : Option OidStat) → are_plain name ≡ true
     → TellsMembers true (exclude_events true words name file)
-unfolding exclude_events first_field next_field
+unfolding exclude_events absent_field first_field next_field
 exclude_told words name None p = members_told (λ ms b. simp p refl)
 exclude_told words name (Some file) p = members_told (λ ms b. simp p refl)
 
 stat_told : (s : Option Stat) → TellsMembers true (stat_events s)
-unfolding stat_events next_field
+unfolding stat_events absent_field next_field
 stat_told None = members_told (λ ms b. refl)
 stat_told (Some s) = members_told (λ ms b. refl)
 
@@ -138,39 +129,23 @@ subdirectory_told : (n : ℕ) → TellsItem (λ place. subdirectory_events place
 unfolding element_field
 subdirectory_told n = item_told (λ place b. refl)
 
-content_told : (d : DirectoryValue) → TellsMembers true (content_events d)
-unfolding content_events next_field
-content_told d =
-    let names = listed_told name_events name_told d.untracked in
-    let places = listed_told subdirectory_events subdirectory_told d.subs in
-    members_told (λ ms b. simp told_append (simp (names.is, places.is) refl))
-
 directory_told : (d : DirectoryValue) → TellsItem (λ place. cached_events true place d)
 unfolding cached_events own_events first_field next_field
 directory_told d =
     let stat = stat_told d.stat in
-    let content = content_told d in
-    item_told (λ place b. simp told_append (simp (stat.is, content.is) refl))
-
-naming_told : (identifier : List ℕ) (flags : ℕ) (name : List ℕ)
-    → TellsMembers false (naming_events identifier flags name)
-unfolding naming_events first_field next_field
-naming_told identifier flags name = members_told (λ ms b. refl)
-
-preamble_told : (p : Preamble) → TellsMembers false (preamble_events true p)
-unfolding preamble_events
-preamble_told p =
-    members_and
-    (members_and (naming_told p.identifier p.dir_flags p.exclude_filename) (exclude_told _ _ p.info_exclude refl))
-    (exclude_told _ _ p.excludes_file refl)
+    let names = listed_told name_events name_told d.untracked in
+    let places = listed_told subdirectory_events subdirectory_told d.subs in
+    item_told (λ place b. simp told_append (simp (stat.is, names.is, places.is) refl))
 
 cache_told : (cache : Option Cache) → TellsMembers true (untracked_events true cache)
-unfolding cache_begin next_field
+unfolding cache_begin absent_field first_field next_field
 cache_told None = members_told (λ ms b. refl)
 cache_told (Some c) =
-    let preamble = preamble_told c.preamble in
+    let p = c.preamble in
+    let info = exclude_told (codes "info/exclude") (codes "info_exclude") p.info_exclude refl in
+    let excludes = exclude_told (codes "excludes file") (codes "excludes_file") p.excludes_file refl in
     let inside = listed_told (cached_events true) directory_told c.directories in
-    members_told (λ ms b. simp told_append (simp (preamble.is, inside.is) refl))
+    members_told (λ ms b. simp told_append (simp (info.is, excludes.is, inside.is) refl))
 
 -- ---- an offset table and an end marker
 
@@ -179,7 +154,7 @@ unfolding element_field
 block_told o = item_told (λ place b. refl)
 
 table_told : (had : Bool) (table : Option (List Offset)) → TellsMembers true (table_events had table)
-unfolding table_events blocks_events next_field
+unfolding table_events blocks_events absent_field next_field
 table_told false table = members_told (λ ms b. refl)
 table_told true None = members_told (λ ms b. refl)
 table_told true (Some blocks) =
@@ -187,7 +162,7 @@ table_told true (Some blocks) =
     members_told (λ ms b. simp (told_append, inside.is) refl)
 
 marker_told : (had : Bool) (mark : Option EndMark) → TellsMembers true (end_events had mark)
-unfolding end_events marker_events first_field next_field
+unfolding end_events marker_events absent_field first_field next_field
 marker_told false mark = members_told (λ ms b. refl)
 marker_told true None = members_told (λ ms b. refl)
 marker_told true (Some m) = members_told (λ ms b. refl)
@@ -200,8 +175,7 @@ unfolding document_value document_events head_events behind_events last_events f
 document_told c checksum marks =
     let o = c.extensions in
     let entries = listed_told entry_events entry_told c.records in
-    let values = members_and
-    (members_and (members_and (tree_told o.tree) (link_told o.link)) (undo_told o.resolve_undo))
+    let values = members_and (members_and (members_and (tree_told o.tree) (link_told o.link)) (undo_told o.resolve_undo))
     (cache_told o.untracked) in
     let monitor = monitor_told o.fs_monitor in
     let table = table_told o.had_offset_table (option_map (λ v. v.items) marks.table) in

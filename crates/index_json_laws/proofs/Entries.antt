@@ -1,6 +1,6 @@
 -- The text of an entry is that of its value, and so are those of a stat, a range, a side and a block.
 use Rattle.std.proofs.Common.{◌≡◌, ℕ, List, ◌∷◌, ◌++◌, append_assoc, append-nil, ap, codes, decimal}
-use Rattle.std.proofs.Common.{Option, Some, None, refl, ◌∙◌}
+use Rattle.std.proofs.Common.{Some, None, false, refl, true, ◌∙◌}
 use Rattle.json.specs.Print.{escape_byte}
 use Rattle.index_bitmaps.specs.declared.ranges.Range.{Range}
 use Rattle.index_entries.specs.Record.{Record}
@@ -8,17 +8,16 @@ use Rattle.index_metadata.specs.Flags.{stage_number}
 use Rattle.index_metadata.specs.declared.entry.stat.Stat.{Stat}
 use Rattle.index_metadata.specs.declared.entry.stat.Time.{Time}
 use Rattle.index_parts.specs.Id.{id_bytes}
-use Rattle.index_parts.specs.declared.hash.ObjectId.{ObjectId}
 use Rattle.index_small_extensions.specs.declared.index_entry_offset_table.Offset.{Offset}
 use Rattle.index_small_extensions.specs.declared.resolve_undo.Stage.{Stage}
 use Rattle.index_json.specs.EntryValues.{entry_members, entry_value, file_members, stat_value, time_members}
 use Rattle.index_json.specs.EntryValues.{time_value}
-use Rattle.index_json.specs.Json.{block_value, range_value, side_or_null}
-use Rattle.index_json.specs.Values.{array as written_array, id_or_null, member as written_member}
-use Rattle.index_events.specs.Event.{first}
+use Rattle.index_json.specs.Json.{block_value, datum_value, range_value, side_value as written_side}
+use Rattle.index_json.specs.Values.{array as written_array, member as written_member}
+use Rattle.index_events.specs.Event.{Datum, a_block, a_number, a_side, an_answer, an_id, first, no_value}
 use Rattle.index_json.specs.Values.{text_value}
-use Rattle.index_json_laws.specs.EventValues.{block_object, entry_object, id_value, range_array, side_value}
-use Rattle.index_json_laws.specs.EventValues.{stat_object, time_object}
+use Rattle.index_json_laws.specs.EventValues.{block_object, entry_object, range_array, side_object, stat_object}
+use Rattle.index_json_laws.specs.EventValues.{time_object, value_of_datum}
 use Rattle.index_json_laws.specs.Value.{array, digits, items_of, number, spelling}
 use Rattle.index_json_laws.proofs.Pieces.{values_text}
 use Rattle.index_json_laws.proofs.Members.{member_spelled, none_spelled, text_spelled}
@@ -55,10 +54,6 @@ stat_text s =
     (member_spelled (codes ",") (codes "size") (decimal s.size) (number s.size) refl refl
     (none_spelled (codes ",") (codes "}"))))))))).is
 
-pub id_text : (o : Option ObjectId) → id_or_null o ≡ spelling (id_value o)
-id_text None = refl
-id_text (Some id) = refl
-
 pub range_text : (r : Range) → range_value r ≡ spelling (range_array r)
 unfolding range_value
 range_text r = simp (append_assoc, append-nil) refl
@@ -66,14 +61,24 @@ range_text r = simp (append_assoc, append-nil) refl
 pub ranges_text : (rs : List Range) → written_array range_value rs ≡ spelling (array (items_of range_array rs))
 ranges_text rs = ap (λ (l : List ℕ). codes "[" ++ l ++ codes "]") (values_text range_value range_array range_text 0 rs)
 
-pub side_text : (o : Option Stage) → side_or_null o ≡ spelling (side_value o)
-unfolding side_or_null written_member escape_byte
-side_text None = refl
-side_text (Some side) = simp (append_assoc, append-nil) refl
+side_text : (side : Stage) → written_side side ≡ spelling (side_object side)
+unfolding written_side written_member escape_byte
+side_text side = simp (append_assoc, append-nil) refl
 
-pub block_text : (o : Offset) → block_value o ≡ spelling (block_object o)
+block_text : (o : Offset) → block_value o ≡ spelling (block_object o)
 unfolding block_value written_member escape_byte
 block_text o = simp (append_assoc, append-nil) refl
+
+pub datum_text : (d : Datum) → datum_value d ≡ spelling (value_of_datum d)
+datum_text (a_number n) = refl
+datum_text (an_id None) = refl
+datum_text (an_id (Some id)) = refl
+datum_text (an_answer true) = refl
+datum_text (an_answer false) = refl
+datum_text (a_side None) = refl
+datum_text (a_side (Some side)) = side_text side
+datum_text (a_block o) = block_text o
+datum_text (no_value word) = refl
 
 pub entry_text : (r : Record) → entry_value r ≡ spelling (entry_object r)
 unfolding entry_value entry_members written_member escape_byte
@@ -88,8 +93,7 @@ entry_text r =
     (text_spelled (codes "path") r.path refl
     (member_spelled (codes ",") (codes "id") (spelling (digits (id_bytes r.id))) (digits (id_bytes r.id)) refl refl
     (member_spelled (codes ",") (codes "mode") (decimal r.mode) (number r.mode) refl refl
-    (member_spelled (codes ",") (codes "stage") (decimal (stage_number r.flags)) (number (stage_number r.flags)) refl
-    refl
+    (member_spelled (codes ",") (codes "stage") (decimal (stage_number r.flags)) (number (stage_number r.flags)) refl refl
     (member_spelled (codes ",") (codes "flags") (decimal r.flags) (number r.flags) refl refl
     (member_spelled (codes ",") (codes "stat") (stat_value r.stat) (stat_object r.stat) refl (stat_text r.stat)
     (none_spelled (codes ",") (codes "}")))))))).is

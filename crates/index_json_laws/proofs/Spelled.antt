@@ -1,23 +1,21 @@
 -- What events tell is spelled as they are printed.
 use Rattle.std.proofs.Common.{◌≡◌, ℕ, zero, suc, Bool, true, false, List, [], ◌∷◌, ◌++◌, append_assoc, ap}
-use Rattle.std.proofs.Common.{arith, codes, decimal, refl, subst, sym, ◌∙◌, Option, Some, None, ◌==◌}
+use Rattle.std.proofs.Common.{arith, codes, refl, subst, sym, ◌∙◌, Option, Some, None, ◌==◌}
 use Rattle.std.proofs.lemmas.Bool.{cond_both, ne_eqb}
 use Rattle.std.specs.Prelude.{if◌then◌else◌}
-use Rattle.index_events.specs.Event.{Event, Position, alone, answer_field, begin_array, begin_object, block_field}
-use Rattle.index_events.specs.Event.{count_line, element, empty_field, end_array, end_object, end_text, entry_item}
-use Rattle.index_events.specs.Event.{first, heading, id_field, next, number_field, presence, print, ranges_field}
-use Rattle.index_events.specs.Event.{side_field, stat_field, text_field}
+use Rattle.index_events.specs.Event.{Event, Position, alone, an_answer, begin_array, begin_object, count_line}
+use Rattle.index_events.specs.Event.{datum_field, element, end_array, end_object, end_text, entry_item, first, heading}
+use Rattle.index_events.specs.Event.{next, presence, print, ranges_field, stat_field, text_field}
 use Rattle.index_json.specs.EntryValues.{entry_value, stat_value}
-use Rattle.index_json.specs.Json.{block_value, event_text, range_value, side_or_null}
-use Rattle.index_json.specs.Values.{array as written_array, begin_of, id_or_null, json_bool, separator, text_value}
-use Rattle.index_json_laws.specs.EventValues.{block_object, entry_object, id_value, range_array, side_value}
-use Rattle.index_json_laws.specs.EventValues.{stat_object, text_or_digits}
+use Rattle.index_json.specs.Json.{datum_value, event_text, range_value}
+use Rattle.index_json.specs.Values.{array as written_array, begin_of, separator, text_value}
+use Rattle.index_json_laws.specs.EventValues.{entry_object, range_array, stat_object, text_or_digits, value_of_datum}
 use Rattle.index_json_laws.specs.Telling.{Behind, astray, has_plain_name, in_array, in_object, nothing, place_before}
 use Rattle.index_json_laws.specs.Telling.{put, put_array, put_before, put_end, put_object, put_text, tell, text_end}
 use Rattle.index_json_laws.specs.Telling.{text_position, told, value_of, whole, whole_value}
 use Rattle.index_json_laws.specs.Value.{Items, Value, array, boolean, item, items_of, items_spelling}
-use Rattle.index_json_laws.specs.Value.{members_spelling, no_items, no_members, null, number, object, spelling}
-use Rattle.index_json_laws.proofs.Entries.{block_text, entry_text, id_text, ranges_text, side_text, stat_text}
+use Rattle.index_json_laws.specs.Value.{members_spelling, no_items, no_members, object, spelling}
+use Rattle.index_json_laws.proofs.Entries.{datum_text, entry_text, ranges_text, stat_text}
 use Rattle.index_json_laws.proofs.Members.{member_spelled}
 use Rattle.index_json_laws.proofs.Pieces.{between, plain_name, plain_text_position, text_told}
 
@@ -118,18 +116,12 @@ end_spelled b text h = tt
 event_spelled : (event : Event) (b : Behind) (text : List ℕ) → IsText b text
     → IsText (tell event b) (event_text event ++ text)
 unfolding begin_of
-event_spelled (number_field f n) b text h = put_spelled f.position (number n) b (decimal n) text refl h
+event_spelled (datum_field f d) b text h =
+    put_spelled f.position (value_of_datum d) b (datum_value d) text (datum_text d) h
 event_spelled (text_field f bytes) b text h = text_spelled f.position bytes b text h
-event_spelled (id_field f id) b text h = put_spelled f.position (id_value id) b (id_or_null id) text (id_text id) h
-event_spelled (answer_field f holds) b text h = put_spelled f.position (boolean holds) b (json_bool holds) text refl h
 event_spelled (ranges_field f ranges) b text h =
     put_spelled f.position (array (items_of range_array ranges)) b (written_array range_value ranges) text
     (ranges_text ranges) h
-event_spelled (side_field f side) b text h =
-    put_spelled f.position (side_value side) b (side_or_null side) text (side_text side) h
-event_spelled (block_field f o) b text h =
-    put_spelled f.position (block_object o) b (block_value o) text (block_text o) h
-event_spelled (empty_field f word) b text h = put_spelled f.position null b (codes "null") text refl h
 event_spelled (stat_field indent position s) b text h =
     put_spelled position (stat_object s) b (stat_value s) text (stat_text s) h
 event_spelled (entry_item place r) b text h =
@@ -141,7 +133,7 @@ event_spelled end_object b text h = (text, h, refl)
 event_spelled (begin_array position) b text h = array_spelled position b text h
 event_spelled end_array b text h = (text, h, refl)
 event_spelled (presence position is_there) b text h =
-    put_spelled position (boolean is_there) b (json_bool is_there) text refl h
+    put_spelled position (boolean is_there) b (datum_value (an_answer is_there)) text (datum_text (an_answer is_there)) h
 event_spelled end_text b text h = end_spelled b text h
 
 events_spelled : (events : List Event) → IsText (told events nothing) (print event_text events)

@@ -1,16 +1,17 @@
 -- The values that an event tells by itself (the library's own; the parts of each are those of gitformat-index).
-use Rattle.std.specs.Prelude.{ℕ, List, ◌-◌, ◌++◌, codes, Option, Some, None, if◌then◌else◌}
+use Rattle.std.specs.Prelude.{ℕ, List, ◌-◌, ◌++◌, codes, Some, None, if◌then◌else◌}
 use Rattle.std.specs.Str.{is_utf8}
+use Rattle.index_events.specs.Event.{Datum, a_block, a_number, a_side, an_answer, an_id, no_value}
 use Rattle.index_bitmaps.specs.declared.ranges.Range.{Range}
 use Rattle.index_entries.specs.Record.{Record}
 use Rattle.index_metadata.specs.Flags.{stage_number}
 use Rattle.index_metadata.specs.declared.entry.stat.Stat.{Stat}
 use Rattle.index_metadata.specs.declared.entry.stat.Time.{Time}
 use Rattle.index_parts.specs.Id.{id_bytes}
-use Rattle.index_parts.specs.declared.hash.ObjectId.{ObjectId}
 use Rattle.index_small_extensions.specs.declared.index_entry_offset_table.Offset.{Offset}
 use Rattle.index_small_extensions.specs.declared.resolve_undo.Stage.{Stage}
-use Rattle.index_json_laws.specs.Value.{Members, Value, array, digits, item, member, no_items, no_members, null}
+use Rattle.index_json_laws.specs.Value.{Members, Value, array, boolean, digits, item, member, no_items, no_members}
+use Rattle.index_json_laws.specs.Value.{null}
 use Rattle.index_json_laws.specs.Value.{number, object, string}
 
 -- ---- a text: a string, or where its bytes aren't UTF-8 their digits, under a name that says so
@@ -22,10 +23,6 @@ abbrev pub text_or_digits : List ℕ → Value
 text_or_digits bytes = if is_utf8 bytes then string bytes else digits bytes
 
 -- ---- values of an index
-
-abbrev pub id_value : Option ObjectId → Value
-id_value None = null
-id_value (Some id) = digits (id_bytes id)
 
 abbrev pub number_member : List ℕ → ℕ → Members → Members
 number_member name n others = member name (number n) others
@@ -57,9 +54,8 @@ entry_object r =
 abbrev pub range_array : Range → Value
 range_array r = array (item (number r.first) (item (number (r.end - r.first)) no_items))
 
-abbrev pub side_value : Option Stage → Value
-side_value None = null
-side_value (Some side) =
+abbrev pub side_object : Stage → Value
+side_object side =
     object (number_member (codes "mode") side.mode (member (codes "id") (digits (id_bytes side.id)) no_members))
 
 abbrev pub block_object : Offset → Value
@@ -67,3 +63,14 @@ block_object o =
     object
     (number_member (codes "from_beginning_of_file") o.from_beginning_of_file
     (number_member (codes "num_entries") o.num_entries no_members))
+
+-- what a field says
+abbrev pub value_of_datum : Datum → Value
+value_of_datum (a_number n) = number n
+value_of_datum (an_id None) = null
+value_of_datum (an_id (Some id)) = digits (id_bytes id)
+value_of_datum (an_answer holds) = boolean holds
+value_of_datum (a_side None) = null
+value_of_datum (a_side (Some side)) = side_object side
+value_of_datum (a_block o) = block_object o
+value_of_datum (no_value word) = null

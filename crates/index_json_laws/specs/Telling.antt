@@ -3,17 +3,16 @@
 use Rattle.std.specs.Prelude.{ℕ, suc, zero, ◌==◌, ◌&&◌, Bool, true, false, not, nat_le, List, [], ◌∷◌}
 use Rattle.std.specs.Prelude.{Option, Some, None, unwrap_or, if◌then◌else◌}
 use Rattle.index_events.specs.Document.{document_events}
-use Rattle.index_events.specs.Event.{Event, Position, alone, answer_field, begin_array, begin_object, block_field}
-use Rattle.index_events.specs.Event.{count_line, element, empty_field, end_array, end_object, end_text, entry_item}
-use Rattle.index_events.specs.Event.{first, heading, id_field, next, number_field, presence, ranges_field, side_field}
-use Rattle.index_events.specs.Event.{stat_field, text_field}
+use Rattle.index_events.specs.Event.{Event, Position, alone, begin_array, begin_object, count_line, datum_field}
+use Rattle.index_events.specs.Event.{element, end_array, end_object, end_text, entry_item, first, heading, next}
+use Rattle.index_events.specs.Event.{presence, ranges_field, stat_field, text_field}
 use Rattle.index_format.specs.Contents.{Contents}
 use Rattle.index_marks.specs.declared.Marks.{Marks}
 use Rattle.index_parts.specs.declared.hash.ObjectId.{ObjectId}
-use Rattle.index_json_laws.specs.EventValues.{block_object, entry_object, id_value, range_array, side_value}
-use Rattle.index_json_laws.specs.EventValues.{stat_object, text_name, text_or_digits}
+use Rattle.index_json_laws.specs.EventValues.{entry_object, range_array, stat_object, text_name, text_or_digits}
+use Rattle.index_json_laws.specs.EventValues.{value_of_datum}
 use Rattle.index_json_laws.specs.Value.{Items, Members, Value, array, boolean, item, items_of, member, no_items}
-use Rattle.index_json_laws.specs.Value.{no_members, null, number, object}
+use Rattle.index_json_laws.specs.Value.{no_members, null, object}
 
 -- What is told behind a place in the list.
 pub data Behind : Type 0 where
@@ -93,14 +92,9 @@ put_end b = astray
 
 -- an event, and what stands behind it
 abbrev pub tell : Event → Behind → Behind
-tell (number_field f n) b = put f.position (number n) b
+tell (datum_field f d) b = put f.position (value_of_datum d) b
 tell (text_field f bytes) b = put_text f.position bytes b
-tell (id_field f id) b = put f.position (id_value id) b
-tell (answer_field f holds) b = put f.position (boolean holds) b
 tell (ranges_field f ranges) b = put f.position (array (items_of range_array ranges)) b
-tell (side_field f side) b = put f.position (side_value side) b
-tell (block_field f o) b = put f.position (block_object o) b
-tell (empty_field f word) b = put f.position null b
 tell (stat_field indent position s) b = put position (stat_object s) b
 tell (entry_item place r) b = put (element place) (entry_object r) b
 tell (heading indent words) b = b

@@ -1,9 +1,10 @@
 -- Lines of a name and a value, as people read them, and values in them (the library's own).
-use Rattle.std.specs.Prelude.{ℕ, ◌-◌, ◌==◌, Bool, List, ◌++◌, codes, decimal, drop, length, Option, Some, None}
+use Rattle.std.specs.Prelude.{ℕ, ◌-◌, ◌==◌, true, false, List, ◌++◌, codes, decimal, drop, length, Some, None}
 use Rattle.std.specs.Prelude.{if◌then◌else◌}
 use Rattle.std.specs.List.{flat_map}
 use Rattle.hex.specs.Hex.{encode_lower}
 use Rattle.index_bitmaps.specs.declared.ranges.Range.{Range}
+use Rattle.index_events.specs.Event.{Datum, a_block, a_number, a_side, an_answer, an_id, no_value}
 use Rattle.index_parts.specs.Id.{id_bytes}
 use Rattle.index_parts.specs.declared.hash.ObjectId.{ObjectId}
 use Rattle.index_small_extensions.specs.declared.index_entry_offset_table.Offset.{Offset}
@@ -26,22 +27,30 @@ text_line indent name bytes = field indent name (escaped bytes)
 abbrev pub id_line : List ℕ → List ℕ → ObjectId → List ℕ
 id_line indent name id = field indent name (encode_lower (id_bytes id))
 
-unfoldable pub yes_or_no : Bool → List ℕ
-yes_or_no holds = if holds then codes "yes" else codes "no"
+-- the line above what stands further in
+unfoldable pub heading_line : List ℕ → List ℕ → List ℕ
+heading_line indent words = indent ++ words ++ codes ":\n"
 
--- the id in base 16, or `none`
-abbrev pub id_or_none : Option ObjectId → List ℕ
-id_or_none None = codes "none"
-id_or_none (Some id) = encode_lower (id_bytes id)
-
--- the mode and the id of a side, or `none`
-abbrev pub side_text : Option Stage → List ℕ
-side_text None = codes "none"
-side_text (Some side) = octal side.mode ++ codes " " ++ encode_lower (id_bytes side.id)
+-- the mode and the id of a side
+unfoldable pub side_text : Stage → List ℕ
+side_text side = octal side.mode ++ codes " " ++ encode_lower (id_bytes side.id)
 
 -- where a block of entries begins, and how many it has
-unfoldable pub block_text : ℕ → ℕ → List ℕ
-block_text offset count = codes "offset " ++ decimal offset ++ codes ", entries " ++ decimal count
+unfoldable pub block_text : Offset → List ℕ
+block_text block =
+    codes "offset " ++ decimal block.from_beginning_of_file ++ codes ", entries " ++ decimal block.num_entries
+
+-- what a field says
+abbrev pub datum_text : Datum → List ℕ
+datum_text (a_number n) = decimal n
+datum_text (an_id None) = codes "none"
+datum_text (an_id (Some id)) = encode_lower (id_bytes id)
+datum_text (an_answer true) = codes "yes"
+datum_text (an_answer false) = codes "no"
+datum_text (a_side None) = codes "none"
+datum_text (a_side (Some side)) = side_text side
+datum_text (a_block block) = block_text block
+datum_text (no_value word) = word
 
 -- nanoseconds in nine digits, or more where a file has more
 abbrev pub nanoseconds : ℕ → List ℕ

@@ -1,6 +1,7 @@
 //! The lines of entries.
 
-ghost use Rattle.std.specs.Prelude.{◌≡◌, ◌++◌, ◌+◌, ◌<◌, ◌≤◌, OnOk, codes, length};
+ghost use Rattle.std.specs.Prelude.{◌≡◌, ◌++◌, ◌+◌, ◌≤◌, codes, length};
+ghost use Rattle.index_events.specs.Event.{Adds};
 ghost use Rattle.index_entries.specs.Record.{IsPlaced, record_in};
 ghost use Rattle.index_state.specs.State.{storage_of};
 ghost use Rattle.index_show.specs.Entries.{entry_lines, flag_word, flag_words, flags_line, flags_text, object_lines, shown_mode, mode_word, record_lines, stat_lines, time_field};
@@ -150,7 +151,7 @@ fn prepend_stat(room: &mut [u8], end: usize, indent: &[u8], stat: Stat) -> usize
 #[inline(always)]
 pub fn append_stat(lines: &mut Vec<u8>, indent: &[u8], stat: Stat) -> Appended
     requires { length indent.now ≤ 6 }
-    ensures { OnOk result (lines.new.items ≡ lines.old.items ++ stat_lines indent.now stat) }
+    ensures { Adds result lines.old lines.new (stat_lines indent.now stat) }
 {
     let mut room = [0; STAT_LEN];
     let start = prepend_stat(&mut room, STAT_LEN, indent, stat);
@@ -160,8 +161,8 @@ pub fn append_stat(lines: &mut Vec<u8>, indent: &[u8], stat: Stat) -> Appended
 /// Appends the lines of the object that an entry names, of its stage and its flags.
 #[tactic(auto, unfolding(crate::specs::Entries::object_lines))]
 fn append_object(lines: &mut Vec<u8>, entry: &Entry) -> Appended
-    ensures { OnOk result (lines.new.items
-        ≡ lines.old.items ++ object_lines entry.now.id entry.now.mode.0 entry.now.flags.0) }
+    ensures { Adds result lines.old lines.new
+        (object_lines entry.now.id entry.now.mode.0 entry.now.flags.0) }
 {
     let stage = u64::from(entry.stage_raw());
     let mut room = [0; OBJECT_LEN];
@@ -175,9 +176,9 @@ fn append_object(lines: &mut Vec<u8>, entry: &Entry) -> Appended
 /// Appends the line of an entry's number, and that of its path.
 #[tactic(auto, unfolding(crate::specs::Fields::field))]
 fn append_place(lines: &mut Vec<u8>, place: usize, path: &[u8]) -> Appended
-    ensures { OnOk result (lines.new.items
-        ≡ lines.old.items ++ (number_line (codes "  ") (codes "entry") place
-        ++ text_line (codes "    ") (codes "path") path.now)) }
+    ensures { Adds result lines.old lines.new
+        (number_line (codes "  ") (codes "entry") place
+        ++ text_line (codes "    ") (codes "path") path.now) }
 {
     let mut room = [0; PLACE_LEN];
     let start = prepend_name(&mut room, PLACE_LEN, b"    ", b"path");
@@ -191,8 +192,8 @@ fn append_place(lines: &mut Vec<u8>, place: usize, path: &[u8]) -> Appended
 #[tactic(auto, unfolding(crate::specs::Entries::record_lines))]
 pub fn append_entry(lines: &mut Vec<u8>, state: &State, place: usize, entry: &Entry) -> Appended
     requires { IsPlaced (length (storage_of state.now)) entry.now }
-    ensures { OnOk result (lines.new.items
-        ≡ lines.old.items ++ entry_lines place (record_in (storage_of state.now) entry.now)) }
+    ensures { Adds result lines.old lines.new
+        (entry_lines place (record_in (storage_of state.now) entry.now)) }
 {
     append_place(lines, place, entry.path(state))?;
     append_object(lines, entry)?;

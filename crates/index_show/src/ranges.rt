@@ -1,8 +1,9 @@
 //! Lines of ranges.
 
-ghost use Rattle.std.specs.Prelude.{◌≡◌, ◌++◌, OnOk, codes};
+ghost use Rattle.std.specs.Prelude.{};
+ghost use Rattle.index_events.specs.Event.{Adds};
 ghost use Rattle.std.specs.List.{flat_map};
-ghost use Rattle.index_show.specs.Fields.{range_text, ranges_line, ranges_text};
+ghost use Rattle.index_show.specs.Fields.{range_text, ranges_line};
 
 use index_bitmaps::ranges::Range;
 use index_text::append::{Appended, append_decimal};
@@ -10,7 +11,7 @@ use index_text::append::{Appended, append_decimal};
 /// Appends a range.
 #[tactic(auto, unfolding(crate::specs::Fields::range_text))]
 fn append_range(lines: &mut Vec<u8>, range: Range) -> Appended
-    ensures { OnOk result (lines.new.items ≡ lines.old.items ++ range_text range) }
+    ensures { Adds result lines.old lines.new (range_text range) }
 {
     lines.extend_from_slice(b" ")?;
     append_decimal(lines, range.first)?;
@@ -23,7 +24,7 @@ fn append_range(lines: &mut Vec<u8>, range: Range) -> Appended
 
 /// Appends ranges.
 fn append_each(lines: &mut Vec<u8>, ranges: &[Range]) -> Appended
-    ensures { OnOk result (lines.new.items ≡ lines.old.items ++ flat_map range_text ranges.now) }
+    ensures { Adds result lines.old lines.new (flat_map range_text ranges.now) }
 {
     for range in ranges {
         append_range(lines, *range)?;
@@ -31,25 +32,17 @@ fn append_each(lines: &mut Vec<u8>, ranges: &[Range]) -> Appended
     Ok(())
 }
 
-/// Appends ranges, or `none`.
-fn append_ranges_text(lines: &mut Vec<u8>, ranges: &[Range]) -> Appended
-    ensures { OnOk result (lines.new.items ≡ lines.old.items ++ ranges_text ranges.now) }
-{
-    if ranges.is_empty() {
-        return lines.extend_from_slice(b" none");
-    }
-    append_each(lines, ranges)
-}
-
 /// Appends a line with ranges.
 #[tactic(auto, unfolding(crate::specs::Fields::ranges_line))]
 pub fn append_ranges(lines: &mut Vec<u8>, indent: &[u8], name: &[u8], ranges: &[Range]) -> Appended
-    ensures { OnOk result
-        (lines.new.items ≡ lines.old.items ++ ranges_line indent.now name.now ranges.now) }
+    ensures { Adds result lines.old lines.new (ranges_line indent.now name.now ranges.now) }
 {
     lines.extend_from_slice(indent)?;
     lines.extend_from_slice(name)?;
     lines.extend_from_slice(b":")?;
-    append_ranges_text(lines, ranges)?;
+    if ranges.is_empty() {
+        return lines.extend_from_slice(b" none\n");
+    }
+    append_each(lines, ranges)?;
     lines.extend_from_slice(b"\n")
 }

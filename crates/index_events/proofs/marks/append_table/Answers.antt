@@ -1,52 +1,38 @@
-use Rattle.std.proofs.Common.{List, ◌∷◌, ◌++◌, ◌∙◌, Some, ap, codes, sym}
-use Rattle.std.proofs.lemmas.Result.{on_ok_weaker}
-use Rattle.std.specs.Option.{option_map}
-use Rattle.index_events.specs.Event.{Event, FieldValue, empty_field, next, presence, print}
-use Rattle.index_events.specs.Marks.{blocks_events, table_events}
-use Rattle.index_events.proofs.Marked.{bad_table, good_table, no_table}
-use Rattle.index_events.proofs.Steps.{event_told, field_told, list_told, two}
+use Rattle.std.proofs.Common.{ap, codes}
+use Rattle.index_events.specs.Event.{datum_field, listed, no_value}
+use Rattle.index_events.specs.Marks.{block_events, blocks_events, table_events}
+use Rattle.index_events.proofs.Steps.{end_as, end_one, then_all, then_one}
 use Rattle.index_events.proofs.marks.append_table.Goals as goal
 
 pub returns-then-not-had : goal.returns-then-not-had
 unfolding table_events
 returns-then-not-had g c =
     let spell = g.P.Printer.spell in
-    let old = c.args.text.now.bytes.items in
-    let had = c.args.had in
-    let mark = option_map (λ v. v.items) c.args.table.now in
-    let t1 = c.presence.new.text.bytes.items in
-    let told = event_told spell old t1 (presence (next (codes "had_offset_table")) had) c.in_ok-presence.ensures in
-    let t2 = c.empty.new.text.bytes.items in
-    on_ok_weaker c.empty.result (λ h. (two spell old t1 t2 _ _ told (field_told spell t1 t2 (λ (f : FieldValue). empty_field f (codes "none")) _ _ h c.next-field.ensures)).is
-    ∙ ap (λ (es : List Event). old ++ print spell (presence (next (codes "had_offset_table")) had ∷ es))
-    (no_table had mark c.if-not-had.true)) c.empty.ensures
+    let r = c.put-then-not-had.result in
+    let new = c.put-then-not-had.new.text.bytes.items in
+    rw c.if-not-had.true (then_one spell r new (rw c.if-not-had.true at c.in_ok-put.ensures)
+    (end_as spell r new _ _ _ c.put-then-not-had.ensures c.absent.ensures)).is
 
-pub returns-in-Some : goal.returns-in-Some
-unfolding table_events
-returns-in-Some g c =
+pub returns-in_default : goal.returns-in_default
+unfolding table_events blocks_events
+returns-in_default g c =
     let spell = g.P.Printer.spell in
-    let old = c.args.text.now.bytes.items in
-    let had = c.args.had in
-    let mark = option_map (λ v. v.items) c.args.table.now in
-    let t1 = c.presence.new.text.bytes.items in
-    let told = event_told spell old t1 (presence (next (codes "had_offset_table")) had) c.in_ok-presence.ensures in
-    let t2 = c.append_blocks.new.text.bytes.items in
-    on_ok_weaker c.append_blocks.result (λ h. (two spell old t1 t2 _ _ told (list_told spell t1 t2 (blocks_events c.deref.result.now) h)).is
-    ∙ ap (λ (es : List Event). old ++ print spell (presence (next (codes "had_offset_table")) had ∷ es))
-    (good_table had mark c.deref.result.now c.if-not-had.false
-    (ap (option_map (λ v. v.items)) c.in-Some.is ∙ ap Some (sym c.deref.ensures.value)))) c.append_blocks.ensures
+    let r = c.put-in_default.result in
+    let new = c.put-in_default.new.text.bytes.items in
+    rw (c.if-not-had.false, c.in_default.is) (then_one spell r new (rw c.if-not-had.false at c.in_ok-put.ensures)
+    (end_as spell r new _ _ _ c.put-in_default.ensures
+    (ap (λ f. datum_field f (no_value (codes "malformed"))) c.next-field.ensures))).is
 
-pub returns-in-None : goal.returns-in-None
-unfolding table_events
-returns-in-None g c =
+pub returns : goal.returns
+unfolding table_events blocks_events
+returns g c =
     let spell = g.P.Printer.spell in
-    let old = c.args.text.now.bytes.items in
-    let had = c.args.had in
-    let mark = option_map (λ v. v.items) c.args.table.now in
-    let t1 = c.presence.new.text.bytes.items in
-    let told = event_told spell old t1 (presence (next (codes "had_offset_table")) had) c.in_ok-presence.ensures in
-    let t2 = c.empty-in-None.new.text.bytes.items in
-    on_ok_weaker c.empty-in-None.result (λ h. (two spell old t1 t2 _ _ told (field_told spell t1 t2 (λ (f : FieldValue). empty_field f (codes "malformed")) _ _ h c.next-field.ensures)).is
-    ∙ ap (λ (es : List Event). old ++ print spell (presence (next (codes "had_offset_table")) had ∷ es))
-    (bad_table had mark c.if-not-had.false
-    (ap (option_map (λ v. v.items)) c.in-None.is))) c.empty-in-None.ensures
+    let r = c.put-4.result in
+    let new = c.put-4.new.text.bytes.items in
+    rw (c.if-not-had.false, c.in-Some.is) (then_one spell r new (rw c.if-not-had.false at c.in_ok-put.ensures)
+    (then_one spell r new
+    (rw (c.as_slice-blocks.ensures.value) at c.in_ok-put-2.ensures)
+    (then_one spell r new c.in_ok-put-3.ensures
+    (then_all spell r new (listed block_events c.in-Some.blocks.items)
+    (rw c.as_slice-blocks.ensures.value at c.in_ok-append_blocks.ensures)
+    (end_one spell r new _ _ c.put-4.ensures))))).is

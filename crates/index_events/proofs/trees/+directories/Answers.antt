@@ -49,8 +49,8 @@ write_directory-returns-in_err-write_directories g t c =
     (rest_untold spell old (es ++ subs) ends _
     (sent_then spell old es subs (Err _) sent c.in_err-write_directories.ensures)))
 
-pub write_directory-returns-in_err-append_ends : goal.write_directory-returns-in_err-append_ends
-write_directory-returns-in_err-append_ends g t c =
+pub write_directory-returns-in_err-put_ends : goal.write_directory-returns-in_err-put_ends
+write_directory-returns-in_err-put_ends g t c =
     let spell = g.P.Printer.spell in
     let old = c.args.text.now.bytes.items in
     let kids = c.deref.result.now in
@@ -60,9 +60,9 @@ write_directory-returns-in_err-append_ends g t c =
     let first = first_sent spell old es c.requires c.in_ok-append_opened.ensures in
     let sent = block_out {T = Unit {0}} {y = tt} first c.in_ok-put_block.ensures.ok c.in_ok-put_block.ensures.has_failed
     c.in_ok-put_block.ensures.loan in
-    let r = c.from_residual-in_err-append_ends.result in
-    let p = err_from_is_err_and r c.from_residual-in_err-append_ends.ensures.1 in
-    let P : List Event → Type 0 = λ l. PutsBlocks {T = Unit {0}} g.W.Out c.args.out.now c.write_directories.new.out r c.append_ends.new.text.bytes.items (old ++ print spell l) in
+    let r = c.from_residual-in_err-put_ends.result in
+    let p = err_from_is_err_and r c.from_residual-in_err-put_ends.ensures.1 in
+    let P : List Event → Type 0 = λ l. PutsBlocks {T = Unit {0}} g.W.Out c.args.out.now c.write_directories.new.out r c.put_ends.new.self.bytes.items (old ++ print spell l) in
     let subs = listed (placed_tree deeper) kids in
     subst P (tree_is (position_of c.args.member) c.args.depth deeper c.args.tree.now kids c.saturating_add.ensures
     c.deref.ensures.value)
@@ -80,12 +80,12 @@ write_directory-returns g t c =
     let first = first_sent spell old es c.requires c.in_ok-append_opened.ensures in
     let sent = block_out {T = Unit {0}} {y = tt} first c.in_ok-put_block.ensures.ok c.in_ok-put_block.ensures.has_failed
     c.in_ok-put_block.ensures.loan in
-    let P : List Event → Type 0 = λ l. PutsBlocks {T = Unit {0}} g.W.Out c.args.out.now c.write_directories.new.out (Ok c.in_ok-append_ends.field-0) c.append_ends.new.text.bytes.items (old ++ print spell l) in
+    let P : List Event → Type 0 = λ l. PutsBlocks {T = Unit {0}} g.W.Out c.args.out.now c.write_directories.new.out (Ok c.in_ok-put_ends.field-0) c.put_ends.new.self.bytes.items (old ++ print spell l) in
     let subs = listed (placed_tree deeper) kids in
     subst P (tree_is (position_of c.args.member) c.args.depth deeper c.args.tree.now kids c.saturating_add.ensures
     c.deref.ensures.value)
     (done_as (told_then spell old (es ++ subs) ends
-    (sent_then spell old es subs (Ok _) sent c.in_ok-write_directories.ensures) c.in_ok-append_ends.ensures))
+    (sent_then spell old es subs (Ok _) sent c.in_ok-write_directories.ensures) c.in_ok-put_ends.ensures))
 
 pub write_directories-loop-place-init : goal.write_directories-loop-place-init
 write_directories-loop-place-init g t c = record {

@@ -1,27 +1,23 @@
-use Rattle.std.proofs.Common.{ℕ, ◌+◌, List, ◌++◌, ◌∙◌, ap, codes, min}
-use Rattle.std.proofs.lemmas.Result.{on_ok_weaker}
+use Rattle.std.proofs.Common.{◌+◌, min}
 use Rattle.index_cached_tree.specs.declared.Tree.TheViews.{out-Tree}
-use Rattle.index_events.specs.Event.{FieldValue, first_field, print, text_field}
-use Rattle.index_events.specs.Trees.{deepest_indent, depth_events, indent, known_events, node_events}
-use Rattle.index_events.proofs.Steps.{list_told, three, value_told}
+use Rattle.index_events.specs.Trees.{deepest_indent, depth_events, indent, known_events}
+use Rattle.index_events.proofs.Steps.{end_one, then_all, then_one}
 use Rattle.index_events.proofs.trees.append_known.Goals as goal
 
 pub returns : goal.returns
 unfolding known_events
 returns g c =
     let spell = g.P.Printer.spell in
-    let old = c.args.text.now.bytes.items in
-    let t1 = c.string.new.text.bytes.items in
-    let t2 = c.append_depth.new.text.bytes.items in
-    let t3 = c.append_node.new.text.bytes.items in
+    let r = c.put-4.result in
+    let new = c.put-4.new.text.bytes.items in
     let o = out-Tree c.args.tree.now in
-    on_ok_weaker c.append_node.result
-    (λ h. (three spell old t1 t2 t3 _ _ _
-    (value_told spell old t1 (List ℕ) (λ (f : FieldValue) (x : List ℕ). text_field f x) _ _ _ _
-    c.in_ok-string.ensures
-    (c.first-field.ensures ∙ ap (λ (l : List ℕ). first_field l (codes "directory") (codes "name"))
-    (c.indent_of.ensures ∙ ap (λ (n : ℕ). indent (n + 1)) c.min-level.ensures)) c.as_slice.ensures)
-    (list_told spell t1 t2 (depth_events c.args.depth) c.in_ok-append_depth.ensures)
-    (list_told spell t2 t3 (node_events (indent (min c.args.depth deepest_indent + 2)) o.id o.num_entries)
-    (h ∙ ap (λ (l : List ℕ). t2 ++ print spell (node_events l o.id o.num_entries))
-    (c.indent_of-2.ensures ∙ ap (λ (n : ℕ). indent (n + 2)) c.min-level.ensures)))).is) c.append_node.ensures
+    let inner = indent (min c.args.depth deepest_indent + 2) in
+    (then_one spell r new
+    (rw (c.first.ensures, c.indent_of-indent.ensures, c.min-level.ensures, c.as_slice-name.ensures)
+    at c.in_ok-put.ensures)
+    (then_all spell r new (depth_events c.args.depth) c.in_ok-append_depth.ensures
+    (then_one spell r new (rw (c.next-id.ensures, c.indent_of-inner.ensures, c.min-level.ensures) at c.in_ok-put-2.ensures)
+    (then_one spell r new
+    (rw (c.next-count.ensures, c.indent_of-inner.ensures, c.min-level.ensures, c.datum_of_count.ensures)
+    at c.in_ok-put-3.ensures)
+    (end_one spell r new _ _ c.put-4.ensures))))).is

@@ -1,30 +1,35 @@
-use Rattle.std.proofs.Common.{ℕ, List, [], ◌++◌, ◌∙◌, ap, codes, length, sym}
+use Rattle.std.proofs.Common.{List, codes, ◌∙◌, ap, length, sym, take}
 use Rattle.std.proofs.lemmas.List.{length-map}
-use Rattle.std.proofs.lemmas.Result.{on_ok_weaker}
 use Rattle.index_untracked.specs.Blocks.{DirectoryValue, directory_value}
 use Rattle.index_untracked.specs.Untracked.{cache_of}
-use Rattle.index_events.specs.Event.{begin_array, begin_object, count_line, next}
-use Rattle.index_events.specs.Untracked.{cache_begin, preamble_events}
-use Rattle.index_events.proofs.Steps.{event_told, four, list_told}
+use Rattle.index_events.specs.Untracked.{cache_begin, exclude_events}
+use Rattle.index_events.proofs.Steps.{end_one, then_all}
 use Rattle.index_events.proofs.untracked.append_begin.Goals as goal
 
 pub returns : goal.returns
 unfolding cache_begin
 returns g c =
     let spell = g.P.Printer.spell in
-    let old = c.args.text.now.bytes.items in
-    let t1 = c.count.new.text.bytes.items in
-    let t2 = c.begin_object.new.text.bytes.items in
-    let t3 = c.append_preamble.new.text.bytes.items in
-    let t4 = c.begin_array.new.text.bytes.items in
-    on_ok_weaker c.begin_array.result
-    (λ h. (four spell old t1 t2 t3 t4 _ _ _ _
-    (event_told spell old t1 (count_line [] (codes "untracked cache") (length (cache_of c.args.cache.now).directories))
-    (c.in_ok-count.ensures ∙ ap (λ (n : ℕ). old ++ spell (count_line [] (codes "untracked cache") n))
-    (sym (length-map c.directories.result.now directory_value)
-    ∙ ap (λ (ds : List DirectoryValue). length ds) c.directories.ensures)))
-    (event_told spell t1 t2 (begin_object (next (codes "untracked"))) c.in_ok-begin_object.ensures)
-    (list_told spell t2 t3
-    (preamble_events g.P.Printer.BACKWARDS (cache_of c.args.cache.now).preamble)
-    (c.in_ok-append_preamble.ensures))
-    (event_told spell t3 t4 (begin_array (next (codes "directories"))) h)).is) c.begin_array.ensures
+    let r = c.put.result in
+    let new = c.put.new.text.bytes.items in
+    let v = cache_of c.args.cache.now in
+    let many = sym (length-map c.directories.result.now directory_value)
+    ∙ ap (λ (ds : List DirectoryValue). length ds) c.directories.ensures in
+    (then_all spell r new (take 5 (cache_begin g.P.Printer.BACKWARDS v))
+    (rw (
+      many,
+      c.first.ensures,
+      c.identifier.ensures,
+      c.next.ensures,
+      c.from.ensures,
+      c.dir_flags.ensures,
+      c.next-name.ensures,
+      c.exclude_filename_per_dir.ensures,
+    ) at c.in_ok-put_all.ensures)
+    (then_all spell r new
+    (exclude_events g.P.Printer.BACKWARDS (codes "info/exclude") (codes "info_exclude") v.preamble.info_exclude)
+    (rw c.info_exclude-info.ensures at c.in_ok-append_exclude.ensures)
+    (then_all spell r new
+    (exclude_events g.P.Printer.BACKWARDS (codes "excludes file") (codes "excludes_file") v.preamble.excludes_file)
+    (rw c.excludes_file-excludes.ensures at c.in_ok-append_exclude-2.ensures)
+    (end_one spell r new _ _ c.put.ensures)))).is

@@ -2,15 +2,14 @@ use Rattle.std.proofs.Common.{ℕ, arith}
 use Rattle.index_text.proofs.Placed.{placed_more}
 use Rattle.index_events.specs.Untracked.{subdirectory_events}
 use Rattle.index_events.proofs.Listed.{self_listed, shown}
-use Rattle.index_events.proofs.Steps.{event_told}
+use Rattle.index_events.proofs.Steps.{one_told}
 use Rattle.index_events.proofs.untracked.append_places.Goals as goal
 
 pub loop-index-preserved : goal.loop-index-preserved
 loop-index-preserved g c = placed_more (shown g.P.Printer.spell subdirectory_events (λ (n : ℕ). n)) c.args.places.now
-    c.loop-index.index _ c.args.text.now.bytes.items c.loop-index.text.bytes.items c.number.new.text.bytes.items
+    c.loop-index.index _ c.args.text.now.bytes.items c.loop-index.text.bytes.items c.put.new.text.bytes.items
     (omega (arith, c.loop-index-test.true)) c.loop-index.invariant
-    (event_told g.P.Printer.spell c.loop-index.text.bytes.items c.number.new.text.bytes.items _
-    (rw c.element.ensures at c.in_ok-number.ensures)).is
+    (one_told g.P.Printer.spell _ _ (rw c.element-field.ensures at c.in_ok-put.ensures))
 
 pub returns : goal.returns
 returns g c = self_listed g.P.Printer.spell subdirectory_events c.args.text.now.bytes.items
